@@ -1,0 +1,4 @@
+pub mod JsonTexts
+pub mod KnownBytes
+pub mod Lines
+pub mod Documents

@@ -1,0 +1,4 @@
+pub mod Words
+pub mod Fault
+pub mod Json
+pub mod Output

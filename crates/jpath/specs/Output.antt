@@ -1,0 +1,97 @@
+-- What the program reads and writes.
+use Rattle.std.specs.Prelude.{◌≡◌, ◌≢◌, ℕ, List, [], ◌∷◌, ◌++◌, take, codes, Option, Some, None, IsSome, IfSome, Bool, true, false, IsTrue, IsUtf8, ⊤}
+use Rattle.std.specs.List.{flat_map}
+use Rattle.std.specs.Io.KnownBytes.{Appends}
+use Rattle.serde_json.specs.Data.{Data}
+use Rattle.serde_json.specs.Read.{read}
+use Rattle.jsonpath_parser.specs.Location.{Location}
+use Rattle.jsonpath_parser.specs.Normal.{normal}
+use Rattle.jsonpath_parser.specs.Syntax as syntax
+use Rattle.jsonpath_parser.specs.Derives.{Derives, IsRefusal}
+use Rattle.jsonpath_parser.specs.declared.errors.JsonPathError.{JsonPathError}
+use Rattle.jsonpath_parser.specs.declared.errors.JsonPathError.TheVariants.{OutOfMemory}
+use Rattle.jsonpath_base.specs.Tree.{Tree}
+use Rattle.jsonpath_base.specs.Places.{at}
+use Rattle.jsonpath_base.specs.Values.{tree_of, has_whole_numbers}
+use Rattle.jsonpath_rust.specs.Meaning.{selected}
+use Rattle.jpath.specs.Json.{json_text}
+use Rattle.jpath.specs.Words.{Asked, asked_by}
+use Rattle.jpath.specs.declared.words.Command.{Command}
+use Rattle.jpath.specs.declared.words.Command.TheVariants.{Nodes}
+use Rattle.jpath.specs.declared.fault.Fault.{Fault}
+use Rattle.jpath.specs.declared.fault.Fault.TheVariants.{Usage, Query, NotJson, NotWhole, Io, Memory}
+
+-- ---- the input
+
+-- the bytes are a text that serde_json reads as this data
+abbrev pub IsJson : List ℕ → Data → Type 0
+IsJson bytes d = IsUtf8 bytes × (read bytes ≡ Some d)
+
+abbrev pub IsNoJson : List ℕ → Type 0
+IsNoJson bytes = IsUtf8 bytes → read bytes ≡ None
+
+-- ---- the output
+
+-- the value at a location; a selected location has one
+abbrev pub value_text : Option Tree → List ℕ
+value_text None = []
+value_text (Some t) = json_text t
+
+-- a path, a tab, the value as JSON, a newline
+abbrev pub line : List ℕ → List ℕ → List ℕ
+line path value = path ++ (codes "\t" ++ (value ++ codes "\n"))
+
+-- the line of a location: its Normalized Path (RFC 9535, 2.7), and the value there
+abbrev pub node_line : Tree → Location → List ℕ
+node_line doc l = line (normal l) (value_text (at l doc))
+
+-- what a command prints of the nodes that a query selects in a document, in their order
+abbrev pub printed : Command → syntax.Query → Tree → List ℕ
+printed Nodes q doc = flat_map (node_line doc) (selected q doc)
+
+-- The words ask for a query, of brackets no deeper than 128; the bytes are JSON of whole numbers; and the output is what the command prints.
+pub record IsOutput (words : List (List ℕ)) (bytes out : List ℕ) : Type 0 where
+  pub asked : Asked
+  pub by_words : asked_by words ≡ Some asked
+  pub query : syntax.Query
+  pub derived : Derives 128 asked.query query
+  pub document : Data
+  pub json : IsJson bytes document
+  pub whole : IsTrue (has_whole_numbers document)
+  pub written : out ≡ printed asked.command query (tree_of document)
+
+-- known bytes grow by a beginning of bs
+abbrev pub AppendsFront : Option (List ℕ) → Option (List ℕ) → List ℕ → Type 0
+AppendsFront old new bs = (k : ℕ) × Appends old new (take k bs)
+
+-- ---- the faults: each comes in the case that it names, the first that holds in this order
+
+-- the words ask for a query that the grammar derives
+abbrev pub AsksQuery : List (List ℕ) → Type 0
+AsksQuery words = (a : Asked) × (q : syntax.Query) × (asked_by words ≡ Some a) × Derives 128 a.query q
+
+-- the words ask for a text that the parser refuses so, for another cause than memory
+abbrev pub RefusesQuery : List (List ℕ) → JsonPathError → Type 0
+RefusesQuery words e = (a : Asked) × (asked_by words ≡ Some a) × IsRefusal 128 a.query e × (e ≢ OutOfMemory)
+
+-- why the input is no document, where its bytes are known
+abbrev pub IsNoDocument : Option (List ℕ) → Fault → Type 0
+IsNoDocument input NotJson = IfSome input IsNoJson
+IsNoDocument input NotWhole = IfSome input (λ bytes. (d : Data) × IsJson bytes d × (has_whole_numbers d ≡ false))
+IsNoDocument input Io = ⊤
+IsNoDocument input Memory = ⊤
+IsNoDocument input _ = ⊥
+
+abbrev pub IsFaultOf : List (List ℕ) → Option (List ℕ) → Fault → Type 0
+IsFaultOf words input Usage = asked_by words ≡ None
+IsFaultOf words input (Query e) = RefusesQuery words e
+IsFaultOf words input NotJson = AsksQuery words × IsNoDocument input NotJson
+IsFaultOf words input NotWhole = AsksQuery words × IsNoDocument input NotWhole
+IsFaultOf words input Io = AsksQuery words
+IsFaultOf words input Memory = IsSome (asked_by words)
+
+-- it comes before anything is read
+abbrev pub IsOfWords : Fault → Type 0
+IsOfWords Usage = ⊤
+IsOfWords (Query e) = ⊤
+IsOfWords _ = ⊥

@@ -1,0 +1,82 @@
+//! The text of the nodes that a query selects.
+ghost use Rattle.std.specs.Prelude.{◌≡◌, ◌++◌, All, IsTrue, IfOk, IfErr, OnOk, string_bytes};
+ghost use Rattle.std.specs.Fmt.{signed_decimal};
+ghost use Rattle.std.specs.List.{flat_map};
+ghost use Rattle.jsonpath_parser.specs.View.{query_view};
+ghost use Rattle.jsonpath_base.specs.Values.{value_tree, value_is_whole};
+ghost use Rattle.jsonpath_rust.specs.Answer.{shown};
+ghost use Rattle.jpath.specs.Json.{json_text};
+ghost use Rattle.jpath.specs.Output as output;
+ghost use Rattle.jpath.specs.Output.{line};
+
+use crate::fault::Fault;
+use crate::words::Command;
+use jsonpath_parser::model::JpQuery;
+use jsonpath_rust::query::{QueryRef, js_path_process};
+use serde_json::Value;
+use std::alloc::{AllocError, Global};
+use std::fmt::Write;
+
+/// What the command prints of the nodes that the query selects in the document.
+pub fn printed(
+    alloc: Global,
+    command: Command,
+    query: &JpQuery,
+    document: &Value,
+) -> Result<String, Fault>
+    requires { IsTrue (value_is_whole document.now) }
+    ensures text { IfOk result (λ text. string_bytes text ≡ output.printed command (query_view query.now) (value_tree document.now)) }
+    ensures memory { IfErr result (λ f. f ≡ Fault.Memory) }
+{
+    match command {
+        Command::Nodes => {
+            let nodes = js_path_process(alloc, query, document)?;
+            Ok(nodes_text(alloc, nodes.as_slice())?)
+        }
+    }
+}
+
+/// A line for each node: its path, a tab, its value as compact JSON.
+fn nodes_text(alloc: Global, nodes: &[QueryRef<'_, Value>]) -> Result<String, AllocError>
+    requires { All (λ r. IsTrue (value_is_whole r.val.now)) nodes.now }
+    ensures { IfOk result (λ text. string_bytes text ≡ flat_map (λ p. line p.0 (json_text p.1)) (shown value_tree nodes.now)) }
+{
+    let mut text = String::new(alloc);
+    for node in nodes {
+        push_node(alloc, &mut text, node)?;
+    }
+    Ok(text)
+}
+
+/// Appends the line of one node.
+fn push_node(alloc: Global, text: &mut String, node: &QueryRef<'_, Value>) -> Result<(), AllocError>
+    requires { IsTrue (value_is_whole node.now.val.now) }
+    ensures { OnOk result (string_bytes text.new ≡ string_bytes text.old
+        ++ line (string_bytes node.now.path) (json_text (value_tree node.now.val.now))) }
+{
+    text.push_str(node.path.as_str())?;
+    text.push('\t')?;
+    push_value(alloc, text, node.val)?;
+    text.push('\n')
+}
+
+/// Appends a value as compact JSON. A number, which most values are, takes no text of its own.
+fn push_value(alloc: Global, text: &mut String, value: &Value) -> Result<(), AllocError>
+    requires { IsTrue (value_is_whole value.now) }
+    ensures { OnOk result (string_bytes text.new ≡ string_bytes text.old ++ json_text (value_tree value.now)) }
+{
+    match value.as_i64() {
+        Some(number) => push_number(text, number),
+        None => {
+            let json = value.to_string(alloc)?;
+            text.push_str(json.as_str())
+        }
+    }
+}
+
+/// Appends a number in decimal.
+fn push_number(text: &mut String, number: i64) -> Result<(), AllocError>
+    ensures { OnOk result (string_bytes text.new ≡ string_bytes text.old ++ signed_decimal number) }
+{
+    write!(text, "{number}").map_err(|_| AllocError)
+}

@@ -1,0 +1,4 @@
+pub mod Tree
+pub mod Places
+pub mod Steps
+pub mod Values

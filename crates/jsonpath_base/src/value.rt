@@ -1,0 +1,72 @@
+//! Values of `serde_json` as documents.
+ghost use Rattle.std.specs.Prelude.{◌≡◌, ◌&&◌};
+ghost use Rattle.serde_json.specs.View.{view, items_view, members_view};
+ghost use Rattle.jsonpath_base.specs.Tree.{list, object, has_distinct_names};
+ghost use Rattle.jsonpath_base.specs.Values.{value_is_whole, has_whole_numbers, items_whole, members_whole, trees_of, members_of};
+
+use serde_json::{Map, Value};
+
+/// Whether every number in a value is a whole number of 64 bits. A value that passes is one tree: each of its
+/// objects has a name once, since its map keeps them in order.
+#[cycle(whole)]
+pub fn whole(value: &Value) -> bool
+    ensures numbers { result ≡ has_whole_numbers (view value.now) }
+    ensures whole { result ≡ value_is_whole value.now }
+{
+    match value {
+        Value::Number(_) => value.as_i64().is_some(),
+        Value::Array(items) => items_whole(items),
+        Value::Object(members) => members_whole(members),
+        _ => true,
+    }
+}
+
+#[cycle(whole)]
+fn items_whole(items: &Vec<Value>) -> bool
+    ensures numbers { result ≡ items_whole (items_view items.now.items) }
+    ensures whole { result ≡ (items_whole (items_view items.now.items) && has_distinct_names (list (trees_of (items_view items.now.items)))) }
+{
+    for item in items {
+        if !whole(item) {
+            return false;
+        }
+    }
+    true
+}
+
+#[cycle(whole)]
+fn members_whole(members: &Map<String, Value>) -> bool
+    ensures numbers { result ≡ members_whole (members_view members.now.entries) }
+    ensures whole { result ≡ (members_whole (members_view members.now.entries) && has_distinct_names (object (members_of (members_view members.now.entries)))) }
+{
+    for (_, member) in members.iter() {
+        if !whole(member) {
+            return false;
+        }
+    }
+    true
+}
+
+#[cfg(test)]
+mod tests {
+    use super::*;
+    use std::test::Fail;
+
+    #[test]
+    fn whole_numbers(rt: HostRuntime) -> Result<(), Fail> {
+        let cases = [
+            (
+                "[null,true,\"1.5\",-9223372036854775808,{\"a\":[9223372036854775807]}]",
+                true,
+            ),
+            ("[0,{\"a\":[1.5]}]", false),
+            ("{\"a\":9223372036854775808}", false),
+            ("1e3", false),
+        ];
+        for (text, want) in cases {
+            let value = Value::from_str(rt.alloc(), text)?;
+            assert_eq!(rt; whole(&value), want, "at {text}");
+        }
+        Ok(())
+    }
+}

@@ -1,0 +1,9 @@
+pub mod Runs
+pub mod Fronts
+pub mod Ints
+pub mod Depths
+pub mod Turns
+pub mod Complete
+pub mod Sound
+pub mod Whole
+pub mod NormalLemmas

@@ -1,0 +1,9 @@
+pub mod Location
+pub mod Normal
+pub mod Lexical
+pub mod Syntax
+pub mod View
+pub mod Grammar
+pub mod Depth
+pub mod Derives
+pub mod Reading

@@ -1,0 +1,179 @@
+-- Every node of a nodelist is in the document: the value at its location is its tree.
+use Rattle.std.proofs.Common.{◌≡◌, ℕ, zero, suc, ◌+◌, ℤ, List, [], ◌∷◌, ◌++◌, map, cond, length, get_or, refl, sym, ◌∙◌, ap, arith, Bool, true, false, not, ◌&&◌, ◌||◌, Option, Some, None, option_and_then, option_to_list, IsTrue, All}
+use Rattle.std.proofs.lemmas.Bool.{false≢true}
+use Rattle.std.proofs.lemmas.List.Elements.{All-from_get_or}
+use Rattle.std.proofs.lemmas.Slice.Eq.{bytes_eq-Decides}
+use Rattle.std.specs.List.{flat_map, list_any}
+use Rattle.std.specs.Str.{bytes_eq}
+use Rattle.jsonpath_parser.specs.Location.{Step, name, index, Location}
+use Rattle.jsonpath_parser.specs.Syntax as syntax
+use Rattle.jsonpath_parser.specs.Syntax.{Selector, wildcard, Segment, one, Segments, no_segments, segment, Query}
+use Rattle.jsonpath_base.specs.Tree as base
+use Rattle.jsonpath_base.specs.Tree.{Tree, null, truth, number, text, list, object, Trees, no_trees, Members, no_members, elements, pairs, as_list, find, get, has_distinct_names, trees_distinct, members_distinct, are_distinct}
+use Rattle.jsonpath_base.specs.Places.{child, item_at, at}
+use Rattle.jsonpath_rust.specs.Node.{Node, root_node, below, element_nodes, member_nodes, children_at, children}
+use Rattle.jsonpath_rust.specs.Meaning.{named, element, indexed, element_of, picks, replaced, all_applied, nodelist}
+use Rattle.jsonpath_rust.specs.Walking.{answer_of}
+use Rattle.jsonpath_rust.proofs.Trees.{none_some}
+
+-- ---- what holds of each element
+
+abbrev pub Each : {A : Type 0} → (A → Type 0) → List A → Type 0
+Each P [] = Unit {0}
+Each P (x ∷ xs) = P x × Each P xs
+
+each-append : {A : Type 0} (P : A → Type 0) (xs ys : List A) → Each P xs → Each P ys → Each P (xs ++ ys)
+each-append P [] ys h k = k
+each-append P (x ∷ xs) ys h k = (h.0, each-append P xs ys h.1 k)
+
+each-flat_map : {A B : Type 0} (P : A → Type 0) (Q : B → Type 0) (f : A → List B) → ((x : A) → P x → Each Q (f x)) → (xs : List A) → Each P xs → Each Q (flat_map f xs)
+each-flat_map P Q f k [] h = tt
+each-flat_map P Q f k (x ∷ xs) h = each-append Q (f x) (flat_map f xs) (k x h.0) (each-flat_map P Q f k xs h.1)
+
+each_weaker : {A : Type 0} (P Q : A → Type 0) → ((x : A) → P x → Q x) → (xs : List A) → Each P xs → Each Q xs
+each_weaker P Q k [] h = tt
+each_weaker P Q k (x ∷ xs) h = (k x h.0, each_weaker P Q k xs h.1)
+
+-- ---- one step below a place
+
+through_option : {A : Type 0} (f g h : A → Option A) → ((x : A) → f x ≡ option_and_then g (h x)) → (o : Option A) → option_and_then f o ≡ option_and_then g (option_and_then h o)
+through_option f g h k None = refl
+through_option f g h k (Some x) = k x
+
+at-append : (l m : Location) (t : Tree) → at (l ++ m) t ≡ option_and_then (at m) (at l t)
+at-append [] m t = refl
+at-append (s ∷ l) m t = through_option (at (l ++ m)) (at m) (at l) (λ u. at-append l m u) (child s t)
+
+alone : {A : Type 0} (o : Option A) → option_and_then (λ x. Some x) o ≡ o
+alone None = refl
+alone (Some x) = refl
+
+at-below : (l : Location) (s : Step) (doc t : Tree) → at l doc ≡ Some t → at (l ++ s ∷ []) doc ≡ child s t
+at-below l s doc t h = at-append l (s ∷ []) doc ∙ ap (option_and_then (at (s ∷ []))) h ∙ alone (child s t)
+
+-- ---- names
+
+and_first : (a b : Bool) → IsTrue (a && b) → IsTrue a
+and_first true b h = refl
+and_first false b h = absurd (false≢true h)
+
+and_second : (a b : Bool) → IsTrue (a && b) → IsTrue b
+and_second true b h = h
+and_second false b h = absurd (false≢true h)
+
+abbrev or_null : Option Tree → Tree
+or_null None = null
+or_null (Some t) = t
+
+some_eq : (t u : Tree) → Some t ≡ Some u → t ≡ u
+some_eq t u h = ap or_null h
+
+distinct_as : (t u : Tree) → Some t ≡ Some u → IsTrue (has_distinct_names t) → IsTrue (has_distinct_names u)
+distinct_as t u e h = ap has_distinct_names (sym (some_eq t u e)) ∙ h
+
+item-distinct : (i : ℕ) (ts : Trees) (u : Tree) → item_at i ts ≡ Some u → IsTrue (trees_distinct ts) → IsTrue (has_distinct_names u)
+item-distinct i no_trees u e h = none_some u (sym e)
+item-distinct zero (base.tree t ts) u e h = distinct_as t u e (and_first (has_distinct_names t) (trees_distinct ts) h)
+item-distinct (suc i) (base.tree t ts) u e h = item-distinct i ts u e (and_second (has_distinct_names t) (trees_distinct ts) h)
+
+found-distinct : (b : Bool) (t u : Tree) (rest : Option Tree) → (rest ≡ Some u → IsTrue (has_distinct_names u)) → cond b (Some t) rest ≡ Some u → IsTrue (has_distinct_names t) → IsTrue (has_distinct_names u)
+found-distinct true t u rest k e h = distinct_as t u e h
+found-distinct false t u rest k e h = k e
+
+find-distinct : (k : List ℕ) (ms : Members) (u : Tree) → find k (pairs ms) ≡ Some u → IsTrue (members_distinct ms) → IsTrue (has_distinct_names u)
+find-distinct k no_members u e h = none_some u (sym e)
+find-distinct k (base.member n t ms) u e h = found-distinct (bytes_eq k n) t u (find k (pairs ms)) (λ r. find-distinct k ms u r (and_second (has_distinct_names t) (members_distinct ms) h)) e (and_first (has_distinct_names t) (members_distinct ms) h)
+
+-- a child of a tree with distinct names has distinct names
+child-distinct : (s : Step) (t u : Tree) → child s t ≡ Some u → IsTrue (has_distinct_names t) → IsTrue (has_distinct_names u)
+child-distinct (name k) (object ms) u e h = find-distinct k ms u e (and_second (are_distinct (map (λ m. m.0) (pairs ms))) (members_distinct ms) h)
+child-distinct (name k) (list ts) u e h = none_some u (sym e)
+child-distinct (name k) null u e h = none_some u (sym e)
+child-distinct (name k) (truth b) u e h = none_some u (sym e)
+child-distinct (name k) (number n) u e h = none_some u (sym e)
+child-distinct (name k) (text s) u e h = none_some u (sym e)
+child-distinct (index i) (list ts) u e h = item-distinct i ts u e h
+child-distinct (index i) (object ms) u e h = none_some u (sym e)
+child-distinct (index i) null u e h = none_some u (sym e)
+child-distinct (index i) (truth b) u e h = none_some u (sym e)
+child-distinct (index i) (number n) u e h = none_some u (sym e)
+child-distinct (index i) (text s) u e h = none_some u (sym e)
+
+not_or : (a b : Bool) → IsTrue (not (a || b)) → (a ≡ false) × IsTrue (not b)
+not_or true b h = absurd (false≢true h)
+not_or false b h = (refl, h)
+
+differs_as : (k m : List ℕ) (b : Bool) → bytes_eq m k ≡ b → bytes_eq k m ≡ false → b ≡ false
+differs_as k m true e h = absurd (false≢true (sym h ∙ (bytes_eq-Decides k m).1 (sym ((bytes_eq-Decides m k).0 e))))
+differs_as k m false e h = refl
+
+-- none of the names is k
+differ : (k : List ℕ) (ks : List (List ℕ)) → IsTrue (not (list_any (bytes_eq k) ks)) → Each (λ m. bytes_eq m k ≡ false) ks
+differ k [] h = tt
+differ k (m ∷ ms) h =
+    let both = not_or (bytes_eq k m) (list_any (bytes_eq k) ms) h in
+    (differs_as k m (bytes_eq m k) refl both.0, differ k ms both.1)
+
+found_behind : (m : List ℕ × Tree) (all ms : List (List ℕ × Tree)) → Each (λ k. bytes_eq k m.0 ≡ false) (map (λ p. p.0) ms) → Each (λ p. find p.0 all ≡ Some p.1) ms → Each (λ p. find p.0 (m ∷ all) ≡ Some p.1) ms
+found_behind m all [] d h = tt
+found_behind m all (p ∷ ps) d h = (ap (λ b. cond b (Some m.1) (find p.0 all)) d.0 ∙ h.0, found_behind m all ps d.1 h.1)
+
+-- each pair is found by its name
+pairs-found : (ms : List (List ℕ × Tree)) → IsTrue (are_distinct (map (λ m. m.0) ms)) → Each (λ m. find m.0 ms ≡ Some m.1) ms
+pairs-found [] h = tt
+pairs-found (m ∷ ms) h =
+    let first = not (list_any (bytes_eq m.0) (map (λ p. p.0) ms)) in
+    let rest = are_distinct (map (λ p. p.0) ms) in
+    (ap (λ b. cond b (Some m.1) (find m.0 ms)) ((bytes_eq-Decides m.0 m.0).1 refl), found_behind m ms ms (differ m.0 (map (λ p. p.0) ms) (and_first first rest h)) (pairs-found ms (and_second first rest h)))
+
+-- ---- nodes
+
+-- the node is in the document, and its objects have distinct names
+record Stands (doc : Tree) (n : Node) : Type 0 where
+  there : at n.location doc ≡ Some n.tree
+  distinct : IsTrue (has_distinct_names n.tree)
+
+stands-below : (doc : Tree) (l : Location) (t : Tree) (s : Step) (u : Tree) → Stands doc (record { location = l; tree = t }) → child s t ≡ Some u → Stands doc (below l s u)
+stands-below doc l t s u h e = record { there = at-below l s doc t h.there ∙ e; distinct = child-distinct s t u e h.distinct }
+
+stands-option : (doc : Tree) (l : Location) (t : Tree) (s : Step) (o : Option Tree) → Stands doc (record { location = l; tree = t }) → child s t ≡ o → Each (Stands doc) (map (below l s) (option_to_list o))
+stands-option doc l t s None h e = tt
+stands-option doc l t s (Some u) h e = (stands-below doc l t s u h e, tt)
+
+stands-elements : (doc : Tree) (l : Location) (t : Tree) (k : ℕ) (ts : Trees) → Stands doc (record { location = l; tree = t }) → ((i : ℕ) → child (index (k + i)) t ≡ item_at i ts) → Each (Stands doc) (element_nodes l k (elements ts))
+stands-elements doc l t k no_trees h e = tt
+stands-elements doc l t k (base.tree u ts) h e =
+    (stands-below doc l t (index k) u h (ap (λ j. child (index j) t) (omega arith) ∙ e 0), stands-elements doc l t (suc k) ts h (λ i. ap (λ j. child (index j) t) (omega arith) ∙ e (suc i)))
+
+stands-members : (doc : Tree) (l : Location) (t : Tree) (ms : List (List ℕ × Tree)) → Stands doc (record { location = l; tree = t }) → Each (λ m. get m.0 t ≡ Some m.1) ms → Each (Stands doc) (member_nodes l ms)
+stands-members doc l t [] h e = tt
+stands-members doc l t (m ∷ ms) h e = (stands-below doc l t (name m.0) m.1 h e.0, stands-members doc l t ms h e.1)
+
+stands-children_at : (doc : Tree) (l : Location) (t : Tree) → Stands doc (record { location = l; tree = t }) → Each (Stands doc) (children_at l t)
+stands-children_at doc l (list ts) h = stands-elements doc l (list ts) 0 ts h (λ i. ap (λ j. item_at j ts) (omega arith))
+stands-children_at doc l (object ms) h = stands-members doc l (object ms) (pairs ms) h (pairs-found (pairs ms) (and_first (are_distinct (map (λ m. m.0) (pairs ms))) (members_distinct ms) h.distinct))
+stands-children_at doc l null h = tt
+stands-children_at doc l (truth b) h = tt
+stands-children_at doc l (number n) h = tt
+stands-children_at doc l (text s) h = tt
+
+each_unit : {A : Type 0} (xs : List A) → Each (λ _. Unit {0}) xs
+each_unit [] = tt
+each_unit (x ∷ xs) = (tt, each_unit xs)
+
+stands-picks : (s : Selector) (doc : Tree) (n : Node) → Stands doc n → Each (Stands doc) (picks s doc n)
+stands-picks (syntax.Selector.name k) doc n h = stands-option doc n.location n.tree (name k) (child (name k) n.tree) h refl
+stands-picks wildcard doc n h = stands-children_at doc n.location n.tree h
+stands-picks (syntax.Selector.index i) doc n h =
+    each-flat_map (λ _. Unit {0}) (Stands doc) (λ k. element k n) (λ k _. stands-option doc n.location n.tree (index k) (child (index k) n.tree) h refl) (option_to_list (option_and_then (λ ts. element_of i (length ts)) (as_list n.tree))) (each_unit (option_to_list (option_and_then (λ ts. element_of i (length ts)) (as_list n.tree))))
+
+stands-replaced : (g : Segment) (doc : Tree) (n : Node) → Stands doc n → Each (Stands doc) (replaced g doc n)
+stands-replaced (one s) doc n h = stands-picks s doc n h
+
+stands-all_applied : (gs : Segments) (doc : Tree) (ns : List Node) → Each (Stands doc) ns → Each (Stands doc) (all_applied gs doc ns)
+stands-all_applied no_segments doc ns h = h
+stands-all_applied (segment g gs) doc ns h = stands-all_applied gs doc (flat_map (replaced g doc) ns) (each-flat_map (Stands doc) (Stands doc) (replaced g doc) (λ n k. stands-replaced g doc n k) ns h)
+
+-- the value at each node's location is the node's tree
+pub nodes_at : (q : Query) (doc : Tree) → IsTrue (has_distinct_names doc) → Each (λ n. at n.location doc ≡ Some n.tree) (nodelist q doc)
+nodes_at q doc h = each_weaker (Stands doc) (λ n. at n.location doc ≡ Some n.tree) (λ n k. k.there) (nodelist q doc) (stands-all_applied q doc (root_node doc ∷ []) (record { there = refl; distinct = h }, tt))

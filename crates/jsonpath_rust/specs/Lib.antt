@@ -1,0 +1,5 @@
+pub mod Node
+pub mod Meaning
+pub mod Answer
+pub mod Walking
+pub mod Weight
