@@ -1,8 +1,19 @@
-//! What evaluation stands on: the steps of Normalized Paths, and values of `serde_json` as documents.
+//! What evaluation stands on: the steps of Normalized Paths, slices, texts, the patterns of `match` and `search`, and
+//! values of `serde_json` as documents, compared with one another and in sets.
 #![tactic(auto)]
 
+pub mod equality;
+pub mod pattern;
+pub mod set_functions;
+pub mod slice;
 pub mod step;
+pub mod text;
 pub mod value;
 
+pub use equality::{same, same_is_an_equivalence};
+pub use pattern::{Finder, Pattern, found, found_again};
+pub use set_functions::set_function;
+pub use slice::{SlicePlaces, picked, slice_places};
 pub use step::{Step, add_index, add_name, push_index, push_name};
+pub use text::{text_length, text_less};
 pub use value::whole;

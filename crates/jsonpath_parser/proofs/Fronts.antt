@@ -1,5 +1,5 @@
 -- What is read at the front of a text.
-use Rattle.std.proofs.Common.{◌≡◌, ℕ, suc, Bool, true, false, List, [], ◌∷◌, ◌++◌, length, take, drop, refl, sym, ap, arith}
+use Rattle.std.proofs.Common.{◌≡◌, ℕ, suc, Bool, true, false, List, [], ◌∷◌, ◌++◌, length, take, drop, refl, sym, ap, subst, arith}
 use Rattle.std.proofs.lemmas.Grind.{common_steps}
 use Rattle.std.specs.List.{prefix_len}
 use Rattle.jsonpath_parser.specs.Lexical.{IsRun, IsBlank, is_blank}
@@ -44,3 +44,7 @@ front p text run more e = sym (ap (λ (q : List ℕ × List ℕ). q.0) e)
 -- and what follows it
 pub back : (p : ℕ → Bool) (text run more : List ℕ) → (run, more) ≡ split_while p text → drop (prefix_len p text) text ≡ more
 back p text run more e = sym (ap (λ (q : List ℕ × List ℕ). q.1) e)
+
+-- what a split cuts off is a run
+pub split_run : (p : ℕ → Bool) (text run more : List ℕ) → (run, more) ≡ split_while p text → IsRun p run
+split_run p text run more e = subst (λ v. IsRun p v) (front p text run more e) (run_holds p text).0

@@ -18,7 +18,7 @@ range_digit : (c : ℕ) → 48 ≤ c → c ≤ 57 → is_digit c ≡ true
 range_digit c low high = grind (arith, nat_tests)
 
 -- a run of digits is a numeral, in std's words
-numeral : IsNumeralModel (λ ds. IsRun is_digit ds) (digits_value 10)
+pub numeral : IsNumeralModel (λ ds. IsRun is_digit ds) (digits_value 10)
 numeral = numerals_by_value _ (record { empty = tt; parts = λ c cs h. (digit_range c h.0, h.1); more = λ c cs r h. (range_digit c r.0 r.1, h) })
 
 -- digits within the range of an index

@@ -7,3 +7,11 @@ pub mod Complete
 pub mod Sound
 pub mod Whole
 pub mod NormalLemmas
+pub mod StringRuns
+pub mod StringTurns
+pub mod StringSound
+pub mod StringComplete
+pub mod NumberComplete
+pub mod NumberPowers
+pub mod NumberSound
+pub mod NumberValues

@@ -24,7 +24,7 @@ ascii_boundary : (p : ℕ → Bool) (bs : List ℕ) → IsUtf8 bs → ((c : ℕ)
 ascii_boundary p bs = after_ascii_run p bs _ refl
 
 -- and so does a run that only an ASCII byte stops
-wide_boundary : (p : ℕ → Bool) (bs : List ℕ) → ((c : ℕ) → p c ≡ false → c < 128) → IsCharBoundary bs (prefix_len p bs)
+pub wide_boundary : (p : ℕ → Bool) (bs : List ℕ) → ((c : ℕ) → p c ≡ false → c < 128) → IsCharBoundary bs (prefix_len p bs)
 wide_boundary p bs ascii =
     elim (cases_lt (prefix_len p bs) (length bs)) [
       | inl within ↦ IsCharBoundary-before_ascii bs _ within (ascii _ (prefix_len_stops p bs 0 within))

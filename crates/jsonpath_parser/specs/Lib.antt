@@ -7,3 +7,7 @@ pub mod Grammar
 pub mod Depth
 pub mod Derives
 pub mod Reading
+pub mod Strings
+pub mod ReadingStrings
+pub mod Numbers
+pub mod ReadingNumbers

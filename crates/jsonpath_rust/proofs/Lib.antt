@@ -3,3 +3,4 @@ pub mod Trees
 pub mod Nodelist
 pub mod NodesAt
 pub mod Answers
+mod Made

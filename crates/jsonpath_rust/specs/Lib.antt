@@ -3,3 +3,5 @@ pub mod Meaning
 pub mod Answer
 pub mod Walking
 pub mod Weight
+pub mod Args
+pub mod Defaults

@@ -1,22 +1,57 @@
 //! The types that are documents.
-ghost use Rattle.std.specs.Prelude.{◌≡◌, Bool, map, option_map, All, IsTrue, IfOk, IfErr, IfSome};
-ghost use Rattle.jsonpath_base.specs.Tree.{Tree, get, as_list, as_members, as_text, as_int, as_bool, has_distinct_names};
+ghost use Rattle.std.specs.Prelude.{◌≡◌, ℕ, Bool, false, List, map, Option, Some, None, option_map, All, IsTrue, IfOk, IfErr, IfSome, OnErr};
+ghost use Rattle.std.specs.Result.{IsErrAnd};
+ghost use Rattle.jsonpath_base.specs.Tree.{Tree, null, truth, number, text, get, as_list, as_members, as_text, as_int, as_bool, has_distinct_names};
+ghost use Rattle.jsonpath_base.specs.Same.{same};
 ghost use Rattle.jsonpath_parser.specs.declared.errors.JsonPathError.TheVariants.{OutOfMemory};
+ghost use Rattle.jsonpath_rust.specs.Args.{arg_value};
+ghost use Rattle.jsonpath_rust.specs.Defaults.{IsUnsupported};
 
 use crate::query::Queried;
+use jsonpath_parser::errors::JsonPathError;
 use std::alloc::Global;
 use std::fmt::Debug;
 
+#[cfg(test)]
+mod tests;
 pub mod value;
 
-/// A document. A value that passes `is_whole` has one tree, and each accessor agrees with it; what the accessors
-/// answer on any other value is left open.
+/// An argument of a custom function: a value of its own, as a literal has, or one that stands in the document.
+#[derive(Debug, Drop)]
+pub enum Arg<'a, T> {
+    Owned(T),
+    Borrowed(&'a T),
+}
+
+impl<'a, T> Arg<'a, T> {
+    /// The value.
+    pub fn get(&self) -> &T
+        ensures { result.now ≡ arg_value self.now }
+    {
+        match self {
+            Arg::Owned(value) => value,
+            Arg::Borrowed(value) => *value,
+        }
+    }
+}
+
+/// A document. A value that passes `is_whole` has one tree, and each call agrees with it; what the calls answer on any
+/// other value is left open. All calls but `delete_by_path` refuse for want of memory alone.
 pub trait Queryable: Sized + Debug + Drop {
     /// The tree of a value.
     ghost tree: { Self → Tree };
 
     /// Whether every number in it is a whole number of 64 bits.
     ghost is_whole: { Self → Bool };
+
+    /// What a custom function of that name answers, of the arguments' trees (RFC 9535, 2.4).
+    ghost custom: { List ℕ → List Tree → Tree };
+
+    /// Whether `reference` and `reference_mut` look for a place. Where they do not, they answer None.
+    ghost refers: { Bool } = { false };
+
+    /// Whether `delete_by_path` removes anything. Where it does not, it refuses.
+    ghost deletes: { Bool } = { false };
 
     /// The member of that name.
     fn get(&self, key: &str) -> Option<&Self>
@@ -49,6 +84,85 @@ pub trait Queryable: Sized + Debug + Drop {
     /// Whether every number in it is a whole number of 64 bits.
     fn is_whole(&self) -> bool
         ensures { result ≡ is_whole self.now };
+
+    /// Null.
+    fn null() -> Self
+        ensures value { tree result ≡ null }
+        ensures whole { IsTrue (is_whole result) };
+
+    /// That text. It refuses for want of memory alone.
+    fn from_text(alloc: Global, value: &str) -> Queried<Self>
+        ensures value { IfOk result (λ v. tree v ≡ text value.now) }
+        ensures whole { IfOk result (λ v. IsTrue (is_whole v)) }
+        ensures memory { IfErr result (λ e. e ≡ OutOfMemory) };
+
+    /// That truth. It refuses for want of memory alone.
+    fn from_bool(alloc: Global, value: bool) -> Queried<Self>
+        ensures value { IfOk result (λ v. tree v ≡ truth value) }
+        ensures whole { IfOk result (λ v. IsTrue (is_whole v)) }
+        ensures memory { IfErr result (λ e. e ≡ OutOfMemory) };
+
+    /// That number. It refuses for want of memory alone.
+    fn from_i64(alloc: Global, value: i64) -> Queried<Self>
+        ensures value { IfOk result (λ v. tree v ≡ number value) }
+        ensures whole { IfOk result (λ v. IsTrue (is_whole v)) }
+        ensures memory { IfErr result (λ e. e ≡ OutOfMemory) };
+
+    /// The list of these elements. It refuses for want of memory alone.
+    fn from_list(alloc: Global, values: Vec<Self>) -> Queried<Self>
+        requires { All (λ x. IsTrue (is_whole x)) values.items }
+        ensures value { IfOk result (λ v. as_list (tree v) ≡ Some (map tree values.items)) }
+        ensures whole { IfOk result (λ v. IsTrue (is_whole v)) }
+        ensures memory { IfErr result (λ e. e ≡ OutOfMemory) };
+
+    /// A value of the same tree. It refuses for want of memory alone.
+    fn try_clone(&self, alloc: Global) -> Queried<Self>
+        requires { IsTrue (is_whole self.now) }
+        ensures value { IfOk result (λ v. tree v ≡ tree self.now) }
+        ensures whole { IfOk result (λ v. IsTrue (is_whole v)) }
+        ensures memory { IfErr result (λ e. e ≡ OutOfMemory) };
+
+    /// Whether two values are the same: of equal kinds and scalars, lists place by place, objects by name in any order
+    /// (RFC 9535, 2.3.5.2.2).
+    fn equal(&self, other: &Self) -> bool
+        requires left { IsTrue (is_whole self.now) }
+        requires right { IsTrue (is_whole other.now) }
+        ensures { result ≡ same (tree self.now) (tree other.now) };
+
+    /// What a custom function of that name answers. It refuses for want of memory alone.
+    fn extension_custom(alloc: Global, name: &str, args: &[Arg<'_, Self>]) -> Queried<Self>
+        requires { All (λ a. IsTrue (is_whole (arg_value a))) args.now }
+        ensures value { IfOk result (λ v. tree v ≡ custom name.now (map (λ a. tree (arg_value a)) args.now)) }
+        ensures whole { IfOk result (λ v. IsTrue (is_whole v)) }
+        ensures memory { IfErr result (λ e. e ≡ OutOfMemory) };
+
+    /// The value at the one location that a path means; by default None. It refuses for want of memory alone.
+    fn reference(&self, _alloc: Global, _path: &str) -> Queried<Option<&Self>>
+        ensures whole { IsTrue (is_whole self.now) → IfOk result (λ o. IfSome o (λ v. IsTrue (is_whole v.now))) }
+        ensures nowhere { refers ≡ false → IfOk result (λ o. o ≡ None) }
+        ensures memory { IfErr result (λ e. e ≡ OutOfMemory) }
+    {
+        Ok(None)
+    }
+
+    /// As [`Queryable::reference`], for writing; by default None. It refuses for want of memory alone.
+    fn reference_mut(&mut self, _alloc: Global, _path: &str) -> Queried<Option<&mut Self>>
+        ensures nowhere { refers ≡ false → IfOk result (λ o. o ≡ None) }
+        ensures memory { IfErr result (λ e. e ≡ OutOfMemory) }
+    {
+        Ok(None)
+    }
+
+    /// Removes all locations that a query selects, and answers how many distinct ones there were; by default it refuses
+    /// by `InvalidJsonPath`. After any refusal the value has the tree it had.
+    fn delete_by_path(&mut self, alloc: Global, _path: &str) -> Queried<usize>
+        requires { IsTrue (is_whole self.old) }
+        ensures kept { OnErr result (tree self.new ≡ tree self.old) }
+        ensures whole { IsTrue (is_whole self.new) }
+        ensures refused { deletes ≡ false → IsErrAnd result IsUnsupported }
+    {
+        Err(JsonPathError::InvalidJsonPath(String::from_str(alloc, "Deletion not supported")?))
+    }
 
     /// No object of a whole value has a name twice.
     ghost distinct: { (x : Self) → IsTrue (is_whole x) → IsTrue (has_distinct_names (tree x)) };

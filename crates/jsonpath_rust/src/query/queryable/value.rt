@@ -1,12 +1,14 @@
 //! Values of `serde_json` as documents.
-ghost use Rattle.std.specs.Prelude.{◌≡◌, IfOk, map};
+ghost use Rattle.std.specs.Prelude.{◌≡◌, All, IfOk, IfErr, IsTrue, Some, map};
 ghost use Rattle.serde_json.specs.View.{view, members_view};
-ghost use Rattle.jsonpath_base.specs.Tree.{pairs};
+ghost use Rattle.jsonpath_base.specs.Tree.{as_list, pairs};
+ghost use Rattle.jsonpath_base.specs.SetFunctions.{set_function};
 ghost use Rattle.jsonpath_base.specs.Values.{value_tree, value_is_whole, has_whole_numbers, members_of};
 ghost use Rattle.jsonpath_base.proofs.Views.{whole_distinct};
+ghost use Rattle.jsonpath_parser.specs.declared.errors.JsonPathError.TheVariants.{OutOfMemory};
 
 use crate::query::Queried;
-use crate::query::queryable::Queryable;
+use crate::query::queryable::{Arg, Queryable};
 use serde_json::{Map, Value};
 use std::alloc::{AllocError, Global};
 
@@ -14,6 +16,8 @@ impl Queryable for Value {
     ghost tree = { value_tree };
 
     ghost is_whole = { value_is_whole };
+
+    ghost custom = { set_function };
 
     fn get(&self, key: &str) -> Option<&Value> {
         self.get(key)
@@ -50,6 +54,51 @@ impl Queryable for Value {
         jsonpath_base::whole(self)
     }
 
+    fn null() -> Value {
+        Value::Null
+    }
+
+    fn from_text(alloc: Global, value: &str) -> Queried<Value> {
+        Ok(Value::try_from_str(alloc, value)?)
+    }
+
+    fn from_bool(_alloc: Global, value: bool) -> Queried<Value> {
+        Ok(Value::Bool(value))
+    }
+
+    fn from_i64(_alloc: Global, value: i64) -> Queried<Value> {
+        Ok(Value::from(value))
+    }
+
+    fn from_list(_alloc: Global, values: Vec<Value>) -> Queried<Value>
+        requires { All (λ x. IsTrue (value_is_whole x)) values.items }
+        ensures value { IfOk result (λ v. as_list (value_tree v) ≡ Some (map value_tree values.items)) }
+        ensures whole { IfOk result (λ v. IsTrue (value_is_whole v)) }
+        ensures memory { IfErr result (λ e. e ≡ OutOfMemory) }
+    {
+        Ok(Value::Array(values))
+    }
+
+    fn try_clone(&self, _alloc: Global) -> Queried<Value> {
+        Ok(self.clone()?)
+    }
+
+    fn equal(&self, other: &Value) -> bool {
+        jsonpath_base::same(self, other)
+    }
+
+    /// The five set functions: `in`, `nin`, `none_of`, `any_of`, `subset_of`. Any other name, and another number or kind
+    /// of arguments, gives null.
+    fn extension_custom(_alloc: Global, name: &str, args: &[Arg<'_, Value>]) -> Queried<Value> {
+        match args {
+            [left, right] => match jsonpath_base::set_function(name, left.get(), right.get()) {
+                Some(truth) => Ok(Value::Bool(truth)),
+                None => Ok(Value::Null),
+            },
+            _ => Ok(Value::Null),
+        }
+    }
+
     ghost distinct = { whole_distinct };
 }
 
@@ -65,36 +114,4 @@ fn lent_members<'a>(
         lent.push((name.as_str(), member))?;
     }
     Ok(lent)
-}
-
-#[cfg(test)]
-mod tests {
-    use super::*;
-    use std::process::Abort;
-    use std::test::Fail;
-
-    fn reads<T: Queryable>(rt: &impl Abort, alloc: Global, document: &T) -> Result<(), Fail> {
-        assert!(rt; document.is_whole());
-        let members = document.as_object(alloc)?.ok_or("no object")?;
-        assert_eq!(rt; members.len(), 2);
-        assert_eq!(rt; members[0].0, "a");
-        assert_eq!(rt; members[0].1.as_bool(), Some(true));
-        assert_eq!(rt; members[1].0, "b");
-        assert!(rt; document.get("c").is_none());
-        let items = document
-            .get("b")
-            .ok_or("no member")?
-            .as_array()
-            .ok_or("no list")?;
-        assert_eq!(rt; items.len(), 2);
-        assert_eq!(rt; items[0].as_i64(), Some(-1));
-        assert_eq!(rt; items[1].as_str(), Some("x"));
-        Ok(())
-    }
-
-    #[test]
-    fn reads_a_value(rt: HostRuntime) -> Result<(), Fail> {
-        let document = Value::from_str(rt.alloc(), "{\"b\":[-1,\"x\"],\"a\":true}")?;
-        reads(&rt, rt.alloc(), &document)
-    }
 }

@@ -1,0 +1,19 @@
+use Rattle.std.specs.Slice.Iter.{iter_rest}
+use Rattle.jsonpath_base.specs.Values.{value_tree}
+use Rattle.jsonpath_base.proofs.SameWalks.{LeftToCompare, EntriesToCompare, weight, trees_weight, members_weight, trees, members}
+use Rattle.jsonpath_base.proofs.equality.+same.Given as goal
+
+abbrev pub invariant-same_items-loop-item : goal.invariant-same_items-loop-item
+invariant-same_items-loop-item l = LeftToCompare l.items.items l.others.items (iter_rest l.item-iterator.a) (iter_rest l.item-iterator.b)
+
+abbrev pub invariant-same_members-loop-name : goal.invariant-same_members-loop-name
+invariant-same_members-loop-name l = EntriesToCompare l.members.entries l.others.entries l.name-iterator.a l.name-iterator.b
+
+abbrev pub decreases-same : goal.decreases-same
+decreases-same l = weight (value_tree l.left.now)
+
+abbrev pub decreases-same_items : goal.decreases-same_items
+decreases-same_items l = trees_weight (trees l.items.now.items)
+
+abbrev pub decreases-same_members : goal.decreases-same_members
+decreases-same_members l = members_weight (members l.members.now.entries)

@@ -1,0 +1,35 @@
+-- What the helpers behind `Pattern` do. Only contracts inside this crate cite it.
+use Rattle.std.specs.Prelude.{◌≡◌, ℕ, ◌<◌, Bool, false, not, ◌&&◌, ◌==◌, List, [], ◌∷◌, Option, None, Some, is_some, get_or, codes, if◌then◌else◌}
+use Rattle.regex.specs.Patterns.{Re, find_str}
+use Rattle.regex.specs.Strings.{regex_pattern, matcher_pattern}
+use Rattle.regex.specs.declared.string.regex.Regex.{Regex}
+use Rattle.regex.specs.declared.string.matcher.Matcher.{Matcher}
+use Rattle.jsonpath_base.specs.Pattern.{is_inside, is_found}
+
+-- what one character of a pattern becomes, inside a class or not, behind a backslash that counts or not
+abbrev pub written : Bool → Bool → ℕ → List ℕ
+written inside escaped c = if not escaped && not inside && (c == 46) then codes "[^\\n\\r]" else c ∷ []
+
+-- whether the next character stands inside a class, and behind such a backslash
+abbrev pub inside_after : Bool → Bool → ℕ → Bool
+inside_after inside escaped c = if escaped then inside else (if c == 92 then inside else is_inside inside c)
+
+abbrev pub escaped_after : Bool → ℕ → Bool
+escaped_after escaped c = not escaped && (c == 92)
+
+-- what the built regex finds
+abbrev pub is_found_by : Option Regex → List ℕ → Bool
+is_found_by None text = false
+is_found_by (Some r) text = is_some (find_str (regex_pattern r) text 0)
+
+-- the built regex stands for what is sought: it is found in the same texts
+abbrev pub FindsSame : Option Re → Option Regex → Type 0
+FindsSame sought regex = (text : List ℕ) → ((k : ℕ) → get_or text k 0 < 256) → is_found_by regex text ≡ is_found sought text
+
+-- the same of what searches with it
+abbrev pub is_matched_by : Option Matcher → List ℕ → Bool
+is_matched_by None text = false
+is_matched_by (Some m) text = is_some (find_str (matcher_pattern m) text 0)
+
+abbrev pub MatchesSame : Option Re → Option Matcher → Type 0
+MatchesSame sought matcher = (text : List ℕ) → ((k : ℕ) → get_or text k 0 < 256) → is_matched_by matcher text ≡ is_found sought text

@@ -1,0 +1,106 @@
+//! When two values of `serde_json` are the same (RFC 9535, 2.3.5.2.2).
+ghost use Rattle.std.specs.Prelude.{◌≡◌, IsTrue, All};
+ghost use Rattle.serde_json.specs.View.{items_view, members_view};
+ghost use Rattle.jsonpath_base.specs.Same.{same, same_trees, SameIsAnEquivalence};
+ghost use Rattle.jsonpath_base.specs.Tree.{object};
+ghost use Rattle.jsonpath_base.specs.Values.{value_tree, value_is_whole, trees_of, members_of};
+
+use serde_json::{Map, Value};
+
+/// States a law and does nothing: on trees with distinct names, such as those of whole values, being the same is an equivalence.
+pub fn same_is_an_equivalence()
+    ensures { SameIsAnEquivalence }
+{}
+
+/// Whether two values are the same: of one kind, scalars equal, lists of one length the same place by place, objects
+/// with the same names the same name by name, in any order (RFC 9535, 2.3.5.2.2). Takes no memory, and time linear in
+/// the smaller of the two values: a map keeps its names in order, so two maps are walked side by side.
+#[cycle(same)]
+pub fn same(left: &Value, right: &Value) -> bool
+    requires left_whole { IsTrue (value_is_whole left.now) }
+    requires right_whole { IsTrue (value_is_whole right.now) }
+    ensures { result ≡ same (value_tree left.now) (value_tree right.now) }
+{
+    match (left, right) {
+        (Value::Null, Value::Null) => true,
+        (Value::Bool(a), Value::Bool(b)) => a == b,
+        (Value::Number(_), Value::Number(_)) => left.as_i64() == right.as_i64(),
+        (Value::String(a), Value::String(b)) => a == b,
+        (Value::Array(a), Value::Array(b)) => same_items(a, b),
+        (Value::Object(a), Value::Object(b)) => same_members(a, b),
+        _ => false,
+    }
+}
+
+#[cycle(same)]
+fn same_items(items: &Vec<Value>, others: &Vec<Value>) -> bool
+    requires items_whole { All (λ v. IsTrue (value_is_whole v)) items.now.items }
+    requires others_whole { All (λ v. IsTrue (value_is_whole v)) others.now.items }
+    ensures { result ≡ same_trees (trees_of (items_view items.now.items)) (trees_of (items_view others.now.items)) }
+{
+    if items.len() != others.len() {
+        return false;
+    }
+    for (item, other) in items.iter().zip(others.iter()) {
+        if !same(item, other) {
+            return false;
+        }
+    }
+    true
+}
+
+#[cycle(same)]
+fn same_members(members: &Map<String, Value>, others: &Map<String, Value>) -> bool
+    requires members_whole { All (λ e. IsTrue (value_is_whole e.1)) members.now.entries }
+    requires others_whole { All (λ e. IsTrue (value_is_whole e.1)) others.now.entries }
+    ensures { result ≡ same (object (members_of (members_view members.now.entries))) (object (members_of (members_view others.now.entries))) }
+{
+    if members.len() != others.len() {
+        return false;
+    }
+    for ((name, member), (other_name, other)) in members.iter().zip(others.iter()) {
+        if name != other_name || !same(member, other) {
+            return false;
+        }
+    }
+    true
+}
+
+#[cfg(test)]
+mod tests {
+    use super::*;
+    use crate::value::whole;
+    use std::test::Fail;
+
+    #[test]
+    fn by_kind_place_and_name(rt: HostRuntime) -> Result<(), Fail> {
+        let cases = [
+            (
+                "[[1],{\"a\":\"b\"},true,null]",
+                " [ [1], {\"a\": \"b\"}, true, null ]",
+                true,
+            ),
+            ("9007199254740993", "9007199254740992", false),
+            ("-9223372036854775808", "9223372036854775807", false),
+            ("1", "\"1\"", false),
+            ("null", "false", false),
+            ("\"a\"", "\"b\"", false),
+            ("[1,2]", "[2,1]", false),
+            ("[1,2]", "[1]", false),
+            ("[1]", "[1,2]", false),
+            ("{\"a\":1,\"b\":[2]}", "{\"b\":[2],\"a\":1}", true),
+            ("{\"a\":1,\"b\":[2]}", "{\"b\":[3],\"a\":1}", false),
+            ("{\"a\":1}", "{\"b\":1}", false),
+            ("{\"a\":1}", "{\"a\":1,\"b\":2}", false),
+            ("{\"a\":1,\"b\":2}", "{\"a\":1}", false),
+            ("[]", "{}", false),
+        ];
+        for (left, right, want) in cases {
+            let first = Value::from_str(rt.alloc(), left)?;
+            let second = Value::from_str(rt.alloc(), right)?;
+            assert!(rt; whole(&first) && whole(&second));
+            assert_eq!(rt; same(&first, &second), want, "at {left} and {right}");
+        }
+        Ok(())
+    }
+}

@@ -1,0 +1,357 @@
+//! The patterns of `match` and `search` (RFC 9535, 2.4.6 and 2.4.7).
+ghost use Rattle.std.specs.Prelude.{◌≡◌, ◌↔◌, ◌++◌, ◌==◌, IsTrue, false, Option, IsSome, is_some, chars, codes, IfOk, IfErr, OnOk, string_bytes, encode_utf8_all};
+ghost use Rattle.regex.specs.Patterns.{Re};
+ghost use Rattle.jsonpath_base.specs.Pattern.{translated, reading, wrapped, sought, pattern_sought, found, IsRefusal};
+ghost use Rattle.jsonpath_base.specs.PatternParts.{written, inside_after, escaped_after, FindsSame, MatchesSame};
+
+use jsonpath_parser::errors::{JsonPathError, Parsed};
+use regex::{Error, Matcher, Regex};
+use regex_syntax::{Config, ErrorKind, parse};
+use std::alloc::{AllocError, Global};
+
+/// A pattern that was read once, to be asked of many texts.
+#[derive(Drop)]
+pub struct Pattern {
+    source: String,
+    whole: bool,
+    // None where there is nothing to look for
+    regex: Option<Regex>,
+    ghost same: { FindsSame (pattern_sought whole (string_bytes source)) regex },
+}
+
+impl Pattern {
+    ghost use Rattle.jsonpath_base.specs.PatternViews.{source_of, is_of_whole, pattern_of};
+
+    /// Reads a pattern: where `whole`, for `match`, else for `search`. A text that `regex` cannot read is found nowhere.
+    /// `InvalidJsonPath` comes only where `regex` can read it and refuses it for its size; else memory ran out.
+    /// Counted repetitions are built as if they were written out, so `(a{1000}){1000}` costs as a million characters do.
+    pub fn new(alloc: Global, pattern: &str, whole: bool) -> Parsed<Pattern>
+        ensures source { IfOk result (λ p. source_of p ≡ pattern.now) }
+        ensures whole { IfOk result (λ p. is_of_whole p ≡ whole) }
+        ensures refused { IfErr result (IsRefusal (pattern_sought whole pattern.now)) }
+    {
+        let regex = built_for(alloc, pattern, whole)?;
+        let source = String::from_str(alloc, pattern)?;
+        Ok(Pattern {
+            source,
+            whole,
+            regex,
+        })
+    }
+
+    /// The text that was read.
+    pub fn source(&self) -> &str
+        ensures { result.now ≡ source_of self.now }
+    {
+        self.source.as_str()
+    }
+
+    /// Whether it was read for `match`.
+    pub fn is_whole(&self) -> bool
+        ensures { result ≡ is_of_whole self.now }
+    {
+        self.whole
+    }
+
+    /// Whether it was read from this text, and for `match` where `whole`.
+    pub fn is_of(&self, pattern: &str, whole: bool) -> bool
+        ensures { IsTrue result ↔ (source_of self.now ≡ pattern.now) × (is_of_whole self.now ≡ whole) }
+    {
+        self.whole == whole && self.source.as_str() == pattern
+    }
+
+    /// What asks this pattern of many texts: what one search has worked out is kept for the next.
+    pub fn finder(&self, alloc: Global) -> Result<Finder<'_>, AllocError>
+        ensures pattern { IfOk result (λ f. pattern_of f ≡ self.now) }
+    {
+        let matcher = match &self.regex {
+            Some(regex) => Some(regex.matcher(alloc)?),
+            None => None,
+        };
+        Ok(Finder {
+            pattern: self,
+            matcher,
+        })
+    }
+
+    /// What `match` or `search` answers for a text. For many texts a [`Finder`] is faster.
+    pub fn is_found(&self, alloc: Global, text: &str) -> Result<bool, AllocError>
+        ensures value { IfOk result (λ b. b ≡ found (is_of_whole self.now) (source_of self.now) text.now) }
+    {
+        let mut finder = self.finder(alloc)?;
+        Ok(finder.is_found(text))
+    }
+}
+
+/// What asks one pattern of many texts.
+#[derive(Drop)]
+pub struct Finder<'p> {
+    pattern: &'p Pattern,
+    // None where there is nothing to look for
+    matcher: Option<Matcher<'p>>,
+    ghost same: { MatchesSame (pattern_sought pattern.now.whole (string_bytes pattern.now.source)) matcher },
+}
+
+impl<'p> Finder<'p> {
+    ghost use Rattle.jsonpath_base.specs.PatternViews.{source_of, is_of_whole, pattern_of};
+
+    /// What `match` or `search` answers for a text. It never fails: where memory runs out it searches more slowly.
+    pub fn is_found(&mut self, text: &str) -> bool
+        ensures value { result ≡ found (is_of_whole (pattern_of self.old)) (source_of (pattern_of self.old)) text.now }
+        ensures same { pattern_of self.new ≡ pattern_of self.old }
+    {
+        match &mut self.matcher {
+            Some(matcher) => matcher.is_match(text),
+            None => false,
+        }
+    }
+}
+
+/// What `match` answers where `whole`, and else `search`, for a text and a pattern. It reads the pattern anew each time: see
+/// [`Pattern`]. It refuses as [`Pattern::new`] does.
+pub fn found(alloc: Global, text: &str, pattern: &str, whole: bool) -> Parsed<bool>
+    ensures value { IfOk result (λ b. b ≡ found whole pattern.now text.now) }
+    ensures refused { IfErr result (IsRefusal (pattern_sought whole pattern.now)) }
+{
+    let read = Pattern::new(alloc, pattern, whole)?;
+    Ok(read.is_found(alloc, text)?)
+}
+
+/// The same, where `kept` holds the pattern that was asked last, or None: it is read anew only where it was another.
+pub fn found_again(
+    alloc: Global,
+    kept: &mut Option<Pattern>,
+    text: &str,
+    pattern: &str,
+    whole: bool,
+) -> Parsed<bool>
+    ensures value { IfOk result (λ b. b ≡ found whole pattern.now text.now) }
+    ensures refused { IfErr result (IsRefusal (pattern_sought whole pattern.now)) }
+{
+    if let Some(read) = kept.as_ref() {
+        if read.is_of(pattern, whole) {
+            return Ok(read.is_found(alloc, text)?);
+        }
+    }
+    let read = Pattern::new(alloc, pattern, whole)?;
+    let answer = read.is_found(alloc, text)?;
+    *kept = Some(read);
+    Ok(answer)
+}
+
+/// What looks for a pattern, or None where there is nothing to look for.
+fn built_for(alloc: Global, pattern: &str, whole: bool) -> Parsed<Option<Regex>>
+    ensures same { IfOk result (FindsSame (pattern_sought whole pattern.now)) }
+    ensures refused { IfErr result (IsRefusal (pattern_sought whole pattern.now)) }
+{
+    let text = translate(alloc, pattern)?;
+    if !whole {
+        return built(alloc, text.as_str());
+    }
+    if !is_read(alloc, text.as_str())? {
+        return Ok(None);
+    }
+    let text = wrap(alloc, text.as_str())?;
+    built(alloc, text.as_str())
+}
+
+/// The regex of a text, or None where it has no reading.
+fn built(alloc: Global, text: &str) -> Parsed<Option<Regex>>
+    ensures same { IfOk result (FindsSame (reading (chars text.now))) }
+    ensures refused { IfErr result (IsRefusal (reading (chars text.now))) }
+{
+    match Regex::new(alloc, text) {
+        Ok(regex) => Ok(Some(regex)),
+        Err(Error::Syntax(_)) => Ok(None),
+        Err(Error::OutOfMemory) => Err(JsonPathError::OutOfMemory),
+        Err(Error::CompiledTooBig) => Err(too_large(alloc)),
+        Err(Error::Internal) => Err(too_large(alloc)),
+    }
+}
+
+/// The error for a text that has a reading and is refused.
+fn too_large(alloc: Global) -> JsonPathError
+    ensures { (sought : Option Re) → IsSome sought → IsRefusal sought result }
+{
+    match String::from_str(alloc, "a pattern is too large") {
+        Ok(text) => JsonPathError::InvalidJsonPath(text),
+        Err(_) => JsonPathError::OutOfMemory,
+    }
+}
+
+/// Whether a text has a reading.
+fn is_read(alloc: Global, text: &str) -> Result<bool, AllocError>
+    ensures { IfOk result (λ b. b ≡ is_some (reading (chars text.now))) }
+{
+    let Err(error) = parse(alloc, text, &Config::default()) else {
+        return Ok(true);
+    };
+    match error.kind {
+        ErrorKind::OutOfMemory => Err(AllocError),
+        _ => Ok(false),
+    }
+}
+
+/// The text, to be found at a whole text.
+fn wrap(alloc: Global, text: &str) -> Result<String, AllocError>
+    ensures spelled { IfOk result (λ w. chars (string_bytes w) ≡ wrapped (chars text.now)) }
+{
+    let mut whole = String::from_str(alloc, "^(?:")?;
+    whole.push_str(text)?;
+    whole.push_str(")$")?;
+    Ok(whole)
+}
+
+/// The pattern with each `.` outside a class and behind no backslash as `[^\n\r]`.
+fn translate(alloc: Global, pattern: &str) -> Result<String, AllocError>
+    ensures value { IfOk result (λ t. string_bytes t ≡ encode_utf8_all (translated false (chars pattern.now))) }
+    ensures spelled { IfOk result (λ t. chars (string_bytes t) ≡ translated false (chars pattern.now)) }
+{
+    let mut text = String::new(alloc);
+    let mut inside = false;
+    let mut escaped = false;
+    for c in pattern.chars() {
+        push_written(&mut text, inside, escaped, c)?;
+        inside = is_inside_after(inside, escaped, c);
+        escaped = is_escaped_after(escaped, c);
+    }
+    Ok(text)
+}
+
+/// Appends what one character of a pattern becomes.
+fn push_written(text: &mut String, inside: bool, escaped: bool, c: char) -> Result<(), AllocError>
+    ensures value { OnOk result (string_bytes text.new ≡ string_bytes text.old ++ encode_utf8_all (written inside escaped c)) }
+{
+    if !escaped && !inside && c == '.' {
+        text.push_str("[^\\n\\r]")?;
+    } else {
+        text.push(c)?;
+    }
+    Ok(())
+}
+
+/// Whether the next character stands inside a class.
+fn is_inside_after(inside: bool, escaped: bool, c: char) -> bool
+    ensures { result ≡ inside_after inside escaped c }
+{
+    if escaped || c == '\\' {
+        inside
+    } else if inside {
+        c != ']'
+    } else {
+        c == '['
+    }
+}
+
+/// Whether the next character stands behind a backslash that counts.
+fn is_escaped_after(escaped: bool, c: char) -> bool
+    ensures { result ≡ escaped_after escaped c }
+{
+    !escaped && c == '\\'
+}
+
+#[cfg(test)]
+mod tests {
+    use super::*;
+    use std::test::Fail;
+
+    #[test]
+    fn match_asks_whole_texts(rt: HostRuntime) -> Result<(), Fail> {
+        let cases = [
+            ("a|b", "a", true),
+            ("a|b", "b", true),
+            ("a|b", "ab", false),
+            ("a)|(b", "a", false),
+            ("a)|(b", "b", false),
+            ("a)|(b", "ab", false),
+            (".", "a", true),
+            (".", "\r", false),
+            ("b.?b", "bab", true),
+            ("b.?b", "bba", false),
+            ("b.?b", "bbab", false),
+            ("b.?b", "b", false),
+            ("", "", true),
+            ("", "a", false),
+            ("(", "(", false),
+            ("*", "(", false),
+            ("a\\", "(", false),
+        ];
+        for (pattern, text, want) in cases {
+            assert_eq!(rt;
+                found(rt.alloc(), text, pattern, true)?,
+                want,
+                "{pattern} in {text}"
+            );
+        }
+        Ok(())
+    }
+
+    #[test]
+    fn search_asks_any_part(rt: HostRuntime) -> Result<(), Fail> {
+        let cases = [
+            ("a|b", "a", true),
+            ("a|b", "b", true),
+            ("a|b", "ab", true),
+            ("x[.]y", "x.y", true),
+            ("x[.]y", "xay", false),
+            ("", "", true),
+            ("", "a", true),
+            ("(", "(", false),
+            ("*", "(", false),
+            ("a\\", "(", false),
+        ];
+        for (pattern, text, want) in cases {
+            assert_eq!(rt;
+                found(rt.alloc(), text, pattern, false)?,
+                want,
+                "{pattern} in {text}"
+            );
+        }
+        Ok(())
+    }
+
+    #[test]
+    fn a_pattern_is_asked_again(rt: HostRuntime) -> Result<(), Fail> {
+        let pattern = Pattern::new(rt.alloc(), "a|b", true)?;
+        assert_eq!(rt; pattern.source(), "a|b");
+        assert!(rt; pattern.is_whole());
+        assert!(rt; pattern.is_of("a|b", true));
+        assert!(rt; !pattern.is_of("a|b", false));
+        assert!(rt; pattern.is_found(rt.alloc(), "a")?);
+        assert!(rt; !pattern.is_found(rt.alloc(), "ab")?);
+        let mut finder = pattern.finder(rt.alloc())?;
+        for (text, want) in [("a", true), ("b", true), ("ab", false)] {
+            assert_eq!(rt; finder.is_found(text), want, "at {text}");
+        }
+        Ok(())
+    }
+
+    #[test]
+    fn another_pattern_is_read_anew(rt: HostRuntime) -> Result<(), Fail> {
+        let cases = [
+            ("b.?b", "bab", true),
+            ("b.?b", "bbab", false),
+            ("a|b", "b", true),
+            ("a)|(b", "b", false),
+        ];
+        let mut kept = None;
+        for (pattern, text, want) in cases {
+            let answer = found_again(rt.alloc(), &mut kept, text, pattern, true)?;
+            assert_eq!(rt; answer, want, "{pattern} in {text}");
+        }
+        assert!(rt; found_again(rt.alloc(), &mut kept, "ab", "a|b", false)?);
+        Ok(())
+    }
+
+    #[test]
+    fn a_large_pattern_is_not_found_or_refused(rt: HostRuntime) -> Result<(), Fail> {
+        match found(rt.alloc(), "a", "((a{1000}){1000}){1000}", false) {
+            Ok(answer) => assert!(rt; !answer),
+            Err(JsonPathError::InvalidJsonPath(text)) => {
+                assert_eq!(rt; text.as_str(), "a pattern is too large");
+            }
+            Err(error) => return Err(error.into()),
+        }
+        Ok(())
+    }
+}

@@ -1,0 +1,258 @@
+//! The places that a slice selector picks in an array (RFC 9535, 2.3.4).
+ghost use Rattle.std.specs.Prelude.{◌≡◌, ◌<◌, ◌≤◌, suc, pos, negsuc, ◌+ℤ◌, ◌-ℤ◌, neg_ℤ, unwrap_or, All, IfOk, IfErr};
+ghost use Rattle.std.specs.Iterator.{YieldsFirst, item_count};
+ghost use Rattle.jsonpath_base.specs.Slice.{slice_of, clamped, normalized};
+ghost use Rattle.jsonpath_base.specs.SliceSteps.{places_left, picked_of};
+
+use jsonpath_parser::errors::{JsonPathError, Parsed};
+use std::alloc::Global;
+
+/// The places that a slice picks, one after another, from [`slice_places`]. It needs no memory, and each step takes constant time.
+#[derive(Debug, Drop)]
+pub struct SlicePlaces {
+    /// The next place of a slice that rises, or one more than the next of one that falls.
+    at: usize,
+    /// Where a slice that rises ends, or the lowest place of one that falls.
+    end: usize,
+    /// How many places lie between two that are picked.
+    between: usize,
+    falls: bool,
+}
+
+impl Iterator for SlicePlaces {
+    type Item = usize;
+
+    ghost next_gives = { YieldsFirst places_left };
+
+    ghost remaining = { item_count places_left };
+
+    #[inline(always)]
+    fn next(&mut self) -> Option<usize> {
+        if self.falls {
+            if self.at <= self.end {
+                return None;
+            }
+            let place = self.at - 1;
+            self.at = place.saturating_sub(self.between);
+            Some(place)
+        } else {
+            if self.end <= self.at {
+                return None;
+            }
+            let place = self.at;
+            self.at = (place + 1).saturating_add(self.between);
+            Some(place)
+        }
+    }
+
+    fn size_hint(&self) -> (usize, Option<usize>) {
+        let left = self.len();
+        (left, Some(left))
+    }
+}
+
+impl ExactSizeIterator for SlicePlaces {
+    fn len(&self) -> usize {
+        if self.falls {
+            places_within(self.at.saturating_sub(self.end), self.between)
+        } else {
+            places_within(self.end.saturating_sub(self.at), self.between)
+        }
+    }
+}
+
+/// How many places a slice picks from so many, where so many lie between two that are picked.
+fn places_within(room: usize, between: usize) -> usize
+    ensures { result ≡ picked_of room (suc between) }
+{
+    if room == 0 {
+        0
+    } else {
+        (room - 1) / between.saturating_add(1) + 1
+    }
+}
+
+/// The places that a slice picks in an array of `len` elements, in order (RFC 9535, 2.3.4). A part that is not given has the default
+/// of its step's sign, and the step is 1. A part or a step of any size is taken as it is; a step of 0 picks nothing. Each place is
+/// below `len`. Takes constant time and no memory.
+pub fn slice_places(
+    start: Option<i64>,
+    end: Option<i64>,
+    step: Option<i64>,
+    len: usize,
+) -> SlicePlaces
+    ensures value { places_left result ≡ slice_of start end step len }
+    ensures below { All (λ i. i < len) (places_left result) }
+{
+    let step = step.unwrap_or(1);
+    let between = (step.unsigned_abs() as usize).saturating_sub(1);
+    if step > 0 {
+        SlicePlaces {
+            at: rising_start(start, len),
+            end: rising_end(end, len),
+            between,
+            falls: false,
+        }
+    } else if step < 0 {
+        SlicePlaces {
+            at: falling_start(start, len),
+            end: falling_end(end, len),
+            between,
+            falls: true,
+        }
+    } else {
+        SlicePlaces {
+            at: 0,
+            end: 0,
+            between,
+            falls: false,
+        }
+    }
+}
+
+/// The places of [`slice_places`] as a list, in time and memory linear in their number. Errs with `OutOfMemory` alone.
+pub fn picked(
+    alloc: Global,
+    start: Option<i64>,
+    end: Option<i64>,
+    step: Option<i64>,
+    len: usize,
+) -> Parsed<Vec<usize>>
+    ensures value { IfOk result (λ v. v.items ≡ slice_of start end step len) }
+    ensures below { IfOk result (λ v. All (λ i. i < len) v.items) }
+    ensures memory { IfErr result (λ e. e ≡ JsonPathError.OutOfMemory) }
+{
+    let places = slice_places(start, end, step, len).collect(alloc)?;
+    Ok(places)
+}
+
+/// Where a part of a slice points, from 0 to the length.
+fn low_place(part: i64, len: usize) -> usize
+    ensures value { pos result ≡ clamped (pos 0) (pos len) (normalized len part) }
+    ensures within { result ≤ len }
+{
+    if part < 0 {
+        len.saturating_sub(part.unsigned_abs() as usize)
+    } else {
+        len.min(part as usize)
+    }
+}
+
+/// One more than where a part of a slice with a falling step points, from 0 to the length.
+fn high_place(part: i64, len: usize) -> usize
+    ensures value { pos result ≡ clamped (negsuc 0) (pos len -ℤ pos 1) (normalized len part) +ℤ pos 1 }
+    ensures within { result ≤ len }
+{
+    if part < 0 {
+        len.saturating_sub(part.unsigned_abs() as usize - 1)
+    } else if (part as usize) < len {
+        part as usize + 1
+    } else {
+        len
+    }
+}
+
+/// The first place of a slice that rises.
+fn rising_start(start: Option<i64>, len: usize) -> usize
+    ensures { pos result ≡ clamped (pos 0) (pos len) (normalized len (unwrap_or start (pos 0))) }
+{
+    match start {
+        Some(part) => low_place(part, len),
+        None => 0,
+    }
+}
+
+/// The end of a slice that rises.
+fn rising_end(end: Option<i64>, len: usize) -> usize
+    ensures value { pos result ≡ clamped (pos 0) (pos len) (normalized len (unwrap_or end (pos len))) }
+    ensures within { result ≤ len }
+{
+    match end {
+        Some(part) => low_place(part, len),
+        None => len,
+    }
+}
+
+/// One more than the first place of a slice that falls.
+fn falling_start(start: Option<i64>, len: usize) -> usize
+    ensures value { pos result ≡ clamped (negsuc 0) (pos len -ℤ pos 1) (normalized len (unwrap_or start (pos len -ℤ pos 1))) +ℤ pos 1 }
+    ensures within { result ≤ len }
+{
+    match start {
+        Some(part) => high_place(part, len),
+        None => len,
+    }
+}
+
+/// One more than the end of a slice that falls.
+fn falling_end(end: Option<i64>, len: usize) -> usize
+    ensures { pos result ≡ clamped (negsuc 0) (pos len -ℤ pos 1) (normalized len (unwrap_or end (neg_ℤ (pos len) -ℤ pos 1))) +ℤ pos 1 }
+{
+    match end {
+        Some(part) => high_place(part, len),
+        None => 0,
+    }
+}
+
+#[cfg(test)]
+mod tests {
+    use super::*;
+    use std::process::Abort;
+    use std::test::Fail;
+
+    /// Each row: the parts of a slice, the length of the array, and what is picked.
+    type Row<'a> = ((Option<i64>, Option<i64>, Option<i64>), usize, &'a [usize]);
+
+    fn assert_picked(rt: &impl Abort, alloc: Global, rows: &[Row<'_>]) -> Result<(), Fail> {
+        for ((start, end, step), len, want) in rows {
+            let places = picked(alloc, *start, *end, *step, *len)?;
+            assert_eq!(rt; places.as_slice(), *want);
+        }
+        Ok(())
+    }
+
+    #[test]
+    fn parts_count_from_either_end(rt: HostRuntime) -> Result<(), Fail> {
+        assert_picked(
+            &rt,
+            rt.alloc(),
+            &[
+                ((Some(1), Some(4), Some(2)), 5, &[1, 3]),
+                ((None, None, Some(3)), 5, &[0, 3]),
+                ((Some(-2), Some(-1), None), 5, &[3]),
+                ((Some(2), Some(0), Some(-1)), 5, &[2, 1]),
+                ((None, None, Some(-2)), 5, &[4, 2, 0]),
+                ((Some(5), Some(1), None), 5, &[]),
+                ((None, None, Some(0)), 5, &[]),
+            ],
+        )
+    }
+
+    #[test]
+    fn places_come_one_by_one(rt: HostRuntime) -> Result<(), Fail> {
+        let mut places = slice_places(None, None, Some(-2), 5);
+        assert_eq!(rt; places.len(), 3);
+        assert_eq!(rt; places.next(), Some(4));
+        assert_eq!(rt; places.next(), Some(2));
+        assert_eq!(rt; places.next(), Some(0));
+        assert_eq!(rt; places.next(), None);
+        assert_eq!(rt; slice_places(None, None, Some(3), 5).len(), 2);
+        Ok(())
+    }
+
+    #[test]
+    fn parts_at_the_ends_of_their_type(rt: HostRuntime) -> Result<(), Fail> {
+        assert_picked(
+            &rt,
+            rt.alloc(),
+            &[
+                ((None, None, Some(i64::MIN)), 3, &[2]),
+                ((None, None, Some(i64::MAX)), 3, &[0]),
+                ((Some(i64::MIN), Some(i64::MAX), Some(1)), 3, &[0, 1, 2]),
+                ((Some(i64::MAX), Some(i64::MIN), Some(-1)), 3, &[2, 1, 0]),
+                ((Some(-1), Some(i64::MIN), Some(i64::MAX)), 3, &[]),
+                ((None, None, Some(i64::MIN)), 0, &[]),
+            ],
+        )
+    }
+}
