@@ -1,5 +1,5 @@
 -- What was read of an input.
-use Rattle.std.proofs.Common.{◌≡◌, ℕ, List, [], ◌++◌, append-nil, Option, None, Some, sym, subst, ap, ◌∙◌}
+use Rattle.std.proofs.Common.{◌≡◌, ℕ, List, ◌++◌, append-nil, Option, None, Some, sym, subst, ap, ◌∙◌}
 use Rattle.std.specs.Io.KnownBytes.{Consumes, IsAtEnd}
 use Rattle.jpath.specs.Output.{IsNoDocument}
 use Rattle.jpath.specs.declared.fault.Fault.{Fault}

@@ -1,12 +1,11 @@
 -- The text of a value of whole numbers.
-use Rattle.std.proofs.Common.{◌≡◌, ℕ, ℤ, pos, List, ◌∷◌, ◌++◌, Bool, true, false, ◌&&◌, ◌||◌, Some, None, is_some, if◌then◌else◌, nat_lt, ◌^◌, decimal, refl, ap, ◌∙◌}
+use Rattle.std.proofs.Common.{◌≡◌, ℕ, pos, ◌∷◌, Bool, true, false, Some, None, is_some, if◌then◌else◌, nat_lt, ◌^◌, decimal, refl, ap}
 use Rattle.std.proofs.lemmas.Bool.{and_parts}
-use Rattle.json.specs.Print.{quoted}
 use Rattle.serde_json.specs.Data as json
 use Rattle.serde_json.specs.Data.{Data, Items, Members, unsigned, negative, float}
 use Rattle.serde_json.specs.Written.{has_float, items_have_float, members_have_float, compact_text, items_text, members_text as object_text}
 use Rattle.jsonpath_base.specs.Values.{tree_of, trees_of, members_of, tree_of_number, has_whole_numbers, items_whole, members_whole}
-use Rattle.jpath.specs.Json.{comma_after, json_text, elements_text, members_text}
+use Rattle.jpath.specs.Json.{json_text, elements_text, members_text}
 
 -- a number that passed a test, here any
 number_text-if : (b : Bool) (n : ℕ) → is_some (if b then Some (pos n) else None) ≡ true → decimal n ≡ json_text (tree_of_number (if b then Some (pos n) else None))

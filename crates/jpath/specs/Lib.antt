@@ -2,3 +2,4 @@ pub mod Words
 pub mod Fault
 pub mod Json
 pub mod Output
+pub mod Refused

@@ -1,5 +1,5 @@
 -- What the program reads and writes.
-use Rattle.std.specs.Prelude.{◌≡◌, ◌≢◌, ℕ, List, [], ◌∷◌, ◌++◌, take, codes, Option, Some, None, IsSome, IfSome, Bool, true, false, IsTrue, IsUtf8, ⊤}
+use Rattle.std.specs.Prelude.{◌≡◌, ◌≢◌, ◌⊎◌, ℕ, List, [], ◌++◌, take, codes, Option, Some, None, IsSome, IfSome, false, IsTrue, IsUtf8, ⊤}
 use Rattle.std.specs.List.{flat_map}
 use Rattle.std.specs.Io.KnownBytes.{Appends}
 use Rattle.serde_json.specs.Data.{Data}
@@ -12,12 +12,15 @@ use Rattle.jsonpath_parser.specs.declared.errors.JsonPathError.{JsonPathError}
 use Rattle.jsonpath_parser.specs.declared.errors.JsonPathError.TheVariants.{OutOfMemory}
 use Rattle.jsonpath_base.specs.Tree.{Tree}
 use Rattle.jsonpath_base.specs.Places.{at}
+use Rattle.jsonpath_base.specs.SetFunctions.{set_function}
 use Rattle.jsonpath_base.specs.Values.{tree_of, has_whole_numbers}
+use Rattle.jsonpath_rust.specs.Document.{Document}
 use Rattle.jsonpath_rust.specs.Meaning.{selected}
+use Rattle.jsonpath_rust.specs.Patterns.{IsInvalid, AsksPattern}
 use Rattle.jpath.specs.Json.{json_text}
 use Rattle.jpath.specs.Words.{Asked, asked_by}
 use Rattle.jpath.specs.declared.words.Command.{Command}
-use Rattle.jpath.specs.declared.words.Command.TheVariants.{Nodes}
+use Rattle.jpath.specs.declared.words.Command.TheVariants.{Nodes, Values, Paths}
 use Rattle.jpath.specs.declared.fault.Fault.{Fault}
 use Rattle.jpath.specs.declared.fault.Fault.TheVariants.{Usage, Query, NotJson, NotWhole, Io, Memory}
 
@@ -29,6 +32,14 @@ IsJson bytes d = IsUtf8 bytes × (read bytes ≡ Some d)
 
 abbrev pub IsNoJson : List ℕ → Type 0
 IsNoJson bytes = IsUtf8 bytes → read bytes ≡ None
+
+-- the bytes are JSON of whole numbers, with this data
+abbrev pub IsWholeJson : List ℕ → Data → Type 0
+IsWholeJson bytes d = IsJson bytes d × IsTrue (has_whole_numbers d)
+
+-- what a query is asked of: the data, with the custom functions of sets
+abbrev pub queried : Data → Document
+queried d = record { root = tree_of d; custom = set_function }
 
 -- ---- the output
 
@@ -42,23 +53,32 @@ abbrev pub line : List ℕ → List ℕ → List ℕ
 line path value = path ++ (codes "\t" ++ (value ++ codes "\n"))
 
 -- the line of a location: its Normalized Path (RFC 9535, 2.7), and the value there
-abbrev pub node_line : Tree → Location → List ℕ
-node_line doc l = line (normal l) (value_text (at l doc))
+abbrev pub node_line : Document → Location → List ℕ
+node_line doc l = line (normal l) (value_text (at l doc.root))
+
+-- its value alone, and its path alone
+abbrev pub value_line : Document → Location → List ℕ
+value_line doc l = value_text (at l doc.root) ++ codes "\n"
+
+abbrev pub path_line : Location → List ℕ
+path_line l = normal l ++ codes "\n"
 
 -- what a command prints of the nodes that a query selects in a document, in their order
-abbrev pub printed : Command → syntax.Query → Tree → List ℕ
+abbrev pub printed : Command → syntax.Query → Document → List ℕ
 printed Nodes q doc = flat_map (node_line doc) (selected q doc)
+printed Values q doc = flat_map (value_line doc) (selected q doc)
+printed Paths q doc = flat_map path_line (selected q doc)
 
--- The words ask for a query, of brackets no deeper than 128; the bytes are JSON of whole numbers; and the output is what the command prints.
+-- The words ask for a query, of brackets no deeper than they say; the bytes are JSON of whole numbers; and the output is what the command prints.
 pub record IsOutput (words : List (List ℕ)) (bytes out : List ℕ) : Type 0 where
   pub asked : Asked
   pub by_words : asked_by words ≡ Some asked
   pub query : syntax.Query
-  pub derived : Derives 128 asked.query query
+  pub derived : Derives asked.depth asked.query query
   pub document : Data
   pub json : IsJson bytes document
   pub whole : IsTrue (has_whole_numbers document)
-  pub written : out ≡ printed asked.command query (tree_of document)
+  pub written : out ≡ printed asked.command query (queried document)
 
 -- known bytes grow by a beginning of bs
 abbrev pub AppendsFront : Option (List ℕ) → Option (List ℕ) → List ℕ → Type 0
@@ -68,11 +88,21 @@ AppendsFront old new bs = (k : ℕ) × Appends old new (take k bs)
 
 -- the words ask for a query that the grammar derives
 abbrev pub AsksQuery : List (List ℕ) → Type 0
-AsksQuery words = (a : Asked) × (q : syntax.Query) × (asked_by words ≡ Some a) × Derives 128 a.query q
+AsksQuery words = (a : Asked) × (q : syntax.Query) × (asked_by words ≡ Some a) × Derives a.depth a.query q
 
 -- the words ask for a text that the parser refuses so, for another cause than memory
 abbrev pub RefusesQuery : List (List ℕ) → JsonPathError → Type 0
-RefusesQuery words e = (a : Asked) × (asked_by words ≡ Some a) × IsRefusal 128 a.query e × (e ≢ OutOfMemory)
+RefusesQuery words e = (a : Asked) × (asked_by words ≡ Some a) × IsRefusal a.depth a.query e × (e ≢ OutOfMemory)
+
+-- the words ask for a query that the grammar derives; the input is a document; and at one of its nodes the query asks a pattern that
+-- `regex` can read
+abbrev pub AsksPatternOf : List (List ℕ) → Option (List ℕ) → Type 0
+AsksPatternOf words input = (a : Asked) × (q : syntax.Query) × (d : Data) × (asked_by words ≡ Some a) × Derives a.depth a.query q
+    × IfSome input (λ bytes. IsWholeJson bytes d) × AsksPattern q (queried d)
+
+-- why a query is refused: by the parser; or, with the document read, as `InvalidJsonPath`, for a pattern that is too large
+abbrev pub IsFaultOfQuery : List (List ℕ) → Option (List ℕ) → JsonPathError → Type 0
+IsFaultOfQuery words input e = RefusesQuery words e ⊎ (IsInvalid e × AsksPatternOf words input)
 
 -- why the input is no document, where its bytes are known
 abbrev pub IsNoDocument : Option (List ℕ) → Fault → Type 0
@@ -84,7 +114,7 @@ IsNoDocument input _ = ⊥
 
 abbrev pub IsFaultOf : List (List ℕ) → Option (List ℕ) → Fault → Type 0
 IsFaultOf words input Usage = asked_by words ≡ None
-IsFaultOf words input (Query e) = RefusesQuery words e
+IsFaultOf words input (Query e) = IsFaultOfQuery words input e
 IsFaultOf words input NotJson = AsksQuery words × IsNoDocument input NotJson
 IsFaultOf words input NotWhole = AsksQuery words × IsNoDocument input NotWhole
 IsFaultOf words input Io = AsksQuery words
@@ -93,5 +123,10 @@ IsFaultOf words input Memory = IsSome (asked_by words)
 -- it comes before anything is read
 abbrev pub IsOfWords : Fault → Type 0
 IsOfWords Usage = ⊤
-IsOfWords (Query e) = ⊤
+IsOfWords (Query e) = IsInvalid e → ⊥
 IsOfWords _ = ⊥
+
+-- a pattern is too large, which shows when all is read
+abbrev pub IsOfPattern : Fault → Type 0
+IsOfPattern (Query e) = IsInvalid e
+IsOfPattern _ = ⊥

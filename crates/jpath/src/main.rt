@@ -11,24 +11,36 @@ mod vectors;
 mod words;
 
 use fault::Fault;
+use std::io::ErrorKind;
 use std::process::ExitCode;
 use std::{env, io};
 
 /// Runs with the words of the command line and the standard streams.
 fn run_with(rt: &HostRuntime) -> Result<(), Fault> {
-    let Ok(all) = env::args(rt) else {
-        return Err(Fault::Usage);
-    };
-    let mut words = Vec::new(rt.alloc());
-    for word in all.skip(1) {
-        words.push(word)?;
-    }
+    let words = words_of(rt)?;
     run::run(
         rt.alloc(),
         words.as_slice(),
         &mut rt.reader(),
         &mut io::writer(rt),
     )
+}
+
+/// The words behind the program's name. Words that are no text are no command and query.
+fn words_of(rt: &HostRuntime) -> Result<Vec<String>, Fault> {
+    let all = match env::args(rt) {
+        Ok(all) => all,
+        Err(e) => return Err(if e.kind() == ErrorKind::OutOfMemory {
+            Fault::Memory
+        } else {
+            Fault::Usage
+        }),
+    };
+    let mut words = Vec::new(rt.alloc());
+    for word in all.skip(1) {
+        words.push(word)?;
+    }
+    Ok(words)
 }
 
 fn main(rt: HostRuntime) -> ExitCode {

@@ -1,18 +1,21 @@
 //! The text of the nodes that a query selects.
-ghost use Rattle.std.specs.Prelude.{◌≡◌, ◌++◌, All, IsTrue, IfOk, IfErr, OnOk, string_bytes};
+ghost use Rattle.std.specs.Prelude.{◌≡◌, ◌++◌, map, codes, All, IsTrue, IfOk, IfErr, OnOk, string_bytes};
 ghost use Rattle.std.specs.Fmt.{signed_decimal};
 ghost use Rattle.std.specs.List.{flat_map};
 ghost use Rattle.jsonpath_parser.specs.View.{query_view};
+ghost use Rattle.jsonpath_base.specs.SetFunctions.{set_function};
 ghost use Rattle.jsonpath_base.specs.Values.{value_tree, value_is_whole};
+ghost use Rattle.jsonpath_rust.specs.Document.{document_of};
 ghost use Rattle.jsonpath_rust.specs.Answer.{shown};
 ghost use Rattle.jpath.specs.Json.{json_text};
 ghost use Rattle.jpath.specs.Output as output;
 ghost use Rattle.jpath.specs.Output.{line};
+ghost use Rattle.jpath.specs.Refused.{IsNoAnswer};
 
 use crate::fault::Fault;
 use crate::words::Command;
 use jsonpath_parser::model::JpQuery;
-use jsonpath_rust::query::{QueryRef, js_path_process};
+use jsonpath_rust::query::{QueryRef, js_path_process, js_path_process_vals};
 use serde_json::Value;
 use std::alloc::{AllocError, Global};
 use std::fmt::Write;
@@ -25,15 +28,41 @@ pub fn printed(
     document: &Value,
 ) -> Result<String, Fault>
     requires { IsTrue (value_is_whole document.now) }
-    ensures text { IfOk result (λ text. string_bytes text ≡ output.printed command (query_view query.now) (value_tree document.now)) }
-    ensures memory { IfErr result (λ f. f ≡ Fault.Memory) }
+    ensures text { IfOk result (λ text. string_bytes text ≡ output.printed command (query_view query.now) (document_of value_tree set_function document.now)) }
+    ensures refused { IfErr result (IsNoAnswer (query_view query.now) (document_of value_tree set_function document.now)) }
 {
     match command {
-        Command::Nodes => {
-            let nodes = js_path_process(alloc, query, document)?;
-            Ok(nodes_text(alloc, nodes.as_slice())?)
-        }
+        Command::Nodes => nodes_printed(alloc, query, document),
+        Command::Values => values_printed(alloc, query, document),
+        Command::Paths => paths_printed(alloc, query, document),
     }
+}
+
+fn nodes_printed(alloc: Global, query: &JpQuery, document: &Value) -> Result<String, Fault>
+    requires { IsTrue (value_is_whole document.now) }
+    ensures text { IfOk result (λ text. string_bytes text ≡ output.printed Command.Nodes (query_view query.now) (document_of value_tree set_function document.now)) }
+    ensures refused { IfErr result (IsNoAnswer (query_view query.now) (document_of value_tree set_function document.now)) }
+{
+    let nodes = js_path_process(alloc, query, document)?;
+    Ok(nodes_text(alloc, nodes.as_slice())?)
+}
+
+fn values_printed(alloc: Global, query: &JpQuery, document: &Value) -> Result<String, Fault>
+    requires { IsTrue (value_is_whole document.now) }
+    ensures text { IfOk result (λ text. string_bytes text ≡ output.printed Command.Values (query_view query.now) (document_of value_tree set_function document.now)) }
+    ensures refused { IfErr result (IsNoAnswer (query_view query.now) (document_of value_tree set_function document.now)) }
+{
+    let values = js_path_process_vals(alloc, query, document)?;
+    Ok(values_text(alloc, values.as_slice())?)
+}
+
+fn paths_printed(alloc: Global, query: &JpQuery, document: &Value) -> Result<String, Fault>
+    requires { IsTrue (value_is_whole document.now) }
+    ensures text { IfOk result (λ text. string_bytes text ≡ output.printed Command.Paths (query_view query.now) (document_of value_tree set_function document.now)) }
+    ensures refused { IfErr result (IsNoAnswer (query_view query.now) (document_of value_tree set_function document.now)) }
+{
+    let nodes = js_path_process(alloc, query, document)?;
+    Ok(paths_text(alloc, nodes.as_slice())?)
 }
 
 /// A line for each node: its path, a tab, its value as compact JSON.
@@ -44,6 +73,31 @@ fn nodes_text(alloc: Global, nodes: &[QueryRef<'_, Value>]) -> Result<String, Al
     let mut text = String::new(alloc);
     for node in nodes {
         push_node(alloc, &mut text, node)?;
+    }
+    Ok(text)
+}
+
+/// A line for each value, as compact JSON.
+fn values_text(alloc: Global, values: &[&Value]) -> Result<String, AllocError>
+    requires { All (λ v. IsTrue (value_is_whole v.now)) values.now }
+    ensures { IfOk result (λ text. string_bytes text ≡ flat_map (λ t. json_text t ++ codes "\n") (map (λ v. value_tree v.now) values.now)) }
+{
+    let mut text = String::new(alloc);
+    for value in values {
+        push_value(alloc, &mut text, value)?;
+        text.push('\n')?;
+    }
+    Ok(text)
+}
+
+/// A line for each node: its path.
+fn paths_text(alloc: Global, nodes: &[QueryRef<'_, Value>]) -> Result<String, AllocError>
+    ensures { IfOk result (λ text. string_bytes text ≡ flat_map (λ p. p.0 ++ codes "\n") (shown value_tree nodes.now)) }
+{
+    let mut text = String::new(alloc);
+    for node in nodes {
+        text.push_str(node.path.as_str())?;
+        text.push('\n')?;
     }
     Ok(text)
 }

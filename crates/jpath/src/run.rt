@@ -4,12 +4,12 @@ ghost use Rattle.std.specs.Io.KnownBytes.{Consumes, Appends, IsAtEnd};
 ghost use Rattle.serde_json.specs.View.{view};
 ghost use Rattle.jsonpath_base.specs.Values.{value_is_whole};
 ghost use Rattle.jpath.specs.Words.{asked_by};
-ghost use Rattle.jpath.specs.Output.{IsJson, IsNoDocument, IsOutput, AppendsFront, AsksQuery, IsFaultOf, IsOfWords};
+ghost use Rattle.jpath.specs.Output.{IsJson, IsNoDocument, IsOutput, AppendsFront, AsksQuery, IsFaultOf, IsOfWords, IsOfPattern};
 
 use crate::fault::Fault;
 use crate::output::printed;
 use crate::words::request_of;
-use jsonpath_parser::parse_json_path;
+use jsonpath_parser::parse_json_path_within;
 use serde_json::Value;
 use std::alloc::{AllocError, Global};
 use std::io::{Read, Write};
@@ -19,7 +19,8 @@ use std::io::{Read, Write};
 ///
 /// The words and the query are judged before anything is read, and nothing is written before the whole output
 /// stands. Each fault comes in the case that it names, the first that holds in the order of work: words, query,
-/// reading, JSON, whole numbers, writing.
+/// reading, JSON, whole numbers, a pattern that is too large, writing.
+#[tactic(auto, using(crate::proofs::Told::told, crate::proofs::Told::told_front, crate::proofs::Told::no_answer))]
 pub fn run<R: Read, W: Write>(
     alloc: Global,
     words: &[String],
@@ -34,6 +35,7 @@ pub fn run<R: Read, W: Write>(
     ensures usage { IsErrOf result Fault.Usage ↔ (asked_by (map string_bytes words.now) ≡ None) }
     ensures fault { IfErr result (IsFaultOf (map string_bytes words.now) (R.remaining reader.old)) }
     ensures unread { IfErr result (λ f. IsOfWords f → reader.new ≡ reader.old) }
+    ensures read { IfErr result (λ f. IsOfPattern f → IsAtEnd (R.remaining reader.new)) }
     ensures unwritten { IfErr result (λ f. f ≢ Fault.Io → writer.new ≡ writer.old) }
 
     // Where a read failed, nothing was written.
@@ -44,7 +46,7 @@ pub fn run<R: Read, W: Write>(
     let Some(request) = request_of(words) else {
         return Err(Fault::Usage);
     };
-    let query = parse_json_path(alloc, request.query)?;
+    let query = parse_json_path_within(alloc, request.query, request.depth)?;
     let document = read_document(alloc, reader)?;
     let output = printed(alloc, request.command, &query, &document)?;
     write_out(writer, output.as_bytes())

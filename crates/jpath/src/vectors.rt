@@ -1,187 +1,138 @@
-//! Worked rows, as data: each goes through `js_path` and through a run.
+//! Worked rows, as data: each goes through `js_path`, in documents of two types, and through runs.
+//!
+//! The nodes of a table `ORDERED` come in the order in which a `Value` walks the members of an object. A `Doc` walks them
+//! the other way round, so these rows are not asked of it; nor are those of `SET_ROWS`, for it has no functions of sets.
+//! The rows of a table `DOC_ROWS` are asked of a `Doc` alone, and all others of both types.
+mod filters;
+mod functions;
+mod names;
+mod runs;
+mod strings;
+mod whole;
+
+use crate::fault::Fault;
 use crate::run::run;
+use jpath_doc::{Doc, of_value};
 use jsonpath_parser::errors::JsonPathError;
-use jsonpath_rust::query::js_path;
+use jsonpath_parser::{parse_json_path, parse_json_path_within};
+use jsonpath_rust::query::queryable::Queryable;
+use jsonpath_rust::query::{QueryRef, js_path, js_path_within};
+use runs::{NO_NUMBER, NO_QUERY, NOT_JSON, Refused, Written};
 use serde_json::Value;
 use std::alloc::{AllocError, Global};
+use std::process::Abort;
 use std::test::Fail;
 
-/// What a query selects in a document, in order: each node as its path and its value.
-struct Row {
-    document: &'static str,
-    query: &'static str,
-    nodes: &'static [(&'static str, &'static str)],
+/// A document, a query, and what the query selects in the document, in order: each node as its path and its value.
+struct Row(
+    &'static str,
+    &'static str,
+    &'static [(&'static str, &'static str)],
+);
+
+// ---- documents
+
+/// The nodes of a row, as values.
+fn values_of(alloc: Global, row: &Row) -> Result<Vec<(&'static str, Value)>, Fail> {
+    let mut nodes = Vec::new(alloc);
+    for (path, json) in row.2 {
+        nodes.push((*path, Value::from_str(alloc, json)?))?;
+    }
+    Ok(nodes)
 }
 
-static ROWS: [Row; 8] = [
-    Row {
-        document: "null",
-        query: "$",
-        nodes: &[("$", "null")],
-    },
-    Row {
-        document: "{\"a\":[1,2]}",
-        query: "$.a[*]",
-        nodes: &[("$['a'][0]", "1"), ("$['a'][1]", "2")],
-    },
-    Row {
-        document: "[[1],[2,3]]",
-        query: "$[1][-1]",
-        nodes: &[("$[1][1]", "3")],
-    },
-    Row {
-        document: "{\"b\":2,\"a'\":1}",
-        query: "$.*",
-        nodes: &[("$['a\\'']", "1"), ("$['b']", "2")],
-    },
-    Row {
-        document: "{}",
-        query: "$[-9007199254740991]",
-        nodes: &[],
-    },
-    Row {
-        document: "{\"a\":7}",
-        query: "$ .a",
-        nodes: &[("$['a']", "7")],
-    },
-    Row {
-        document: "{}",
-        query: "$.x",
-        nodes: &[],
-    },
-    Row {
-        document: "[ { \"b\" : \"\\u00e9\\n\" , \"a\" : [ true , -1 ] } ]",
-        query: "$[*]",
-        nodes: &[("$[0]", "{\"a\":[true,-1],\"b\":\"é\\n\"}")],
-    },
-];
-
-/// Texts that are no query.
-static NO_QUERIES: [&str; 8] = [
-    "",
-    "$. a",
-    "$.a ",
-    "$[]",
-    "$[01]",
-    "$[-0]",
-    "$..",
-    "$[-9007199254740992]",
-];
-
-/// A run that ends early: its words, its input, and how it ends.
-struct RefusedRun {
-    words: &'static [&'static str],
-    input: &'static [u8],
-    status: u8,
-    line: &'static str,
+/// The nodes of a row, as documents of the other type.
+fn docs_of_row(alloc: Global, row: &Row) -> Result<Vec<(&'static str, Doc)>, Fail> {
+    let mut nodes = Vec::new(alloc);
+    for (path, json) in row.2 {
+        let value = Value::from_str(alloc, json)?;
+        nodes.push((*path, of_value(alloc, &value)?))?;
+    }
+    Ok(nodes)
 }
 
-const NO_QUERY: &str = "jpath: not a query";
+// ---- rows by `js_path`
 
-const USAGE: &str = "jpath: usage: jpath nodes, values, paths or delete, then a query";
+/// The node has this path and this value.
+fn is_node<T: Queryable>(
+    rt: &impl Abort,
+    node: &QueryRef<'_, T>,
+    path: &str,
+    value: &T,
+) -> Result<(), Fail> {
+    assert_eq!(rt; node.path.as_str(), path);
+    assert!(rt; node.val.is_whole());
+    assert!(rt; value.is_whole());
+    assert!(rt; node.val.equal(value), "{path}");
+    Ok(())
+}
 
-const NOT_JSON: &str = "jpath: input is not JSON";
+/// The query selects these nodes in the document.
+fn shows<T: Queryable>(
+    rt: &impl Abort,
+    alloc: Global,
+    query: &str,
+    document: &T,
+    nodes: &[(&str, T)],
+) -> Result<(), Fail> {
+    assert!(rt; document.is_whole());
+    let answered = js_path(alloc, query, document)?;
+    assert_eq!(rt; answered.len(), nodes.len(), "{query}");
+    for (node, (path, value)) in answered.iter().zip(nodes) {
+        is_node(rt, node, path, value)?;
+    }
+    Ok(())
+}
 
-const NOT_WHOLE: &str = "jpath: the document holds a number that is no whole number of 64 bits";
+/// The path of each of these nodes of the document, asked as a query, gives that node alone.
+fn lead_back<T: Queryable>(
+    rt: &impl Abort,
+    alloc: Global,
+    document: &T,
+    nodes: &[(&str, T)],
+) -> Result<(), Fail> {
+    assert!(rt; document.is_whole());
+    for (path, value) in nodes {
+        let answered = js_path(alloc, path, document)?;
+        assert_eq!(rt; answered.len(), 1, "{path}");
+        is_node(rt, &answered[0], path, value)?;
+    }
+    Ok(())
+}
 
-static REFUSED_RUNS: [RefusedRun; 16] = [
-    RefusedRun {
-        words: &["nodes", "$"],
-        input: b"[1.5]",
-        status: 4,
-        line: NOT_WHOLE,
-    },
-    RefusedRun {
-        words: &["nodes", "$"],
-        input: b"[1e2]",
-        status: 4,
-        line: NOT_WHOLE,
-    },
-    RefusedRun {
-        words: &["nodes", "$"],
-        input: b"[9223372036854775808]",
-        status: 4,
-        line: NOT_WHOLE,
-    },
-    RefusedRun {
-        words: &["nodes", "$"],
-        input: b"[1e400]",
-        status: 3,
-        line: NOT_JSON,
-    },
-    RefusedRun {
-        words: &["nodes", "$"],
-        input: b"[1",
-        status: 3,
-        line: NOT_JSON,
-    },
-    RefusedRun {
-        words: &["nodes", "$"],
-        input: b"",
-        status: 3,
-        line: NOT_JSON,
-    },
-    RefusedRun {
-        words: &["nodes", "$"],
-        input: b"\xff",
-        status: 3,
-        line: NOT_JSON,
-    },
-    RefusedRun {
-        words: &["nodes", "$"],
-        input: b"\"\xff\"",
-        status: 3,
-        line: NOT_JSON,
-    },
-    RefusedRun {
-        words: &["nodes"],
-        input: b"1",
-        status: 2,
-        line: USAGE,
-    },
-    RefusedRun {
-        words: &[],
-        input: b"1",
-        status: 2,
-        line: USAGE,
-    },
-    RefusedRun {
-        words: &["list", "$"],
-        input: b"1",
-        status: 2,
-        line: USAGE,
-    },
-    RefusedRun {
-        words: &["NODES", "$"],
-        input: b"1",
-        status: 2,
-        line: USAGE,
-    },
-    RefusedRun {
-        words: &["x", "--depth", "1", "$"],
-        input: b"1",
-        status: 2,
-        line: USAGE,
-    },
-    RefusedRun {
-        words: &["nodes", "--depth"],
-        input: b"1",
-        status: 1,
-        line: NO_QUERY,
-    },
-    RefusedRun {
-        words: &["nodes", ""],
-        input: b"1",
-        status: 1,
-        line: NO_QUERY,
-    },
-    RefusedRun {
-        words: &["nodes", "$. a"],
-        input: b"[1",
-        status: 1,
-        line: NO_QUERY,
-    },
-];
+/// The rows hold of a `Value`, and of each command.
+fn rows_hold(rt: &impl Abort, alloc: Global, rows: &[Row]) -> Result<(), Fail> {
+    for row in rows {
+        let document = Value::from_str(alloc, row.0)?;
+        let nodes = values_of(alloc, row)?;
+        shows(rt, alloc, row.1, &document, nodes.as_slice())?;
+        are_printed(rt, alloc, row)?;
+    }
+    Ok(())
+}
+
+/// The rows hold of a `Doc`.
+fn rows_hold_of_doc(rt: &impl Abort, alloc: Global, rows: &[Row]) -> Result<(), Fail> {
+    for row in rows {
+        let document = of_value(alloc, &Value::from_str(alloc, row.0)?)?;
+        let nodes = docs_of_row(alloc, row)?;
+        shows(rt, alloc, row.1, &document, nodes.as_slice())?;
+    }
+    Ok(())
+}
+
+/// Each path of the rows leads back to its node, in a document of either type.
+fn rows_lead_back(rt: &impl Abort, alloc: Global, rows: &[Row]) -> Result<(), Fail> {
+    for row in rows {
+        let value = Value::from_str(alloc, row.0)?;
+        lead_back(rt, alloc, &value, values_of(alloc, row)?.as_slice())?;
+        let doc = of_value(alloc, &value)?;
+        lead_back(rt, alloc, &doc, docs_of_row(alloc, row)?.as_slice())?;
+    }
+    Ok(())
+}
+
+// ---- rows by a run
 
 /// How a run ended, and what it wrote.
 #[derive(Debug, Drop)]
@@ -213,137 +164,282 @@ fn run_on(alloc: Global, words: &[&str], input: &[u8]) -> Result<Ended, AllocErr
     }
 }
 
-#[test]
-fn rows_by_js_path(rt: HostRuntime) -> Result<(), Fail> {
-    for row in &ROWS {
-        let document = Value::from_str(rt.alloc(), row.document)?;
-        assert!(rt; jsonpath_base::whole(&document));
-        let nodes = js_path(rt.alloc(), row.query, &document)?;
-        assert_eq!(rt; nodes.len(), row.nodes.len(), "{}", row.query);
-        for (node, (path, value)) in nodes.iter().zip(row.nodes) {
-            assert_eq!(rt; node.path.as_str(), *path);
-            assert_eq!(rt; node.val.to_string(rt.alloc())?.as_str(), *value);
-        }
-    }
+/// A run with these words and this input ends well, and writes this output.
+fn writes(
+    rt: &impl Abort,
+    alloc: Global,
+    words: &[&str],
+    input: &[u8],
+    output: &str,
+) -> Result<(), Fail> {
+    let ended = run_on(alloc, words, input)?;
+    assert_eq!(rt; (ended.status, ended.line.as_str()), (0, ""), "{words:?}");
+    assert_eq!(rt; ended.written.as_slice(), output.as_bytes(), "{words:?}");
     Ok(())
 }
 
-#[test]
-fn rows_by_run(rt: HostRuntime) -> Result<(), Fail> {
-    for row in &ROWS {
-        let ended = run_on(rt.alloc(), &["nodes", row.query], row.document.as_bytes())?;
-        let mut output = String::new(rt.alloc());
-        for (path, value) in row.nodes {
-            output.push_str(format!(in rt.alloc(); "{path}\t{value}\n")?.as_str())?;
-        }
-        assert_eq!(rt; ended.status, 0, "{}", row.query);
-        assert_eq!(rt;
-            ended.written.as_slice(),
-            output.as_bytes(),
-            "{}",
-            row.query
-        );
-    }
-    Ok(())
-}
-
-#[test]
-fn refused_queries(rt: HostRuntime) -> Result<(), Fail> {
-    for query in NO_QUERIES {
-        let refused = js_path(rt.alloc(), query, &Value::Null);
-        assert!(rt;
-            matches!(&refused, Err(JsonPathError::PestError(place)) if *place <= query.len()),
-            "{query}"
-        );
-        let ended = run_on(rt.alloc(), &["nodes", query], b"null")?;
-        assert_eq!(rt;
-            (ended.status, ended.line.as_str()),
-            (1, NO_QUERY),
-            "{query}"
-        );
-        assert!(rt; ended.written.is_empty());
-    }
-    Ok(())
-}
-
-#[test]
-fn refused_runs(rt: HostRuntime) -> Result<(), Fail> {
-    for row in &REFUSED_RUNS {
-        let ended = run_on(rt.alloc(), row.words, row.input)?;
-        assert_eq!(rt;
-            (ended.status, ended.line.as_str()),
-            (row.status, row.line),
-            "{:?}",
-            row.words
-        );
-        assert!(rt; ended.written.is_empty());
-    }
-    Ok(())
-}
-
-/// `$` and so many opening brackets.
-fn brackets(alloc: Global, count: usize) -> Result<String, AllocError> {
-    let mut query = "$".to_string(alloc)?;
-    for _ in 0..count {
-        query.push('[')?;
-    }
-    Ok(query)
-}
-
-#[test]
-fn depth_of_queries(rt: HostRuntime) -> Result<(), Fail> {
-    let within = brackets(rt.alloc(), 128)?;
-    let refused = js_path(rt.alloc(), within.as_str(), &Value::Null);
-    assert!(rt; matches!(refused, Err(JsonPathError::PestError(_))));
-    let ended = run_on(rt.alloc(), &["nodes", within.as_str()], b"null")?;
-    assert_eq!(rt; (ended.status, ended.line.as_str()), (1, NO_QUERY));
-
-    let beyond = brackets(rt.alloc(), 129)?;
-    let refused = js_path(rt.alloc(), beyond.as_str(), &Value::Null);
-    assert!(rt; matches!(refused, Err(JsonPathError::MaxNestingDepthExceeded(128))));
-    let ended = run_on(rt.alloc(), &["nodes", beyond.as_str()], b"null")?;
+/// A run with these words and this input ends with this status and line, and writes nothing.
+fn ends(
+    rt: &impl Abort,
+    alloc: Global,
+    words: &[&str],
+    input: &[u8],
+    status: u8,
+    line: &str,
+) -> Result<(), Fail> {
+    let ended = run_on(alloc, words, input)?;
     assert_eq!(rt;
         (ended.status, ended.line.as_str()),
-        (1, "jpath: nesting deeper than 128")
+        (status, line),
+        "{words:?}"
     );
+    assert!(rt; ended.written.is_empty());
     Ok(())
 }
 
-/// So many lists, one in the other.
-fn lists(alloc: Global, count: usize) -> Result<String, AllocError> {
-    let mut document = String::new(alloc);
-    for _ in 0..count {
-        document.push('[')?;
+/// Each command prints the row's nodes.
+fn are_printed(rt: &impl Abort, alloc: Global, row: &Row) -> Result<(), Fail> {
+    let mut nodes = String::new(alloc);
+    let mut values = String::new(alloc);
+    let mut paths = String::new(alloc);
+    for (path, value) in row.2 {
+        nodes.push_str(format!(in alloc; "{path}\t{value}\n")?.as_str())?;
+        values.push_str(format!(in alloc; "{value}\n")?.as_str())?;
+        paths.push_str(format!(in alloc; "{path}\n")?.as_str())?;
     }
-    for _ in 0..count {
-        document.push(']')?;
+    writes(
+        rt,
+        alloc,
+        &["nodes", row.1],
+        row.0.as_bytes(),
+        nodes.as_str(),
+    )?;
+    writes(
+        rt,
+        alloc,
+        &["values", row.1],
+        row.0.as_bytes(),
+        values.as_str(),
+    )?;
+    writes(
+        rt,
+        alloc,
+        &["paths", row.1],
+        row.0.as_bytes(),
+        paths.as_str(),
+    )
+}
+
+fn runs_write(rt: &impl Abort, alloc: Global, rows: &[Written]) -> Result<(), Fail> {
+    for row in rows {
+        writes(rt, alloc, row.0, row.1, row.2)?;
     }
-    Ok(document)
+    Ok(())
+}
+
+fn runs_end(rt: &impl Abort, alloc: Global, rows: &[Refused]) -> Result<(), Fail> {
+    for row in rows {
+        ends(rt, alloc, row.0, row.1, row.2, row.3)?;
+    }
+    Ok(())
+}
+
+// ---- texts that are a query, and that are none
+
+fn is_accepted(rt: &impl Abort, alloc: Global, query: &str) -> Result<(), Fail> {
+    assert!(rt; parse_json_path(alloc, query).is_ok(), "{query}");
+    let ended = run_on(alloc, &["nodes", query], b"null")?;
+    assert_eq!(rt; ended.status, 0, "{query}");
+    Ok(())
+}
+
+fn are_accepted(rt: &impl Abort, alloc: Global, queries: &[&str]) -> Result<(), Fail> {
+    for query in queries {
+        is_accepted(rt, alloc, query)?;
+    }
+    Ok(())
+}
+
+fn is_no_query(rt: &impl Abort, alloc: Global, query: &str) -> Result<(), Fail> {
+    let refused = js_path(alloc, query, &Value::Null);
+    assert!(rt;
+        matches!(&refused, Err(JsonPathError::PestError(place)) if *place <= query.len()),
+        "{query}"
+    );
+    ends(rt, alloc, &["nodes", query], b"null", 1, NO_QUERY)
+}
+
+fn are_no_queries(rt: &impl Abort, alloc: Global, queries: &[&str]) -> Result<(), Fail> {
+    for query in queries {
+        is_no_query(rt, alloc, query)?;
+    }
+    Ok(())
+}
+
+/// Each text is a query but for a literal without a value, the first of which is this one.
+fn have_no_number(rt: &impl Abort, alloc: Global, rows: &[(&str, &str)]) -> Result<(), Fail> {
+    for (query, literal) in rows {
+        match js_path(alloc, query, &Value::Null) {
+            Err(JsonPathError::InvalidNumber(text)) => assert_eq!(rt; text.as_str(), *literal),
+            _ => return Err("not refused for a literal".into()),
+        }
+        ends(rt, alloc, &["nodes", query], b"null", 1, NO_NUMBER)?;
+    }
+    Ok(())
+}
+
+/// The brackets of the text nest deeper than 128.
+fn is_too_deep(rt: &impl Abort, alloc: Global, query: &str) -> Result<(), Fail> {
+    let refused = js_path(alloc, query, &Value::Null);
+    assert!(rt;
+        matches!(refused, Err(JsonPathError::MaxNestingDepthExceeded(128))),
+        "{query}"
+    );
+    ends(
+        rt,
+        alloc,
+        &["nodes", query],
+        b"null",
+        1,
+        "jpath: nesting deeper than 128",
+    )
+}
+
+/// The front, the opening part so many times, the middle, the closing part as often, the back.
+fn nested(
+    alloc: Global,
+    count: usize,
+    (front, open, middle, close, back): (&str, &str, &str, &str, &str),
+) -> Result<String, AllocError> {
+    let mut text = front.to_string(alloc)?;
+    for _ in 0..count {
+        text.push_str(open)?;
+    }
+    text.push_str(middle)?;
+    for _ in 0..count {
+        text.push_str(close)?;
+    }
+    text.push_str(back)?;
+    Ok(text)
+}
+
+// ---- the tests
+
+#[test]
+fn names_indexes_wildcards(rt: HostRuntime) -> Result<(), Fail> {
+    let alloc = rt.alloc();
+    rows_hold(&rt, alloc, &names::ROWS)?;
+    rows_hold(&rt, alloc, &names::ORDERED)?;
+    rows_hold(&rt, alloc, &names::AWKWARD)?;
+    rows_hold(&rt, alloc, &names::SPELLED_AT_LENGTH)?;
+    rows_hold_of_doc(&rt, alloc, &names::ROWS)?;
+    rows_hold_of_doc(&rt, alloc, &names::AWKWARD)?;
+    rows_hold_of_doc(&rt, alloc, &names::SPELLED_AT_LENGTH)?;
+    rows_hold_of_doc(&rt, alloc, &names::DOC_ROWS)?;
+    are_no_queries(&rt, alloc, &names::NO_QUERIES)
+}
+
+#[test]
+fn runs_by_their_words(rt: HostRuntime) -> Result<(), Fail> {
+    let alloc = rt.alloc();
+    runs_write(&rt, alloc, &runs::WRITTEN)?;
+    runs_end(&rt, alloc, &runs::REFUSED)
+}
+
+#[test]
+fn depth_as_a_parameter(rt: HostRuntime) -> Result<(), Fail> {
+    let alloc = rt.alloc();
+    for (depth, query) in &runs::WITHIN {
+        assert!(rt; parse_json_path_within(alloc, query, *depth).is_ok());
+        assert!(rt; js_path_within(alloc, query, *depth, &Value::Null).is_ok());
+    }
+    for (depth, query) in &runs::TOO_DEEP {
+        let refused = js_path_within(alloc, query, *depth, &Value::Null);
+        assert!(rt;
+            matches!(refused, Err(JsonPathError::MaxNestingDepthExceeded(limit)) if limit == *depth)
+        );
+    }
+    Ok(())
+}
+
+#[test]
+fn depth_of_texts(rt: HostRuntime) -> Result<(), Fail> {
+    let alloc = rt.alloc();
+    is_no_query(
+        &rt,
+        alloc,
+        nested(alloc, 128, ("$", "[", "", "", ""))?.as_str(),
+    )?;
+    is_too_deep(
+        &rt,
+        alloc,
+        nested(alloc, 129, ("$", "[", "", "", ""))?.as_str(),
+    )?;
+    // A string stands open.
+    is_no_query(
+        &rt,
+        alloc,
+        nested(alloc, 200, ("$'", "[", "", "", ""))?.as_str(),
+    )?;
+    // A backslash outside a string does nothing.
+    is_no_query(
+        &rt,
+        alloc,
+        nested(alloc, 129, (r"$\'", "[", "", "", ""))?.as_str(),
+    )?;
+    is_too_deep(
+        &rt,
+        alloc,
+        nested(alloc, 128, ("$[?", "(", "@", ")", "]"))?.as_str(),
+    )?;
+    is_too_deep(
+        &rt,
+        alloc,
+        nested(alloc, 129, ("$", "[?@", "", "]", ""))?.as_str(),
+    )
 }
 
 #[test]
 fn depth_of_documents(rt: HostRuntime) -> Result<(), Fail> {
-    let within = lists(rt.alloc(), 127)?;
-    let ended = run_on(rt.alloc(), &["nodes", "$"], within.as_bytes())?;
-    assert_eq!(rt; ended.status, 0);
-    let output = format!(in rt.alloc(); "$\t{within}\n")?;
-    assert_eq!(rt; ended.written.as_slice(), output.as_bytes());
-
-    let beyond = lists(rt.alloc(), 128)?;
-    let ended = run_on(rt.alloc(), &["nodes", "$"], beyond.as_bytes())?;
-    assert_eq!(rt; (ended.status, ended.line.as_str()), (3, NOT_JSON));
-    Ok(())
+    let alloc = rt.alloc();
+    let within = nested(alloc, 127, ("", "[", "", "]", ""))?;
+    let output = format!(in alloc; "$\t{within}\n")?;
+    writes(
+        &rt,
+        alloc,
+        &["nodes", "$"],
+        within.as_bytes(),
+        output.as_str(),
+    )?;
+    let beyond = nested(alloc, 128, ("", "[", "", "]", ""))?;
+    ends(&rt, alloc, &["nodes", "$"], beyond.as_bytes(), 3, NOT_JSON)
 }
 
 #[test]
 fn beginnings_of_a_document(rt: HostRuntime) -> Result<(), Fail> {
+    let alloc = rt.alloc();
     let document = b"{\"a\":[1,2]}";
     for length in 0..document.len() {
-        let ended = run_on(rt.alloc(), &["nodes", "$"], &document[..length])?;
-        assert_eq!(rt; ended.status, 3, "{length} bytes");
+        ends(
+            &rt,
+            alloc,
+            &["nodes", "$"],
+            &document[..length],
+            3,
+            NOT_JSON,
+        )?;
     }
-    // Of a repeated name the last value stays.
-    let ended = run_on(rt.alloc(), &["nodes", "$"], b"{\"a\":1.5,\"a\":1}")?;
-    assert_eq!(rt; ended.written.as_slice(), b"$\t{\"a\":1}\n".as_slice());
+    Ok(())
+}
+
+#[test]
+fn line_of_a_large_pattern(rt: HostRuntime) -> Result<(), Fail> {
+    let alloc = rt.alloc();
+    let fault = Fault::Query(JsonPathError::InvalidJsonPath(String::new(alloc)));
+    assert_eq!(rt; fault.status(), 1);
+    assert_eq!(rt;
+        fault.to_string(alloc)?.as_str(),
+        "jpath: a pattern is too large"
+    );
     Ok(())
 }

@@ -95,6 +95,13 @@ pub struct Finder<'p> {
 impl<'p> Finder<'p> {
     ghost use Rattle.jsonpath_base.specs.PatternViews.{source_of, is_of_whole, pattern_of};
 
+    /// Whether its pattern was read from this text, and for `match` where `whole`.
+    pub fn is_of(&self, pattern: &str, whole: bool) -> bool
+        ensures { IsTrue result ↔ (source_of (pattern_of self.now) ≡ pattern.now) × (is_of_whole (pattern_of self.now) ≡ whole) }
+    {
+        self.pattern.is_of(pattern, whole)
+    }
+
     /// What `match` or `search` answers for a text. It never fails: where memory runs out it searches more slowly.
     pub fn is_found(&mut self, text: &str) -> bool
         ensures value { result ≡ found (is_of_whole (pattern_of self.old)) (source_of (pattern_of self.old)) text.now }

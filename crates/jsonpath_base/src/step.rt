@@ -26,7 +26,7 @@ pub fn add_name(_alloc: Global, path: &mut String, name: &str) -> Parsed<()>
         Ok(()) => Ok(()),
         Err(error) => {
             path.truncate(before);
-            Err(error)
+            Err(error.into())
         }
     }
 }
@@ -42,28 +42,28 @@ pub fn add_index(_alloc: Global, path: &mut String, index: usize) -> Parsed<()>
         Ok(()) => Ok(()),
         Err(error) => {
             path.truncate(before);
-            Err(error)
+            Err(error.into())
         }
     }
 }
 
 /// As [`add_name`], but where memory is refused the path may hold a part of the step.
-pub fn push_name(path: &mut String, name: &str) -> Parsed<()>
+pub fn push_name(path: &mut String, name: &str) -> Result<(), AllocError>
     ensures value { OnOk result (string_bytes path.new ≡ string_bytes path.old ++ step_text (location.name name.now)) }
     ensures begun { OnErr result (Begins (string_bytes path.old) (string_bytes path.new)) }
-    ensures memory { IfErr result (λ e. e ≡ JsonPathError.OutOfMemory) }
 {
-    path.push_str("['")?;
+    path.push('[')?;
+    path.push('\'')?;
     push_chars(path, name)?;
-    path.push_str("']")?;
+    path.push('\'')?;
+    path.push(']')?;
     Ok(())
 }
 
 /// As [`add_index`], but where memory is refused the path may hold a part of the step.
-pub fn push_index(path: &mut String, index: usize) -> Parsed<()>
+pub fn push_index(path: &mut String, index: usize) -> Result<(), AllocError>
     ensures value { OnOk result (string_bytes path.new ≡ string_bytes path.old ++ step_text (location.index index)) }
     ensures begun { OnErr result (Begins (string_bytes path.old) (string_bytes path.new)) }
-    ensures memory { IfErr result (λ e. e ≡ JsonPathError.OutOfMemory) }
 {
     path.push('[')?;
     push_digits(path, index)?;

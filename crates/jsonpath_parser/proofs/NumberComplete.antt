@@ -6,7 +6,7 @@ use Rattle.jsonpath_parser.specs.Lexical.{is_digit, IsRun}
 use Rattle.jsonpath_parser.specs.Numbers.{Exponent, raised, lowered, is_exponent_mark, IsDigits, SpellsSign, IsWholePart, SpellsFraction, SpellsExponent, signed, SpellsNumber}
 use Rattle.jsonpath_parser.specs.Reading.{first, split_while}
 use Rattle.jsonpath_parser.specs.ReadingNumbers.{digits_at, sign_at, whole_part_at, fraction_at, signed_digits_at, exponent_at, value_of, number_at}
-use Rattle.jsonpath_parser.proofs.Complete.{begins_int}
+use Rattle.jsonpath_parser.specs.ReadingGrammar.{is_int_first}
 use Rattle.jsonpath_parser.proofs.Fronts.{run_over}
 use Rattle.jsonpath_parser.proofs.NumberValues.{one_value, sound_value}
 
@@ -148,12 +148,12 @@ regroup : (a w b c more : List ℕ) → (a ++ (w ++ (b ++ c))) ++ more ≡ a ++ 
 regroup a w b c more = simp append_assoc
 
 -- A number literal begins with a digit or `-`.
-pub number_start : (v : Option ℤ) (a more : List ℕ) → SpellsNumber v a → begins_int (first (a ++ more)) ≡ true
+pub number_start : (v : Option ℤ) (a more : List ℕ) → SpellsNumber v a → is_int_first (first (a ++ more)) ≡ true
 number_start v text more h =
     let later = h.fraction_text ++ (h.exponent_text ++ more) in
     rw (h.spelled, regroup h.sign_text h.whole h.fraction_text h.exponent_text more) (behind_sign h.minus h.sign_text (h.whole ++ later) h.sign_spelled (whole_start h.whole later h.is_whole_part))
   where
-    behind_sign : (minus : Bool) (a rest : List ℕ) → SpellsSign minus a → is_digit (first rest) ≡ true → begins_int (first (a ++ rest)) ≡ true
+    behind_sign : (minus : Bool) (a rest : List ℕ) → SpellsSign minus a → is_digit (first rest) ≡ true → is_int_first (first (a ++ rest)) ≡ true
     behind_sign false a rest h digit = rw (h, digit) refl
     behind_sign true a rest h digit = rw h refl
 

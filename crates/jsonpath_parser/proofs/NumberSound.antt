@@ -10,7 +10,7 @@ use Rattle.jsonpath_parser.specs.Reading.{first, split_while}
 use Rattle.jsonpath_parser.specs.ReadingNumbers.{digits_at, sign_at, whole_part_at, fraction_at, signed_digits_at, exponent_at, value_of, number_at}
 use Rattle.jsonpath_parser.proofs.Fronts.{run_holds}
 use Rattle.jsonpath_parser.proofs.NumberValues.{sound_value}
-use Rattle.jsonpath_parser.proofs.Sound.{bind_ok, chosen, at_front}
+use Rattle.jsonpath_parser.proofs.SoundParts.{bind_ok, chosen, at_front}
 
 -- the parts of a pair in an option
 some_left : (x y s t : List ℕ) → ◌≡◌ {A = Option (List ℕ × List ℕ)} (Some (x, s)) (Some (y, t)) → x ≡ y

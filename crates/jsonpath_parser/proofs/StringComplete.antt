@@ -137,7 +137,3 @@ complete_string v a more h =
 -- a text spells one value
 pub one_string : (v w a : List ℕ) → SpellsString v a → SpellsString w a → v ≡ w
 one_string v w a h k = (some_pair_parts v w [] [] (sym (complete_string v a [] h) ∙ complete_string w a [] k)).0
-
--- a string begins with a quote
-pub string_start : (v a more : List ℕ) → SpellsString v a → is_quote (first (a ++ more)) ≡ true
-string_start v a more h = let (q, cs, x, quote, hx, value, text) = h in rw text quote

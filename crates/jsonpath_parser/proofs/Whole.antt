@@ -1,21 +1,104 @@
--- What the reading of a whole text says of the trees that it derives.
-use Rattle.std.proofs.Common.{◌≡◌, ℕ, ◌≤◌, List, Some, None}
+-- What the readings of a whole text say of the trees that it derives.
+use Rattle.std.proofs.Common.{◌≡◌, ℕ, ◌≤◌, Bool, true, false, is_some, cond, ℤ, pos, List, length, Option, Some, None, unwrap_or, option_and_then, arith, refl, sym, ◌∙◌, ap, subst}
 use Rattle.jsonpath_parser.specs.Depth.{depth}
-use Rattle.jsonpath_parser.specs.Derives.{Derives, Ranges}
+use Rattle.jsonpath_parser.specs.Derives.{Derives, SpellsLoosely, IsRefusal}
 use Rattle.jsonpath_parser.specs.Grammar.{Spells}
-use Rattle.jsonpath_parser.specs.Reading.{whole_query}
+use Rattle.jsonpath_parser.specs.ReadingGrammar.{whole_query, number_reading}
+use Rattle.jsonpath_parser.specs.ReadingQuery.{typed_query, IsReadRefusal}
 use Rattle.jsonpath_parser.specs.Syntax.{Query}
-use Rattle.jsonpath_parser.proofs.Complete.{complete_query}
-use Rattle.jsonpath_parser.proofs.Sound.{sound_query}
+use Rattle.jsonpath_parser.specs.Typing.{Typed, is_typed}
+use Rattle.jsonpath_parser.specs.Values.{IsValued, IsAny}
+use Rattle.jsonpath_parser.specs.declared.errors.JsonPathError.{JsonPathError}
+use Rattle.jsonpath_parser.specs.declared.errors.JsonPathError.TheVariants.{PestError, InvalidNumber, MaxNestingDepthExceeded, OutOfMemory}
+use Rattle.jsonpath_parser.specs.declared.grammar.literals.Numbers.TheVariants.{Valued, Any}
+use Rattle.jsonpath_parser.proofs.Complete.{complete_valued, complete_any}
+use Rattle.jsonpath_parser.proofs.Sound.{sound_valued, sound_any}
+use Rattle.jsonpath_parser.proofs.SoundParts.{bind_ok, chosen}
+use Rattle.jsonpath_parser.proofs.Widening.{spells_wider}
 
--- the tree that is read is derived
-pub read_derives : (limit : ℕ) (text : List ℕ) (t : Query) → depth text ≤ limit → whole_query text ≡ Some t → Derives limit text t
-read_derives limit text t within read = let h = sound_query t text read in record { within = within; spelled = h.0; in_range = h.1 }
+-- a literal with a value is one that may have any
+pub any_value : (v : Option ℤ) (a : List ℕ) → IsValued v a → IsAny v a
+any_value (Some i) a h = (Some i, h.0, refl)
+any_value None a h = absurd (cc)
 
--- and no other tree is spelled
-pub read_only : (text : List ℕ) (t u : Query) → whole_query text ≡ Some t → Spells u text → Ranges u → t ≡ u
-read_only text t u read spelled range = let same = complete_query u text spelled range in cc
+-- so a text that is spelled with values is spelled loosely
+pub loosely : (t : Query) (text : List ℕ) → Spells IsValued t text → Spells IsAny t text
+loosely t text h = spells_wider IsValued IsAny any_value t text h
+
+-- a tree that is read as typed was read, and is typed
+typed_parts : (o : Option Query) (t : Query) → option_and_then (λ q. cond (is_typed q) (Some q) None) o ≡ Some t → (o ≡ Some t) × Typed t
+typed_parts None t e = absurd (cc)
+typed_parts (Some q) t e = by_typing (is_typed q) refl e
+  where
+    by_typing : (b : Bool) → is_typed q ≡ b → cond b (Some q) None ≡ Some t → (◌≡◌ {A = Option Query} (Some q) (Some t)) × Typed t
+    by_typing true h e = let same : q ≡ t = cc in (e, subst (λ v. is_typed v ≡ true) same h)
+    by_typing false h e = absurd (cc)
+
+-- and one that is read and typed is read as typed
+typed_back : (o : Option Query) (t : Query) → o ≡ Some t → Typed t → option_and_then (λ q. cond (is_typed q) (Some q) None) o ≡ Some t
+typed_back o t e h = rw (e, h) refl
+
+-- what is read with values is derived
+pub read_derives : (limit : ℕ) (text : List ℕ) (t : Query) → depth text ≤ limit → typed_query Valued text ≡ Some t → Derives limit text t
+unfolding typed_query
+read_derives limit text t within read =
+    let (whole, typed) = typed_parts (whole_query (number_reading Valued) text) t read in
+    record { within = within; spelled = sound_valued t text whole; typed = typed }
+
+-- and what is derived is read
+pub derived_read : (limit : ℕ) (text : List ℕ) (t : Query) → Derives limit text t → typed_query Valued text ≡ Some t
+unfolding typed_query
+derived_read limit text t h = typed_back (whole_query (number_reading Valued) text) t (complete_valued t text h.spelled) h.typed
+
+-- no other tree is derived
+pub read_only : (limit : ℕ) (text : List ℕ) (t u : Query) → typed_query Valued text ≡ Some t → Derives limit text u → t ≡ u
+read_only limit text t u read h = let same = derived_read limit text u h in cc
 
 -- where nothing is read, nothing is derived
-pub unread_none : (limit : ℕ) (text : List ℕ) (u : Query) → whole_query text ≡ None → Derives limit text u → ⊥
-unread_none limit text u none h = let same = complete_query u text h.spelled h.in_range in cc
+pub unread_none : (limit : ℕ) (text : List ℕ) (u : Query) → typed_query Valued text ≡ None → Derives limit text u → ⊥
+unread_none limit text u none h = let same = derived_read limit text u h in cc
+
+-- and a refusal is none of a text that derives a tree, unless memory ran out
+pub refused_only : (limit : ℕ) (text : List ℕ) (e : JsonPathError) (t : Query) → IsReadRefusal limit text e → Derives limit text t → e ≡ OutOfMemory
+refused_only limit text (MaxNestingDepthExceeded n) t h d = absurd (omega (arith, h.1, d.within))
+refused_only limit text (InvalidNumber said) t h d = absurd (unread_none limit text t h.1 d)
+refused_only limit text (PestError place) t h d = absurd (unread_none limit text t h.1 d)
+refused_only limit text OutOfMemory t h d = refl
+refused_only limit text _ t h d = absurd h
+
+-- and no other tree is spelled, not even loosely
+pub read_one : (text : List ℕ) (t u : Query) → typed_query Valued text ≡ Some t → Spells IsAny u text → t ≡ u
+unfolding typed_query
+read_one text t u read spelled =
+    let (whole, typed) = typed_parts (whole_query (number_reading Valued) text) t read in
+    let mine = complete_any t text (loosely t text (sound_valued t text whole)) in
+    let other = complete_any u text spelled in
+    cc
+
+-- what is read loosely is spelled loosely
+pub read_loosely : (text : List ℕ) → is_some (typed_query Any text) ≡ true → (t : Query) × SpellsLoosely text t
+unfolding typed_query
+read_loosely text some = by_answer (whole_query (number_reading Any) text) refl some
+  where
+    by_answer : (o : Option Query) → whole_query (number_reading Any) text ≡ o → is_some (option_and_then (λ q. cond (is_typed q) (Some q) None) o) ≡ true → (t : Query) × SpellsLoosely text t
+    by_answer None e some = absurd (cc)
+    by_answer (Some q) e some = by_typing (is_typed q) refl some
+      where
+        by_typing : (b : Bool) → is_typed q ≡ b → is_some (cond b (Some q) None) ≡ true → (t : Query) × SpellsLoosely text t
+        by_typing true h some = (q, (sound_any q text e, h))
+        by_typing false h some = absurd (cc)
+
+-- and what is spelled loosely is read
+pub unread_loosely : (text : List ℕ) (t : Query) → typed_query Any text ≡ None → SpellsLoosely text t → ⊥
+unfolding typed_query
+unread_loosely text t none h =
+    let same = typed_back (whole_query (number_reading Any) text) t (complete_any t text h.0) h.1 in
+    cc
+
+-- a refusal of the reading is a refusal of the text
+pub refusal_of : (limit : ℕ) (text : List ℕ) (e : JsonPathError) → IsReadRefusal limit text e → IsRefusal limit text e
+refusal_of limit text (MaxNestingDepthExceeded n) h = h
+refusal_of limit text (InvalidNumber said) h = (h.0, read_loosely text h.2, λ t d. unread_none limit text t h.1 d)
+refusal_of limit text (PestError place) h = (h.0, h.2.0, λ t s. unread_loosely text t h.2.1 s)
+refusal_of limit text OutOfMemory h = h
+refusal_of limit text _ h = absurd h

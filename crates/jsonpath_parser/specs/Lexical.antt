@@ -30,3 +30,16 @@ IsBlank text = IsRun is_blank text
 abbrev pub IsName : List ℕ → Type 0
 IsName [] = ⊥
 IsName (b ∷ s) = (is_name_first b ≡ true) × IsRun is_name_byte s
+
+-- `a` to `z`
+abbrev pub is_function_first : ℕ → Bool
+is_function_first b = nat_le 97 b && nat_le b 122
+
+-- `a` to `z`, `_` or a digit
+abbrev pub is_function_byte : ℕ → Bool
+is_function_byte b = (is_function_first b || b == 95) || is_digit b
+
+-- the name of a function (2.4)
+abbrev pub IsFunctionName : List ℕ → Type 0
+IsFunctionName [] = ⊥
+IsFunctionName (b ∷ s) = (is_function_first b ≡ true) × IsRun is_function_byte s

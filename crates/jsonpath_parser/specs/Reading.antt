@@ -9,7 +9,6 @@ use Rattle.jsonpath_parser.specs.Lexical.{is_blank, is_digit, is_name_first, is_
 use Rattle.jsonpath_parser.specs.declared.depth.Place.{Place as CodePlace}
 use Rattle.jsonpath_parser.specs.declared.depth.Place.TheVariants.{Outside, Inside, Escaped}
 use Rattle.jsonpath_parser.specs.Depth.{Place, outside, inside, escaped}
-use Rattle.jsonpath_parser.specs.Syntax.{Selector, name, wildcard, index, Segment, one, Segments, no_segments, segment, Query}
 
 abbrev pub Read : Type 0 → Type 0
 Read A = Option (A × List ℕ)
@@ -61,51 +60,6 @@ int_at text =
 -- the shorthand name at the front
 unfoldable pub name_at : List ℕ → Read (List ℕ)
 name_at text = if is_name_first (first text) then Some (split_while is_name_byte text) else None
-
--- `*` or a shorthand name, behind a dot
-unfoldable pub shorthand_at : List ℕ → Read Selector
-shorthand_at text =
-    if first text == 42 then Some (wildcard, drop 1 text)
-    else name_at text >>= (λ n. Some (name n.0, n.1))
-
-unfoldable pub selector_at : List ℕ → Read Selector
-selector_at text =
-    if first text == 42 then Some (wildcard, drop 1 text)
-    else int_at text >>= (λ i. Some (index i.0, i.1))
-
--- a selector between brackets
-unfoldable pub selection_at : List ℕ → Read Segment
-selection_at text =
-    after_byte 91 text >>= (λ inner. selector_at (skip_blank inner) >>= (λ s. after_byte 93 (skip_blank s.1) >>= (λ rest. Some (one s.0, rest))))
-
-abbrev pub starts_segment : List ℕ → Bool
-starts_segment text = first text == 46 || first text == 91
-
-unfoldable pub segment_at : List ℕ → Read Segment
-segment_at text =
-    if first text == 46 then shorthand_at (drop 1 text) >>= (λ s. Some (one s.0, s.1))
-    else selection_at text
-
--- one more at the end
-abbrev pub push_segment : Segments → Segment → Segments
-push_segment no_segments g = segment g no_segments
-push_segment (segment h gs) g = segment h (push_segment gs g)
-
--- the rest of the segments, of fewer than k, after those found
-unfoldable pub segments_at : ℕ → Segments → List ℕ → Read Segments
-segments_at zero found text = None
-segments_at (suc k) found text =
-    let start = skip_blank text in
-    if starts_segment start then segment_at start >>= (λ g. segments_at k (push_segment found g.0) g.1)
-    else Some (found, text)
-
--- `$` and segments
-unfoldable pub query_at : List ℕ → Read Query
-query_at text = after_byte 36 text >>= (λ rest. segments_at (suc (length rest)) no_segments rest)
-
--- the query that the whole text is
-unfoldable pub whole_query : List ℕ → Option Query
-whole_query text = query_at text >>= (λ q. if length q.1 == 0 then Some q.0 else None)
 
 -- the place that the code's value stands for
 abbrev pub place_view : CodePlace → Place

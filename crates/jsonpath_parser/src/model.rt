@@ -1,21 +1,39 @@
 //! The query tree (RFC 9535, 2.1 to 2.5).
-ghost use Rattle.std.specs.Prelude.{◌≡◌};
+ghost use Rattle.std.specs.Prelude.{◌≡◌, IfOk, IfErr, IsOk, IsSome};
+ghost use Rattle.jsonpath_parser.specs.Making.{Makes, comparison_of, operator_of, sides};
+ghost use Rattle.jsonpath_parser.specs.Syntax as tree;
+ghost use Rattle.jsonpath_parser.specs.View.{segment_view, selector_view, filter_view, atom_view, comparison_view, comparable_view, test_view};
+ghost use Rattle.jsonpath_parser.specs.declared.errors.JsonPathError.TheVariants.{OutOfMemory};
+
+pub(crate) mod call;
+mod refusal;
+
+use self::refusal::invalid;
+use crate::errors::{JsonPathError, Parsed};
+use std::alloc::Global;
 
 /// A query: its segments, in order.
 #[derive(Debug, Drop, PartialEq)]
+#[cycle(tree)]
 pub struct JpQuery {
     pub segments: Vec<Segment>,
 }
 
-/// A segment, which replaces each node by nodes below it.
+/// A segment, which replaces each node by nodes below it (2.5).
 #[derive(Debug, Drop, PartialEq)]
+#[cycle(tree)]
 pub enum Segment {
+    /// `..`: the segment at each node and at all nodes below it.
+    Descendant(Box<Segment>),
     /// One selector.
     Selector(Selector),
+    /// Several selectors, node by node and in their order.
+    Selectors(Vec<Selector>),
 }
 
-/// What a segment picks among the children of a node.
+/// What a segment picks among the children of a node (2.3).
 #[derive(Debug, Drop, PartialEq)]
+#[cycle(tree)]
 pub enum Selector {
     /// The member of this name.
     Name(String),
@@ -23,6 +41,134 @@ pub enum Selector {
     Wildcard,
     /// The element of this index, counted from the end where it is negative.
     Index(i64),
+    /// The elements from a start to before an end, by a step.
+    Slice(Option<i64>, Option<i64>, Option<i64>),
+    /// The children at which the filter holds.
+    Filter(Filter),
+}
+
+/// A logical expression (2.3.5).
+#[derive(Debug, Drop, PartialEq)]
+#[cycle(tree)]
+pub enum Filter {
+    /// Some part holds.
+    Or(Vec<Filter>),
+    /// Every part holds.
+    And(Vec<Filter>),
+    /// One basic expression.
+    Atom(FilterAtom),
+}
+
+/// A basic expression of a filter (2.3.5.1).
+#[derive(Debug, Drop, PartialEq)]
+#[cycle(tree)]
+pub enum FilterAtom {
+    /// A filter in parentheses, turned round where `not`.
+    Filter { expr: Box<Filter>, not: bool },
+    /// A test, turned round where `not`.
+    Test { expr: Box<Test>, not: bool },
+    /// A comparison of two values.
+    Comparison(Box<Comparison>),
+}
+
+/// A comparison of its left and its right (2.3.5.2.2).
+#[derive(Debug, Drop, PartialEq)]
+#[cycle(tree)]
+pub enum Comparison {
+    /// `==`
+    Eq(Comparable, Comparable),
+    /// `!=`
+    Ne(Comparable, Comparable),
+    /// `>`
+    Gt(Comparable, Comparable),
+    /// `>=`
+    Gte(Comparable, Comparable),
+    /// `<`
+    Lt(Comparable, Comparable),
+    /// `<=`
+    Lte(Comparable, Comparable),
+}
+
+/// A side of a comparison.
+#[derive(Debug, Drop, PartialEq)]
+#[cycle(tree)]
+pub enum Comparable {
+    /// A literal.
+    Literal(Literal),
+    /// What a function answers.
+    Function(TestFunction),
+    /// The value of the one node of a query, if it has one.
+    SingularQuery(SingularQuery),
+}
+
+/// A query of at most one node (2.3.5.1).
+#[derive(Debug, Drop, PartialEq)]
+pub enum SingularQuery {
+    /// `@`: from the current node.
+    Current(Vec<SingularQuerySegment>),
+    /// `$`: from the root.
+    Root(Vec<SingularQuerySegment>),
+}
+
+/// A step of a singular query.
+#[derive(Debug, Drop, PartialEq)]
+pub enum SingularQuerySegment {
+    /// To the element of this index, counted from the end where it is negative.
+    Index(i64),
+    /// To the member of this name.
+    Name(String),
+}
+
+/// What is asked for existence or truth (2.3.5.2.1).
+#[derive(Debug, Drop, PartialEq)]
+#[cycle(tree)]
+pub enum Test {
+    /// `@` and segments: a query from the current node.
+    RelQuery(Vec<Segment>),
+    /// A query from the root.
+    AbsQuery(JpQuery),
+    /// A call of a function.
+    Function(Box<TestFunction>),
+}
+
+/// A call of a function (2.4).
+#[derive(Debug, Drop, PartialEq)]
+#[cycle(tree)]
+pub enum TestFunction {
+    /// A function of any name.
+    Custom(String, Vec<FnArg>),
+    /// `length`
+    Length(Box<FnArg>),
+    /// `value`
+    Value(FnArg),
+    /// `count`
+    Count(FnArg),
+    /// `search`
+    Search(FnArg, FnArg),
+    /// `match`
+    Match(FnArg, FnArg),
+}
+
+/// An argument of a call.
+#[derive(Debug, Drop, PartialEq)]
+#[cycle(tree)]
+pub enum FnArg {
+    /// A literal.
+    Literal(Literal),
+    /// A query or a call.
+    Test(Box<Test>),
+    /// A logical expression.
+    Filter(Filter),
+}
+
+/// A literal (2.3.5.1).
+#[derive(Debug, Drop, PartialEq)]
+pub enum Literal {
+    /// A whole number.
+    Int(i64),
+    String(String),
+    Bool(bool),
+    Null,
 }
 
 impl JpQuery {
@@ -31,5 +177,174 @@ impl JpQuery {
         ensures { result.segments ≡ segments }
     {
         JpQuery { segments }
+    }
+}
+
+impl Segment {
+    /// The segment of one name.
+    ///
+    /// # Errors
+    ///
+    /// `OutOfMemory` where a growth was refused.
+    pub fn name(alloc: Global, name: &str) -> Parsed<Self>
+        ensures named { IfOk result (λ g. segment_view g ≡ tree.one (tree.name name.now)) }
+        ensures refused { IfErr result (λ e. e ≡ OutOfMemory) }
+    {
+        Ok(Segment::Selector(Selector::Name(String::from_str(alloc, name)?)))
+    }
+}
+
+/// The slice of this start, end and step (2.3.4).
+pub fn slice_from(parts: (Option<i64>, Option<i64>, Option<i64>)) -> Selector
+    ensures { selector_view result ≡ tree.slice parts.0 parts.1 parts.2 }
+{
+    let (start, end, step) = parts;
+    Selector::Slice(start, end, step)
+}
+
+impl FilterAtom {
+    /// The filter in parentheses, behind `!` where `not`.
+    ///
+    /// # Errors
+    ///
+    /// `OutOfMemory` where a growth was refused.
+    pub fn filter(alloc: Global, expr: Filter, not: bool) -> Parsed<Self>
+        ensures grouped { IfOk result (λ a. atom_view a ≡ tree.group not (filter_view expr)) }
+        ensures refused { IfErr result (λ e. e ≡ OutOfMemory) }
+    {
+        Ok(FilterAtom::Filter {
+            expr: Box::new(alloc, expr)?,
+            not,
+        })
+    }
+
+    /// The test, behind `!` where `not`.
+    ///
+    /// # Errors
+    ///
+    /// `OutOfMemory` where a growth was refused.
+    pub fn test(alloc: Global, expr: Test, not: bool) -> Parsed<Self>
+        ensures tested { IfOk result (λ a. atom_view a ≡ tree.Atom.test not (test_view expr)) }
+        ensures refused { IfErr result (λ e. e ≡ OutOfMemory) }
+    {
+        Ok(FilterAtom::Test {
+            expr: Box::new(alloc, expr)?,
+            not,
+        })
+    }
+
+    /// The comparison.
+    pub fn cmp(comparison: Box<Comparison>) -> Self
+        ensures { atom_view result ≡ tree.comparison (comparison_view comparison.value) }
+    {
+        FilterAtom::Comparison(comparison)
+    }
+}
+
+impl Comparison {
+    /// The comparison by this operator: `==`, `!=`, `>`, `>=`, `<` or `<=` (2.3.5.1).
+    ///
+    /// # Errors
+    ///
+    /// - `InvalidJsonPath` for any other text.
+    /// - `OutOfMemory` where the message of that refusal could not grow.
+    pub fn try_new(alloc: Global, op: &str, left: Comparable, right: Comparable) -> Parsed<Self>
+        ensures made { Makes comparison_view result (comparison_of op.now (comparable_view left) (comparable_view right)) }
+
+        // With one of the six it takes no memory.
+        ensures succeeds { IsSome (operator_of op.now) → IsOk result }
+    {
+        match op {
+            "==" => Ok(Comparison::Eq(left, right)),
+            "!=" => Ok(Comparison::Ne(left, right)),
+            ">" => Ok(Comparison::Gt(left, right)),
+            ">=" => Ok(Comparison::Gte(left, right)),
+            "<" => Ok(Comparison::Lt(left, right)),
+            "<=" => Ok(Comparison::Lte(left, right)),
+            _ => Err(invalid(alloc, "no comparison operator: ", op)),
+        }
+    }
+
+    /// Left and right.
+    pub fn vals(&self) -> (&Comparable, &Comparable)
+        ensures { (comparable_view result.0.now, comparable_view result.1.now) ≡ sides (comparison_view self.now) }
+    {
+        match self {
+            Comparison::Eq(left, right)
+            | Comparison::Ne(left, right)
+            | Comparison::Gt(left, right)
+            | Comparison::Gte(left, right)
+            | Comparison::Lt(left, right)
+            | Comparison::Lte(left, right) => (left, right),
+        }
+    }
+}
+
+#[cfg(test)]
+mod tests {
+    use super::*;
+    use std::test::Fail;
+
+    fn number(n: i64) -> Comparable {
+        Comparable::Literal(Literal::Int(n))
+    }
+
+    #[test]
+    fn segments(rt: HostRuntime) -> Result<(), Fail> {
+        let alloc = rt.alloc();
+        let name = Segment::Selector(Selector::Name(String::from_str(alloc, "a")?));
+        assert!(rt; Segment::name(alloc, "a")? == name);
+        let query = JpQuery::new(vec![in alloc; Segment::name(alloc, "a")?]?);
+        assert!(rt; query.segments == vec![in alloc; name]?);
+        assert!(rt;
+            slice_from((None, Some(2), Some(3))) == Selector::Slice(None, Some(2), Some(3))
+        );
+        Ok(())
+    }
+
+    #[test]
+    fn atoms(rt: HostRuntime) -> Result<(), Fail> {
+        let alloc = rt.alloc();
+        let group = FilterAtom::filter(alloc, Filter::Or(Vec::new(alloc)), true)?;
+        let expr = Box::new(alloc, Filter::Or(Vec::new(alloc)))?;
+        assert!(rt; group == FilterAtom::Filter { expr, not: true });
+        let test = FilterAtom::test(alloc, Test::RelQuery(Vec::new(alloc)), false)?;
+        let expr = Box::new(alloc, Test::RelQuery(Vec::new(alloc)))?;
+        assert!(rt; test == FilterAtom::Test { expr, not: false });
+        let comparison = FilterAtom::cmp(Box::new(alloc, Comparison::Lt(number(1), number(2)))?);
+        assert!(rt;
+            comparison
+                == FilterAtom::Comparison(Box::new(alloc, Comparison::Lt(number(1), number(2)))?)
+        );
+        Ok(())
+    }
+
+    #[test]
+    fn comparisons(rt: HostRuntime) -> Result<(), Fail> {
+        let alloc = rt.alloc();
+        let wanted = vec![in alloc;
+            ("==", Comparison::Eq(number(1), number(2))),
+            ("!=", Comparison::Ne(number(1), number(2))),
+            (">", Comparison::Gt(number(1), number(2))),
+            (">=", Comparison::Gte(number(1), number(2))),
+            ("<", Comparison::Lt(number(1), number(2))),
+            ("<=", Comparison::Lte(number(1), number(2))),
+        ]?;
+        for (op, comparison) in &wanted {
+            let made = Comparison::try_new(alloc, op, number(1), number(2))?;
+            assert!(rt; made == *comparison, "{op}");
+            let (left, right) = made.vals();
+            assert!(rt; *left == number(1) && *right == number(2), "{op}");
+        }
+        for op in ["~=", "=", "", "== "] {
+            assert!(rt;
+                matches!(
+                    Comparison::try_new(alloc, op, number(1), number(2)),
+                    Err(JsonPathError::InvalidJsonPath(_))
+                ),
+                "{op}"
+            );
+        }
+        Ok(())
     }
 }

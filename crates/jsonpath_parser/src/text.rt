@@ -57,6 +57,22 @@ pub fn is_name_byte(byte: u8) -> bool
     is_name_first(byte) || byte.is_ascii_digit()
 }
 
+/// Whether the byte may begin the name of a function.
+#[inline]
+pub fn is_function_first(byte: u8) -> bool
+    ensures { result ≡ spec.is_function_first byte }
+{
+    byte.is_ascii_lowercase()
+}
+
+/// Whether the byte may stand in the name of a function.
+#[inline]
+pub fn is_function_byte(byte: u8) -> bool
+    ensures { result ≡ spec.is_function_byte byte }
+{
+    is_function_first(byte) || byte == b'_' || byte.is_ascii_digit()
+}
+
 fn blank_len(bytes: &[u8]) -> usize
     ensures len { result ≡ prefix_len spec.is_blank bytes.now }
     ensures within { result ≤ length bytes.now }
@@ -76,6 +92,13 @@ fn digit_len(bytes: &[u8]) -> usize
     ensures within { result ≤ length bytes.now }
 {
     bytes.iter().take_while(|b| b.is_ascii_digit()).count()
+}
+
+fn function_len(bytes: &[u8]) -> usize
+    ensures len { result ≡ prefix_len spec.is_function_byte bytes.now }
+    ensures within { result ≤ length bytes.now }
+{
+    bytes.iter().take_while(|b| is_function_byte(**b)).count()
 }
 
 /// After the blanks.
@@ -103,4 +126,13 @@ pub fn digit_run(s: &str) -> (&str, &str)
     ensures within { length result.1.now ≤ length s.now }
 {
     s.split_at(digit_len(s.as_bytes()))
+}
+
+/// The longest front of bytes of a function's name, and the rest.
+#[tactic(auto, using(crate::proofs::Runs::function_boundary))]
+pub fn function_run(s: &str) -> (&str, &str)
+    ensures parts { (result.0.now, result.1.now) ≡ split_while spec.is_function_byte s.now }
+    ensures within { length result.1.now ≤ length s.now }
+{
+    s.split_at(function_len(s.as_bytes()))
 }

@@ -1,21 +1,21 @@
 -- What the calls answer, from what the walk gave.
-use Rattle.std.proofs.Common.{◌≡◌, ℕ, List, [], ◌∷◌, map, Some, IsTrue, sym, subst, refl, Result, Ok, Err, IfOk, IfErr}
+use Rattle.std.proofs.Common.{◌≡◌, ℕ, List, [], ◌∷◌, map, Some, IsTrue, sym, subst, refl, Result, Ok, Err, IfOk, IfErr, inl, inr}
 use Rattle.jsonpath_parser.proofs.NormalLemmas.{only_path}
 use Rattle.jsonpath_parser.specs.Syntax.{Query}
-use Rattle.jsonpath_parser.specs.View.{query_view}
-use Rattle.jsonpath_parser.specs.Derives.{Derives, Answers, IsRefusal}
-use Rattle.jsonpath_parser.specs.declared.model.JpQuery.{JpQuery}
+use Rattle.jsonpath_parser.specs.Derives.{Derives, IsRefusal}
+use Rattle.jsonpath_parser.specs.Normal.{normal, IsNormal, IsOnlyPath}
+use Rattle.jsonpath_rust.specs.Patterns.{IsStop, IsQueryRefusal}
 use Rattle.jsonpath_parser.specs.declared.errors.JsonPathError.{JsonPathError}
-use Rattle.jsonpath_parser.specs.declared.errors.JsonPathError.TheVariants.{OutOfMemory}
 use Rattle.jsonpath_base.specs.Tree.{Tree, has_distinct_names}
 use Rattle.jsonpath_base.specs.Places.{at}
+use Rattle.jsonpath_rust.specs.Document.{Document}
 use Rattle.jsonpath_rust.specs.Node.{Node}
 use Rattle.jsonpath_rust.specs.Meaning.{nodelist, selected}
-use Rattle.jsonpath_rust.specs.Answer.{Along, IsNodeAt, IsValueAt, HasOnlyPath, ListsNodes, ListsValues}
-use Rattle.jsonpath_rust.specs.Walking.{answer_of}
+use Rattle.jsonpath_rust.specs.Answer.{Along, IsNodeAt, IsValueAt, HasOnlyPath, ListsNodes}
+use Rattle.jsonpath_rust.specs.Sinks.{answer_of}
 use Rattle.jsonpath_rust.proofs.NodesAt.{Each, nodes_at}
 
-along_nodes : (doc : Tree) (ns : List Node) → Each (λ n. at n.location doc ≡ Some n.tree) ns → Along (IsNodeAt doc) (map (λ n. n.location) ns) (map answer_of ns)
+along_nodes : (doc : Document) (ns : List Node) → Each (λ n. at n.location doc.root ≡ Some n.tree) ns → Along (IsNodeAt doc) (map (λ n. n.location) ns) (map answer_of ns)
 along_nodes doc [] h = tt
 along_nodes doc (n ∷ ns) h = ((refl, h.0), along_nodes doc ns h.1)
 
@@ -23,28 +23,50 @@ along_only_path : (ns : List Node) → Along HasOnlyPath (map (λ n. n.location)
 along_only_path [] = tt
 along_only_path (n ∷ ns) = (only_path n.location, along_only_path ns)
 
-along_values : (doc : Tree) (ns : List Node) → Each (λ n. at n.location doc ≡ Some n.tree) ns → Along (IsValueAt doc) (map (λ n. n.location) ns) (map (λ n. n.tree) ns)
+along_values : (doc : Document) (ns : List Node) → Each (λ n. at n.location doc.root ≡ Some n.tree) ns → Along (IsValueAt doc) (map (λ n. n.location) ns) (map (λ n. n.tree) ns)
 along_values doc [] h = tt
 along_values doc (n ∷ ns) h = (h.0, along_values doc ns h.1)
 
 -- the answered list, where it shows the nodelist
-pub nodes_answered : (q : Query) (doc : Tree) (answer : List (List ℕ × Tree)) → IsTrue (has_distinct_names doc) → answer ≡ map answer_of (nodelist q doc) → Along (IsNodeAt doc) (selected q doc) answer
+pub nodes_answered : (q : Query) (doc : Document) (answer : List (List ℕ × Tree)) → IsTrue (has_distinct_names doc.root) → answer ≡ map answer_of (nodelist q doc) → Along (IsNodeAt doc) (selected q doc) answer
 nodes_answered q doc answer distinct e = subst (Along (IsNodeAt doc) (selected q doc)) (sym e) (along_nodes doc (nodelist q doc) (nodes_at q doc distinct))
 
-pub paths_answered : (q : Query) (doc : Tree) (answer : List (List ℕ × Tree)) → answer ≡ map answer_of (nodelist q doc) → Along HasOnlyPath (selected q doc) answer
+pub paths_answered : (q : Query) (doc : Document) (answer : List (List ℕ × Tree)) → answer ≡ map answer_of (nodelist q doc) → Along HasOnlyPath (selected q doc) answer
 paths_answered q doc answer e = subst (Along HasOnlyPath (selected q doc)) (sym e) (along_only_path (nodelist q doc))
 
-pub values_answered : (q : Query) (doc : Tree) (answer : List Tree) → IsTrue (has_distinct_names doc) → answer ≡ map (λ n. n.tree) (nodelist q doc) → Along (IsValueAt doc) (selected q doc) answer
+pub values_answered : (q : Query) (doc : Document) (answer : List Tree) → IsTrue (has_distinct_names doc.root) → answer ≡ map (λ n. n.tree) (nodelist q doc) → Along (IsValueAt doc) (selected q doc) answer
 values_answered q doc answer distinct e = subst (Along (IsValueAt doc) (selected q doc)) (sym e) (along_values doc (nodelist q doc) (nodes_at q doc distinct))
 
 -- ---- where the query comes from a text
 
 -- the record of what is answered
-pub lists_nodes : {V : Type 0} (r : Result V JsonPathError) (show : V → List (List ℕ × Tree)) (limit : ℕ) (text : List ℕ) (doc : Tree) (q : Query) → Derives limit text q → IfOk r (λ v. Along (IsNodeAt doc) (selected q doc) (show v)) → IfOk r (λ v. Along HasOnlyPath (selected q doc) (show v)) → IfOk r (λ v. ListsNodes limit text doc (show v))
+pub lists_nodes : {V : Type 0} (r : Result V JsonPathError) (show : V → List (List ℕ × Tree)) (limit : ℕ) (text : List ℕ) (doc : Document) (q : Query) → Derives limit text q → IfOk r (λ v. Along (IsNodeAt doc) (selected q doc) (show v)) → IfOk r (λ v. Along HasOnlyPath (selected q doc) (show v)) → IfOk r (λ v. ListsNodes limit text doc (show v))
 lists_nodes (Ok v) show limit text doc q d h k = record { query = q; derived = d; nodes = h; only_path = k }
 lists_nodes (Err e) show limit text doc q d h k = tt
 
--- what memory alone refuses, is refused as the text's depth allows
-pub memory_refused : {V : Type 0} (r : Result V JsonPathError) (limit : ℕ) (text : List ℕ) (q : Query) → Derives limit text q → IfErr r (λ e. e ≡ OutOfMemory) → IfErr r (IsRefusal limit text)
-memory_refused (Ok v) limit text q d h = tt
-memory_refused (Err e) limit text q d h = subst (IsRefusal limit text) (sym h) d.within
+-- the paths alone
+along_normal : (ns : List Node) → Along IsNormal (map (λ n. n.location) ns) (map (λ n. normal n.location) ns)
+along_normal [] = tt
+along_normal (n ∷ ns) = (refl, along_normal ns)
+
+along_only : (ns : List Node) → Along IsOnlyPath (map (λ n. n.location) ns) (map (λ n. normal n.location) ns)
+along_only [] = tt
+along_only (n ∷ ns) = (only_path n.location, along_only ns)
+
+pub normal_answered : (q : Query) (doc : Document) (answer : List (List ℕ)) → answer ≡ map (λ n. normal n.location) (nodelist q doc) → Along IsNormal (selected q doc) answer
+normal_answered q doc answer e = subst (Along IsNormal (selected q doc)) (sym e) (along_normal (nodelist q doc))
+
+pub only_answered : (q : Query) (doc : Document) (answer : List (List ℕ)) → answer ≡ map (λ n. normal n.location) (nodelist q doc) → Along IsOnlyPath (selected q doc) answer
+only_answered q doc answer e = subst (Along IsOnlyPath (selected q doc)) (sym e) (along_only (nodelist q doc))
+
+-- ---- refusals
+
+-- the text is no query
+pub text_refused : {V : Type 0} (r : Result V JsonPathError) (limit : ℕ) (text : List ℕ) (doc : Document) → IfErr r (IsRefusal limit text) → IfErr r (IsQueryRefusal limit text doc)
+text_refused (Ok v) limit text doc h = tt
+text_refused (Err e) limit text doc h = inl h
+
+-- the text is a query, and its nodes are refused
+pub nodes_refused : {V : Type 0} (r : Result V JsonPathError) (limit : ℕ) (text : List ℕ) (doc : Document) (q : Query) → Derives limit text q → IfErr r (IsStop q doc) → IfErr r (IsQueryRefusal limit text doc)
+nodes_refused (Ok v) limit text doc q d h = tt
+nodes_refused (Err e) limit text doc q d h = inr (q, d, h)

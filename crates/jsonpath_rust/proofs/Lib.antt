@@ -1,6 +1,10 @@
-pub mod Walks
-pub mod Trees
+pub mod Answers
+pub mod Arguments
+pub mod Made
 pub mod Nodelist
 pub mod NodesAt
-pub mod Answers
-mod Made
+pub mod Parts
+pub mod Patterns
+pub mod Sinks
+pub mod Trees
+pub mod Walks

@@ -1,20 +1,25 @@
 -- Every node of a nodelist is in the document: the value at its location is its tree.
-use Rattle.std.proofs.Common.{◌≡◌, ℕ, zero, suc, ◌+◌, ℤ, List, [], ◌∷◌, ◌++◌, map, cond, length, get_or, refl, sym, ◌∙◌, ap, arith, Bool, true, false, not, ◌&&◌, ◌||◌, Option, Some, None, option_and_then, option_to_list, IsTrue, All}
+use Rattle.std.proofs.Common.{◌≡◌, ℕ, zero, suc, ◌+◌, ◌<◌, ℤ, List, [], ◌∷◌, ◌++◌, map, cond, length, get_or, refl, sym, ◌∙◌, ap, arith, Bool, true, false, not, ◌&&◌, ◌||◌, ◌≤◌, filter, subst, Option, Some, None, option_and_then, option_to_list, IsTrue}
 use Rattle.std.proofs.lemmas.Bool.{false≢true}
-use Rattle.std.proofs.lemmas.List.Elements.{All-from_get_or}
+use Rattle.std.proofs.lemmas.List.{map-append}
 use Rattle.std.proofs.lemmas.Slice.Eq.{bytes_eq-Decides}
 use Rattle.std.specs.List.{flat_map, list_any}
 use Rattle.std.specs.Str.{bytes_eq}
 use Rattle.jsonpath_parser.specs.Location.{Step, name, index, Location}
 use Rattle.jsonpath_parser.specs.Syntax as syntax
-use Rattle.jsonpath_parser.specs.Syntax.{Selector, wildcard, Segment, one, Segments, no_segments, segment, Query}
+use Rattle.jsonpath_parser.specs.Syntax.{Selector, wildcard, slice, Selectors, no_selectors, selector, Segment, one, several, descendant, Segments, no_segments, segment, Query}
 use Rattle.jsonpath_base.specs.Tree as base
-use Rattle.jsonpath_base.specs.Tree.{Tree, null, truth, number, text, list, object, Trees, no_trees, Members, no_members, elements, pairs, as_list, find, get, has_distinct_names, trees_distinct, members_distinct, are_distinct}
+use Rattle.jsonpath_base.specs.Tree.{Tree, null, truth, number, text, list, object, Trees, no_trees, Members, no_members, elements, pairs, as_list, as_members, find, get, has_distinct_names, trees_distinct, members_distinct, are_distinct}
 use Rattle.jsonpath_base.specs.Places.{child, item_at, at}
-use Rattle.jsonpath_rust.specs.Node.{Node, root_node, below, element_nodes, member_nodes, children_at, children}
-use Rattle.jsonpath_rust.specs.Meaning.{named, element, indexed, element_of, picks, replaced, all_applied, nodelist}
-use Rattle.jsonpath_rust.specs.Walking.{answer_of}
-use Rattle.jsonpath_rust.proofs.Trees.{none_some}
+use Rattle.jsonpath_base.specs.Slice.{slice_of}
+use Rattle.jsonpath_rust.specs.Document.{Document}
+use Rattle.jsonpath_rust.specs.Weight.{size, trees_size, members_size}
+use Rattle.jsonpath_rust.specs.Node.{Node, root_node, below, element_nodes, member_nodes, children_at, children, subtree, subtree_at}
+use Rattle.jsonpath_rust.specs.Meaning.{element, indexed, sliced, element_of, picks, all_pick, holds, replaced, all_applied, nodelist}
+use Rattle.jsonpath_rust.specs.Walking.{step_of}
+use Rattle.jsonpath_rust.specs.declared.query.sink.StepRef.{StepRef}
+use Rattle.jsonpath_rust.specs.declared.query.sink.StepRef.TheVariants.{Index}
+use Rattle.jsonpath_rust.proofs.Trees.{none_some, members_or, subtree-children}
 
 -- ---- what holds of each element
 
@@ -161,19 +166,117 @@ each_unit : {A : Type 0} (xs : List A) → Each (λ _. Unit {0}) xs
 each_unit [] = tt
 each_unit (x ∷ xs) = (tt, each_unit xs)
 
-stands-picks : (s : Selector) (doc : Tree) (n : Node) → Stands doc n → Each (Stands doc) (picks s doc n)
-stands-picks (syntax.Selector.name k) doc n h = stands-option doc n.location n.tree (name k) (child (name k) n.tree) h refl
-stands-picks wildcard doc n h = stands-children_at doc n.location n.tree h
-stands-picks (syntax.Selector.index i) doc n h =
+stands-indexed : (i : ℤ) (doc : Tree) (n : Node) → Stands doc n → Each (Stands doc) (indexed i n)
+stands-indexed i doc n h =
     each-flat_map (λ _. Unit {0}) (Stands doc) (λ k. element k n) (λ k _. stands-option doc n.location n.tree (index k) (child (index k) n.tree) h refl) (option_to_list (option_and_then (λ ts. element_of i (length ts)) (as_list n.tree))) (each_unit (option_to_list (option_and_then (λ ts. element_of i (length ts)) (as_list n.tree))))
 
-stands-replaced : (g : Segment) (doc : Tree) (n : Node) → Stands doc n → Each (Stands doc) (replaced g doc n)
-stands-replaced (one s) doc n h = stands-picks s doc n h
+stands-places : (is : List ℕ) (doc : Tree) (n : Node) → Stands doc n → Each (Stands doc) (flat_map (λ k. element k n) is)
+stands-places is doc n h = each-flat_map (λ _. Unit {0}) (Stands doc) (λ k. element k n) (λ k _. stands-option doc n.location n.tree (index k) (child (index k) n.tree) h refl) is (each_unit is)
 
-stands-all_applied : (gs : Segments) (doc : Tree) (ns : List Node) → Each (Stands doc) ns → Each (Stands doc) (all_applied gs doc ns)
-stands-all_applied no_segments doc ns h = h
-stands-all_applied (segment g gs) doc ns h = stands-all_applied gs doc (flat_map (replaced g doc) ns) (each-flat_map (Stands doc) (Stands doc) (replaced g doc) (λ n k. stands-replaced g doc n k) ns h)
+stands-sliced : (start end step : Option ℤ) (doc : Tree) (n : Node) → Stands doc n → Each (Stands doc) (sliced start end step n)
+stands-sliced start end step doc n h =
+    each-flat_map (λ _. Unit {0}) (Stands doc) (λ ts. flat_map (λ k. element k n) (slice_of start end step (length ts))) (λ ts _. stands-places (slice_of start end step (length ts)) doc n h) (option_to_list (as_list n.tree)) (each_unit (option_to_list (as_list n.tree)))
+
+each-kept : {A : Type 0} (P : A → Type 0) (b : Bool) (x : A) (xs : List A) → P x → Each P xs → Each P (cond b (x ∷ xs) xs)
+each-kept P true x xs h k = (h, k)
+each-kept P false x xs h k = k
+
+each-filter : {A : Type 0} (P : A → Type 0) (f : A → Bool) (xs : List A) → Each P xs → Each P (filter f xs)
+each-filter P f [] h = tt
+each-filter P f (x ∷ xs) h = each-kept P (f x) x (filter f xs) h.0 (each-filter P f xs h.1)
+
+stands-picks : (s : Selector) (d : Document) (n : Node) → Stands d.root n → Each (Stands d.root) (picks s d n)
+stands-picks (syntax.Selector.name k) d n h = stands-option d.root n.location n.tree (name k) (child (name k) n.tree) h refl
+stands-picks wildcard d n h = stands-children_at d.root n.location n.tree h
+stands-picks (syntax.Selector.index i) d n h = stands-indexed i d.root n h
+stands-picks (slice start end step) d n h = stands-sliced start end step d.root n h
+stands-picks (syntax.Selector.filter f) d n h = each-filter (Stands d.root) (holds f d) (children n) (stands-children_at d.root n.location n.tree h)
+
+stands-all_pick : (ss : Selectors) (d : Document) (n : Node) → Stands d.root n → Each (Stands d.root) (all_pick ss d n)
+stands-all_pick no_selectors d n h = tt
+stands-all_pick (selector s ss) d n h = each-append (Stands d.root) (picks s d n) (all_pick ss d n) (stands-picks s d n h) (stands-all_pick ss d n h)
+
+each_both : {A : Type 0} (P Q : A → Type 0) (xs : List A) → Each P xs → Each Q xs → Each (λ x. P x × Q x) xs
+each_both P Q [] h k = tt
+each_both P Q (x ∷ xs) h k = ((h.0, k.0), each_both P Q xs h.1 k.1)
+
+size_above : (t : Tree) → 1 ≤ size t
+size_above null = omega arith
+size_above (truth b) = omega arith
+size_above (number n) = omega arith
+size_above (text s) = omega arith
+size_above (list ts) = omega arith
+size_above (object ms) = omega arith
+
+elements-smaller : (l : Location) (k : ℕ) (ts : Trees) (n : ℕ) → trees_size ts ≤ n → Each (λ m. size m.tree ≤ n) (element_nodes l k (elements ts))
+elements-smaller l k no_trees n h = tt
+elements-smaller l k (base.tree t ts) n h = (omega (arith, h), elements-smaller l (suc k) ts n (omega (arith, h)))
+
+members-smaller : (l : Location) (ms : Members) (n : ℕ) → members_size ms ≤ n → Each (λ m. size m.tree ≤ n) (member_nodes l (pairs ms))
+members-smaller l no_members n h = tt
+members-smaller l (base.member k t ms) n h = (omega (arith, h), members-smaller l ms n (omega (arith, h)))
+
+children-smaller : (l : Location) (t : Tree) (n : ℕ) → size t ≤ suc n → Each (λ m. size m.tree ≤ n) (children_at l t)
+children-smaller l (list ts) n h = elements-smaller l 0 ts n (omega (arith, h))
+children-smaller l (object ms) n h = members-smaller l ms n (omega (arith, h))
+children-smaller l null n h = tt
+children-smaller l (truth b) n h = tt
+children-smaller l (number k) n h = tt
+children-smaller l (text s) n h = tt
+
+-- each node below one that is in the document is in it too, by induction on the size
+stands-subtree : (doc : Tree) (n : ℕ) (l : Location) (t : Tree) → size t ≤ n → Stands doc (record { location = l; tree = t }) → Each (Stands doc) (subtree_at l t)
+stands-subtree doc zero l t bound h = absurd (omega (arith, bound, size_above t))
+stands-subtree doc (suc n) l t bound h =
+    let here : Each (Stands doc) (record { location = l; tree = t } ∷ flat_map subtree (children_at l t)) = (h, each-flat_map (λ m. Stands doc m × (size m.tree ≤ n)) (Stands doc) subtree (λ m k. stands-subtree doc n m.location m.tree k.1 k.0) (children_at l t) (each_both (Stands doc) (λ m. size m.tree ≤ n) (children_at l t) (stands-children_at doc l t h) (children-smaller l t n bound))) in
+    let P : List Node → Type 0 = Each (Stands doc) in
+    subst P (sym (subtree-children l t)) here
+
+stands-replaced : (g : Segment) (d : Document) (n : Node) → Stands d.root n → Each (Stands d.root) (replaced g d n)
+stands-replaced (one s) d n h = stands-picks s d n h
+stands-replaced (several ss) d n h = stands-all_pick ss d n h
+stands-replaced (descendant g) d n h = each-flat_map (Stands d.root) (Stands d.root) (replaced g d) (λ m k. stands-replaced g d m k) (subtree n) (stands-subtree d.root (size n.tree) n.location n.tree (omega arith) h)
+
+stands-all_applied : (gs : Segments) (d : Document) (ns : List Node) → Each (Stands d.root) ns → Each (Stands d.root) (all_applied gs d ns)
+stands-all_applied no_segments d ns h = h
+stands-all_applied (segment g gs) d ns h = stands-all_applied gs d (flat_map (replaced g d) ns) (each-flat_map (Stands d.root) (Stands d.root) (replaced g d) (λ n k. stands-replaced g d n k) ns h)
 
 -- the value at each node's location is the node's tree
-pub nodes_at : (q : Query) (doc : Tree) → IsTrue (has_distinct_names doc) → Each (λ n. at n.location doc ≡ Some n.tree) (nodelist q doc)
-nodes_at q doc h = each_weaker (Stands doc) (λ n. at n.location doc ≡ Some n.tree) (λ n k. k.there) (nodelist q doc) (stands-all_applied q doc (root_node doc ∷ []) (record { there = refl; distinct = h }, tt))
+pub nodes_at : (q : Query) (d : Document) → IsTrue (has_distinct_names d.root) → Each (λ n. at n.location d.root ≡ Some n.tree) (nodelist q d)
+nodes_at q d h = each_weaker (Stands d.root) (λ n. at n.location d.root ≡ Some n.tree) (λ n k. k.there) (nodelist q d) (stands-all_applied q d (root_node d.root ∷ []) (record { there = refl; distinct = h }, tt))
+
+-- ---- where the steps of a walk lead
+
+-- the same steps lead to the same value
+pub leads_as : (p q : List StepRef) (root t : Tree) → p ≡ q → at (map step_of q) root ≡ Some t → at (map step_of p) root ≡ Some t
+leads_as p q root t e h = ap (λ steps. at (map step_of steps) root) e ∙ h
+
+-- one step more leads to a child
+pub leads_below : (steps : List StepRef) (s : StepRef) (root t u : Tree) → at (map step_of steps) root ≡ Some t → child (step_of s) t ≡ Some u → at (map step_of (steps ++ s ∷ [])) root ≡ Some u
+leads_below steps s root t u h e = ap (λ l. at l root) (map-append step_of steps (s ∷ [])) ∙ at-below (map step_of steps) (step_of s) root t h ∙ e
+
+-- to the element that an index means
+pub leads_indexed : (steps : List StepRef) (i : ℤ) (k : ℕ) (root t u : Tree) → IsTrue (has_distinct_names t) → at (map step_of steps) root ≡ Some t → below (map step_of steps) (index k) u ∷ [] ≡ indexed i (record { location = map step_of steps; tree = t }) → at (map step_of (steps ++ Index k ∷ [])) root ≡ Some u
+leads_indexed steps i k root t u distinct h e =
+    let n : Node = record { location = map step_of steps; tree = t } in
+    let P : List Node → Type 0 = Each (Stands root) in
+    ap (λ l. at l root) (map-append step_of steps (Index k ∷ [])) ∙ (subst P (sym e) (stands-indexed i root n (record { there = h; distinct = distinct }))).0.there
+
+each_at : {X Y : Type 0} (P : Y → Type 0) (f : X → Y) (xs : List X) (i : ℕ) (x : X) → Each P (map f xs) → i < length xs → x ≡ get_or xs i x → P (f x)
+each_at P f [] i x h lt e = absurd (omega (arith, lt))
+each_at P f (y ∷ ys) zero x h lt e = subst (λ z. P (f z)) (sym e) h.0
+each_at P f (y ∷ ys) (suc i) x h lt e = each_at P f ys i x h.1 (omega (arith, lt)) e
+
+members-found : (t : Tree) (ms : List (List ℕ × Tree)) → IsTrue (has_distinct_names t) → Some ms ≡ as_members t → Each (λ m. get m.0 t ≡ Some m.1) ms
+members-found (object us) ms h e =
+    let P : List (List ℕ × Tree) → Type 0 = Each (λ m. find m.0 (pairs us) ≡ Some m.1) in
+    subst P (sym (ap members_or e)) (pairs-found (pairs us) (and_first (are_distinct (map (λ m. m.0) (pairs us))) (members_distinct us) h))
+members-found (list us) ms h e = none_some ms e
+members-found null ms h e = none_some ms e
+members-found (truth b) ms h e = none_some ms e
+members-found (number n) ms h e = none_some ms e
+members-found (text s) ms h e = none_some ms e
+
+-- each pair of the list of members is found by its name
+pub member_there : {M : Type 0} (pair : M → List ℕ × Tree) (t : Tree) (xs : List M) (i : ℕ) (x : M) → IsTrue (has_distinct_names t) → Some (map pair xs) ≡ as_members t → i < length xs → x ≡ get_or xs i x → get (pair x).0 t ≡ Some (pair x).1
+member_there pair t xs i x distinct is_members h e = each_at (λ m. get m.0 t ≡ Some m.1) pair xs i x (members-found t (map pair xs) distinct is_members) h e

@@ -6,11 +6,14 @@ use Rattle.std.proofs.lemmas.List.Elements.{All-get_or}
 use Rattle.std.specs.List.{flat_map, slice_get}
 use Rattle.std.specs.Option.{is_some}
 use Rattle.std.specs.Str.{bytes_eq}
-use Rattle.jsonpath_parser.specs.Location.{Location, index}
+use Rattle.jsonpath_parser.specs.Location.{Location, name, index}
 use Rattle.jsonpath_base.specs.Tree.{Tree, null, truth, number, text, list, object, Trees, no_trees, tree, Members, no_members, member, elements, pairs, as_list, as_members, find, get}
 use Rattle.jsonpath_base.specs.Places.{child, item_at}
-use Rattle.jsonpath_rust.specs.Node.{Node, below, element_nodes, member_nodes, children_at}
-use Rattle.jsonpath_rust.specs.Meaning.{indexed, element_of}
+use Rattle.jsonpath_rust.specs.Node.{Node, below, element_nodes, member_nodes, children_at, subtree, subtree_at, subtrees_at, member_subtrees}
+use Rattle.jsonpath_rust.specs.Meaning.{indexed, element_of, stepped, element, sliced, named}
+use Rattle.jsonpath_base.specs.Slice.{slice_of}
+use Rattle.std.proofs.lemmas.List.{length-map, append-nil}
+use Rattle.jsonpath_parser.specs.Syntax.{index_step}
 use Rattle.jsonpath_rust.specs.Weight.{size, trees_size, members_size}
 
 pub none_some : {A B : Type 0} (x : A) → Some x ≡ None → B
@@ -20,7 +23,7 @@ abbrev list_or : Option (List Tree) → List Tree
 list_or None = []
 list_or (Some x) = x
 
-abbrev members_or : Option (List (List ℕ × Tree)) → List (List ℕ × Tree)
+abbrev pub members_or : Option (List (List ℕ × Tree)) → List (List ℕ × Tree)
 members_or None = []
 members_or (Some x) = x
 
@@ -69,12 +72,13 @@ child-list (truth b) ts k h = none_some ts h
 child-list (number n) ts k h = none_some ts h
 child-list (text s) ts k h = none_some ts h
 
+pub child_there : {A : Type 0} (tree_of : A → Tree) (t : Tree) (xs : List A) (k : ℕ) (x : A) → Some (map tree_of xs) ≡ as_list t → k < length xs → x ≡ get_or xs k x → child (index k) t ≡ Some (tree_of x)
+child_there tree_of t xs k x is_list h e = child-list t (map tree_of xs) k is_list ∙ slice_get-map tree_of xs k ∙ ap (option_map tree_of) (slice_get_read xs (length xs) k x refl h e)
+
 -- the element that stands at the place that the index means
 pub indexed_some : {A : Type 0} (tree_of : A → Tree) (l : Location) (t : Tree) (xs : List A) (i : ℤ) (k : ℕ) (x : A) → Some (map tree_of xs) ≡ as_list t → Some k ≡ element_of i (length (map tree_of xs)) → k < length xs → x ≡ get_or xs k x → below l (index k) (tree_of x) ∷ [] ≡ indexed i (record { location = l; tree = t })
 indexed_some tree_of l t xs i k x is_list is_place h e =
-    let ts = map tree_of xs in
-    let is_there : slice_get xs k ≡ Some x = slice_get_read xs (length xs) k x refl h e in
-    let here : Some (tree_of x) ≡ child (index k) t = sym (child-list t ts k is_list ∙ slice_get-map tree_of xs k ∙ ap (option_map tree_of) is_there) in
+    let here = sym (child_there tree_of t xs k x is_list h e) in
     let n : Node = record { location = l; tree = t } in
     ap (λ o. map (below l (index k)) (option_to_list o)) here
     ∙ sym (◌∙◌ (ap (λ o. flat_map (λ j. map (below l (index j)) (option_to_list (child (index j) t))) (option_to_list (option_and_then (λ us. element_of i (length us)) o))) (sym is_list)) (ap (λ o. flat_map (λ j. map (below l (index j)) (option_to_list (child (index j) t))) (option_to_list o)) (sym is_place) ∙ one_more (map (below l (index k)) (option_to_list (child (index k) t)))))
@@ -146,3 +150,67 @@ member_size key null c h = none_some c h
 member_size key (truth b) c h = none_some c h
 member_size key (number n) c h = none_some c h
 member_size key (text s) c h = none_some c h
+
+-- ---- what is below a node
+
+subtrees_at-elements : (l : Location) (k : ℕ) (ts : Trees) → subtrees_at l k ts ≡ flat_map subtree (element_nodes l k (elements ts))
+subtrees_at-elements l k no_trees = refl
+subtrees_at-elements l k (tree t ts) = ap (λ ns. subtree_at (l ++ index k ∷ []) t ++ ns) (subtrees_at-elements l (suc k) ts)
+
+member_subtrees-pairs : (l : Location) (ms : Members) → member_subtrees l ms ≡ flat_map subtree (member_nodes l (pairs ms))
+member_subtrees-pairs l no_members = refl
+member_subtrees-pairs l (member k t ms) = ap (λ ns. subtree_at (l ++ name k ∷ []) t ++ ns) (member_subtrees-pairs l ms)
+
+-- itself, and then what is below each child
+pub subtree-children : (l : Location) (t : Tree) → subtree_at l t ≡ record { location = l; tree = t } ∷ flat_map subtree (children_at l t)
+subtree-children l (list ts) = ap (λ ns. record { location = l; tree = list ts } ∷ ns) (subtrees_at-elements l 0 ts)
+subtree-children l (object ms) = ap (λ ns. record { location = l; tree = object ms } ∷ ns) (member_subtrees-pairs l ms)
+subtree-children l null = refl
+subtree-children l (truth b) = refl
+subtree-children l (number n) = refl
+subtree-children l (text s) = refl
+
+-- ---- the value of a step of a singular query
+
+first_tree : List Node → Option Tree
+first_tree [] = None
+first_tree (n ∷ ns) = Some n.tree
+
+first-option : (l : Location) (k : ℕ) (o : Option Tree) → first_tree (map (below l (index k)) (option_to_list o) ++ []) ≡ o
+unfolding first_tree
+first-option l k None = refl
+first-option l k (Some t) = refl
+
+first-place : (l : Location) (c : ℕ → Option Tree) (o : Option ℕ) → first_tree (flat_map (λ k. map (below l (index k)) (option_to_list (c k))) (option_to_list o)) ≡ option_and_then c o
+unfolding first_tree
+first-place l c None = refl
+first-place l c (Some k) = first-option l k (c k)
+
+first-list : (l : Location) (c : ℕ → Option Tree) (f : List Tree → Option ℕ) (o : Option (List Tree)) → first_tree (flat_map (λ k. map (below l (index k)) (option_to_list (c k))) (option_to_list (option_and_then f o))) ≡ option_and_then (λ ts. option_and_then c (f ts)) o
+unfolding first_tree
+first-list l c f None = refl
+first-list l c f (Some ts) = first-place l c (f ts)
+
+first-found : (l : Location) (o : Option (ℕ × Tree)) → first_tree (map (λ p. below l (index p.0) p.1) (option_to_list o)) ≡ option_map (λ p. p.1) o
+unfolding first_tree
+first-found l None = refl
+first-found l (Some p) = refl
+
+pub stepped-found : (i : ℤ) (t : Tree) (o : Option (ℕ × Tree)) → map (λ p. below [] (index p.0) p.1) (option_to_list o) ≡ indexed i (record { location = []; tree = t }) → option_map (λ p. p.1) o ≡ stepped (index_step i) t
+stepped-found i t o e = sym (first-found [] o) ∙ ap first_tree e ∙ first-list [] (λ k. child (index k) t) (λ ts. element_of i (length ts)) (as_list t)
+
+-- ---- the elements that a slice picks
+
+pub element_at : {A : Type 0} (tree_of : A → Tree) (l : Location) (t : Tree) (xs : List A) (k : ℕ) (x : A) → Some (map tree_of xs) ≡ as_list t → k < length xs → x ≡ get_or xs k x → below l (index k) (tree_of x) ∷ [] ≡ element k (record { location = l; tree = t })
+element_at tree_of l t xs k x is_list h e = ap (λ o. map (below l (index k)) (option_to_list o)) (sym (child_there tree_of t xs k x is_list h e))
+
+pub sliced-list : {A : Type 0} (tree_of : A → Tree) (n : Node) (xs : List A) (start end step : Option ℤ) → Some (map tree_of xs) ≡ as_list n.tree → flat_map (λ k. element k n) (slice_of start end step (length xs)) ≡ sliced start end step n
+sliced-list tree_of n xs start end step h =
+    ap (λ len. flat_map (λ k. element k n) (slice_of start end step len)) (sym (length-map xs tree_of)) ∙ sym (append-nil (flat_map (λ k. element k n) (slice_of start end step (length (map tree_of xs))))) ∙ ap (λ o. flat_map (λ ts. flat_map (λ k. element k n) (slice_of start end step (length ts))) (option_to_list o)) h
+
+-- the member of a name
+pub named_some : (l : Location) (k : List ℕ) (t c : Tree) → Some c ≡ get k t → below l (name k) c ∷ [] ≡ named k (record { location = l; tree = t })
+named_some l k t c h = ap (λ o. map (below l (name k)) (option_to_list o)) h
+
+pub named_none : (l : Location) (k : List ℕ) (t : Tree) → None ≡ get k t → named k (record { location = l; tree = t }) ≡ []
+named_none l k t h = sym (ap (λ o. map (below l (name k)) (option_to_list o)) h)

@@ -1,17 +1,23 @@
 -- What a query answers.
-use Rattle.std.specs.Prelude.{◌≡◌, ℕ, List, [], ◌∷◌, ◌++◌, map, Option, Some, string_bytes}
+use Rattle.std.specs.Prelude.{◌≡◌, ℕ, List, [], ◌∷◌, ◌++◌, map, Option, Some, string_bytes, String}
 use Rattle.jsonpath_parser.specs.Location.{Location}
 use Rattle.jsonpath_parser.specs.Normal.{IsNormal, IsOnlyPath}
 use Rattle.jsonpath_parser.specs.Syntax.{Query}
 use Rattle.jsonpath_parser.specs.Derives.{Derives}
 use Rattle.jsonpath_base.specs.Tree.{Tree}
 use Rattle.jsonpath_base.specs.Places.{at}
+use Rattle.jsonpath_rust.specs.Document.{Document}
 use Rattle.jsonpath_rust.specs.Meaning.{selected}
 use Rattle.jsonpath_rust.specs.declared.query.QueryRef.{QueryRef}
+use Rattle.std.specs.declared.alloc.Global.{Global}
 
 -- the path of each answered node, and the tree of its value
 abbrev pub shown : {A : Type 0} → (A → Tree) → List (QueryRef A) → List (List ℕ × Tree)
 shown tree refs = map (λ r. (string_bytes r.path, tree r.val.now)) refs
+
+-- the texts of paths
+abbrev pub paths_of : List (String Global) → List (List ℕ)
+paths_of paths = map (λ p. string_bytes p) paths
 
 -- the relation holds place by place, and both lists are of one length
 abbrev pub Along : {A B : Type 0} → (A → B → Type 0) → List A → List B → Type 0
@@ -20,26 +26,33 @@ Along R (a ∷ xs) (b ∷ ys) = R a b × Along R xs ys
 Along R _ _ = ⊥
 
 -- the path is the Normalized Path of the location, and the tree is the one there
-abbrev pub IsNodeAt : Tree → Location → List ℕ × Tree → Type 0
-IsNodeAt doc l shown = IsNormal l shown.0 × (at l doc ≡ Some shown.1)
+abbrev pub IsNodeAt : Document → Location → List ℕ × Tree → Type 0
+IsNodeAt doc l shown = IsNormal l shown.0 × (at l doc.root ≡ Some shown.1)
 
 -- the path is the location's alone
 abbrev pub HasOnlyPath : Location → List ℕ × Tree → Type 0
 HasOnlyPath l shown = IsOnlyPath l shown.0
 
 -- the tree is the one at the location
-abbrev pub IsValueAt : Tree → Location → Tree → Type 0
-IsValueAt doc l t = at l doc ≡ Some t
+abbrev pub IsValueAt : Document → Location → Tree → Type 0
+IsValueAt doc l t = at l doc.root ≡ Some t
 
 -- The text is a query, no deeper than the limit, and the list shows its nodes in the document, in order.
-pub record ListsNodes (limit : ℕ) (text : List ℕ) (doc : Tree) (answer : List (List ℕ × Tree)) : Type 0 where
+pub record ListsNodes (limit : ℕ) (text : List ℕ) (doc : Document) (answer : List (List ℕ × Tree)) : Type 0 where
   pub query : Query
   pub derived : Derives limit text query
   pub nodes : Along (IsNodeAt doc) (selected query doc) answer
   pub only_path : Along HasOnlyPath (selected query doc) answer
 
 -- The same of a list of the nodes' values.
-pub record ListsValues (limit : ℕ) (text : List ℕ) (doc : Tree) (answer : List Tree) : Type 0 where
+pub record ListsValues (limit : ℕ) (text : List ℕ) (doc : Document) (answer : List Tree) : Type 0 where
   pub query : Query
   pub derived : Derives limit text query
   pub values : Along (IsValueAt doc) (selected query doc) answer
+
+-- The same of a list of the nodes' paths.
+pub record ListsPaths (limit : ℕ) (text : List ℕ) (doc : Document) (answer : List (List ℕ)) : Type 0 where
+  pub query : Query
+  pub derived : Derives limit text query
+  pub paths : Along IsNormal (selected query doc) answer
+  pub only_path : Along IsOnlyPath (selected query doc) answer

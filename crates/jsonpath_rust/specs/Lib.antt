@@ -1,7 +1,14 @@
+pub mod Document
 pub mod Node
+pub mod Comparing
+pub mod Functions
 pub mod Meaning
 pub mod Answer
-pub mod Walking
-pub mod Weight
 pub mod Args
 pub mod Defaults
+pub mod Sinks
+pub mod Walking
+pub mod Keeping
+pub mod Operands
+pub mod Weight
+pub mod Patterns

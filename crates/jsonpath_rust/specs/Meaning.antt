@@ -1,12 +1,22 @@
--- What a query selects (RFC 9535, 2.1.2, 2.3 and 2.5).
-use Rattle.std.specs.Prelude.{ℕ, suc, ◌-◌, ℤ, pos, negsuc, List, [], ◌∷◌, ◌++◌, length, map, nat_lt, if◌then◌else◌, Option, Some, None, option_map, option_and_then, option_to_list}
+-- What a query selects (RFC 9535, 2.1.2 and 2.3 to 2.5).
+--
+-- Each definition has a value on every query tree, also on one that the typing of 2.4.3 refuses: where a value is asked of a query, it is
+-- that of its only node; what is no query has no nodes; and a test of a call holds where it answers true.
+use Rattle.std.specs.Prelude.{ℕ, suc, ◌-◌, ℤ, pos, negsuc, List, [], ◌∷◌, ◌++◌, length, map, filter, nat_lt, if◌then◌else◌, Bool, true, false, not, ◌&&◌, ◌||◌, Option, Some, None, option_map, option_and_then, option_to_list}
 use Rattle.std.specs.List.{flat_map}
-use Rattle.jsonpath_parser.specs.Location.{name, index, Location}
+use Rattle.jsonpath_parser.specs.Location as location
+use Rattle.jsonpath_parser.specs.Location.{Location}
 use Rattle.jsonpath_parser.specs.Syntax as syntax
-use Rattle.jsonpath_parser.specs.Syntax.{Selector, wildcard, Segment, one, Segments, no_segments, segment, Query}
-use Rattle.jsonpath_base.specs.Tree.{Tree, get, as_list}
+use Rattle.jsonpath_parser.specs.Syntax.{Literal, string, bool, SingularStep, name_step, index_step, SingularQuery, current, Selector, wildcard, slice, Selectors, no_selectors, selector, Segment, one, several, descendant, Segments, no_segments, segment, Filter, or, and, atom, Filters, no_filters, filter_then, Atom, group, test, comparison, Comparison, compare, Comparable, literal, function, singular, Test, relative, absolute, call, Call, custom_call, length_call, value_call, count_call, search_call, match_call, Argument, literal_argument, test_argument, filter_argument, Arguments, no_arguments, argument, Query}
+use Rattle.jsonpath_base.specs.Tree as tree
+use Rattle.jsonpath_base.specs.Tree.{Tree, truth, get, as_list}
 use Rattle.jsonpath_base.specs.Places.{child}
-use Rattle.jsonpath_rust.specs.Node.{Node, root_node, below, children}
+use Rattle.jsonpath_base.specs.Slice.{slice_of}
+use Rattle.jsonpath_base.specs.Values.{tree_of_number}
+use Rattle.jsonpath_rust.specs.Node.{Node, root_node, below, children, subtree, has_node}
+use Rattle.jsonpath_rust.specs.Document.{Document}
+use Rattle.jsonpath_rust.specs.Comparing.{compares}
+use Rattle.jsonpath_rust.specs.Functions.{length_of, count_of, is_found, only_value, is_true}
 
 -- the element that an index means in a list of this length: a negative one counts from the end (2.3.3)
 abbrev pub element_of : ℤ → ℕ → Option ℕ
@@ -15,37 +25,150 @@ element_of (negsuc n) len = if nat_lt n len then Some (len - suc n) else None
 
 -- the node of that step, where there is one
 abbrev pub named : List ℕ → Node → List Node
-named k n = map (below n.location (name k)) (option_to_list (child (name k) n.tree))
+named k n = map (below n.location (location.name k)) (option_to_list (child (location.name k) n.tree))
 
 abbrev pub element : ℕ → Node → List Node
-element i n = map (below n.location (index i)) (option_to_list (child (index i) n.tree))
+element i n = map (below n.location (location.index i)) (option_to_list (child (location.index i) n.tree))
 
 abbrev pub indexed : ℤ → Node → List Node
 indexed i n = flat_map (λ k. element k n) (option_to_list (option_and_then (λ ts. element_of i (length ts)) (as_list n.tree)))
 
--- what a selector picks at a node of a document (2.3)
-abbrev pub picks : Selector → Tree → Node → List Node
-picks (syntax.Selector.name k) doc n = named k n
-picks wildcard doc n = children n
-picks (syntax.Selector.index i) doc n = indexed i n
+-- the elements that a slice picks, in its order (2.3.4)
+abbrev pub sliced : Option ℤ → Option ℤ → Option ℤ → Node → List Node
+sliced start end step n = flat_map (λ ts. flat_map (λ k. element k n) (slice_of start end step (length ts))) (option_to_list (as_list n.tree))
 
--- what a segment makes of one node (2.5)
-abbrev pub replaced : Segment → Tree → Node → List Node
-replaced (one s) doc n = picks s doc n
+-- the value of a singular query, where there is one (2.3.5.1)
+abbrev pub stepped : SingularStep → Tree → Option Tree
+stepped (name_step k) t = child (location.name k) t
+stepped (index_step i) t = option_and_then (λ ts. option_and_then (λ k. child (location.index k) t) (element_of i (length ts))) (as_list t)
 
--- a segment is applied to each node of a list in turn (2.1.2)
-abbrev pub applied : Segment → Tree → List Node → List Node
-applied g doc ns = flat_map (replaced g doc) ns
+abbrev pub value_at : List SingularStep → Tree → Option Tree
+value_at [] t = Some t
+value_at (s ∷ ss) t = option_and_then (value_at ss) (stepped s t)
 
--- each segment in order
-abbrev pub all_applied : Segments → Tree → List Node → List Node
-all_applied no_segments doc ns = ns
-all_applied (segment g gs) doc ns = all_applied gs doc (applied g doc ns)
+abbrev pub singular_value : SingularQuery → Document → Node → Option Tree
+singular_value (current ss) d n = value_at ss n.tree
+singular_value (syntax.root ss) d n = value_at ss d.root
+
+abbrev pub literal_tree : Literal → Tree
+literal_tree (syntax.number n) = tree_of_number n
+literal_tree (string s) = tree.text s
+literal_tree (bool b) = truth b
+literal_tree syntax.null = tree.null
+
+-- `!` in front turns a truth round
+abbrev pub turned : Bool → Bool → Bool
+turned true b = not b
+turned false b = b
+
+abbrev mutual
+  -- what a selector picks at a node of a document (2.3)
+  pub picks : Selector → Document → Node → List Node
+  picks (syntax.Selector.name k) d n = named k n
+  picks wildcard d n = children n
+  picks (syntax.Selector.index i) d n = indexed i n
+  picks (slice start end step) d n = sliced start end step n
+  picks (syntax.Selector.filter f) d n = filter (holds f d) (children n)
+
+  pub all_pick : Selectors → Document → Node → List Node
+  all_pick no_selectors d n = []
+  all_pick (selector s ss) d n = picks s d n ++ all_pick ss d n
+
+  -- what a segment makes of one node (2.5)
+  pub replaced : Segment → Document → Node → List Node
+  replaced (one s) d n = picks s d n
+  replaced (several ss) d n = all_pick ss d n
+  replaced (descendant g) d n = flat_map (replaced g d) (subtree n)
+
+  -- each segment in order, applied to each node of a list in turn (2.1.2)
+  pub all_applied : Segments → Document → List Node → List Node
+  all_applied no_segments d ns = ns
+  all_applied (segment g gs) d ns = all_applied gs d (flat_map (replaced g d) ns)
+
+  -- whether a logical expression holds at a node (2.3.5)
+  pub holds : Filter → Document → Node → Bool
+  holds (or fs) d n = some_holds fs d n
+  holds (and fs) d n = each_holds fs d n
+  holds (atom a) d n = atom_holds a d n
+
+  pub some_holds : Filters → Document → Node → Bool
+  some_holds no_filters d n = false
+  some_holds (filter_then f fs) d n = holds f d n || some_holds fs d n
+
+  pub each_holds : Filters → Document → Node → Bool
+  each_holds no_filters d n = true
+  each_holds (filter_then f fs) d n = holds f d n && each_holds fs d n
+
+  pub atom_holds : Atom → Document → Node → Bool
+  atom_holds (group t f) d n = turned t (holds f d n)
+  atom_holds (test t q) d n = turned t (test_holds q d n)
+  atom_holds (comparison c) d n = comparison_holds c d n
+
+  pub comparison_holds : Comparison → Document → Node → Bool
+  comparison_holds (compare op a b) d n = compares op (value_of a d n) (value_of b d n)
+
+  -- a query holds where it has nodes, whatever their values (2.3.5.2.1)
+  pub test_holds : Test → Document → Node → Bool
+  test_holds (relative gs) d n = has_node (all_applied gs d (n ∷ []))
+  test_holds (absolute gs) d n = has_node (all_applied gs d (root_node d.root ∷ []))
+  test_holds (call f) d n = is_true (answer f d n)
+
+  -- the value of one side of a comparison, where it has one
+  pub value_of : Comparable → Document → Node → Option Tree
+  value_of (literal l) d n = Some (literal_tree l)
+  value_of (function f) d n = answer f d n
+  value_of (singular q) d n = singular_value q d n
+
+  -- what a function answers, if it is not absent (2.4)
+  pub answer : Call → Document → Node → Option Tree
+  answer (custom_call name args) d n = Some (d.custom name (all_trees args d n))
+  answer (length_call a) d n = length_of (argument_value a d n)
+  answer (value_call a) d n = only_value (argument_nodes a d n)
+  answer (count_call a) d n = count_of (argument_nodes a d n)
+  answer (search_call a b) d n = Some (truth (is_found false (argument_value a d n) (argument_value b d n)))
+  answer (match_call a b) d n = Some (truth (is_found true (argument_value a d n) (argument_value b d n)))
+
+  -- an argument as a value, where it has one (2.4.2)
+  pub argument_value : Argument → Document → Node → Option Tree
+  argument_value (literal_argument l) d n = Some (literal_tree l)
+  argument_value (test_argument t) d n = test_value t d n
+  argument_value (filter_argument f) d n = Some (truth (holds f d n))
+
+  pub test_value : Test → Document → Node → Option Tree
+  test_value (relative gs) d n = only_value (all_applied gs d (n ∷ []))
+  test_value (absolute gs) d n = only_value (all_applied gs d (root_node d.root ∷ []))
+  test_value (call f) d n = answer f d n
+
+  -- an argument as nodes
+  pub argument_nodes : Argument → Document → Node → List Node
+  argument_nodes (literal_argument l) d n = []
+  argument_nodes (test_argument t) d n = test_nodes t d n
+  argument_nodes (filter_argument f) d n = []
+
+  pub test_nodes : Test → Document → Node → List Node
+  test_nodes (relative gs) d n = all_applied gs d (n ∷ [])
+  test_nodes (absolute gs) d n = all_applied gs d (root_node d.root ∷ [])
+  test_nodes (call f) d n = []
+
+  -- an argument of a custom function: the values of a query come one by one, what is absent is left out, an expression is its truth
+  pub argument_trees : Argument → Document → Node → List Tree
+  argument_trees (literal_argument l) d n = literal_tree l ∷ []
+  argument_trees (test_argument t) d n = test_trees t d n
+  argument_trees (filter_argument f) d n = truth (holds f d n) ∷ []
+
+  pub test_trees : Test → Document → Node → List Tree
+  test_trees (relative gs) d n = map (λ m. m.tree) (all_applied gs d (n ∷ []))
+  test_trees (absolute gs) d n = map (λ m. m.tree) (all_applied gs d (root_node d.root ∷ []))
+  test_trees (call f) d n = option_to_list (answer f d n)
+
+  pub all_trees : Arguments → Document → Node → List Tree
+  all_trees no_arguments d n = []
+  all_trees (argument a rest) d n = argument_trees a d n ++ all_trees rest d n
 
 -- the nodes of a query, from the root on
-abbrev pub nodelist : Query → Tree → List Node
-nodelist q doc = all_applied q doc (root_node doc ∷ [])
+abbrev pub nodelist : Query → Document → List Node
+nodelist q d = all_applied q d (root_node d.root ∷ [])
 
 -- the locations that a query selects, in order
-abbrev pub selected : Query → Tree → List Location
-selected q doc = map (λ n. n.location) (nodelist q doc)
+abbrev pub selected : Query → Document → List Location
+selected q d = map (λ n. n.location) (nodelist q d)

@@ -1,20 +1,30 @@
 //! Queries on a document.
 ghost use Rattle.std.specs.Prelude.{◌≡◌, map, All, IsTrue, IfOk, IfErr, MatchResult};
-ghost use Rattle.jsonpath_parser.specs.Derives.{Derives, IsRefusal};
+ghost use Rattle.jsonpath_parser.specs.Derives.{Derives};
 ghost use Rattle.jsonpath_parser.specs.Syntax.{Query};
 ghost use Rattle.jsonpath_parser.specs.View.{query_view};
-ghost use Rattle.jsonpath_parser.specs.declared.errors.JsonPathError.TheVariants.{OutOfMemory};
+ghost use Rattle.jsonpath_parser.specs.Normal.{IsNormal};
+ghost use Rattle.jsonpath_rust.specs.Document.{document_of};
 ghost use Rattle.jsonpath_rust.specs.Meaning.{selected};
-ghost use Rattle.jsonpath_rust.specs.Answer.{Along, IsNodeAt, IsValueAt, HasOnlyPath, ListsNodes, ListsValues, shown};
+ghost use Rattle.jsonpath_rust.specs.Patterns.{IsStop, IsQueryRefusal};
+ghost use Rattle.jsonpath_rust.specs.Answer.{Along, IsNodeAt, IsValueAt, HasOnlyPath, ListsNodes, ListsValues, ListsPaths, shown, paths_of};
 
+mod call;
+mod filter_test;
+mod kept;
+mod literals;
+mod operand;
 pub mod queryable;
+mod singular;
 mod sink;
+#[cfg(test)]
+mod tests;
 mod walk;
 
 use crate::query::queryable::Queryable;
 use jsonpath_parser::errors::JsonPathError;
 use jsonpath_parser::model::JpQuery;
-use jsonpath_parser::parse_json_path;
+use jsonpath_parser::{MAX_NESTING_DEPTH, parse_json_path, parse_json_path_within};
 use std::alloc::Global;
 
 /// The text of a Normalized Path (RFC 9535, 2.7).
@@ -59,8 +69,9 @@ impl<'a, T: Queryable> From<(&'a T, QueryPath)> for QueryRef<'a, T> {
 ///
 /// # Errors
 ///
-/// - `MaxNestingDepthExceeded(128)` where more than 128 brackets stand open in the text.
-/// - `PestError(place)` where the text is no query; the place is a count of bytes, at most the text's length.
+/// - those of `parse_json_path`, where the text is no query.
+/// - `InvalidJsonPath` where a pattern that the query asks of a node of the document, by `match` or `search`, can be read
+///   by `regex` and is too large to be built.
 /// - `OutOfMemory` where a growth was refused.
 pub fn js_path<'a, T: Queryable>(
     alloc: Global,
@@ -68,16 +79,40 @@ pub fn js_path<'a, T: Queryable>(
     value: &'a T,
 ) -> Queried<Vec<QueryRef<'a, T>>>
     requires { IsTrue (T.is_whole value.now) }
-    ensures answered { IfOk result (λ v. ListsNodes 128 path.now (T.tree value.now) (shown T.tree v.items)) }
+    ensures answered { IfOk result (λ v. ListsNodes 128 path.now (document_of T.tree T.custom value.now) (shown T.tree v.items)) }
 
-    // Whatever query the text derives, its nodes are answered, unless memory ran out.
+    // Whatever query the text derives, its nodes are answered, unless memory ran out or a pattern was refused.
     ensures only { (q : Query) → Derives 128 path.now q → MatchResult result
-        (λ v. Along (IsNodeAt (T.tree value.now)) (selected q (T.tree value.now)) (shown T.tree v.items))
-        (λ e. e ≡ OutOfMemory) }
+        (λ v. Along (IsNodeAt (document_of T.tree T.custom value.now)) (selected q (document_of T.tree T.custom value.now)) (shown T.tree v.items))
+        (IsStop q (document_of T.tree T.custom value.now)) }
     ensures whole { IfOk result (λ v. All (λ r. IsTrue (T.is_whole r.val.now)) v.items) }
-    ensures refused { IfErr result (IsRefusal 128 path.now) }
+    ensures refused { IfErr result (IsQueryRefusal 128 path.now (document_of T.tree T.custom value.now)) }
 {
-    let query = parse_json_path(alloc, path)?;
+    js_path_within(alloc, path, MAX_NESTING_DEPTH, value)
+}
+
+/// The nodes that a query text selects in a document, as [`js_path`], which is this at a depth of 128.
+///
+/// # Errors
+///
+/// As those of [`js_path`], but `MaxNestingDepthExceeded(depth)` where more than `depth` brackets stand open.
+pub fn js_path_within<'a, T: Queryable>(
+    alloc: Global,
+    path: &str,
+    depth: usize,
+    value: &'a T,
+) -> Queried<Vec<QueryRef<'a, T>>>
+    requires { IsTrue (T.is_whole value.now) }
+    ensures answered { IfOk result (λ v. ListsNodes depth path.now (document_of T.tree T.custom value.now) (shown T.tree v.items)) }
+
+    // Whatever query the text derives, its nodes are answered, unless memory ran out or a pattern was refused.
+    ensures only { (q : Query) → Derives depth path.now q → MatchResult result
+        (λ v. Along (IsNodeAt (document_of T.tree T.custom value.now)) (selected q (document_of T.tree T.custom value.now)) (shown T.tree v.items))
+        (IsStop q (document_of T.tree T.custom value.now)) }
+    ensures whole { IfOk result (λ v. All (λ r. IsTrue (T.is_whole r.val.now)) v.items) }
+    ensures refused { IfErr result (IsQueryRefusal depth path.now (document_of T.tree T.custom value.now)) }
+{
+    let query = parse_json_path_within(alloc, path, depth)?;
     js_path_process(alloc, &query, value)
 }
 
@@ -89,105 +124,74 @@ pub fn js_path_vals<'a, T: Queryable>(
     value: &'a T,
 ) -> Queried<Vec<&'a T>>
     requires { IsTrue (T.is_whole value.now) }
-    ensures answered { IfOk result (λ v. ListsValues 128 path.now (T.tree value.now) (map (λ x. T.tree x.now) v.items)) }
+    ensures answered { IfOk result (λ v. ListsValues 128 path.now (document_of T.tree T.custom value.now) (map (λ x. T.tree x.now) v.items)) }
 
-    // Whatever query the text derives, its nodes' values are answered, unless memory ran out.
+    // Whatever query the text derives, its nodes' values are answered, unless memory ran out or a pattern was refused.
     ensures only { (q : Query) → Derives 128 path.now q → MatchResult result
-        (λ v. Along (IsValueAt (T.tree value.now)) (selected q (T.tree value.now)) (map (λ x. T.tree x.now) v.items))
-        (λ e. e ≡ OutOfMemory) }
+        (λ v. Along (IsValueAt (document_of T.tree T.custom value.now)) (selected q (document_of T.tree T.custom value.now)) (map (λ x. T.tree x.now) v.items))
+        (IsStop q (document_of T.tree T.custom value.now)) }
     ensures whole { IfOk result (λ v. All (λ x. IsTrue (T.is_whole x.now)) v.items) }
-    ensures refused { IfErr result (IsRefusal 128 path.now) }
+    ensures refused { IfErr result (IsQueryRefusal 128 path.now (document_of T.tree T.custom value.now)) }
 {
     let query = parse_json_path(alloc, path)?;
-    let mut sink = sink::Sink::Values(Vec::new(alloc));
+    js_path_process_vals(alloc, &query, value)
+}
+
+/// The Normalized Paths of the nodes that a query text selects in a document, in order. It refuses as [`js_path`] does.
+pub fn js_path_path<T: Queryable>(alloc: Global, path: &str, value: &T) -> Queried<Vec<QueryPath>>
+    requires { IsTrue (T.is_whole value.now) }
+    ensures answered { IfOk result (λ v. ListsPaths 128 path.now (document_of T.tree T.custom value.now) (paths_of v.items)) }
+
+    // Whatever query the text derives, its nodes' paths are answered, unless memory ran out or a pattern was refused.
+    ensures only { (q : Query) → Derives 128 path.now q → MatchResult result
+        (λ v. Along IsNormal (selected q (document_of T.tree T.custom value.now)) (paths_of v.items))
+        (IsStop q (document_of T.tree T.custom value.now)) }
+    ensures refused { IfErr result (IsQueryRefusal 128 path.now (document_of T.tree T.custom value.now)) }
+{
+    let query = parse_json_path(alloc, path)?;
+    let mut sink = sink::Sink::Paths(Vec::new(alloc));
     let _goes_on = walk::give_nodes(alloc, &query, value, &mut sink)?;
-    Ok(sink.into_values(alloc))
+    Ok(sink.into_paths(alloc))
 }
 
 /// The nodes that a query selects in a document, in order (RFC 9535, 2.1.2): their values and their Normalized Paths.
-/// It refuses for want of memory alone.
+/// It refuses by `OutOfMemory`, and by `InvalidJsonPath` where a pattern that the query asks of a node of the document, by
+/// `match` or `search`, can be read by `regex` and is too large to be built.
+///
+/// The nodes are those of the meaning also for a tree that no text spells, with any index and any slice, and for one
+/// that the typing of RFC 9535, 2.4.3 refuses.
 pub fn js_path_process<'a, T: Queryable>(
     alloc: Global,
     path: &JpQuery,
     value: &'a T,
 ) -> Queried<Vec<QueryRef<'a, T>>>
     requires { IsTrue (T.is_whole value.now) }
-    ensures nodes { IfOk result (λ v. Along (IsNodeAt (T.tree value.now))
-        (selected (query_view path.now) (T.tree value.now)) (shown T.tree v.items)) }
+    ensures nodes { IfOk result (λ v. Along (IsNodeAt (document_of T.tree T.custom value.now))
+        (selected (query_view path.now) (document_of T.tree T.custom value.now)) (shown T.tree v.items)) }
     ensures only_path { IfOk result (λ v. Along HasOnlyPath
-        (selected (query_view path.now) (T.tree value.now)) (shown T.tree v.items)) }
+        (selected (query_view path.now) (document_of T.tree T.custom value.now)) (shown T.tree v.items)) }
     ensures whole { IfOk result (λ v. All (λ r. IsTrue (T.is_whole r.val.now)) v.items) }
-    ensures memory { IfErr result (λ e. e ≡ OutOfMemory) }
+    ensures refused { IfErr result (IsStop (query_view path.now) (document_of T.tree T.custom value.now)) }
 {
     let mut sink = sink::Sink::Nodes(Vec::new(alloc));
     let _goes_on = walk::give_nodes(alloc, path, value, &mut sink)?;
     Ok(sink.into_nodes(alloc))
 }
 
-#[cfg(test)]
-mod tests {
-    use super::*;
-    use jsonpath_parser::model::{Segment, Selector};
-    use serde_json::Value;
-    use std::process::Abort;
-    use std::test::Fail;
-
-    fn assert_nodes(
-        rt: &impl Abort,
-        nodes: &[QueryRef<'_, Value>],
-        want: &[(i64, &str)],
-    ) -> Result<(), Fail> {
-        assert_eq!(rt; nodes.len(), want.len());
-        for (node, (number, path)) in nodes.iter().zip(want) {
-            assert_eq!(rt; node.val.as_i64(), Some(*number));
-            assert_eq!(rt; node.path.as_str(), *path);
-        }
-        Ok(())
-    }
-
-    #[test]
-    fn nodes_of_a_text(rt: HostRuntime) -> Result<(), Fail> {
-        let object = Value::from_str(rt.alloc(), "{\"b\":2,\"a'\":1}")?;
-        assert!(rt; object.is_whole());
-        let nodes = js_path(rt.alloc(), "$.*", &object)?;
-        assert_nodes(&rt, &nodes, &[(1, "$['a\\'']"), (2, "$['b']")])?;
-        let list = Value::from_str(rt.alloc(), "[[1],[2,3]]")?;
-        assert!(rt; list.is_whole());
-        let nodes = js_path(rt.alloc(), "$[1][-1]", &list)?;
-        assert_nodes(&rt, &nodes, &[(3, "$[1][1]")])
-    }
-
-    #[test]
-    fn values_of_a_text(rt: HostRuntime) -> Result<(), Fail> {
-        let document = Value::from_str(rt.alloc(), "{\"a\":[1,2]}")?;
-        assert!(rt; document.is_whole());
-        let values = js_path_vals(rt.alloc(), "$.a[*]", &document)?;
-        assert_eq!(rt; values.len(), 2);
-        assert_eq!(rt; values[0].as_i64(), Some(1));
-        assert_eq!(rt; values[1].as_i64(), Some(2));
-        let refused = js_path_vals(rt.alloc(), "$.a ", &document);
-        assert!(rt; matches!(refused, Err(JsonPathError::PestError(_))));
-        Ok(())
-    }
-
-    #[test]
-    fn nodes_of_a_tree(rt: HostRuntime) -> Result<(), Fail> {
-        let document = Value::from_str(rt.alloc(), "{\"a\":[1,2]}")?;
-        assert!(rt; document.is_whole());
-        let name = Segment::Selector(Selector::Name(String::from_str(rt.alloc(), "a")?));
-        let all = Segment::Selector(Selector::Wildcard);
-        let query = JpQuery::new(vec![in rt.alloc(); name, all]?);
-        let nodes = js_path_process(rt.alloc(), &query, &document)?;
-        assert_nodes(&rt, &nodes, &[(1, "$['a'][0]"), (2, "$['a'][1]")])
-    }
-
-    #[test]
-    fn a_node_has_a_value_and_a_path(rt: HostRuntime) -> Result<(), Fail> {
-        let document = Value::from_str(rt.alloc(), "7")?;
-        let node = QueryRef::from((&document, String::from_str(rt.alloc(), "$")?));
-        assert_eq!(rt; node.path().as_str(), "$");
-        let node = QueryRef::from((&document, String::from_str(rt.alloc(), "$")?));
-        assert_eq!(rt; node.val().as_i64(), Some(7));
-        Ok(())
-    }
+/// The values of the nodes that a query selects in a document, in order. It refuses as [`js_path_process`] does, and
+/// makes no path.
+pub fn js_path_process_vals<'a, T: Queryable>(
+    alloc: Global,
+    query: &JpQuery,
+    value: &'a T,
+) -> Queried<Vec<&'a T>>
+    requires { IsTrue (T.is_whole value.now) }
+    ensures values { IfOk result (λ v. Along (IsValueAt (document_of T.tree T.custom value.now))
+        (selected (query_view query.now) (document_of T.tree T.custom value.now)) (map (λ x. T.tree x.now) v.items)) }
+    ensures whole { IfOk result (λ v. All (λ x. IsTrue (T.is_whole x.now)) v.items) }
+    ensures refused { IfErr result (IsStop (query_view query.now) (document_of T.tree T.custom value.now)) }
+{
+    let mut sink = sink::Sink::Values(Vec::new(alloc));
+    let _goes_on = walk::give_nodes(alloc, query, value, &mut sink)?;
+    Ok(sink.into_values(alloc))
 }

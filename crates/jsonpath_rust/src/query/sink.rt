@@ -1,14 +1,16 @@
 //! What is done with the nodes that a walk meets.
-ghost use Rattle.std.specs.Prelude.{◌≡◌, ◌∷◌, [], map, ◌++◌, IsTrue, IfOk, OnOk, IfErr, string_bytes};
+ghost use Rattle.std.specs.Prelude.{◌≡◌, suc, min, ◌∷◌, [], map, option_map, ◌++◌, IsTrue, IfOk, IfSome, OnOk, IfErr, string_bytes, All};
 ghost use Rattle.jsonpath_parser.specs.Normal.{normal, step_text};
 ghost use Rattle.jsonpath_parser.specs.declared.errors.JsonPathError.TheVariants.{OutOfMemory};
-ghost use Rattle.jsonpath_rust.specs.Answer.{shown};
-ghost use Rattle.jsonpath_rust.specs.Walking.{Gives, seen, node_of, step_of, nodes_in, nodes_whole, values_in, values_whole};
+ghost use Rattle.jsonpath_rust.specs.Answer.{shown, paths_of};
+ghost use Rattle.jsonpath_rust.specs.Node.{Node};
+ghost use Rattle.jsonpath_rust.specs.Sinks.{Gives, seen, seen_only, start, is_found, counted, only_in, nodes_in, nodes_whole, values_in, values_whole, paths_in};
+ghost use Rattle.jsonpath_rust.specs.Walking.{node_of, step_of};
 
 use crate::query::queryable::Queryable;
 use crate::query::{Queried, QueryPath, QueryRef};
 use jsonpath_base::step::{push_index, push_name};
-use std::alloc::Global;
+use std::alloc::{AllocError, Global};
 
 /// One step down, lent by the query or by the document.
 #[derive(Clone, Copy, Debug)]
@@ -19,16 +21,61 @@ pub enum StepRef<'s> {
     Index(usize),
 }
 
+/// The only node of a list, if it has one alone.
+#[derive(Clone, Copy)]
+pub enum Only<'a, T> {
+    Nothing,
+    One(&'a T),
+    Several,
+}
+
+/// What is asked of the nodes of a query inside a filter.
+#[derive(Clone, Copy)]
+pub enum Kind {
+    /// Whether there is one.
+    Any,
+    /// How many there are.
+    Count,
+    /// The value of the only one.
+    Only,
+    /// All their values.
+    Values,
+}
+
 /// Takes the nodes of a walk in their order.
 #[derive(Drop)]
 pub enum Sink<'a, T> {
     /// Keeps each node's value and Normalized Path.
     Nodes(Vec<QueryRef<'a, T>>),
+    /// Keeps each node's Normalized Path.
+    Paths(Vec<QueryPath>),
     /// Keeps each node's value, and makes no path.
     Values(Vec<&'a T>),
+    /// Whether a node came. It stops at the first.
+    Any(bool),
+    /// How many nodes came, up to [`GREATEST_COUNT`].
+    Count(usize),
+    /// The only node. It stops at the second.
+    Only(Only<'a, T>),
 }
 
+/// Where counts stop: the greatest whole number of 64 bits.
+pub const GREATEST_COUNT: usize = 9223372036854775807;
+
 impl<'a, T: Queryable> Sink<'a, T> {
+    /// A sink for what is asked, with no node yet.
+    #[inline(always)]
+    pub fn start(alloc: Global, kind: Kind) -> Self
+        ensures { seen T.tree T.is_whole result ≡ start kind }
+    {
+        match kind {
+            Kind::Any => Sink::Any(false),
+            Kind::Count => Sink::Count(0),
+            Kind::Only => Sink::Only(Only::Nothing),
+            Kind::Values => Sink::Values(Vec::new(alloc)),
+        }
+    }
+
     /// Takes the value that these steps lead to. The answer says whether the walk goes on.
     #[inline(always)]
     pub fn take(&mut self, alloc: Global, value: &'a T, steps: &[StepRef<'_>]) -> Queried<bool>
@@ -40,39 +87,140 @@ impl<'a, T: Queryable> Sink<'a, T> {
             Sink::Nodes(nodes) => {
                 let path = normalized_path(alloc, steps)?;
                 nodes.push(QueryRef { val: value, path })?;
+                Ok(true)
             }
-            Sink::Values(values) => values.push(value)?,
+            Sink::Paths(paths) => {
+                let path = normalized_path(alloc, steps)?;
+                paths.push(path)?;
+                Ok(true)
+            }
+            Sink::Values(values) => {
+                values.push(value)?;
+                Ok(true)
+            }
+            Sink::Any(found) => {
+                *found = true;
+                Ok(false)
+            }
+            Sink::Count(count) => {
+                *count = one_more(*count);
+                Ok(true)
+            }
+            Sink::Only(only) => Ok(take_only(only, value)),
         }
-        Ok(true)
     }
 
-    /// The nodes that it kept.
+    /// Whether an `Any` was given a node.
+    #[inline(always)]
+    pub fn has_any(&self) -> bool
+        ensures { result ≡ is_found (seen T.tree T.is_whole self.now) }
+    {
+        match self {
+            Sink::Any(found) => *found,
+            _ => false,
+        }
+    }
+
+    /// How many nodes a `Count` was given.
+    #[inline(always)]
+    pub fn counted(&self) -> usize
+        ensures { result ≡ counted (seen T.tree T.is_whole self.now) }
+    {
+        match self {
+            Sink::Count(count) => *count,
+            _ => 0,
+        }
+    }
+
+    /// The value of the only node that an `Only` was given.
+    #[inline(always)]
+    pub fn only(&self) -> Option<&'a T>
+        ensures { option_map (λ v. (T.is_whole v.now, T.tree v.now)) result ≡ only_in (seen T.tree T.is_whole self.now) }
+    {
+        match self {
+            Sink::Only(Only::One(value)) => Some(*value),
+            _ => None,
+        }
+    }
+
+    /// The nodes that a `Nodes` was given.
     pub fn into_nodes(self, alloc: Global) -> Vec<QueryRef<'a, T>>
         ensures nodes { shown T.tree result.items ≡ nodes_in (seen T.tree T.is_whole self.entry) }
         ensures whole { map (λ r. T.is_whole r.val.now) result.items ≡ nodes_whole (seen T.tree T.is_whole self.entry) }
     {
         match self {
             Sink::Nodes(nodes) => nodes,
+            Sink::Paths(_paths) => Vec::new(alloc),
             Sink::Values(_values) => Vec::new(alloc),
+            Sink::Any(_found) => Vec::new(alloc),
+            Sink::Count(_count) => Vec::new(alloc),
+            Sink::Only(_only) => Vec::new(alloc),
         }
     }
 
-    /// The values that it kept.
+    /// The paths that a `Paths` was given.
+    pub fn into_paths(self, alloc: Global) -> Vec<QueryPath>
+        ensures { paths_of result.items ≡ paths_in (seen T.tree T.is_whole self.entry) }
+    {
+        match self {
+            Sink::Nodes(_nodes) => Vec::new(alloc),
+            Sink::Paths(paths) => paths,
+            Sink::Values(_values) => Vec::new(alloc),
+            Sink::Any(_found) => Vec::new(alloc),
+            Sink::Count(_count) => Vec::new(alloc),
+            Sink::Only(_only) => Vec::new(alloc),
+        }
+    }
+
+    /// The values that a `Values` was given.
     pub fn into_values(self, alloc: Global) -> Vec<&'a T>
         ensures values { map (λ v. T.tree v.now) result.items ≡ values_in (seen T.tree T.is_whole self.entry) }
         ensures whole { map (λ v. T.is_whole v.now) result.items ≡ values_whole (seen T.tree T.is_whole self.entry) }
     {
         match self {
             Sink::Nodes(_nodes) => Vec::new(alloc),
+            Sink::Paths(_paths) => Vec::new(alloc),
             Sink::Values(values) => values,
+            Sink::Any(_found) => Vec::new(alloc),
+            Sink::Count(_count) => Vec::new(alloc),
+            Sink::Only(_only) => Vec::new(alloc),
+        }
+    }
+}
+
+/// The next count.
+#[inline(always)]
+fn one_more(count: usize) -> usize
+    ensures { result ≡ min (suc count) 9223372036854775807 }
+{
+    if count < GREATEST_COUNT {
+        count + 1
+    } else {
+        GREATEST_COUNT
+    }
+}
+
+/// Takes a node; it goes on if that is the first.
+#[inline(always)]
+fn take_only<'a, T: Queryable>(only: &mut Only<'a, T>, value: &'a T) -> bool
+    requires { IsTrue (T.is_whole value.now) }
+    ensures { (n : Node) → n.tree ≡ T.tree value.now → Gives (seen_only T.tree T.is_whole only.old) (n ∷ []) (seen_only T.tree T.is_whole only.new) result }
+{
+    match only {
+        Only::Nothing => {
+            *only = Only::One(value);
+            true
+        }
+        _ => {
+            *only = Only::Several;
+            false
         }
     }
 }
 
 /// The Normalized Path of these steps (RFC 9535, 2.7).
-fn normalized_path(alloc: Global, steps: &[StepRef<'_>]) -> Queried<QueryPath>
+fn normalized_path(alloc: Global, steps: &[StepRef<'_>]) -> Result<QueryPath, AllocError>
     ensures value { IfOk result (λ path. string_bytes path ≡ normal (map step_of steps.now)) }
-    ensures memory { IfErr result (λ e. e ≡ OutOfMemory) }
 {
     let mut path = String::with_capacity(alloc, path_capacity(steps))?;
     path.push('$')?;
@@ -84,9 +232,8 @@ fn normalized_path(alloc: Global, steps: &[StepRef<'_>]) -> Queried<QueryPath>
 
 /// Appends a step to a path.
 #[inline(always)]
-fn push_step(path: &mut String, step: StepRef<'_>) -> Queried<()>
+fn push_step(path: &mut String, step: StepRef<'_>) -> Result<(), AllocError>
     ensures value { OnOk result (string_bytes path.new ≡ string_bytes path.old ++ step_text (step_of step.entry)) }
-    ensures memory { IfErr result (λ e. e ≡ OutOfMemory) }
 {
     match step {
         StepRef::Name(name) => push_name(path, name),

@@ -1,62 +1,105 @@
 //! The evaluator: a walk that meets the nodes of a query depth-first, in the order of its nodelist (RFC 9535, 2.1.2).
 //!
 //! The way to the value at hand stands on a stack of borrowed steps, so nothing is kept for a node that is only passed.
-ghost use Rattle.std.specs.Prelude.{◌≡◌, ◌≤◌, ◌<◌, map, option_to_list, IsTrue, IfOk, IfErr, IfSome, OnOk};
+ghost use Rattle.std.specs.Prelude.{◌≡◌, ◌≤◌, ◌<◌, [], ◌∷◌, ◌++◌, map, option_to_list, IsTrue, IfOk, IfErr, IfSome, OnOk};
 ghost use Rattle.std.specs.List.{flat_map};
 ghost use Rattle.jsonpath_parser.specs.Location.{Location};
 ghost use Rattle.jsonpath_parser.specs.Location as location;
 ghost use Rattle.jsonpath_parser.specs.View.{selector_view, segment_view, query_view};
-ghost use Rattle.jsonpath_parser.specs.declared.errors.JsonPathError.TheVariants.{OutOfMemory};
+ghost use Rattle.jsonpath_rust.specs.Document.{document_of};
 ghost use Rattle.jsonpath_rust.specs.Node.{Node, below, children};
 ghost use Rattle.jsonpath_rust.specs.Meaning as meaning;
-ghost use Rattle.jsonpath_rust.specs.Meaning.{picks, replaced, indexed, nodelist};
+ghost use Rattle.jsonpath_rust.specs.Meaning.{picks, all_pick, replaced, indexed, sliced, element, nodelist};
 ghost use Rattle.jsonpath_rust.specs.Weight.{size};
-ghost use Rattle.jsonpath_rust.specs.Walking.{Gives, seen, through, node_of, step_of, segments_view};
+ghost use Rattle.jsonpath_rust.specs.Patterns.{IsStop, segments_patterns, segment_patterns, selectors_patterns, selector_patterns};
+ghost use Rattle.jsonpath_rust.specs.Sinks.{Gives, seen};
+ghost use Rattle.jsonpath_rust.specs.Keeping.{IsReady, StandIn, document, asked};
+ghost use Rattle.jsonpath_rust.specs.Walking.{through, node_of, step_of, segments_in, selectors_in, acted, action_patterns, LeadTo};
 
 use crate::query::Queried;
+use crate::query::filter_test::filter_holds;
+use crate::query::kept::{Kept, Task};
+use crate::query::literals::{finders_of, patterns_of};
 use crate::query::queryable::Queryable;
 use crate::query::sink::{Sink, StepRef};
-use jsonpath_parser::model::{JpQuery, Segment, Selector};
+use jsonpath_base::pattern::Finder;
+use jsonpath_base::slice::slice_places;
+use jsonpath_parser::model::{Filter, JpQuery, Segment, Selector};
 use std::alloc::Global;
 
+/// What is done at a child.
+#[derive(Clone, Copy)]
+pub enum Action<'s> {
+    /// The rest.
+    All,
+    /// The rest, if the filter holds there.
+    If(&'s Filter),
+    /// The segment and then the rest, there and at each node below.
+    Below(&'s Segment),
+}
+
 /// Gives to the sink the nodes of a query on a document. The answer says whether to go on.
-pub fn give_nodes<'a: 's, 's, T: Queryable>(
+pub fn give_nodes<'a, T: Queryable>(
     alloc: Global,
-    query: &'s JpQuery,
+    query: &JpQuery,
     root: &'a T,
     sink: &mut Sink<'a, T>,
 ) -> Queried<bool>
     requires { IsTrue (T.is_whole root.now) }
-    ensures gave { IfOk result (λ b. Gives (seen T.tree T.is_whole sink.old) (nodelist (query_view query.now) (T.tree root.now))
+    ensures gave { IfOk result (λ b. Gives (seen T.tree T.is_whole sink.old) (nodelist (query_view query.now) (document_of T.tree T.custom root.now))
         (seen T.tree T.is_whole sink.new) b) }
-    ensures memory { IfErr result (λ e. e ≡ OutOfMemory) }
+    ensures refused { IfErr result (IsStop (query_view query.now) (document_of T.tree T.custom root.now)) }
 {
+    let patterns = patterns_of(alloc, query)?;
+    let finders = finders_of(alloc, &patterns)?;
+    give_from_root(alloc, query, finders, root, sink)
+}
+
+/// The same, where these ask the patterns that stand in the query.
+fn give_from_root<'a: 's, 's, T: Queryable>(
+    alloc: Global,
+    query: &'s JpQuery,
+    literals: Vec<Finder<'s>>,
+    root: &'a T,
+    sink: &mut Sink<'a, T>,
+) -> Queried<bool>
+    requires { IsTrue (T.is_whole root.now) }
+    ensures gave { IfOk result (λ b. Gives (seen T.tree T.is_whole sink.old) (nodelist (query_view query.now) (document_of T.tree T.custom root.now))
+        (seen T.tree T.is_whole sink.new) b) }
+    ensures refused { IfErr result (IsStop (query_view query.now) (document_of T.tree T.custom root.now)) }
+{
+    let task = Task { alloc, query, root };
+    let mut kept = Kept::new(alloc, literals);
     let mut steps = Vec::new(alloc);
-    walk(alloc, &query.segments, root, root, &mut steps, sink)
+    walk(&task, &query.segments, root, &mut steps, &mut kept, sink)
 }
 
 /// Gives to the sink what the segments select from a value on, to which these steps lead. The answer says whether
 /// to go on.
 #[cycle(walk)]
 pub fn walk<'a: 's, 's, T: Queryable>(
-    alloc: Global,
+    task: &Task<'a, 's, T>,
     segments: &'s [Segment],
-    root: &'a T,
     at: &'a T,
     steps: &mut Vec<StepRef<'s>>,
+    kept: &mut Kept<'a, 's, T>,
     sink: &mut Sink<'a, T>,
 ) -> Queried<bool>
     requires whole { IsTrue (T.is_whole at.now) }
-    requires within { size (T.tree at.now) ≤ size (T.tree root.now) }
+    requires within { size (T.tree at.now) ≤ size (T.tree task.now.root.now) }
+    requires here { LeadTo T.tree steps.old.items task.now.root.now at.now }
+    requires part { StandIn (asked task.now) (segments_patterns (segments_in segments.now)) }
+    requires ready { IsReady T.tree T.is_whole T.custom task.now kept.old }
     ensures gave { IfOk result (λ b. Gives (seen T.tree T.is_whole sink.old)
-        (through (segments_view segments.now) (T.tree root.now) (node_of T.tree steps.old.items at.now))
+        (through (segments_in segments.now) (document T.tree T.custom task.now) (node_of T.tree steps.old.items at.now))
         (seen T.tree T.is_whole sink.new) b) }
     ensures same { OnOk result (steps.new.items ≡ steps.old.items) }
-    ensures memory { IfErr result (λ e. e ≡ OutOfMemory) }
+    ensures keeps { OnOk result (IsReady T.tree T.is_whole T.custom task.now kept.new) }
+    ensures refused { IfErr result (IsStop (asked task.now) (document T.tree T.custom task.now)) }
 {
     match segments.split_first() {
-        None => sink.take(alloc, at, steps),
-        Some((first, rest)) => pass(alloc, first, rest, root, at, steps, sink),
+        None => sink.take(task.alloc, at, steps),
+        Some((first, rest)) => pass(task, first, rest, at, steps, kept, sink),
     }
 }
 
@@ -64,103 +107,229 @@ pub fn walk<'a: 's, 's, T: Queryable>(
 #[cycle(walk)]
 #[inline(always)]
 fn pass<'a: 's, 's, T: Queryable>(
-    alloc: Global,
+    task: &Task<'a, 's, T>,
     first: &'s Segment,
     rest: &'s [Segment],
-    root: &'a T,
     at: &'a T,
     steps: &mut Vec<StepRef<'s>>,
+    kept: &mut Kept<'a, 's, T>,
     sink: &mut Sink<'a, T>,
 ) -> Queried<bool>
     requires whole { IsTrue (T.is_whole at.now) }
-    requires within { size (T.tree at.now) ≤ size (T.tree root.now) }
+    requires within { size (T.tree at.now) ≤ size (T.tree task.now.root.now) }
+    requires here { LeadTo T.tree steps.old.items task.now.root.now at.now }
+    requires part { StandIn (asked task.now) (segment_patterns (segment_view first.now) ++ segments_patterns (segments_in rest.now)) }
+    requires ready { IsReady T.tree T.is_whole T.custom task.now kept.old }
     ensures gave { IfOk result (λ b. Gives (seen T.tree T.is_whole sink.old)
-        (flat_map (through (segments_view rest.now) (T.tree root.now))
-        (replaced (segment_view first.now) (T.tree root.now) (node_of T.tree steps.old.items at.now)))
+        (flat_map (through (segments_in rest.now) (document T.tree T.custom task.now))
+        (replaced (segment_view first.now) (document T.tree T.custom task.now) (node_of T.tree steps.old.items at.now)))
         (seen T.tree T.is_whole sink.new) b) }
     ensures same { OnOk result (steps.new.items ≡ steps.old.items) }
-    ensures memory { IfErr result (λ e. e ≡ OutOfMemory) }
+    ensures keeps { OnOk result (IsReady T.tree T.is_whole T.custom task.now kept.new) }
+    ensures refused { IfErr result (IsStop (asked task.now) (document T.tree T.custom task.now)) }
 {
     match first {
-        Segment::Selector(selector) => pick(alloc, selector, rest, root, at, steps, sink),
+        Segment::Selector(selector) => pick(task, selector, rest, at, steps, kept, sink),
+        Segment::Selectors(selectors) => pick_each(task, selectors, rest, at, steps, kept, sink),
+        Segment::Descendant(inner) => act(task, Action::Below(inner), rest, at, steps, kept, sink),
     }
+}
+
+/// The rest from each child that the selectors pick here, one selector after the other.
+#[cycle(walk)]
+fn pick_each<'a: 's, 's, T: Queryable>(
+    task: &Task<'a, 's, T>,
+    selectors: &'s [Selector],
+    rest: &'s [Segment],
+    at: &'a T,
+    steps: &mut Vec<StepRef<'s>>,
+    kept: &mut Kept<'a, 's, T>,
+    sink: &mut Sink<'a, T>,
+) -> Queried<bool>
+    requires whole { IsTrue (T.is_whole at.now) }
+    requires within { size (T.tree at.now) ≤ size (T.tree task.now.root.now) }
+    requires here { LeadTo T.tree steps.old.items task.now.root.now at.now }
+    requires part { StandIn (asked task.now) (selectors_patterns (selectors_in selectors.now) ++ segments_patterns (segments_in rest.now)) }
+    requires ready { IsReady T.tree T.is_whole T.custom task.now kept.old }
+    ensures gave { IfOk result (λ b. Gives (seen T.tree T.is_whole sink.old)
+        (flat_map (through (segments_in rest.now) (document T.tree T.custom task.now))
+        (all_pick (selectors_in selectors.now) (document T.tree T.custom task.now) (node_of T.tree steps.old.items at.now)))
+        (seen T.tree T.is_whole sink.new) b) }
+    ensures same { OnOk result (steps.new.items ≡ steps.old.items) }
+    ensures keeps { OnOk result (IsReady T.tree T.is_whole T.custom task.now kept.new) }
+    ensures refused { IfErr result (IsStop (asked task.now) (document T.tree T.custom task.now)) }
+{
+    for selector in selectors {
+        if !pick(task, selector, rest, at, steps, kept, sink)? {
+            return Ok(false);
+        }
+    }
+    Ok(true)
 }
 
 /// The rest from each child that the selector picks here.
 #[cycle(walk)]
 #[inline(always)]
 fn pick<'a: 's, 's, T: Queryable>(
-    alloc: Global,
+    task: &Task<'a, 's, T>,
     selector: &'s Selector,
     rest: &'s [Segment],
-    root: &'a T,
     at: &'a T,
     steps: &mut Vec<StepRef<'s>>,
+    kept: &mut Kept<'a, 's, T>,
     sink: &mut Sink<'a, T>,
 ) -> Queried<bool>
     requires whole { IsTrue (T.is_whole at.now) }
-    requires within { size (T.tree at.now) ≤ size (T.tree root.now) }
+    requires within { size (T.tree at.now) ≤ size (T.tree task.now.root.now) }
+    requires here { LeadTo T.tree steps.old.items task.now.root.now at.now }
+    requires part { StandIn (asked task.now) (selector_patterns (selector_view selector.now) ++ segments_patterns (segments_in rest.now)) }
+    requires ready { IsReady T.tree T.is_whole T.custom task.now kept.old }
     ensures gave { IfOk result (λ b. Gives (seen T.tree T.is_whole sink.old)
-        (flat_map (through (segments_view rest.now) (T.tree root.now))
-        (picks (selector_view selector.now) (T.tree root.now) (node_of T.tree steps.old.items at.now)))
+        (flat_map (through (segments_in rest.now) (document T.tree T.custom task.now))
+        (picks (selector_view selector.now) (document T.tree T.custom task.now) (node_of T.tree steps.old.items at.now)))
         (seen T.tree T.is_whole sink.new) b) }
     ensures same { OnOk result (steps.new.items ≡ steps.old.items) }
-    ensures memory { IfErr result (λ e. e ≡ OutOfMemory) }
+    ensures keeps { OnOk result (IsReady T.tree T.is_whole T.custom task.now kept.new) }
+    ensures refused { IfErr result (IsStop (asked task.now) (document T.tree T.custom task.now)) }
 {
     match selector {
         Selector::Name(name) => match at.get(name) {
-            Some(child) => at_child(alloc, rest, root, StepRef::Name(name), child, steps, sink),
-            None => Ok(true),
-        },
-        Selector::Wildcard => each_child(alloc, rest, root, at, steps, sink),
-        Selector::Index(index) => match element(at, *index) {
-            Some((place, child)) => at_child(
-                alloc,
+            Some(child) => at_child(
+                task,
+                Action::All,
                 rest,
-                root,
-                StepRef::Index(place),
+                StepRef::Name(name),
                 child,
                 steps,
+                kept,
                 sink,
             ),
             None => Ok(true),
         },
+        Selector::Wildcard => each_child(task, Action::All, rest, at, steps, kept, sink),
+        Selector::Index(index) => match element(at, *index) {
+            Some((place, child)) => at_child(
+                task,
+                Action::All,
+                rest,
+                StepRef::Index(place),
+                child,
+                steps,
+                kept,
+                sink,
+            ),
+            None => Ok(true),
+        },
+        Selector::Slice(start, end, step) => pick_slice(
+            task, *start, *end, *step, rest, at, steps, kept, sink,
+        ),
+        Selector::Filter(filter) => each_child(
+            task,
+            Action::If(filter),
+            rest,
+            at,
+            steps,
+            kept,
+            sink,
+        ),
     }
 }
 
-/// The rest from each child, in walk order.
+/// The rest from each element that the slice picks, in its order (RFC 9535, 2.3.4).
 #[cycle(walk)]
-fn each_child<'a: 's, 's, T: Queryable>(
-    alloc: Global,
+fn pick_slice<'a: 's, 's, T: Queryable>(
+    task: &Task<'a, 's, T>,
+    start: Option<i64>,
+    end: Option<i64>,
+    step: Option<i64>,
     rest: &'s [Segment],
-    root: &'a T,
     at: &'a T,
     steps: &mut Vec<StepRef<'s>>,
+    kept: &mut Kept<'a, 's, T>,
     sink: &mut Sink<'a, T>,
 ) -> Queried<bool>
     requires whole { IsTrue (T.is_whole at.now) }
-    requires within { size (T.tree at.now) ≤ size (T.tree root.now) }
+    requires within { size (T.tree at.now) ≤ size (T.tree task.now.root.now) }
+    requires here { LeadTo T.tree steps.old.items task.now.root.now at.now }
+    requires part { StandIn (asked task.now) (segments_patterns (segments_in rest.now)) }
+    requires ready { IsReady T.tree T.is_whole T.custom task.now kept.old }
     ensures gave { IfOk result (λ b. Gives (seen T.tree T.is_whole sink.old)
-        (flat_map (through (segments_view rest.now) (T.tree root.now)) (children (node_of T.tree steps.old.items at.now)))
+        (flat_map (through (segments_in rest.now) (document T.tree T.custom task.now))
+        (sliced start end step (node_of T.tree steps.old.items at.now)))
         (seen T.tree T.is_whole sink.new) b) }
     ensures same { OnOk result (steps.new.items ≡ steps.old.items) }
-    ensures memory { IfErr result (λ e. e ≡ OutOfMemory) }
+    ensures keeps { OnOk result (IsReady T.tree T.is_whole T.custom task.now kept.new) }
+    ensures refused { IfErr result (IsStop (asked task.now) (document T.tree T.custom task.now)) }
+{
+    let Some(items) = at.as_array() else {
+        return Ok(true);
+    };
+    for place in slice_places(start, end, step, items.len()) {
+        if !at_child(
+            task,
+            Action::All,
+            rest,
+            StepRef::Index(place),
+            &items[place],
+            steps,
+            kept,
+            sink,
+        )? {
+            return Ok(false);
+        }
+    }
+    Ok(true)
+}
+
+/// The action at each child, in walk order.
+#[cycle(walk)]
+fn each_child<'a: 's, 's, T: Queryable>(
+    task: &Task<'a, 's, T>,
+    action: Action<'s>,
+    rest: &'s [Segment],
+    at: &'a T,
+    steps: &mut Vec<StepRef<'s>>,
+    kept: &mut Kept<'a, 's, T>,
+    sink: &mut Sink<'a, T>,
+) -> Queried<bool>
+    requires whole { IsTrue (T.is_whole at.now) }
+    requires within { size (T.tree at.now) ≤ size (T.tree task.now.root.now) }
+    requires here { LeadTo T.tree steps.old.items task.now.root.now at.now }
+    requires part { StandIn (asked task.now) (action_patterns action ++ segments_patterns (segments_in rest.now)) }
+    requires ready { IsReady T.tree T.is_whole T.custom task.now kept.old }
+    ensures gave { IfOk result (λ b. Gives (seen T.tree T.is_whole sink.old)
+        (flat_map (through (segments_in rest.now) (document T.tree T.custom task.now))
+        (flat_map (acted action.entry (document T.tree T.custom task.now)) (children (node_of T.tree steps.old.items at.now))))
+        (seen T.tree T.is_whole sink.new) b) }
+    ensures same { OnOk result (steps.new.items ≡ steps.old.items) }
+    ensures keeps { OnOk result (IsReady T.tree T.is_whole T.custom task.now kept.new) }
+    ensures refused { IfErr result (IsStop (asked task.now) (document T.tree T.custom task.now)) }
 {
     if let Some(items) = at.as_array() {
         for (i, child) in items.iter().enumerate() {
-            if !at_child(alloc, rest, root, StepRef::Index(i), child, steps, sink)? {
+            if !at_child(
+                task,
+                action,
+                rest,
+                StepRef::Index(i),
+                child,
+                steps,
+                kept,
+                sink,
+            )? {
                 return Ok(false);
             }
         }
-    } else if let Some(members) = at.as_object(alloc)? {
+    } else if let Some(members) = at.as_object(task.alloc)? {
         for member in &members {
             if !at_child(
-                alloc,
+                task,
+                action,
                 rest,
-                root,
                 StepRef::Name(member.0),
                 member.1,
                 steps,
+                kept,
                 sink,
             )? {
                 return Ok(false);
@@ -170,36 +339,85 @@ fn each_child<'a: 's, 's, T: Queryable>(
     Ok(true)
 }
 
-/// The rest from a child, a step from here.
+/// The action at a child, a step from here.
 #[cycle(walk)]
 #[inline(always)]
 fn at_child<'a: 's, 's, T: Queryable>(
-    alloc: Global,
+    task: &Task<'a, 's, T>,
+    action: Action<'s>,
     rest: &'s [Segment],
-    root: &'a T,
     step: StepRef<'s>,
     child: &'a T,
     steps: &mut Vec<StepRef<'s>>,
+    kept: &mut Kept<'a, 's, T>,
     sink: &mut Sink<'a, T>,
 ) -> Queried<bool>
     requires whole { IsTrue (T.is_whole child.now) }
-    requires within { size (T.tree child.now) ≤ size (T.tree root.now) }
+    requires within { size (T.tree child.now) ≤ size (T.tree task.now.root.now) }
+    requires here { LeadTo T.tree (steps.old.items ++ step ∷ []) task.now.root.now child.now }
+    requires part { StandIn (asked task.now) (action_patterns action ++ segments_patterns (segments_in rest.now)) }
+    requires ready { IsReady T.tree T.is_whole T.custom task.now kept.old }
     ensures gave { IfOk result (λ b. Gives (seen T.tree T.is_whole sink.old)
-        (through (segments_view rest.now) (T.tree root.now)
-        (below (map step_of steps.old.items) (step_of step.entry) (T.tree child.now)))
+        (flat_map (through (segments_in rest.now) (document T.tree T.custom task.now))
+        (acted action.entry (document T.tree T.custom task.now) (below (map step_of steps.old.items) (step_of step.entry) (T.tree child.now))))
         (seen T.tree T.is_whole sink.new) b) }
     ensures same { OnOk result (steps.new.items ≡ steps.old.items) }
-    ensures memory { IfErr result (λ e. e ≡ OutOfMemory) }
+    ensures keeps { OnOk result (IsReady T.tree T.is_whole T.custom task.now kept.new) }
+    ensures refused { IfErr result (IsStop (asked task.now) (document T.tree T.custom task.now)) }
 {
     steps.push(step)?;
-    let goes_on = walk(alloc, rest, root, child, steps, sink)?;
+    let goes_on = act(task, action, rest, child, steps, kept, sink)?;
     let _ = steps.pop();
     Ok(goes_on)
 }
 
+/// The action here.
+#[cycle(walk)]
+#[inline(always)]
+fn act<'a: 's, 's, T: Queryable>(
+    task: &Task<'a, 's, T>,
+    action: Action<'s>,
+    rest: &'s [Segment],
+    at: &'a T,
+    steps: &mut Vec<StepRef<'s>>,
+    kept: &mut Kept<'a, 's, T>,
+    sink: &mut Sink<'a, T>,
+) -> Queried<bool>
+    requires whole { IsTrue (T.is_whole at.now) }
+    requires within { size (T.tree at.now) ≤ size (T.tree task.now.root.now) }
+    requires here { LeadTo T.tree steps.old.items task.now.root.now at.now }
+    requires part { StandIn (asked task.now) (action_patterns action ++ segments_patterns (segments_in rest.now)) }
+    requires ready { IsReady T.tree T.is_whole T.custom task.now kept.old }
+    ensures gave { IfOk result (λ b. Gives (seen T.tree T.is_whole sink.old)
+        (flat_map (through (segments_in rest.now) (document T.tree T.custom task.now))
+        (acted action.entry (document T.tree T.custom task.now) (node_of T.tree steps.old.items at.now)))
+        (seen T.tree T.is_whole sink.new) b) }
+    ensures same { OnOk result (steps.new.items ≡ steps.old.items) }
+    ensures keeps { OnOk result (IsReady T.tree T.is_whole T.custom task.now kept.new) }
+    ensures refused { IfErr result (IsStop (asked task.now) (document T.tree T.custom task.now)) }
+{
+    match action {
+        Action::All => walk(task, rest, at, steps, kept, sink),
+        Action::If(filter) => {
+            if filter_holds(task, filter, at, steps, kept)? {
+                walk(task, rest, at, steps, kept, sink)
+            } else {
+                Ok(true)
+            }
+        }
+        Action::Below(segment) => {
+            if pass(task, segment, rest, at, steps, kept, sink)? {
+                each_child(task, action, rest, at, steps, kept, sink)
+            } else {
+                Ok(false)
+            }
+        }
+    }
+}
+
 /// The element that an index means in a list, with its place from 0 (RFC 9535, 2.3.3).
 #[inline(always)]
-fn element<T: Queryable>(at: &T, index: i64) -> Option<(usize, &T)>
+pub fn element<T: Queryable>(at: &T, index: i64) -> Option<(usize, &T)>
     requires { IsTrue (T.is_whole at.now) }
     ensures value { (l : Location) → map (λ p. below l (location.index p.0) (T.tree p.1.now)) (option_to_list result)
         ≡ indexed index (record { location = l; tree = T.tree at.now }) }

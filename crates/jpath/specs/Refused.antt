@@ -1,0 +1,13 @@
+-- Why a query has no answer in a document. The definition here is for the contracts of the printing alone.
+use Rattle.std.specs.Prelude.{⊤}
+use Rattle.jsonpath_parser.specs.Syntax as syntax
+use Rattle.jsonpath_rust.specs.Document.{Document}
+use Rattle.jsonpath_rust.specs.Patterns.{IsInvalid, AsksPattern}
+use Rattle.jpath.specs.declared.fault.Fault.{Fault}
+use Rattle.jpath.specs.declared.fault.Fault.TheVariants.{Query, Memory}
+
+-- memory ran out, or a pattern that the query asks of the document is too large
+abbrev pub IsNoAnswer : syntax.Query → Document → Fault → Type 0
+IsNoAnswer q doc (Query e) = IsInvalid e × AsksPattern q doc
+IsNoAnswer q doc Memory = ⊤
+IsNoAnswer q doc _ = ⊥

@@ -1,0 +1,2 @@
+pub mod DocTree
+pub mod Turned

@@ -1,0 +1,277 @@
+-- Literals, queries and calls that are spelled are read, where the text after them cannot continue them.
+use Rattle.std.proofs.Common.{◌≡◌, ℕ, zero, suc, ◌+◌, ◌-◌, ◌<◌, ◌≤◌, true, false, ◌==◌, ℤ, List, [], ◌∷◌, ◌++◌, length, codes, Option, Some, refl, sym, ap, ◌∙◌, inl, inr, append_assoc, append-nil, length-append, arith}
+use Rattle.std.proofs.lemmas.Bool.Decides.{nat_tests}
+use Rattle.jsonpath_parser.specs.Depth.{is_quote}
+use Rattle.jsonpath_parser.specs.Grammar.{SpellsSingularStep, SpellsSingularSteps, SpellsCalled, SpellsLiteral, SpellsSegment, SpellsSegments, SpellsComparable, SpellsTest, SpellsCall, SpellsArgument, SpellsArguments, SpellsMoreArguments}
+use Rattle.jsonpath_parser.specs.Lexical.{is_function_first, IsBlank, IsFunctionName}
+use Rattle.jsonpath_parser.specs.Reading.{Read, first, skip_blank}
+use Rattle.jsonpath_parser.specs.ReadingGrammar.{is_int_first, push_argument, steps_of, comparable_of, word_at, word_literal, all_segments_at, arguments_at, all_arguments_at, called_at, word_operand_at, operand_at}
+use Rattle.jsonpath_parser.specs.ReadingStrings.{string_at}
+use Rattle.jsonpath_parser.specs.Syntax.{Literal, number, string, bool, null, SingularStep, name_step, index_step, current, root, name, index, Segment, one, Segments, no_segments, segment, Comparable, literal, function, singular, Test, relative, absolute, call, Call, custom_call, length_call, value_call, count_call, search_call, match_call, Argument, literal_argument, test_argument, Arguments, no_arguments, argument}
+use Rattle.jsonpath_parser.specs.Typing.{call_of}
+use Rattle.jsonpath_parser.proofs.Fronts.{skip_over}
+use Rattle.jsonpath_parser.proofs.Joins.{join_arguments, arguments_push, arguments_push_end}
+use Rattle.jsonpath_parser.proofs.NumberComplete.{EndsNumber}
+use Rattle.jsonpath_parser.proofs.StringComplete.{complete_string}
+use Rattle.jsonpath_parser.proofs.CompleteParts.{EndsLogical, EndsOperand, EndsSegments, stops, ends_segments, skip_more, follows}
+use Rattle.jsonpath_parser.proofs.CompleteStarts.{basic_other, call_start, argument_start}
+use Rattle.jsonpath_parser.proofs.CompleteWords.{word_over, word_start, string_start, custom_of}
+use Rattle.jsonpath_parser.proofs.CompleteSegments.{behind_mark, complete_all_segments}
+
+-- ---- singular queries
+
+-- a step as a segment
+abbrev pub single : SingularStep → Segment
+single (name_step n) = one (name n)
+single (index_step i) = one (index i)
+
+abbrev pub singles : List SingularStep → Segments
+singles [] = no_segments
+singles (s ∷ ss) = segment (single s) (singles ss)
+
+-- steps as segments are steps again
+pub steps_singles : (ss : List SingularStep) → steps_of (singles ss) ≡ Some ss
+steps_singles [] = refl
+steps_singles (name_step n ∷ ss) = rw (steps_singles ss) refl
+steps_singles (index_step i ∷ ss) = rw (steps_singles ss) refl
+
+-- the argument that is read where this side of a comparison stands
+abbrev pub comparable_argument : Comparable → Argument
+comparable_argument (literal l) = literal_argument l
+comparable_argument (function c) = test_argument (call c)
+comparable_argument (singular (current ss)) = test_argument (relative (singles ss))
+comparable_argument (singular (root ss)) = test_argument (absolute (singles ss))
+
+pub comparable_back : (c : Comparable) → comparable_of (comparable_argument c) ≡ Some c
+comparable_back (literal l) = refl
+comparable_back (function c) = refl
+comparable_back (singular (current ss)) = rw (steps_singles ss) refl
+comparable_back (singular (root ss)) = rw (steps_singles ss) refl
+
+-- ---- bytes
+
+quote_other : (b : ℕ) → is_quote b ≡ true → ((b == 64) ≡ false) × ((b == 36) ≡ false)
+quote_other b h = (grind (arith, nat_tests), grind (arith, nat_tests))
+
+int_other : (b : ℕ) → is_int_first b ≡ true → ((b == 64) ≡ false) × ((b == 36) ≡ false) × (is_quote b ≡ false)
+int_other b h = (grind (arith, nat_tests), grind (arith, nat_tests), grind (arith, nat_tests))
+
+letter_other : (b : ℕ) → is_function_first b ≡ true → ((b == 64) ≡ false) × ((b == 36) ≡ false) × (is_quote b ≡ false) × (is_int_first b ≡ false)
+letter_other b h = (grind (arith, nat_tests), grind (arith, nat_tests), grind (arith, nat_tests), grind (arith, nat_tests))
+
+-- a call and the text after it
+call_pieces : (w b a c more : List ℕ) → ((w ++ (40 ∷ [])) ++ (b ++ (a ++ (c ++ 41 ∷ [])))) ++ more ≡ w ++ (40 ∷ (b ++ (a ++ (c ++ 41 ∷ more))))
+call_pieces w b a c more = simp append_assoc
+
+-- ---- the five names
+
+length_name : IsFunctionName (codes "length")
+length_name = (refl, (refl, (refl, (refl, (refl, (refl, tt))))))
+
+value_name : IsFunctionName (codes "value")
+value_name = (refl, (refl, (refl, (refl, (refl, tt)))))
+
+count_name : IsFunctionName (codes "count")
+count_name = (refl, (refl, (refl, (refl, (refl, tt)))))
+
+search_name : IsFunctionName (codes "search")
+search_name = (refl, (refl, (refl, (refl, (refl, (refl, tt))))))
+
+match_name : IsFunctionName (codes "match")
+match_name = (refl, (refl, (refl, (refl, (refl, tt)))))
+
+true_name : IsFunctionName (codes "true")
+true_name = (refl, (refl, (refl, (refl, tt))))
+
+false_name : IsFunctionName (codes "false")
+false_name = (refl, (refl, (refl, (refl, (refl, tt)))))
+
+null_name : IsFunctionName (codes "null")
+null_name = (refl, (refl, (refl, (refl, tt))))
+
+module _ (Number : Option ℤ → List ℕ → Type 0) where
+  spells_single : (s : SingularStep) (a : List ℕ) → SpellsSingularStep s a → SpellsSegment Number (single s) a
+  spells_single (name_step n) a h = elim h [
+    | inl h ↦ inr (n, (h.0, refl), h.1)
+    | inr h ↦ inl h
+  ]
+  spells_single (index_step i) a h = inl h
+
+  -- steps spell segments
+  pub spells_singles : (ss : List SingularStep) (a : List ℕ) → SpellsSingularSteps ss a → SpellsSegments Number (singles ss) a
+  spells_singles [] a h = h
+  spells_singles (s ∷ ss) a h = let (b, r, c, hb, hr, hc, e) = h in (b, r, c, hb, spells_single s r hr, spells_singles ss c hc, e)
+
+module _ (Number : Option ℤ → List ℕ → Type 0) (number_first : (v : Option ℤ) (a more : List ℕ) → Number v a → is_int_first (first (a ++ more)) ≡ true)
+    (literal_at : List ℕ → Read (Option ℤ)) (number_over : (v : Option ℤ) (a more : List ℕ) → Number v a → EndsNumber more → literal_at (a ++ more) ≡ Some (v, more))
+    (argument_at : List ℕ → Read Argument) (n : ℕ)
+    (oracle : (x : Argument) (a more : List ℕ) → SpellsArgument Number x a → EndsLogical more → length (a ++ more) < n → argument_at (a ++ more) ≡ Some (x, more)) where
+  -- ---- arguments of calls
+
+  -- one argument is read, and the loop ends
+  arguments_last : (k : ℕ) (found : Arguments) (text rest : List ℕ) (x : Argument) → 0 < k → argument_at text ≡ Some (x, rest) → (first (skip_blank rest) == 44) ≡ false
+      → arguments_at literal_at argument_at k found text ≡ Some (push_argument found x, rest)
+  unfolding arguments_at
+  arguments_last zero found text rest x some read other = absurd (omega arith)
+  arguments_last (suc k) found text rest x some read other = rw (read, other) refl
+
+  -- or goes on behind a comma
+  arguments_next : (k : ℕ) (found : Arguments) (text rest behind next end : List ℕ) (x : Argument) (xs : Arguments) → 0 < k → argument_at text ≡ Some (x, rest) → skip_blank rest ≡ 44 ∷ behind → skip_blank behind ≡ next
+      → arguments_at literal_at argument_at (k - 1) (push_argument found x) next ≡ Some (join_arguments (push_argument found x) xs, end) → arguments_at literal_at argument_at k found text ≡ Some (join_arguments found (argument x xs), end)
+  unfolding arguments_at
+  arguments_next zero found text rest behind next end x xs some read comma skipped more = absurd (omega arith)
+  arguments_next (suc k) found text rest behind next end x xs some read comma skipped more =
+      let less : suc k - 1 ≡ k = omega arith in
+      let later = rw less at more in
+      rw (read, comma, skipped, later, arguments_push found x xs) refl
+
+  -- all arguments up to `)`, after those found
+  complete_arguments : (x : Argument) (xs : Arguments) (k : ℕ) (found : Arguments) (s r more behind : List ℕ) → SpellsArgument Number x s → SpellsMoreArguments Number xs r → skip_blank more ≡ 41 ∷ behind
+      → length (s ++ (r ++ more)) < n → length (s ++ (r ++ more)) < k → arguments_at literal_at argument_at k found (s ++ (r ++ more)) ≡ Some (join_arguments found (argument x xs), more)
+  complete_arguments x no_arguments k found s r more behind hs hr close fits room =
+      let text : s ++ (r ++ more) ≡ s ++ more = rw hr refl in
+      let size : length (s ++ more) < n = rw text at fits in
+      let stop : EndsLogical more = rw close refl in
+      let other : (first (skip_blank more) == 44) ≡ false = rw close refl in
+      rw text (arguments_last k found (s ++ more) more x (omega (arith, room)) (oracle x s more hs stop size) other ∙ ap (λ v. Some (v, more)) (arguments_push_end found x))
+  complete_arguments x (argument y ys) k found s r more behind hs hr close fits room =
+      let (b, c, s', r', hb, hc, hy, hys, e) = hr in
+      let next : List ℕ = s' ++ (r' ++ more) in
+      let after : r ++ more ≡ b ++ (44 ∷ (c ++ next)) = rw e (behind_mark b c s' r' more 44) in
+      let skipped : skip_blank (r ++ more) ≡ 44 ∷ (c ++ next) = rw after (follows b (c ++ next) 44 hb refl) in
+      let stop : EndsLogical (r ++ more) = rw skipped refl in
+      let start : skip_blank (c ++ next) ≡ next = skip_over c next hc (basic_other (first next) (argument_start Number number_first y s' (r' ++ more) hy)).0 in
+      let size : length (s ++ (r ++ more)) ≡ length s + (length b + (1 + (length c + length next))) =
+      omega (arith, length-append s (r ++ more), ap length after, length-append b (44 ∷ (c ++ next)), length-append c next) in
+      arguments_next k found (s ++ (r ++ more)) (r ++ more) (c ++ next) next more x (argument y ys) (omega (arith, room)) (oracle x s (r ++ more) hs stop fits) skipped start
+      (complete_arguments y ys (k - 1) (push_argument found x) s' r' more behind hy hys close (omega (arith, size, fits)) (omega (arith, size, room)))
+
+  none_reads : (text : List ℕ) → (first text == 41) ≡ true → all_arguments_at literal_at argument_at text ≡ Some (no_arguments, text)
+  unfolding all_arguments_at
+  none_reads text close = rw close refl
+
+  some_read : (text rest : List ℕ) (xs : Arguments) → (first text == 41) ≡ false → arguments_at literal_at argument_at (suc (length text)) no_arguments text ≡ Some (xs, rest)
+      → all_arguments_at literal_at argument_at text ≡ Some (xs, rest)
+  unfolding all_arguments_at
+  some_read text rest xs other read = rw (other, read) refl
+
+  called_reads : (w inner start rest behind : List ℕ) (xs : Arguments) (c : Call) → skip_blank inner ≡ start → all_arguments_at literal_at argument_at start ≡ Some (xs, rest)
+      → skip_blank rest ≡ 41 ∷ behind → call_of w xs ≡ Some c
+      → called_at literal_at argument_at w inner ≡ Some (c, behind)
+  unfolding called_at
+  called_reads w inner start rest behind xs c skipped read close is = rw (skipped, read, close, is) refl
+
+  -- what stands in the parentheses of a call
+  complete_called : (w : List ℕ) (xs : Arguments) (c : Call) (b a d more : List ℕ) → IsBlank b → SpellsArguments Number xs a → IsBlank d → call_of w xs ≡ Some c → length (b ++ (a ++ (d ++ 41 ∷ more))) < n
+      → called_at literal_at argument_at w (b ++ (a ++ (d ++ 41 ∷ more))) ≡ Some (c, more)
+  complete_called w no_arguments c b a d more hb ha hd is fits =
+      let start : skip_blank (b ++ (d ++ 41 ∷ more)) ≡ 41 ∷ more = skip_more b (d ++ 41 ∷ more) hb ∙ follows d more 41 hd refl in
+      let close : skip_blank (41 ∷ more) ≡ 41 ∷ more = follows [] more 41 tt refl in
+      rw ha (called_reads w (b ++ (d ++ 41 ∷ more)) (41 ∷ more) (41 ∷ more) more no_arguments c start (none_reads (41 ∷ more) refl) close is)
+  complete_called w (argument x xs) c b a d more hb ha hd is fits =
+      let (s, r, hs, hr, e) = ha in
+      let tail : List ℕ = d ++ 41 ∷ more in
+      let start : List ℕ = s ++ (r ++ tail) in
+      let inner : b ++ (a ++ tail) ≡ b ++ start = rw e (ap (λ t. b ++ t) (append_assoc s r tail)) in
+      let facts = basic_other (first start) (argument_start Number number_first x s (r ++ tail) hs) in
+      let skipped : skip_blank (b ++ start) ≡ start = skip_over b start hb facts.0 in
+      let close : skip_blank tail ≡ 41 ∷ more = follows d more 41 hd refl in
+      let size : length start < n = omega (arith, fits, ap length inner, length-append b start) in
+      let read = complete_arguments x xs (suc (length start)) no_arguments s r tail more hs hr close size (omega arith) in
+      rw inner (called_reads w (b ++ start) start tail more (argument x xs) c skipped (some_read start tail (argument x xs) facts.1 read) close is)
+
+  -- ---- words
+
+  word_call : (text w behind rest : List ℕ) (c : Call) → word_at text ≡ Some (w, 40 ∷ behind) → called_at literal_at argument_at w behind ≡ Some (c, rest)
+      → word_operand_at literal_at argument_at text ≡ Some (test_argument (call c), rest)
+  unfolding word_operand_at
+  word_call text w behind rest c word read = rw (word, read) refl
+
+  word_alone : (text w rest : List ℕ) (l : Literal) → word_at text ≡ Some (w, rest) → (first rest == 40) ≡ false → word_literal w ≡ Some l → word_operand_at literal_at argument_at text ≡ Some (literal_argument l, rest)
+  unfolding word_operand_at
+  word_alone text w rest l word other is = rw (word, other, is) refl
+
+  -- a call of this name
+  complete_named : (w : List ℕ) (xs : Arguments) (c : Call) (a more : List ℕ) → IsFunctionName w → SpellsCalled w (SpellsArguments Number xs) a → call_of w xs ≡ Some c → length (a ++ more) ≤ n
+      → word_operand_at literal_at argument_at (a ++ more) ≡ Some (test_argument (call c), more)
+  complete_named w xs c a more named h is fits =
+      let (b, s, d, hb, hs, hd, e) = h in
+      let inner : List ℕ = b ++ (s ++ (d ++ 41 ∷ more)) in
+      let text : a ++ more ≡ w ++ (40 ∷ inner) = rw e (call_pieces w b s d more) in
+      let size : length inner < n = omega (arith, fits, ap length text, length-append w (40 ∷ inner)) in
+      rw text (word_call (w ++ (40 ∷ inner)) w inner more c (word_over w (40 ∷ inner) named refl) (complete_called w xs c b s d more hb hs hd is size))
+
+  -- one argument, and two, as arguments
+  one_spelled : (w : List ℕ) (x : Argument) (a : List ℕ) → SpellsCalled w (SpellsArgument Number x) a → SpellsCalled w (SpellsArguments Number (argument x no_arguments)) a
+  one_spelled w x a h = let (b, s, d, hb, hs, hd, e) = h in (b, s, d, hb, (s, [], hs, refl, sym (append-nil s)), hd, e)
+
+  complete_call : (c : Call) (a more : List ℕ) → SpellsCall Number c a → length (a ++ more) ≤ n → word_operand_at literal_at argument_at (a ++ more) ≡ Some (test_argument (call c), more)
+  complete_call (custom_call w xs) a more h fits = complete_named w xs (custom_call w xs) a more h.0.0 h.1 (custom_of w xs h.0.1) fits
+  complete_call (length_call x) a more h fits = complete_named (codes "length") (argument x no_arguments) (length_call x) a more length_name (one_spelled (codes "length") x a h) refl fits
+  complete_call (value_call x) a more h fits = complete_named (codes "value") (argument x no_arguments) (value_call x) a more value_name (one_spelled (codes "value") x a h) refl fits
+  complete_call (count_call x) a more h fits = complete_named (codes "count") (argument x no_arguments) (count_call x) a more count_name (one_spelled (codes "count") x a h) refl fits
+  complete_call (search_call x y) a more h fits = complete_named (codes "search") (argument x (argument y no_arguments)) (search_call x y) a more search_name h refl fits
+  complete_call (match_call x y) a more h fits = complete_named (codes "match") (argument x (argument y no_arguments)) (match_call x y) a more match_name h refl fits
+
+  -- ---- operands
+
+  operand_current : (text rest : List ℕ) (gs : Segments) → all_segments_at literal_at argument_at text ≡ Some (gs, rest) → operand_at literal_at argument_at (64 ∷ text) ≡ Some (test_argument (relative gs), rest)
+  unfolding operand_at
+  operand_current text rest gs read = rw read refl
+
+  operand_root : (text rest : List ℕ) (gs : Segments) → all_segments_at literal_at argument_at text ≡ Some (gs, rest) → operand_at literal_at argument_at (36 ∷ text) ≡ Some (test_argument (absolute gs), rest)
+  unfolding operand_at
+  operand_root text rest gs read = rw read refl
+
+  operand_string : (text v rest : List ℕ) → is_quote (first text) ≡ true → string_at text ≡ Some (v, rest) → operand_at literal_at argument_at text ≡ Some (literal_argument (string v), rest)
+  unfolding operand_at
+  operand_string text v rest start read = let (now, top) = quote_other (first text) start in rw (now, top, start, read) refl
+
+  operand_number : (text rest : List ℕ) (v : Option ℤ) → is_int_first (first text) ≡ true → literal_at text ≡ Some (v, rest) → operand_at literal_at argument_at text ≡ Some (literal_argument (number v), rest)
+  unfolding operand_at
+  operand_number text rest v start read = let (now, top, quote) = int_other (first text) start in rw (now, top, quote, start, read) refl
+
+  operand_word : (text : List ℕ) → is_function_first (first text) ≡ true → operand_at literal_at argument_at text ≡ word_operand_at literal_at argument_at text
+  unfolding operand_at
+  operand_word text start = let (now, top, quote, int) = letter_other (first text) start in rw (now, top, quote, int) refl
+
+  -- a word that is a literal
+  complete_word : (w : List ℕ) (l : Literal) (more : List ℕ) → IsFunctionName w → word_literal w ≡ Some l → EndsOperand more → operand_at literal_at argument_at (w ++ more) ≡ Some (literal_argument l, more)
+  complete_word w l more named is stop =
+      operand_word (w ++ more) (word_start w more named) ∙ word_alone (w ++ more) w more l (word_over w more named (stops more stop).no_function) (stops more stop).no_call is
+
+  pub complete_literal : (l : Literal) (a more : List ℕ) → SpellsLiteral Number l a → EndsOperand more → operand_at literal_at argument_at (a ++ more) ≡ Some (literal_argument l, more)
+  complete_literal (number v) a more h stop = operand_number (a ++ more) more v (number_first v a more h) (number_over v a more h (stops more stop).no_number)
+  complete_literal (string s) a more h stop = operand_string (a ++ more) s more (string_start s a more h) (complete_string s a more h)
+  complete_literal (bool true) a more h stop = rw h (complete_word (codes "true") (bool true) more true_name refl stop)
+  complete_literal (bool false) a more h stop = rw h (complete_word (codes "false") (bool false) more false_name refl stop)
+  complete_literal null a more h stop = rw h (complete_word (codes "null") null more null_name refl stop)
+
+  complete_current : (gs : Segments) (a r more : List ℕ) → SpellsSegments Number gs r → a ≡ 64 ∷ r → EndsSegments more → length (a ++ more) ≤ n
+      → operand_at literal_at argument_at (a ++ more) ≡ Some (test_argument (relative gs), more)
+  complete_current gs a r more h e stop fits =
+      let text : a ++ more ≡ 64 ∷ (r ++ more) = rw e refl in
+      rw text (operand_current (r ++ more) more gs (complete_all_segments Number number_first literal_at argument_at n oracle gs r more h stop (omega (arith, fits, ap length text))))
+
+  complete_root : (gs : Segments) (a r more : List ℕ) → SpellsSegments Number gs r → a ≡ 36 ∷ r → EndsSegments more → length (a ++ more) ≤ n
+      → operand_at literal_at argument_at (a ++ more) ≡ Some (test_argument (absolute gs), more)
+  complete_root gs a r more h e stop fits =
+      let text : a ++ more ≡ 36 ∷ (r ++ more) = rw e refl in
+      rw text (operand_root (r ++ more) more gs (complete_all_segments Number number_first literal_at argument_at n oracle gs r more h stop (omega (arith, fits, ap length text))))
+
+  complete_function : (c : Call) (a more : List ℕ) → SpellsCall Number c a → length (a ++ more) ≤ n → operand_at literal_at argument_at (a ++ more) ≡ Some (test_argument (call c), more)
+  complete_function c a more h fits = operand_word (a ++ more) (call_start Number number_first c a more h) ∙ complete_call c a more h fits
+
+  -- a query or a call
+  pub complete_test : (t : Test) (a more : List ℕ) → SpellsTest Number t a → EndsOperand more → length (a ++ more) ≤ n → operand_at literal_at argument_at (a ++ more) ≡ Some (test_argument t, more)
+  complete_test (relative gs) a more h stop fits = let (r, hr, e) = h in complete_current gs a r more hr e (ends_segments more stop) fits
+  complete_test (absolute gs) a more h stop fits = let (r, hr, e) = h in complete_root gs a r more hr e (ends_segments more stop) fits
+  complete_test (call c) a more h stop fits = complete_function c a more h fits
+
+  -- a side of a comparison
+  pub complete_comparable : (c : Comparable) (a more : List ℕ) → SpellsComparable Number c a → EndsOperand more → length (a ++ more) ≤ n
+      → operand_at literal_at argument_at (a ++ more) ≡ Some (comparable_argument c, more)
+  complete_comparable (literal l) a more h stop fits = complete_literal l a more h stop
+  complete_comparable (function c) a more h stop fits = complete_function c a more h fits
+  complete_comparable (singular (current ss)) a more h stop fits = let (r, hr, e) = h in complete_current (singles ss) a r more (spells_singles Number ss r hr) e (ends_segments more stop) fits
+  complete_comparable (singular (root ss)) a more h stop fits = let (r, hr, e) = h in complete_root (singles ss) a r more (spells_singles Number ss r hr) e (ends_segments more stop) fits

@@ -1,0 +1,115 @@
+-- What the grammar functions of a cursor answer, where a kind of tree is read as it is spelled.
+use Rattle.std.proofs.Common.{◌≡◌, ℕ, ◌≤◌, Bool, true, ℤ, List, [], ◌∷◌, ◌++◌, ◌-◌, length, take, drop, Option, Some, None, Result, Ok, Err, MatchResult, IsOkAnd, IfErr, refl, sym, ap, ◌∙◌, subst, append_assoc, append-nil, length-append, take-append-drop, arith}
+use Rattle.std.proofs.Math.Seq.{drop-append_seam}
+use Rattle.std.proofs.lemmas.Str.{IsCharBoundary-from_drop}
+use Rattle.std.specs.Borrow.{Bor}
+use Rattle.std.specs.Str.{IsUtf8, IsCharBoundary}
+use Rattle.jsonpath_parser.specs.Parts.{text_of, rest_of, Spelling, IsPart, IsPartRefusal, ReadsPart}
+use Rattle.jsonpath_parser.specs.Reading.{Read, Reads}
+use Rattle.jsonpath_parser.specs.ReadingParts.{IsPartsRefusal}
+use Rattle.jsonpath_parser.specs.Values.{IsValued, IsAny}
+use Rattle.jsonpath_parser.specs.declared.errors.JsonPathError.{JsonPathError}
+use Rattle.jsonpath_parser.specs.declared.errors.JsonPathError.TheVariants as error
+use Rattle.jsonpath_parser.specs.declared.grammar.literals.Numbers.{Numbers}
+use Rattle.jsonpath_parser.specs.declared.grammar.literals.Numbers.TheVariants.{Valued, Any}
+use Rattle.jsonpath_parser.specs.declared.parts.Cursor.{Cursor}
+use Rattle.jsonpath_parser.specs.declared.stop.Stop.{Stop}
+use Rattle.jsonpath_parser.specs.declared.stop.Stop.TheVariants.{Memory}
+
+-- which number literals are read
+abbrev pub as_read : Numbers → Option ℤ → List ℕ → Type 0
+as_read Valued = IsValued
+as_read Any = IsAny
+
+-- what is read is spelled, what the whole text spells is read, and it spells one tree
+pub record Law {V : Type 0} (spells : Spelling V) (typed : V → Bool) (reading : Numbers → List ℕ → Read V) : Type 0 where
+  pub sound : (numbers : Numbers) (v : V) (text rest : List ℕ) → reading numbers text ≡ Some (v, rest) → (a : List ℕ) × spells (as_read numbers) v a × (typed v ≡ true) × (text ≡ a ++ rest)
+  pub complete : (numbers : Numbers) (v : V) (text : List ℕ) → spells (as_read numbers) v text → typed v ≡ true → reading numbers text ≡ Some (v, [])
+  pub one_tree : (v w : V) (text : List ℕ) → spells IsValued v text → spells IsAny w text → w ≡ v
+
+-- two readings of one text
+both : {V : Type 0} (o : Read V) (v w : V) (s t : List ℕ) → o ≡ Some (v, s) → o ≡ Some (w, t) → (v ≡ w) × (s ≡ t)
+both {V} o v w s t e f =
+    let p : ◌≡◌ {A = V × List ℕ} (v, s) (w, t) = cc in
+    (ap (λ (q : V × List ℕ). q.0) p, ap (λ (q : V × List ℕ). q.1) p)
+
+-- a tree and no tree
+neither : {A : Type 0} (o : Option A) (x : A) → o ≡ Some x → o ≡ None → ⊥
+neither o x e f = absurd (cc)
+
+-- what follows a front of a text
+behind : (front new : List ℕ) → drop (length (front ++ new) - length new) (front ++ new) ≡ new
+behind front new = let size : length (front ++ new) - length new ≡ length front = omega (arith, length-append front new) in rw size (drop-append_seam front new)
+
+-- behind the part that was read, the rest of the text stands
+rest_stays : (text old part new : List ℕ) → drop (length text - length old) text ≡ old → old ≡ part ++ new → drop (length text - length new) text ≡ new
+rest_stays text old part new stood moved =
+    let front : List ℕ = take (length text - length old) text in
+    let whole : text ≡ (front ++ part) ++ new = sym (take-append-drop (length text - length old) text) ∙ ap (λ s. front ++ s) (stood ∙ moved) ∙ sym (append_assoc front part new) in
+    subst (λ t. drop (length t - length new) t ≡ new) (sym whole) (behind (front ++ part) new)
+
+-- a cursor behind what was read
+pub part_stays : {V : Type 0} {spells : Spelling V} {typed : V → Bool} {reading : Numbers → List ℕ → Read V} → Law spells typed reading
+    → (old : Cursor) (v : V) (rest : List ℕ) → reading Valued (rest_of old) ≡ Some (v, rest) → drop (length (text_of old) - length rest) (text_of old) ≡ rest
+part_stays law old v rest e =
+    let (a, ha, ht, ea) = law.sound Valued v (rest_of old) rest e in
+    rest_stays (text_of old) (rest_of old) a rest old.behind ea
+
+-- a cursor stands between two characters
+pub place_boundary : (text rest : List ℕ) (place : ℕ) → place ≡ length text - length rest → IsUtf8 rest → drop (length text - length rest) text ≡ rest → IsCharBoundary text place
+place_boundary text rest place is utf8 stood = IsCharBoundary-from_drop text place (omega (arith, is)) (subst IsUtf8 (sym (ap (λ n. drop n text) is ∙ stood)) utf8)
+
+-- a tree that was read is answered
+pub part_read : {T V : Type 0} {spells : Spelling V} {typed : V → Bool} {view : T → V} {reading : Numbers → List ℕ → Read V} → Law spells typed reading
+    → (old new : Cursor) (t : T) → reading Valued (rest_of old) ≡ Some (view t, rest_of new) → text_of new ≡ text_of old → ReadsPart spells typed view old new (Ok t)
+part_read {T} {V} {spells} {typed} {view} {reading} law old new t e same = record {
+  read = let (a, ha, ht, ea) = law.sound Valued (view t) (rest_of old) (rest_of new) e in record { part = a; spelled = ha; well_typed = ht; one_tree = λ w h. law.one_tree (view t) w a ha h; moved = ea };
+  whole = λ v h k. both (reading Valued (rest_of old)) (view t) v (rest_of new) [] e (law.complete Valued v (rest_of old) h k);
+  refused = tt;
+  kept = tt;
+  same = same;
+}
+
+-- where reading stopped the text spells no tree, unless memory ran out
+whole_refused : {T V : Type 0} (spells : Spelling V) (typed : V → Bool) (view : T → V) (reading : Numbers → List ℕ → Read V) → Law spells typed reading
+    → (text : List ℕ) (stop : Stop) → ((stop ≡ Memory → ⊥) → reading Valued text ≡ None) → (stop ≡ Memory → ⊥) → (v : V) → spells IsValued v text → typed v ≡ true → ⊥
+whole_refused spells typed view reading law text stop none other v h k = neither (reading Valued text) (v, []) (law.complete Valued v text h k) (none other)
+
+-- nor with any number literals
+any_refused : {T V : Type 0} (spells : Spelling V) (typed : V → Bool) (view : T → V) (reading : Numbers → List ℕ → Read V) → Law spells typed reading
+    → (text : List ℕ) (again : Result (T × Bor (List ℕ)) Stop) → Reads view again (reading Any text) → MatchResult again (λ p. p.1.now ≡ [] → ⊥) (λ e. e ≡ Memory → ⊥)
+    → (v : V) → spells IsAny v text → typed v ≡ true → ⊥
+any_refused spells typed view reading law text (Ok p) e other v h k = other (both (reading Any text) (view p.0) v p.1.now [] e (law.complete Any v text h k)).1
+any_refused spells typed view reading law text (Err stop) e other v h k = neither (reading Any text) (v, []) (law.complete Any v text h k) (e other)
+
+-- with any number literals the text spells one
+any_read : {T V : Type 0} (spells : Spelling V) (typed : V → Bool) (view : T → V) (reading : Numbers → List ℕ → Read V) → Law spells typed reading
+    → (text : List ℕ) (again : Result (T × Bor (List ℕ)) Stop) → Reads view again (reading Any text) → IsOkAnd again (λ p. p.1.now ≡ []) → (v : V) × spells IsAny v text × (typed v ≡ true)
+any_read {T} {V} spells typed view reading law text (Ok p) e all =
+    let (a, ha, ht, ea) = law.sound Any (view p.0) text p.1.now e in
+    (view p.0, subst (λ s. spells IsAny (view p.0) s) (sym (ea ∙ ap (λ s. a ++ s) all ∙ append-nil a)) ha, ht)
+any_read spells typed view reading law text (Err stop) e all = absurd all
+
+-- a refusal is one of the text's
+pub part_refused : {T V : Type 0} {spells : Spelling V} {typed : V → Bool} {view : T → V} {reading : Numbers → List ℕ → Read V} → Law spells typed reading
+    → (c : Cursor) (stop : Stop) (again : Result (T × Bor (List ℕ)) Stop) (e : JsonPathError) → ((stop ≡ Memory → ⊥) → reading Valued (rest_of c) ≡ None)
+    → Reads view again (reading Any (rest_of c)) → IsPartsRefusal (text_of c) stop again e → ReadsPart spells typed view c c (Err e)
+part_refused {T} {V} {spells} {typed} {view} {reading} law c stop again e none any is = record {
+  read = tt;
+  whole = λ v h k. only e is v h k;
+  refused = refusals e is;
+  kept = refl;
+  same = refl;
+}
+  where
+    only : (e : JsonPathError) → IsPartsRefusal (text_of c) stop again e → (v : V) → spells IsValued v (rest_of c) → typed v ≡ true → e ≡ error.OutOfMemory
+    only error.OutOfMemory is v h k = refl
+    only (error.PestError place) is v h k = absurd (whole_refused spells typed view reading law (rest_of c) stop none is.1 v h k)
+    only (error.InvalidNumber literal) is v h k = absurd (whole_refused spells typed view reading law (rest_of c) stop none is.0 v h k)
+    only _ is v h k = absurd is
+
+    refusals : (e : JsonPathError) → IsPartsRefusal (text_of c) stop again e → IsPartRefusal spells typed c e
+    refusals error.OutOfMemory is = tt
+    refusals (error.PestError place) is = (is.0, any_refused spells typed view reading law (rest_of c) again any is.2)
+    refusals (error.InvalidNumber literal) is = any_read spells typed view reading law (rest_of c) again any is.1
+    refusals _ is = absurd is

@@ -1,0 +1,224 @@
+-- What is read is spelled so: selectors, segments and the steps of a singular query.
+--
+-- What an argument of a call reads is taken as a premise, so no law is mutual.
+use Rattle.std.proofs.Common.{◌≡◌, ℕ, zero, suc, false, ◌==◌, ℤ, List, [], ◌∷◌, ◌++◌, length, drop, slice_index, codes, Option, Some, refl, sym, ap, ◌∙◌, subst, ◌⊎◌, inl, inr, append_assoc, append-nil, arith}
+use Rattle.jsonpath_parser.specs.Depth.{is_quote}
+use Rattle.jsonpath_parser.specs.Grammar.{Between, IsSeveral, SpellsSelector, SpellsSelectors, SpellsMoreSelectors, SpellsShorthand, SpellsSegment, SpellsSegments, SpellsLogical, SpellsArgument, SpellsSingularStep, SpellsSingularSteps}
+use Rattle.jsonpath_parser.specs.Lexical.{IsBlank}
+use Rattle.jsonpath_parser.specs.Reading.{Read, first, after_byte, skip_blank}
+use Rattle.jsonpath_parser.specs.ReadingGrammar.{push_segment, push_selector, selection_of, step_of, steps_of, filter_of, shorthand_at, starts_segment, logical_at, selector_at, selectors_at, selection_at, descendant_at, segment_at, segments_at, all_segments_at}
+use Rattle.jsonpath_parser.specs.ReadingStrings.{string_at}
+use Rattle.jsonpath_parser.specs.Syntax.{SingularStep, name_step, index_step, Selector, name, wildcard, index, slice, filter, Selectors, no_selectors, selector, Segment, one, several, descendant, Segments, no_segments, segment, Filter, atom, test, Argument, literal_argument, test_argument, filter_argument}
+use Rattle.jsonpath_parser.proofs.Fronts.{skip_split}
+use Rattle.jsonpath_parser.proofs.Joins.{join_segments, segments_push, segments_none, join_selectors, selectors_push, selectors_push_end}
+use Rattle.jsonpath_parser.proofs.SoundParts.{bind_ok, chosen, at_front, two_front, byte_read, Spelled, same_parts, moved, glue, sound_shorthand, sound_numbered}
+use Rattle.jsonpath_parser.proofs.StringSound.{sound_string}
+
+-- the pieces of a text between two others
+pub between : (before after text t1 t2 t3 t4 rest b a c : List ℕ) → text ≡ before ++ t1 → t1 ≡ b ++ t2 → t2 ≡ a ++ t3 → t3 ≡ c ++ t4 → t4 ≡ after ++ rest → text ≡ (before ++ (b ++ (a ++ (c ++ after)))) ++ rest
+between before after text t1 t2 t3 t4 rest b a c e e1 e2 e3 e4 = rw (e, e1, e2, e3, e4) (simp append_assoc)
+
+-- and of one with more behind a mark
+pub behind : (mark text t1 t2 t3 t4 rest x b c y r : List ℕ) → text ≡ x ++ t1 → t1 ≡ b ++ t2 → t2 ≡ mark ++ t3 → t3 ≡ c ++ t4 → t4 ≡ y ++ (r ++ rest) → text ≡ x ++ ((b ++ (mark ++ (c ++ (y ++ r)))) ++ rest)
+behind mark text t1 t2 t3 t4 rest x b c y r e1 e2 e3 e4 e5 = rw (e1, e2, e3, e4, e5) (simp append_assoc)
+
+-- a first part and others are one
+pub gathered : (text a r rest : List ℕ) → text ≡ a ++ (r ++ rest) → text ≡ (a ++ r) ++ rest
+gathered text a r rest e = e ∙ sym (append_assoc a r rest)
+
+module _ (Number : Option ℤ → List ℕ → Type 0) where
+  -- what brackets spell
+  abbrev SpellsSelection : Segment → List ℕ → Type 0
+  SpellsSelection (one s) text = Between (codes "[") (SpellsSelector Number s) (codes "]") text
+  SpellsSelection (several ss) text = IsSeveral ss × Between (codes "[") (SpellsSelectors Number ss) (codes "]") text
+  SpellsSelection (descendant g) text = ⊥
+
+  -- one selector, or several, in brackets
+  selection_is : (ss : Selectors) (s : Selector) (more : Selectors) (b a r c : List ℕ) → ss ≡ selector s more → IsBlank b → SpellsSelector Number s a → SpellsMoreSelectors Number more r → IsBlank c
+      → SpellsSelection (selection_of ss) (91 ∷ (b ++ ((a ++ r) ++ (c ++ 93 ∷ []))))
+  selection_is ss s no_selectors b a r c same hb ha hr hc = rw same (b, a, c, hb, ha, hc, ap (λ v. 91 ∷ (b ++ (v ++ (c ++ 93 ∷ [])))) (ap (λ v. a ++ v) hr ∙ append-nil a))
+  selection_is ss s (selector x more) b a r c same hb ha hr hc = rw same (tt, (b, a ++ r, c, hb, (a, r, ha, hr, refl), hc, refl))
+
+  -- brackets are a segment
+  selection_segment : (g : Segment) (a : List ℕ) → SpellsSelection g a → SpellsSegment Number g a
+  selection_segment (one s) a h = inl h
+  selection_segment (several ss) a h = h
+  selection_segment (descendant g) a h = absurd h
+
+  -- and behind `..` another
+  selection_descendant : (g : Segment) (a : List ℕ) → SpellsSelection g a → SpellsSegment Number (descendant g) (46 ∷ 46 ∷ a)
+  selection_descendant (one s) a h = (a, inl h, refl)
+  selection_descendant (several ss) a h = (a, h.0, h.1, refl)
+  selection_descendant (descendant g) a h = absurd h
+
+  -- a segment that is a step
+  step_spelled : (g : Segment) (s : SingularStep) (a : List ℕ) → step_of g ≡ Some s → SpellsSegment Number g a → SpellsSingularStep s a
+  step_spelled (one (name n)) s a e h = let k : name_step n ≡ s = cc in subst (λ v. SpellsSingularStep v a) k (named h)
+    where
+      named : Between (codes "[") (SpellsSelector Number (name n)) (codes "]") a ⊎ ((b : List ℕ) × SpellsShorthand (name n) b × (a ≡ 46 ∷ b)) → SpellsSingularStep (name_step n) a
+      named (inl quoted) = inr quoted
+      named (inr dotted) = let (b, its, is) = dotted in inl (its.0, is ∙ ap (λ v. 46 ∷ v) its.1)
+  step_spelled (one (index i)) s a e h = let k : index_step i ≡ s = cc in subst (λ v. SpellsSingularStep v a) k (numbered h)
+    where
+      numbered : Between (codes "[") (SpellsSelector Number (index i)) (codes "]") a ⊎ ((b : List ℕ) × SpellsShorthand (index i) b × (a ≡ 46 ∷ b)) → SpellsSingularStep (index_step i) a
+      numbered (inl bracketed) = bracketed
+      numbered (inr dotted) = absurd dotted.1
+  step_spelled (one wildcard) s a e h = absurd (cc)
+  step_spelled (one (slice i j k)) s a e h = absurd (cc)
+  step_spelled (one (filter f)) s a e h = absurd (cc)
+  step_spelled (several ss) s a e h = absurd (cc)
+  step_spelled (descendant g) s a e h = absurd (cc)
+
+  -- segments that are steps
+  pub steps_spelled : (gs : Segments) (ss : List SingularStep) (a : List ℕ) → steps_of gs ≡ Some ss → SpellsSegments Number gs a → SpellsSingularSteps ss a
+  steps_spelled no_segments ss a e h = let k : ◌≡◌ {A = List SingularStep} [] ss = cc in subst (λ v. SpellsSingularSteps v a) k h
+  steps_spelled (segment g gs) ss a e h =
+      let (s, is, e1) = bind_ok _ (step_of g) ss e in
+      let (more, are, e2) = bind_ok _ (steps_of gs) ss e1 in
+      let (b, x, c, hb, hx, hc, ea) = h in
+      let k : s ∷ more ≡ ss = cc in
+      subst (λ v. SpellsSingularSteps v a) k (b, x, c, hb, step_spelled g s x is hx, steps_spelled gs more c are hc, ea)
+
+  -- an argument as a logical expression
+  argument_logical : (x : Argument) (f : Filter) (a : List ℕ) → SpellsArgument Number x a → filter_of x ≡ Some f → SpellsLogical Number f a
+  argument_logical (literal_argument l) f a h e = absurd (cc)
+  argument_logical (test_argument t) f a h e = let k : atom (test false t) ≡ f = cc in subst (λ v. SpellsLogical Number v a) k ([], a, refl, h, refl)
+  argument_logical (filter_argument g) f a h e = let k : g ≡ f = cc in subst (λ v. SpellsLogical Number v a) k h.1
+
+module _ (Number : Option ℤ → List ℕ → Type 0)
+    (number_literal_at : List ℕ → Read (Option ℤ))
+    (argument_at : List ℕ → Read Argument)
+    (oracle : (x : Argument) (text rest : List ℕ) → argument_at text ≡ Some (x, rest) → Spelled (SpellsArgument Number) x text rest) where
+  -- a logical expression that is read
+  pub sound_logical : (f : Filter) (text rest : List ℕ) → logical_at number_literal_at argument_at text ≡ Some (f, rest) → Spelled (SpellsLogical Number) f text rest
+  unfolding logical_at
+  sound_logical f text rest e =
+      let (x, read, e1) = bind_ok _ (argument_at text) _ e in
+      let (g, is, e2) = bind_ok _ (filter_of x.0) _ e1 in
+      let (a, ha, ea) = oracle x.0 text x.1 read in
+      moved (SpellsLogical Number) g f text x.1 rest e2 (a, argument_logical Number x.0 g a ha is, ea)
+
+  -- a selector that is read
+  pub sound_selector : (x : Selector) (text rest : List ℕ) → selector_at number_literal_at argument_at text ≡ Some (x, rest) → Spelled (SpellsSelector Number) x text rest
+  unfolding selector_at
+  sound_selector x text rest e = elim (chosen (first text == 42) _ _ _ e) [
+    | inl star ↦ moved (SpellsSelector Number) wildcard x text (drop 1 text) rest star.1 (42 ∷ [], refl, at_front text 42 star.0 (omega arith))
+    | inr no_star ↦ elim (chosen (first text == 63) _ _ _ no_star.1) [
+      | inl mark ↦ (
+          let (f, read, e3) = bind_ok _ (logical_at number_literal_at argument_at (skip_blank (drop 1 text))) _ mark.1 in
+          let (b, hb, eb) = skip_split (drop 1 text) in
+          let (a, ha, ea) = sound_logical f.0 (skip_blank (drop 1 text)) f.1 read in
+          moved (SpellsSelector Number) (filter f.0) x text f.1 rest e3
+          (63 ∷ (b ++ a), (b, a, hb, ha, refl), at_front text 63 mark.0 (omega arith) ∙ ap (λ v. 63 ∷ v) (glue (drop 1 text) b (skip_blank (drop 1 text)) a f.1 eb ea)))
+      | inr no_mark ↦ elim (chosen (is_quote (first text)) _ _ _ no_mark.1) [
+        | inl quote ↦ (
+            let (n, read, e3) = bind_ok _ (string_at text) _ quote.1 in
+            moved (SpellsSelector Number) (name n.0) x text n.1 rest e3 (sound_string n.0 text n.1 read))
+        | inr plain ↦ sound_numbered Number x text rest plain.1
+      ]
+    ]
+  ]
+
+  -- selectors that are read, after those found
+  sound_selectors : (k : ℕ) (found ss : Selectors) (text rest : List ℕ) → selectors_at number_literal_at argument_at k found text ≡ Some (ss, rest)
+      → (s : Selector) × (more : Selectors) × (a r : List ℕ) × (ss ≡ join_selectors found (selector s more)) × SpellsSelector Number s a × SpellsMoreSelectors Number more r × (text ≡ a ++ (r ++ rest))
+  unfolding selectors_at
+  sound_selectors zero found ss text rest e = absurd (cc)
+  sound_selectors (suc k) found ss text rest e =
+      let (s, read, e1) = bind_ok _ (selector_at number_literal_at argument_at text) _ e in
+      let (a, ha, ea) = sound_selector s.0 text s.1 read in
+      let (b, hb, eb) = skip_split s.1 in
+      elim (chosen (first (skip_blank s.1) == 44) _ _ _ e1) [
+        | inl comma ↦ (
+            let (c, hc, ec) = skip_split (drop 1 (skip_blank s.1)) in
+            let (x, more, y, r, same, hx, hr, er) = sound_selectors k (push_selector found s.0) ss (skip_blank (drop 1 (skip_blank s.1))) rest comma.1 in (
+              s.0,
+              selector x more,
+              a,
+              b ++ (44 ∷ (c ++ (y ++ r))),
+              same ∙ selectors_push found s.0 (selector x more),
+              ha,
+              (b, c, y, r, hb, hc, hx, hr, refl),
+              behind (44 ∷ []) text s.1 (skip_blank s.1) (drop 1 (skip_blank s.1)) (skip_blank (drop 1 (skip_blank s.1))) rest a b c y r ea eb (at_front (skip_blank s.1) 44 comma.0 (omega arith)) ec er,
+            ))
+        | inr stop ↦ (
+            let (same, after) = same_parts (push_selector found s.0) ss s.1 rest stop.1 in
+            (s.0, no_selectors, a, [], sym same ∙ selectors_push_end found s.0, ha, refl, ea ∙ ap (λ v. a ++ v) after))
+      ]
+
+  -- brackets that are read
+  pub sound_selection : (g : Segment) (text rest : List ℕ) → selection_at number_literal_at argument_at text ≡ Some (g, rest) → Spelled (SpellsSelection Number) g text rest
+  unfolding selection_at
+  sound_selection g text rest e =
+      let (inner, open_, e1) = bind_ok _ (after_byte 91 text) _ e in
+      let (ss, read, e2) = bind_ok _ (selectors_at number_literal_at argument_at (suc (length inner)) no_selectors (skip_blank inner)) _ e1 in
+      let (end, close, e3) = bind_ok _ (after_byte 93 (skip_blank ss.1)) _ e2 in
+      let (b, hb, eb) = skip_split inner in
+      let (c, hc, ec) = skip_split ss.1 in
+      let (s, more, a, r, same, ha, hr, er) = sound_selectors (suc (length inner)) no_selectors ss.0 (skip_blank inner) ss.1 read in
+      moved (SpellsSelection Number) (selection_of ss.0) g text end rest e3 (
+        91 ∷ (b ++ ((a ++ r) ++ (c ++ 93 ∷ []))),
+        selection_is Number ss.0 s more b a r c same hb ha hr hc,
+        between (91 ∷ []) (93 ∷ []) text inner (skip_blank inner) ss.1 (skip_blank ss.1) end b (a ++ r) c (byte_read text 91 inner open_ (omega arith)) eb (gathered (skip_blank inner) a r ss.1 er) ec (byte_read (skip_blank ss.1) 93 end close (omega arith)),
+      )
+
+  -- what is read behind `..`
+  pub sound_descendant : (g : Segment) (text rest : List ℕ) → descendant_at number_literal_at argument_at text ≡ Some (g, rest) → Spelled (λ v a. SpellsSegment Number v (46 ∷ 46 ∷ a)) g text rest
+  unfolding descendant_at
+  sound_descendant g text rest e = elim (chosen (first text == 91) _ _ _ e) [
+    | inl bracket ↦ (
+        let (h, read, e1) = bind_ok _ (selection_at number_literal_at argument_at text) _ bracket.1 in
+        let (a, ha, ea) = sound_selection h.0 text h.1 read in
+        moved (λ v a. SpellsSegment Number v (46 ∷ 46 ∷ a)) (descendant h.0) g text h.1 rest e1 (a, selection_descendant Number h.0 a ha, ea))
+    | inr other ↦ (
+        let (s, read, e1) = bind_ok _ (shorthand_at text) _ other.1 in
+        let (a, ha, ea) = sound_shorthand s.0 text s.1 read in
+        moved (λ v a. SpellsSegment Number v (46 ∷ 46 ∷ a)) (descendant (one s.0)) g text s.1 rest e1 (a, (a, inr ha, refl), ea))
+  ]
+
+  -- a segment that is read
+  pub sound_segment : (g : Segment) (text rest : List ℕ) → segment_at number_literal_at argument_at text ≡ Some (g, rest) → Spelled (SpellsSegment Number) g text rest
+  unfolding segment_at
+  sound_segment g text rest e = elim (chosen (first text == 46) _ _ _ e) [
+    | inl dot ↦ elim (chosen (slice_index text 1 == 46) _ _ _ dot.1) [
+      | inl two ↦ (
+          let (a, ha, ea) = sound_descendant g (drop 2 text) rest two.1 in
+          (46 ∷ 46 ∷ a, ha, two_front text 46 46 dot.0 two.0 (omega arith) (omega arith) ∙ ap (λ v. 46 ∷ 46 ∷ v) ea))
+      | inr lone ↦ (
+          let (s, read, e1) = bind_ok _ (shorthand_at (drop 1 text)) _ lone.1 in
+          let (a, ha, ea) = sound_shorthand s.0 (drop 1 text) s.1 read in
+          moved (SpellsSegment Number) (one s.0) g text s.1 rest e1 (46 ∷ a, inr (a, ha, refl), at_front text 46 dot.0 (omega arith) ∙ ap (λ v. 46 ∷ v) ea))
+    ]
+    | inr other ↦ (
+        let (a, ha, ea) = sound_selection g text rest other.1 in
+        (a, selection_segment Number g a ha, ea))
+  ]
+
+  -- segments that are read, after those found
+  sound_segments : (k : ℕ) (found gs : Segments) (text rest : List ℕ) → segments_at number_literal_at argument_at k found text ≡ Some (gs, rest)
+      → (ys : Segments) × (gs ≡ join_segments found ys) × Spelled (SpellsSegments Number) ys text rest
+  unfolding segments_at
+  sound_segments zero found gs text rest e = absurd (cc)
+  sound_segments (suc k) found gs text rest e = elim (chosen (starts_segment (skip_blank text)) _ _ _ e) [
+    | inl go ↦ (
+        let (g, read, e1) = bind_ok _ (segment_at number_literal_at argument_at (skip_blank text)) _ go.1 in
+        let (b, hb, eb) = skip_split text in
+        let (a, ha, ea) = sound_segment g.0 (skip_blank text) g.1 read in
+        let (ys, same, spelled) = sound_segments k (push_segment found g.0) gs g.1 rest e1 in
+        let (c, hc, ec) = spelled in (
+          segment g.0 ys,
+          same ∙ segments_push found g.0 ys,
+          (b ++ (a ++ c), (b, a, c, hb, ha, hc, refl), eb ∙ ap (λ v. b ++ v) (ea ∙ ap (λ v. a ++ v) ec) ∙ sym (simp append_assoc)),
+        ))
+    | inr stop ↦ (
+        let (same, after) = same_parts found gs text rest stop.1 in
+        (no_segments, sym same ∙ sym (segments_none found), ([], refl, after)))
+  ]
+
+  -- all the segments that are read
+  pub sound_all_segments : (gs : Segments) (text rest : List ℕ) → all_segments_at number_literal_at argument_at text ≡ Some (gs, rest) → Spelled (SpellsSegments Number) gs text rest
+  unfolding all_segments_at
+  sound_all_segments gs text rest e =
+      let (ys, same, spelled) = sound_segments (suc (length text)) no_segments gs text rest e in
+      let (a, ha, ea) = spelled in
+      (a, subst (λ v. SpellsSegments Number v a) (sym same) ha, ea)

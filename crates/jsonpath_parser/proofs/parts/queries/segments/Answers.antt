@@ -1,0 +1,13 @@
+use Rattle.std.proofs.Common.{refl}
+use Rattle.jsonpath_parser.proofs.PartKinds.{segments_law}
+use Rattle.jsonpath_parser.proofs.PartLaws.{part_stays, part_read, part_refused}
+use Rattle.jsonpath_parser.proofs.parts.queries.segments.Goals as goal
+
+pub invariant_of-cursor : goal.invariant_of-cursor
+invariant_of-cursor c = record { behind = part_stays segments_law c.args.cursor.now _ c.in-Ok.rest.now c.in-Ok.ensures }
+
+pub returns-in-Ok : goal.returns-in-Ok
+returns-in-Ok c = part_read segments_law c.args.cursor.now _ c.in-Ok.tree c.in-Ok.ensures refl
+
+pub returns-in-Err : goal.returns-in-Err
+returns-in-Err c = part_refused segments_law c.args.cursor.now c.in-Err.stop c.segments-again.result c.refusal.result c.in-Err.ensures c.segments-again.ensures c.refusal.ensures

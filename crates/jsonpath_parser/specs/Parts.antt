@@ -1,0 +1,70 @@
+-- What the grammar functions of a cursor answer: each reads one kind of tree at the cursor's place (RFC 9535, 2.1 to 2.5).
+use Rattle.std.specs.Prelude.{◌≡◌, ℕ, ◌≤◌, ◌-◌, Bool, true, ℤ, List, [], ◌++◌, length, codes, Option, Result, MatchResult, IfOk, IfErr, OnErr, ⊤}
+use Rattle.jsonpath_parser.specs.Grammar.{SpellsSlice, SpellsSingularSteps, SpellsSingularQuery, SpellsSegment, SpellsTest}
+use Rattle.jsonpath_parser.specs.Syntax.{SingularStep, SingularQuery, Segment, descendant, Segments, relative}
+use Rattle.jsonpath_parser.specs.Values.{IsValued, IsAny}
+use Rattle.jsonpath_parser.specs.declared.errors.JsonPathError.{JsonPathError}
+use Rattle.jsonpath_parser.specs.declared.errors.JsonPathError.TheVariants.{PestError, InvalidNumber, OutOfMemory}
+use Rattle.jsonpath_parser.specs.declared.parts.Cursor.{Cursor}
+
+-- the text of a cursor
+abbrev pub text_of : Cursor → List ℕ
+text_of c = c.text.now
+
+-- and what stands behind its place
+abbrev pub rest_of : Cursor → List ℕ
+rest_of c = c.rest.now
+
+-- its place, a count of bytes from the start
+abbrev pub place_of : Cursor → ℕ
+place_of c = length (text_of c) - length (rest_of c)
+
+-- A kind of tree: how it is spelled, where number literals are spelled so.
+abbrev pub Spelling : Type 0 → Type 1
+Spelling V = (Option ℤ → List ℕ → Type 0) → V → List ℕ → Type 0
+
+-- `@` and segments (2.3.5.1)
+abbrev pub SpellsRelative : Spelling Segments
+SpellsRelative Number gs text = SpellsTest Number (relative gs) text
+
+-- what may stand behind `..`: selectors between brackets, `*` or a shorthand name (2.5.2.1)
+abbrev pub SpellsChild : Spelling Segment
+SpellsChild Number g text = SpellsSegment Number (descendant g) (codes ".." ++ text)
+
+-- start, end and step of a slice (2.3.4)
+abbrev pub SpellsSliceParts : Spelling (Option ℤ × Option ℤ × Option ℤ)
+SpellsSliceParts Number p text = SpellsSlice p.0 p.1 p.2 text
+
+-- each step perhaps after blanks (2.3.5.1)
+abbrev pub SpellsSteps : Spelling (List SingularStep)
+SpellsSteps Number ss text = SpellsSingularSteps ss text
+
+abbrev pub SpellsSingular : Spelling SingularQuery
+SpellsSingular Number q text = SpellsSingularQuery q text
+
+-- no call stands in such a tree
+abbrev pub always : {V : Type 0} → V → Bool
+always v = true
+
+-- The part of the text from the old place to the new one spells the tree, each number literal as its value, and the tree is well-typed. The part spells no other tree, whatever the values of its number literals.
+pub record IsPart {V : Type 0} (spells : Spelling V) (typed : V → Bool) (v : V) (old new : Cursor) : Type 0 where
+  pub part : List ℕ
+  pub spelled : spells IsValued v part
+  pub well_typed : typed v ≡ true
+  pub one_tree : (w : V) → spells IsAny w part → w ≡ v
+  pub moved : rest_of old ≡ part ++ rest_of new
+
+-- The refusals, each with what it means: the rest would spell such a tree if its number literals without a value had one; it spells none whatever values its number literals had, and the place is at most the text's length; memory ran out.
+abbrev pub IsPartRefusal : {V : Type 0} → Spelling V → (V → Bool) → Cursor → JsonPathError → Type 0
+IsPartRefusal {V} spells typed c (InvalidNumber found) = (v : V) × spells IsAny v (rest_of c) × (typed v ≡ true)
+IsPartRefusal {V} spells typed c (PestError place) = (place ≤ length (text_of c)) × ((v : V) → spells IsAny v (rest_of c) → typed v ≡ true → ⊥)
+IsPartRefusal spells typed c OutOfMemory = ⊤
+IsPartRefusal spells typed c _ = ⊥
+
+-- What a grammar function answers. The tree that the whole rest spells is the one, unless memory ran out; so a refusal for another cause comes only where the rest spells none. After a refusal the cursor is as it was.
+pub record ReadsPart {T V : Type 0} (spells : Spelling V) (typed : V → Bool) (view : T → V) (old new : Cursor) (result : Result T JsonPathError) : Type 0 where
+  pub read : IfOk result (λ t. IsPart spells typed (view t) old new)
+  pub whole : (v : V) → spells IsValued v (rest_of old) → typed v ≡ true → MatchResult result (λ t. (view t ≡ v) × (rest_of new ≡ [])) (λ e. e ≡ OutOfMemory)
+  pub refused : IfErr result (IsPartRefusal spells typed old)
+  pub kept : OnErr result (new ≡ old)
+  pub same : text_of new ≡ text_of old

@@ -1,0 +1,122 @@
+-- What the parts of a query are read as, each by itself, and which refusal they get. The laws of proofs/ join it to the grammar, so a user need not believe it.
+use Rattle.std.specs.Prelude.{◌≡◌, ℕ, suc, ◌≤◌, ◌==◌, Bool, if◌then◌else◌, ℤ, List, [], length, Option, Some, None, Result, MatchResult, IsOkAnd, ⊤}
+use Rattle.std.specs.Borrow.{Bor}
+use Rattle.jsonpath_parser.specs.Reading.{Read, ◌>>=◌, first}
+use Rattle.jsonpath_parser.specs.ReadingGrammar.{number_reading, comparable_of, filter_of, shorthand_at, selection_at, operand_at, basic_at, conjunction_at, all_segments_at, segment_at, selector_at, logical_at, argument_at}
+use Rattle.jsonpath_parser.specs.Syntax.{Literal, SingularQuery, Selector, slice, Segment, one, Segments, Filter, atom, Atom, comparison, Comparison, Comparable, literal, function, singular, Test, relative, absolute, call, Call, Argument, literal_argument, test_argument, filter_argument, Query}
+use Rattle.jsonpath_parser.specs.declared.errors.JsonPathError.{JsonPathError}
+use Rattle.jsonpath_parser.specs.declared.errors.JsonPathError.TheVariants.{PestError, InvalidNumber, OutOfMemory}
+use Rattle.jsonpath_parser.specs.declared.grammar.literals.Numbers.{Numbers}
+use Rattle.jsonpath_parser.specs.declared.stop.Stop.{Stop}
+use Rattle.jsonpath_parser.specs.declared.stop.Stop.TheVariants.{Memory}
+
+-- ---- what an operand, or a logical expression, is as another kind of tree
+
+abbrev pub literal_in : Argument → Option Literal
+literal_in (literal_argument l) = Some l
+literal_in (test_argument t) = None
+literal_in (filter_argument f) = None
+
+abbrev pub test_in : Argument → Option Test
+test_in (literal_argument l) = None
+test_in (test_argument t) = Some t
+test_in (filter_argument f) = None
+
+abbrev pub call_in : Argument → Option Call
+call_in (literal_argument l) = None
+call_in (test_argument (relative gs)) = None
+call_in (test_argument (absolute gs)) = None
+call_in (test_argument (call c)) = Some c
+call_in (filter_argument f) = None
+
+abbrev pub relative_in : Argument → Option Segments
+relative_in (literal_argument l) = None
+relative_in (test_argument (relative gs)) = Some gs
+relative_in (test_argument (absolute gs)) = None
+relative_in (test_argument (call c)) = None
+relative_in (filter_argument f) = None
+
+abbrev pub query_in : Argument → Option Query
+query_in (literal_argument l) = None
+query_in (test_argument (relative gs)) = None
+query_in (test_argument (absolute gs)) = Some gs
+query_in (test_argument (call c)) = None
+query_in (filter_argument f) = None
+
+abbrev pub singular_of : Comparable → Option SingularQuery
+singular_of (literal l) = None
+singular_of (function c) = None
+singular_of (singular q) = Some q
+
+abbrev pub singular_in : Argument → Option SingularQuery
+singular_in x = comparable_of x >>= singular_of
+
+abbrev pub atom_of : Filter → Option Atom
+atom_of (Filter.or fs) = None
+atom_of (Filter.and fs) = None
+atom_of (atom a) = Some a
+
+abbrev pub atom_in : Argument → Option Atom
+atom_in x = filter_of x >>= atom_of
+
+abbrev pub comparison_of : Atom → Option Comparison
+comparison_of (Atom.group negated f) = None
+comparison_of (Atom.test negated t) = None
+comparison_of (comparison c) = Some c
+
+abbrev pub comparison_in : Argument → Option Comparison
+comparison_in x = atom_in x >>= comparison_of
+
+abbrev pub slice_in : Selector → Option (Option ℤ × Option ℤ × Option ℤ)
+slice_in (Selector.name n) = None
+slice_in Selector.wildcard = None
+slice_in (Selector.index i) = None
+slice_in (slice start end step) = Some (start, end, step)
+slice_in (Selector.filter f) = None
+
+-- ---- what is read at the front
+
+-- where it is such a tree, and well-typed
+unfoldable pub taken_at : {X V : Type 0} → (X → Option V) → (V → Bool) → Read X → Read V
+taken_at take typed r = r >>= (λ x. take x.0 >>= (λ v. if typed v then Some (v, x.1) else None))
+
+module _ (numbers : Numbers) (text : List ℕ) where
+  -- how an argument inside is read: no nesting is deeper than the text is long
+  abbrev pub inner_at : List ℕ → Read Argument
+  inner_at = argument_at (number_reading numbers) (length text)
+
+  abbrev pub operand_in : Read Argument
+  operand_in = operand_at (number_reading numbers) inner_at text
+
+  abbrev pub basic_in : Read Argument
+  basic_in = basic_at (number_reading numbers) inner_at text
+
+  abbrev pub conjunction_in : Read Argument
+  conjunction_in = conjunction_at (number_reading numbers) inner_at text
+
+  abbrev pub logical_in : Read Filter
+  logical_in = logical_at (number_reading numbers) (argument_at (number_reading numbers) (suc (length text))) text
+
+  abbrev pub segments_in : Read Segments
+  segments_in = all_segments_at (number_reading numbers) inner_at text
+
+  abbrev pub segment_in : Read Segment
+  segment_in = segment_at (number_reading numbers) inner_at text
+
+  abbrev pub selector_in : Read Selector
+  selector_in = selector_at (number_reading numbers) inner_at text
+
+  -- brackets, or what stands behind a dot
+  unfoldable pub child_in : Read Segment
+  child_in =
+      if first text == 91 then selection_at (number_reading numbers) inner_at text
+      else shorthand_at text >>= (λ s. Some (one s.0, s.1))
+
+-- ---- refusals
+
+-- The refusal of a text whose reading stopped; `again` is what it is read as with any number literals. The place is at most the text's length.
+abbrev pub IsPartsRefusal : {T : Type 0} → List ℕ → Stop → Result (T × Bor (List ℕ)) Stop → JsonPathError → Type 0
+IsPartsRefusal text stop again (InvalidNumber found) = (stop ≡ Memory → ⊥) × IsOkAnd again (λ p. p.1.now ≡ [])
+IsPartsRefusal text stop again (PestError place) = (place ≤ length text) × (stop ≡ Memory → ⊥) × MatchResult again (λ p. p.1.now ≡ [] → ⊥) (λ e. e ≡ Memory → ⊥)
+IsPartsRefusal text stop again OutOfMemory = ⊤
+IsPartsRefusal text stop again _ = ⊥

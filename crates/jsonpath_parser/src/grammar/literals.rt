@@ -1,0 +1,30 @@
+//! Number literals in a query text (RFC 9535, 2.3.5.1).
+ghost use Rattle.std.specs.Prelude.{◌<◌, length, IfOk, Some};
+ghost use Rattle.jsonpath_parser.specs.Reading.{Reads};
+ghost use Rattle.jsonpath_parser.specs.ReadingGrammar.{number_reading};
+
+use crate::number::number;
+use crate::stop::Stop;
+
+/// How number literals are read.
+#[derive(Clone, Copy, Debug)]
+pub enum Numbers {
+    /// Each as its value; one without a value is refused.
+    Valued,
+    /// Each as its value, and one without a value as 0.
+    Any,
+}
+
+/// A number literal.
+#[tactic(auto, unfolding(crate::specs::ReadingGrammar::number_reading))]
+pub fn number_literal(numbers: Numbers, s: &str) -> Result<(i64, &str), Stop>
+    ensures value { Reads (λ n. Some n) result (number_reading numbers s.now) }
+    ensures shorter { IfOk result (λ p. length p.1.now < length s.now) }
+{
+    let (value, rest) = number(s)?;
+    match (value, numbers) {
+        (Some(value), _) => Ok((value, rest)),
+        (None, Numbers::Any) => Ok((0, rest)),
+        (None, Numbers::Valued) => Err(Stop::Syntax(s.len())),
+    }
+}

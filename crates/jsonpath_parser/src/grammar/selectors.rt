@@ -1,0 +1,89 @@
+//! Selectors, and selectors between brackets (RFC 9535, 2.3 and 2.5.1).
+ghost use Rattle.std.specs.Prelude.{◌≡◌, ℕ, ◌<◌, ◌≤◌, length, IfOk};
+ghost use Rattle.jsonpath_parser.specs.Reading.{Reads};
+ghost use Rattle.jsonpath_parser.specs.ReadingGrammar as spec;
+ghost use Rattle.jsonpath_parser.specs.ReadingGrammar.{number_reading};
+ghost use Rattle.jsonpath_parser.specs.Syntax.{no_selectors};
+ghost use Rattle.jsonpath_parser.specs.View.{selector_view, selectors_view, segment_view};
+
+use super::filters::logical;
+use super::literals::Numbers;
+use super::slices::numbered;
+use crate::model::{Segment, Selector};
+use crate::stop::Stop;
+use crate::string::string;
+use crate::text::{first, skip, skip_blank};
+use std::alloc::Global;
+
+/// A selector (2.3).
+#[cycle(reading)]
+#[tactic(auto, unfolding(crate::specs::ReadingGrammar::selector_at))]
+pub fn selector(alloc: Global, numbers: Numbers, s: &str) -> Result<(Selector, &str), Stop>
+    ensures value { (n : ℕ) → length s.now ≤ n → Reads selector_view result (spec.selector_at (number_reading numbers) (spec.argument_at (number_reading numbers) n) s.now) }
+    ensures shorter { IfOk result (λ p. length p.1.now < length s.now) }
+{
+    match first(s) {
+        b'*' => Ok((Selector::Wildcard, skip(s, 1))),
+        b'?' => {
+            let (filter, rest) = logical(alloc, numbers, skip_blank(skip(s, 1)))?;
+            Ok((Selector::Filter(filter), rest))
+        }
+        b'\'' | b'"' => {
+            let (name, rest) = string(alloc, s)?;
+            Ok((Selector::Name(name), rest))
+        }
+        _ => numbered(s),
+    }
+}
+
+/// Selectors with commas between them.
+#[cycle(reading)]
+#[tactic(auto, unfolding(crate::specs::ReadingGrammar::selectors_at))]
+fn selectors(alloc: Global, numbers: Numbers, s: &str) -> Result<(Vec<Selector>, &str), Stop>
+    ensures value { (n k : ℕ) → length s.now ≤ n → length s.now < k → Reads selectors_view result (spec.selectors_at (number_reading numbers) (spec.argument_at (number_reading numbers) n) k no_selectors s.now) }
+    ensures shorter { IfOk result (λ p. length p.1.now < length s.now) }
+{
+    let mut found = Vec::new(alloc);
+    let mut rest = s;
+    'selectors: loop {
+        let (one, after) = selector(alloc, numbers, rest)?;
+        found.push(one)?;
+        let next = skip_blank(after);
+        if first(next) != b',' {
+            return Ok((found, after));
+        }
+        rest = skip_blank(skip(next, 1));
+    }
+}
+
+/// One selector alone, or several.
+#[tactic(auto, using(crate::proofs::Turns::selection_several))]
+fn selection_of(mut selectors: Vec<Selector>) -> Segment
+    ensures { segment_view result ≡ spec.selection_of (selectors_view selectors) }
+{
+    if selectors.len() != 1 {
+        return Segment::Selectors(selectors);
+    }
+    match selectors.pop() {
+        Some(selector) => Segment::Selector(selector),
+        None => Segment::Selectors(selectors),
+    }
+}
+
+/// Selectors between brackets (2.5.1).
+#[cycle(reading)]
+#[tactic(auto, unfolding(crate::specs::ReadingGrammar::selection_at))]
+pub fn selection(alloc: Global, numbers: Numbers, s: &str) -> Result<(Segment, &str), Stop>
+    ensures value { (n : ℕ) → length s.now ≤ n → Reads segment_view result (spec.selection_at (number_reading numbers) (spec.argument_at (number_reading numbers) n) s.now) }
+    ensures shorter { IfOk result (λ p. length p.1.now < length s.now) }
+{
+    if first(s) != b'[' {
+        return Err(Stop::Syntax(s.len()));
+    }
+    let (selectors, after) = selectors(alloc, numbers, skip_blank(skip(s, 1)))?;
+    let end = skip_blank(after);
+    if first(end) != b']' {
+        return Err(Stop::Syntax(end.len()));
+    }
+    Ok((selection_of(selectors), skip(end, 1)))
+}

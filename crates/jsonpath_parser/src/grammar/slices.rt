@@ -1,0 +1,76 @@
+//! Indexes and slices (RFC 9535, 2.3.3 and 2.3.4).
+ghost use Rattle.std.specs.Prelude.{◌≡◌, ◌<◌, ◌≤◌, length, IfOk};
+ghost use Rattle.jsonpath_parser.specs.Reading.{Reads};
+ghost use Rattle.jsonpath_parser.specs.ReadingGrammar as spec;
+ghost use Rattle.jsonpath_parser.specs.View.{selector_view};
+
+use super::int::int;
+use crate::model::Selector;
+use crate::stop::Stop;
+use crate::text::{first, skip, skip_blank};
+
+/// Whether an int, or a number literal, begins with this byte.
+#[inline]
+pub fn is_int_first(byte: u8) -> bool
+    ensures { result ≡ spec.is_int_first byte }
+{
+    byte.is_ascii_digit() || byte == b'-'
+}
+
+/// The end of a slice and the blanks behind it, where it stands.
+#[tactic(auto, unfolding(crate::specs::ReadingGrammar::end_at))]
+fn end(s: &str) -> Result<(Option<i64>, &str), Stop>
+    ensures value { Reads (λ n. n) result (spec.end_at s.now) }
+    ensures within { IfOk result (λ p. length p.1.now ≤ length s.now) }
+{
+    if !is_int_first(first(s)) {
+        return Ok((None, s));
+    }
+    let (end, rest) = int(s)?;
+    Ok((Some(end), skip_blank(rest)))
+}
+
+/// The step of a slice, behind its `:`. Blanks that no int follows are not read.
+#[tactic(auto, unfolding(crate::specs::ReadingGrammar::step_at))]
+fn step(s: &str) -> Result<(Option<i64>, &str), Stop>
+    ensures value { Reads (λ n. n) result (spec.step_at s.now) }
+    ensures within { IfOk result (λ p. length p.1.now ≤ length s.now) }
+{
+    let start = skip_blank(s);
+    if !is_int_first(first(start)) {
+        return Ok((None, s));
+    }
+    let (step, rest) = int(start)?;
+    Ok((Some(step), rest))
+}
+
+/// The end and the step of a slice, behind its first `:`.
+#[tactic(auto, unfolding(crate::specs::ReadingGrammar::slice_at))]
+fn slice(start: Option<i64>, s: &str) -> Result<(Selector, &str), Stop>
+    ensures value { Reads selector_view result (spec.slice_at start s.now) }
+    ensures within { IfOk result (λ p. length p.1.now ≤ length s.now) }
+{
+    let (end, after) = end(skip_blank(s))?;
+    if first(after) != b':' {
+        return Ok((Selector::Slice(start, end, None), after));
+    }
+    let (step, rest) = step(skip(after, 1))?;
+    Ok((Selector::Slice(start, end, step), rest))
+}
+
+/// An index or a slice.
+#[tactic(auto, unfolding(crate::specs::ReadingGrammar::numbered_at))]
+pub fn numbered(s: &str) -> Result<(Selector, &str), Stop>
+    ensures value { Reads selector_view result (spec.numbered_at s.now) }
+    ensures shorter { IfOk result (λ p. length p.1.now < length s.now) }
+{
+    if first(s) == b':' {
+        return slice(None, skip(s, 1));
+    }
+    let (index, rest) = int(s)?;
+    let after = skip_blank(rest);
+    if first(after) == b':' {
+        return slice(Some(index), skip(after, 1));
+    }
+    Ok((Selector::Index(index), rest))
+}

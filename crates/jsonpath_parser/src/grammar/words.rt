@@ -1,0 +1,106 @@
+//! Names, words and operators (RFC 9535, 2.3.5.1, 2.4 and 2.5.1.1).
+ghost use Rattle.std.specs.Prelude.{◌≡◌, ◌<◌, ◌≤◌, length, IfOk, option_map, string_bytes};
+ghost use Rattle.jsonpath_parser.specs.Reading.{Reads};
+ghost use Rattle.jsonpath_parser.specs.Reading as reading;
+ghost use Rattle.jsonpath_parser.specs.ReadingGrammar as spec;
+ghost use Rattle.jsonpath_parser.specs.ReadingGrammar.{operator_view};
+ghost use Rattle.jsonpath_parser.specs.View.{selector_view, literal_view};
+
+use crate::model::{Literal, Selector};
+use crate::stop::Stop;
+use crate::text::{byte_at, first, function_run, is_function_first, is_name_first, name_run, skip};
+use std::alloc::Global;
+
+/// A shorthand name (2.5.1.1).
+#[tactic(auto, unfolding(crate::specs::Reading::name_at))]
+fn name(alloc: Global, s: &str) -> Result<(String, &str), Stop>
+    ensures value { Reads string_bytes result (reading.name_at s.now) }
+    ensures within { IfOk result (λ p. length p.1.now ≤ length s.now) }
+{
+    if !is_name_first(first(s)) {
+        return Err(Stop::Syntax(s.len()));
+    }
+    let (name, rest) = name_run(s);
+    Ok((String::from_str(alloc, name)?, rest))
+}
+
+/// `*` or a shorthand name, behind a dot (2.5.1.1).
+#[tactic(auto, unfolding(crate::specs::ReadingGrammar::shorthand_at))]
+pub fn shorthand(alloc: Global, s: &str) -> Result<(Selector, &str), Stop>
+    ensures value { Reads selector_view result (spec.shorthand_at s.now) }
+    ensures within { IfOk result (λ p. length p.1.now ≤ length s.now) }
+{
+    if first(s) == b'*' {
+        return Ok((Selector::Wildcard, skip(s, 1)));
+    }
+    let (name, rest) = name(alloc, s)?;
+    Ok((Selector::Name(name), rest))
+}
+
+/// The name of a function, or a word (2.4).
+#[tactic(auto, unfolding(crate::specs::ReadingGrammar::word_at))]
+pub fn word(s: &str) -> Result<(&str, &str), Stop>
+    ensures value { Reads (λ w. w.now) result (spec.word_at s.now) }
+    ensures shorter { IfOk result (λ p. length p.1.now < length s.now) }
+{
+    if !is_function_first(first(s)) {
+        return Err(Stop::Syntax(s.len()));
+    }
+    Ok(function_run(s))
+}
+
+/// The literal that a word is.
+pub fn word_literal(word: &str) -> Option<Literal>
+    ensures { option_map literal_view result ≡ spec.word_literal word.now }
+{
+    match word {
+        "true" => Some(Literal::Bool(true)),
+        "false" => Some(Literal::Bool(false)),
+        "null" => Some(Literal::Null),
+        _ => None,
+    }
+}
+
+/// How two values are compared (2.3.5.2.2).
+#[derive(Clone, Copy, Debug)]
+pub enum Operator {
+    Equal,
+    NotEqual,
+    Greater,
+    GreaterOrEqual,
+    Less,
+    LessOrEqual,
+}
+
+/// Whether an operator may begin with this byte.
+#[inline]
+pub fn is_operator_first(byte: u8) -> bool
+    ensures { result ≡ spec.is_operator_first byte }
+{
+    byte == b'!' || byte == b'=' || byte == b'<' || byte == b'>'
+}
+
+/// An operator of a comparison.
+#[tactic(auto, unfolding(crate::specs::ReadingGrammar::operator_at))]
+pub fn read_operator(s: &str) -> Result<(Operator, &str), Stop>
+    ensures value { Reads operator_view result (spec.operator_at s.now) }
+    ensures shorter { IfOk result (λ p. length p.1.now < length s.now) }
+{
+    match (first(s), byte_at(s, 1)) {
+        (b'=', b'=') => Ok((Operator::Equal, skip(s, 2))),
+        (b'!', b'=') => Ok((Operator::NotEqual, skip(s, 2))),
+        (b'<', b'=') => Ok((Operator::LessOrEqual, skip(s, 2))),
+        (b'>', b'=') => Ok((Operator::GreaterOrEqual, skip(s, 2))),
+        (b'<', _) => Ok((Operator::Less, skip(s, 1))),
+        (b'>', _) => Ok((Operator::Greater, skip(s, 1))),
+        _ => Err(Stop::Syntax(s.len())),
+    }
+}
+
+/// Whether this ASCII character stands twice at the front.
+#[inline]
+pub fn is_twice(byte: u8, s: &str) -> bool
+    ensures { result ≡ spec.is_twice byte s.now }
+{
+    first(s) == byte && byte_at(s, 1) == byte
+}

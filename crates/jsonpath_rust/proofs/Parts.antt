@@ -1,0 +1,105 @@
+-- Lists of parts of a query: each part is no more than all, and what a loop over them finds.
+use Rattle.std.proofs.Common.{◌≡◌, ℕ, zero, suc, ◌+◌, ◌<◌, ◌≤◌, List, [], ◌∷◌, ◌++◌, length, get_or, drop, drop-cons, add-one, append_assoc, append-nil, refl, sym, ◌∙◌, ap, subst, arith, Bool, true, false, not, cond, filter, ◌||◌, ◌&&◌, Result, Ok, Err, IfOk, IfErr, OnOk, Option, Some, None, option_map, IfSome, IsTrue, All, Bor}
+use Rattle.std.specs.Bool.{beq}
+use Rattle.std.specs.List.{flat_map}
+use Rattle.std.specs.Result.{IsErrAnd}
+use Rattle.jsonpath_base.specs.Tree.{Tree}
+use Rattle.jsonpath_rust.specs.Node.{Node}
+use Rattle.jsonpath_rust.specs.Functions.{only_value}
+use Rattle.jsonpath_rust.specs.Meaning.{turned}
+use Rattle.jsonpath_rust.specs.Sinks.{Seen, values, nothing, give, only_in, values_whole, ValuesAreWhole}
+use Rattle.jsonpath_rust.specs.Keeping.{IsReady, answers_of, AreRight, document}
+use Rattle.jsonpath_rust.specs.declared.query.kept.Kept.{Kept}
+use Rattle.jsonpath_rust.specs.declared.query.kept.Task.{Task}
+use Rattle.jsonpath_rust.proofs.Sinks.{only_all, only_whole, give-values, trues}
+use Rattle.std.proofs.lemmas.List.{at_drop_all}
+
+pub part_of : {X : Type 0} (f : X → ℕ) (all : List X → ℕ) → ((x : X) (xs : List X) → all (x ∷ xs) ≡ f x + all xs) → (xs : List X) (i : ℕ) (x : X) → i < length xs → x ≡ get_or xs i x → f x ≤ all xs
+part_of f all more [] i x h e = absurd (omega (arith, h))
+part_of f all more (y ∷ ys) zero x h e = omega (arith, ap f e, more y ys)
+part_of f all more (y ∷ ys) (suc i) x h e = omega (arith, part_of f all more ys i x (omega (arith, h)) e, more y ys)
+
+-- the list from the i-th element on
+from_here : {X Y : Type 0} (F : List X → Y) (xs : List X) (i : ℕ) (x : X) → i < length xs → x ≡ get_or xs i x → F (drop i xs) ≡ F (x ∷ drop (i + 1) xs)
+from_here F xs i x h e = ap F (drop-cons xs i x h) ∙ ap (λ y. F (y ∷ drop (suc i) xs)) (sym e) ∙ ap (λ j. F (x ∷ drop j xs)) (sym (add-one i))
+
+-- some part holds
+pub some_found : {X : Type 0} (F : List X → Bool) (f : X → Bool) → ((x : X) (xs : List X) → F (x ∷ xs) ≡ (f x || F xs)) → (xs : List X) (i : ℕ) (x : X) (w : Bool) → i < length xs → x ≡ get_or xs i x → f x ≡ true → F (drop i xs) ≡ w → true ≡ w
+some_found F f more xs i x w h e t v = sym (ap (λ b. b || F (drop (i + 1) xs)) t) ∙ sym (more x (drop (i + 1) xs)) ∙ sym (from_here F xs i x h e) ∙ v
+
+pub some_next : {X : Type 0} (F : List X → Bool) (f : X → Bool) → ((x : X) (xs : List X) → F (x ∷ xs) ≡ (f x || F xs)) → (xs : List X) (i : ℕ) (x : X) (w : Bool) → i < length xs → x ≡ get_or xs i x → f x ≡ false → F (drop i xs) ≡ w → F (drop (i + 1) xs) ≡ w
+some_next F f more xs i x w h e t v = sym (ap (λ b. b || F (drop (i + 1) xs)) t) ∙ sym (more x (drop (i + 1) xs)) ∙ sym (from_here F xs i x h e) ∙ v
+
+-- each part holds
+pub each_failed : {X : Type 0} (F : List X → Bool) (f : X → Bool) → ((x : X) (xs : List X) → F (x ∷ xs) ≡ (f x && F xs)) → (xs : List X) (i : ℕ) (x : X) (w : Bool) → i < length xs → x ≡ get_or xs i x → f x ≡ false → F (drop i xs) ≡ w → false ≡ w
+each_failed F f more xs i x w h e t v = sym (ap (λ b. b && F (drop (i + 1) xs)) t) ∙ sym (more x (drop (i + 1) xs)) ∙ sym (from_here F xs i x h e) ∙ v
+
+pub each_next : {X : Type 0} (F : List X → Bool) (f : X → Bool) → ((x : X) (xs : List X) → F (x ∷ xs) ≡ (f x && F xs)) → (xs : List X) (i : ℕ) (x : X) (w : Bool) → i < length xs → x ≡ get_or xs i x → f x ≡ true → F (drop i xs) ≡ w → F (drop (i + 1) xs) ≡ w
+each_next F f more xs i x w h e t v = sym (ap (λ b. b && F (drop (i + 1) xs)) t) ∙ sym (more x (drop (i + 1) xs)) ∙ sym (from_here F xs i x h e) ∙ v
+
+-- none is left
+pub parts_end : {X Y : Type 0} (F : List X → Y) (xs : List X) (i : ℕ) (w : Y) → length xs ≤ i → F (drop i xs) ≡ w → F [] ≡ w
+parts_end F xs i w h v = sym (at_drop_all F xs i h) ∙ v
+
+-- one part's elements more
+pub joined_next : {X Y : Type 0} (F : List X → List Y) (f : X → List Y) → ((x : X) (xs : List X) → F (x ∷ xs) ≡ f x ++ F xs) → (xs : List X) (i : ℕ) (x : X) (was now all : List Y) → i < length xs → x ≡ get_or xs i x → now ≡ was ++ f x → was ++ F (drop i xs) ≡ all → now ++ F (drop (i + 1) xs) ≡ all
+joined_next F f more xs i x was now all h e p v = ap (λ ys. ys ++ F (drop (i + 1) xs)) p ∙ append_assoc was (f x) (F (drop (i + 1) xs)) ∙ ap (λ ys. was ++ ys) (sym (more x (drop (i + 1) xs)) ∙ sym (from_here F xs i x h e)) ∙ v
+
+-- ---- answers in other words
+
+pub ok_as : {A E : Type 0} (r : Result A E) (x y : A) → x ≡ y → IfOk r (λ a. a ≡ x) → IfOk r (λ a. a ≡ y)
+ok_as (Ok a) x y e h = h ∙ e
+ok_as (Err k) x y e h = tt
+
+pub ok_through : {A B E : Type 0} (r : Result A E) (f : A → B) (x y : B) → x ≡ y → IfOk r (λ a. f a ≡ x) → IfOk r (λ a. f a ≡ y)
+ok_through (Ok a) f x y e h = h ∙ e
+ok_through (Err k) f x y e h = tt
+
+pub on_ok_as : {A B E : Type 0} (r : Result A E) (w x y : B) → x ≡ y → OnOk r (w ≡ x) → OnOk r (w ≡ y)
+on_ok_as (Ok a) w x y e h = h ∙ e
+on_ok_as (Err k) w x y e h = tt
+
+-- an error that a `?` passes on
+pub passed_on : {A E : Type 0} (r : Result A E) (Q P : E → Type 0) → IsErrAnd r Q → ((y : E) → Q y → P y) → IfErr r P
+passed_on (Ok v) Q P is h = tt
+passed_on (Err e) Q P is h = h e is
+
+pub differs : (a b : Bool) → not (beq a b) ≡ turned b a
+differs true true = refl
+differs true false = refl
+differs false true = refl
+differs false false = refl
+
+-- ---- a node, if the filter holds there
+
+kept_if : (rest : Node → List Node) (b : Bool) (n : Node) → b ≡ true → rest n ≡ flat_map rest (cond b (n ∷ []) [])
+kept_if rest b n e = sym (append-nil (rest n)) ∙ ap (λ v. flat_map rest (cond v (n ∷ []) [])) (sym e)
+
+pub kept_true : (rest : Node → List Node) (f : Node → Bool) (n : Node) → f n ≡ true → rest n ≡ flat_map rest (filter f (n ∷ []))
+kept_true rest f n e = kept_if rest (f n) n e
+
+pub kept_false : (rest : Node → List Node) (f : Node → Bool) (n : Node) → f n ≡ false → flat_map rest (filter f (n ∷ [])) ≡ []
+kept_false rest f n e = ap (λ v. flat_map rest (cond v (n ∷ []) [])) e
+
+-- ---- what a query inside a filter gave
+
+pub only_is_whole : {A : Type 0} (tree : A → Tree) (whole : A → Bool) (o : Option (Bor A)) (s : Seen) (ns : List Node) → option_map (λ v. (whole v.now, tree v.now)) o ≡ only_in s → s ≡ give nothing ns → IfSome o (λ v. IsTrue (whole v.now))
+only_is_whole tree whole None s ns h e = tt
+only_is_whole tree whole (Some v) s ns h e = only_whole ns (whole v.now, tree v.now) (sym (h ∙ ap only_in e))
+
+trees_only : {A : Type 0} (tree : A → Tree) (whole : A → Bool) (o : Option (Bor A)) → option_map (λ v. tree v.now) o ≡ option_map (λ (p : Bool × Tree). p.1) (option_map (λ v. (whole v.now, tree v.now)) o)
+trees_only tree whole None = refl
+trees_only tree whole (Some v) = refl
+
+pub only_is_tree : {A : Type 0} (tree : A → Tree) (whole : A → Bool) (o : Option (Bor A)) (s : Seen) (ns : List Node) → option_map (λ v. (whole v.now, tree v.now)) o ≡ only_in s → s ≡ give nothing ns → option_map (λ v. tree v.now) o ≡ only_value ns
+only_is_tree tree whole o s ns h e = trees_only tree whole o ∙ ap (λ q. option_map (λ (p : Bool × Tree). p.1) q) (h ∙ ap only_in e) ∙ only_all ns
+
+pub values_are_whole : (s : Seen) (ns : List Node) → s ≡ give (values [] []) ns → ValuesAreWhole s
+values_are_whole s ns e =
+    let P : List Bool → Type 0 = All (λ b. IsTrue b) in
+    subst P (sym (ap values_whole (e ∙ give-values [] [] ns))) (trues ns)
+
+-- ---- what is kept
+
+pub ready_as : {A : Type 0} (tree : A → Tree) (whole : A → Bool) (custom : List ℕ → List Tree → Tree) (task : Task A) (k m : Kept A) → answers_of m ≡ answers_of k → IsReady tree whole custom task k → IsReady tree whole custom task m
+ready_as tree whole custom task k m e r = record { root = r.root; answers = subst (AreRight tree whole (document tree custom task)) (sym e) r.answers }

@@ -1,0 +1,18 @@
+use Rattle.std.proofs.Common.{◌≡◌, ap, sym, ◌∙◌, List, []}
+use Rattle.jsonpath_parser.specs.View.{query_view}
+use Rattle.jsonpath_parser.specs.declared.model.Segment.{Segment}
+use Rattle.jsonpath_parser.proofs.ViewEquations.{query_view-segments}
+use Rattle.jsonpath_rust.specs.Document.{document_of}
+use Rattle.jsonpath_rust.specs.Meaning.{nodelist}
+use Rattle.jsonpath_rust.specs.Walking.{segments_in, through, node_of}
+use Rattle.jsonpath_rust.specs.declared.query.sink.StepRef.{StepRef}
+use Rattle.jsonpath_rust.proofs.Sinks.{result_as}
+use Rattle.jsonpath_rust.proofs.Nodelist.{nodelist-through}
+use Rattle.jsonpath_rust.proofs.query.walk.give_from_root.Goals as goal
+
+pub returns-clause-gave : goal.returns-clause-gave
+returns-clause-gave g c =
+    let tree = g.T.Queryable.tree in
+    let d = document_of tree g.T.Queryable.custom c.args.root.now in
+    let at = λ (q : List StepRef) (gs : List Segment). through (segments_in gs) d (node_of tree q c.args.root.now) in
+    result_as _ _ _ _ _ (ap (λ q. at q c.deref.result.now) c.new-steps.ensures.items ∙ ap (at []) c.deref.ensures.value ∙ nodelist-through (segments_in c.args.query.now.segments.items) d ∙ ap (λ q. nodelist q d) (sym (query_view-segments c.args.query.now))) c.walk.ensures.gave

@@ -1,0 +1,47 @@
+-- What the two sides of a comparison and the arguments of calls are inside the evaluator, for its contracts alone.
+use Rattle.std.specs.Prelude.{◌≡◌, ℕ, List, map, Bool, true, Option, Some, None, IsTrue, All}
+use Rattle.jsonpath_parser.specs.Syntax.{Operator, equal, not_equal, greater, greater_or_equal, less, less_or_equal}
+use Rattle.jsonpath_base.specs.Tree as tree
+use Rattle.jsonpath_base.specs.Tree.{Tree}
+use Rattle.jsonpath_rust.specs.Args.{arg_value}
+use Rattle.jsonpath_rust.specs.declared.query.queryable.Arg.{Arg}
+use Rattle.jsonpath_rust.specs.declared.query.operand.Scalar.{Scalar}
+use Rattle.jsonpath_rust.specs.declared.query.operand.Scalar.TheVariants as scalar
+use Rattle.jsonpath_rust.specs.declared.query.operand.Operand.{Operand}
+use Rattle.jsonpath_rust.specs.declared.query.operand.Operand.TheVariants as operand
+use Rattle.jsonpath_rust.specs.declared.query.operand.Sign.{Sign}
+use Rattle.jsonpath_rust.specs.declared.query.operand.Sign.TheVariants as sign
+
+abbrev pub scalar_tree : Scalar → Tree
+scalar_tree scalar.Null = tree.null
+scalar_tree (scalar.Truth b) = tree.truth b
+scalar_tree (scalar.Number n) = tree.number n
+scalar_tree (scalar.Text s) = tree.text s.now
+
+-- the value, if it is not absent
+abbrev pub operand_tree : {A : Type 0} → (A → Tree) → Operand A → Option Tree
+operand_tree t operand.Absent = None
+operand_tree t (operand.Lent v) = Some (t v.now)
+operand_tree t (operand.Made v) = Some (t v)
+operand_tree t (operand.Plain s) = Some (scalar_tree s)
+
+abbrev pub operand_is_whole : {A : Type 0} → (A → Bool) → Operand A → Bool
+operand_is_whole w operand.Absent = true
+operand_is_whole w (operand.Lent v) = w v.now
+operand_is_whole w (operand.Made v) = w v
+operand_is_whole w (operand.Plain s) = true
+
+abbrev pub operator_of : Sign → Operator
+operator_of sign.Eq = equal
+operator_of sign.Ne = not_equal
+operator_of sign.Gt = greater
+operator_of sign.Gte = greater_or_equal
+operator_of sign.Lt = less
+operator_of sign.Lte = less_or_equal
+
+-- the arguments of a custom function
+abbrev pub trees_of : {A : Type 0} → (A → Tree) → List (Arg A) → List Tree
+trees_of t args = map (λ a. t (arg_value a)) args
+
+abbrev pub AreWhole : {A : Type 0} → (A → Bool) → List (Arg A) → Type 0
+AreWhole w args = All (λ a. IsTrue (w (arg_value a))) args

@@ -1,0 +1,397 @@
+//! What functions answer (RFC 9535, 2.4), and what queries inside filters give.
+ghost use Rattle.std.specs.Prelude.{◌≡◌, ◌≤◌, ◌<◌, ◌∷◌, ◌++◌, Bool, Some, length, string_bytes, IsTrue, IfOk, IfErr, OnOk};
+ghost use Rattle.jsonpath_parser.specs.View.{call_view, argument_view, test_view, query_view};
+ghost use Rattle.jsonpath_base.specs.Tree.{truth};
+ghost use Rattle.jsonpath_rust.specs.Functions.{is_found, count_of, only_value};
+ghost use Rattle.jsonpath_rust.specs.Meaning.{answer, argument_value, test_value, argument_nodes, test_nodes, argument_trees, test_trees, all_trees, nodelist};
+ghost use Rattle.jsonpath_rust.specs.Operands.{operand_tree, operand_is_whole, trees_of, AreWhole};
+ghost use Rattle.jsonpath_rust.specs.Sinks.{seen, start, give};
+ghost use Rattle.jsonpath_rust.specs.Weight.{size};
+ghost use Rattle.jsonpath_rust.specs.Patterns.{IsStop, segments_patterns, call_patterns, argument_patterns, arguments_patterns, test_patterns};
+ghost use Rattle.jsonpath_rust.specs.Keeping.{IsReady, StandIn, document, asked, answers_of, seen_at, gathered, IsGathered};
+ghost use Rattle.jsonpath_rust.specs.Walking.{node_of, segments_in, arguments_in, through, LeadTo};
+
+use crate::query::Queried;
+use crate::query::filter_test::filter_holds;
+use crate::query::kept::{Gathered, Kept, Task};
+use crate::query::operand::{Operand, Scalar, count_scalar, push_scalar, push_values, scalar_of};
+use crate::query::queryable::{Arg, Queryable};
+use crate::query::sink::{Kind, Sink, StepRef};
+use crate::query::walk::walk;
+use jsonpath_parser::model::{FnArg, JpQuery, Segment, Test, TestFunction};
+
+/// What a function answers at a value, to which these steps lead.
+#[cycle(walk)]
+pub fn answer<'a: 's, 's, T: Queryable>(
+    task: &Task<'a, 's, T>,
+    function: &'s TestFunction,
+    at: &'a T,
+    steps: &mut Vec<StepRef<'s>>,
+    kept: &mut Kept<'a, 's, T>,
+) -> Queried<Operand<'a, 's, T>>
+    requires whole { IsTrue (T.is_whole at.now) }
+    requires within { size (T.tree at.now) ≤ size (T.tree task.now.root.now) }
+    requires here { LeadTo T.tree steps.old.items task.now.root.now at.now }
+    requires part { StandIn (asked task.now) (call_patterns (call_view function.now)) }
+    requires ready { IsReady T.tree T.is_whole T.custom task.now kept.old }
+    ensures value { IfOk result (λ o. operand_tree T.tree o ≡ answer (call_view function.now) (document T.tree T.custom task.now) (node_of T.tree steps.old.items at.now)) }
+    ensures whole { IfOk result (λ o. IsTrue (operand_is_whole T.is_whole o)) }
+    ensures same { OnOk result (steps.new.items ≡ steps.old.items) }
+    ensures keeps { OnOk result (IsReady T.tree T.is_whole T.custom task.now kept.new) }
+    ensures refused { IfErr result (IsStop (asked task.now) (document T.tree T.custom task.now)) }
+{
+    match function {
+        TestFunction::Custom(name, args) => custom(task, name, args, at, steps, kept),
+        TestFunction::Length(arg) => argument_value(task, arg, at, steps, kept)?.length(task.alloc),
+        TestFunction::Value(arg) => only_value(task, arg, at, steps, kept),
+        TestFunction::Count(arg) => count(task, arg, at, steps, kept),
+        TestFunction::Search(text, pattern) => found(task, text, pattern, false, at, steps, kept),
+        TestFunction::Match(text, pattern) => found(task, text, pattern, true, at, steps, kept),
+    }
+}
+
+/// How many nodes an argument has (RFC 9535, 2.4.5).
+#[cycle(walk)]
+fn count<'a: 's, 's, T: Queryable>(
+    task: &Task<'a, 's, T>,
+    arg: &'s FnArg,
+    at: &'a T,
+    steps: &mut Vec<StepRef<'s>>,
+    kept: &mut Kept<'a, 's, T>,
+) -> Queried<Operand<'a, 's, T>>
+    requires whole { IsTrue (T.is_whole at.now) }
+    requires within { size (T.tree at.now) ≤ size (T.tree task.now.root.now) }
+    requires here { LeadTo T.tree steps.old.items task.now.root.now at.now }
+    requires part { StandIn (asked task.now) (argument_patterns (argument_view arg.now)) }
+    requires ready { IsReady T.tree T.is_whole T.custom task.now kept.old }
+    ensures value { IfOk result (λ o. operand_tree T.tree o ≡ count_of (argument_nodes (argument_view arg.now) (document T.tree T.custom task.now) (node_of T.tree steps.old.items at.now))) }
+    ensures whole { IfOk result (λ o. IsTrue (operand_is_whole T.is_whole o)) }
+    ensures same { OnOk result (steps.new.items ≡ steps.old.items) }
+    ensures keeps { OnOk result (IsReady T.tree T.is_whole T.custom task.now kept.new) }
+    ensures refused { IfErr result (IsStop (asked task.now) (document T.tree T.custom task.now)) }
+{
+    let nodes = argument_nodes(task, arg, Kind::Count, at, steps, kept)?;
+    Ok(Operand::Plain(count_scalar(kept.given(&nodes).counted())))
+}
+
+/// The value of the only node of an argument (RFC 9535, 2.4.8).
+#[cycle(walk)]
+fn only_value<'a: 's, 's, T: Queryable>(
+    task: &Task<'a, 's, T>,
+    arg: &'s FnArg,
+    at: &'a T,
+    steps: &mut Vec<StepRef<'s>>,
+    kept: &mut Kept<'a, 's, T>,
+) -> Queried<Operand<'a, 's, T>>
+    requires whole { IsTrue (T.is_whole at.now) }
+    requires within { size (T.tree at.now) ≤ size (T.tree task.now.root.now) }
+    requires here { LeadTo T.tree steps.old.items task.now.root.now at.now }
+    requires part { StandIn (asked task.now) (argument_patterns (argument_view arg.now)) }
+    requires ready { IsReady T.tree T.is_whole T.custom task.now kept.old }
+    ensures value { IfOk result (λ o. operand_tree T.tree o ≡ only_value (argument_nodes (argument_view arg.now) (document T.tree T.custom task.now) (node_of T.tree steps.old.items at.now))) }
+    ensures whole { IfOk result (λ o. IsTrue (operand_is_whole T.is_whole o)) }
+    ensures same { OnOk result (steps.new.items ≡ steps.old.items) }
+    ensures keeps { OnOk result (IsReady T.tree T.is_whole T.custom task.now kept.new) }
+    ensures refused { IfErr result (IsStop (asked task.now) (document T.tree T.custom task.now)) }
+{
+    let nodes = argument_nodes(task, arg, Kind::Only, at, steps, kept)?;
+    Ok(Operand::lent(kept.given(&nodes).only()))
+}
+
+/// What `match` answers where `whole`, and else `search` (RFC 9535, 2.4.6 and 2.4.7).
+#[cycle(walk)]
+fn found<'a: 's, 's, T: Queryable>(
+    task: &Task<'a, 's, T>,
+    text: &'s FnArg,
+    pattern: &'s FnArg,
+    whole: bool,
+    at: &'a T,
+    steps: &mut Vec<StepRef<'s>>,
+    kept: &mut Kept<'a, 's, T>,
+) -> Queried<Operand<'a, 's, T>>
+    requires whole { IsTrue (T.is_whole at.now) }
+    requires within { size (T.tree at.now) ≤ size (T.tree task.now.root.now) }
+    requires here { LeadTo T.tree steps.old.items task.now.root.now at.now }
+    requires part { StandIn (asked task.now) ((whole, argument_view pattern.now) ∷ (argument_patterns (argument_view text.now) ++ argument_patterns (argument_view pattern.now))) }
+    requires ready { IsReady T.tree T.is_whole T.custom task.now kept.old }
+    ensures value { IfOk result (λ o. operand_tree T.tree o ≡ Some (truth (is_found whole (argument_value (argument_view text.now) (document T.tree T.custom task.now) (node_of T.tree steps.old.items at.now)) (argument_value (argument_view pattern.now) (document T.tree T.custom task.now) (node_of T.tree steps.old.items at.now))))) }
+    ensures whole { IfOk result (λ o. IsTrue (operand_is_whole T.is_whole o)) }
+    ensures same { OnOk result (steps.new.items ≡ steps.old.items) }
+    ensures keeps { OnOk result (IsReady T.tree T.is_whole T.custom task.now kept.new) }
+    ensures refused { IfErr result (IsStop (asked task.now) (document T.tree T.custom task.now)) }
+{
+    let is_literal = matches!(pattern, FnArg::Literal(_));
+    let text = argument_value(task, text, at, steps, kept)?;
+    let pattern = argument_value(task, pattern, at, steps, kept)?;
+    let found = kept.is_found(task.alloc, &text, &pattern, whole, is_literal)?;
+    Ok(Operand::Plain(Scalar::Truth(found)))
+}
+
+/// What a custom function answers.
+#[cycle(walk)]
+fn custom<'a: 's, 's, T: Queryable>(
+    task: &Task<'a, 's, T>,
+    name: &'s String,
+    args: &'s [FnArg],
+    at: &'a T,
+    steps: &mut Vec<StepRef<'s>>,
+    kept: &mut Kept<'a, 's, T>,
+) -> Queried<Operand<'a, 's, T>>
+    requires whole { IsTrue (T.is_whole at.now) }
+    requires within { size (T.tree at.now) ≤ size (T.tree task.now.root.now) }
+    requires here { LeadTo T.tree steps.old.items task.now.root.now at.now }
+    requires part { StandIn (asked task.now) (arguments_patterns (arguments_in args.now)) }
+    requires ready { IsReady T.tree T.is_whole T.custom task.now kept.old }
+    ensures value { IfOk result (λ o. operand_tree T.tree o ≡ Some (T.custom (string_bytes name.now) (all_trees (arguments_in args.now) (document T.tree T.custom task.now) (node_of T.tree steps.old.items at.now)))) }
+    ensures whole { IfOk result (λ o. IsTrue (operand_is_whole T.is_whole o)) }
+    ensures same { OnOk result (steps.new.items ≡ steps.old.items) }
+    ensures keeps { OnOk result (IsReady T.tree T.is_whole T.custom task.now kept.new) }
+    ensures refused { IfErr result (IsStop (asked task.now) (document T.tree T.custom task.now)) }
+{
+    let mut values = Vec::new(task.alloc);
+    for arg in args {
+        push_argument(task, arg, &mut values, at, steps, kept)?;
+    }
+    Ok(Operand::Made(T::extension_custom(task.alloc, name, &values)?))
+}
+
+/// Follows the arguments of a custom function by what this one stands for.
+#[cycle(walk)]
+fn push_argument<'a: 's, 's, T: Queryable>(
+    task: &Task<'a, 's, T>,
+    arg: &'s FnArg,
+    values: &mut Vec<Arg<'a, T>>,
+    at: &'a T,
+    steps: &mut Vec<StepRef<'s>>,
+    kept: &mut Kept<'a, 's, T>,
+) -> Queried<()>
+    requires whole { IsTrue (T.is_whole at.now) }
+    requires within { size (T.tree at.now) ≤ size (T.tree task.now.root.now) }
+    requires here { LeadTo T.tree steps.old.items task.now.root.now at.now }
+    requires part { StandIn (asked task.now) (argument_patterns (argument_view arg.now)) }
+    requires ready { IsReady T.tree T.is_whole T.custom task.now kept.old }
+    requires others { AreWhole T.is_whole values.old.items }
+    ensures value { OnOk result (trees_of T.tree values.new.items ≡ trees_of T.tree values.old.items ++ argument_trees (argument_view arg.now) (document T.tree T.custom task.now) (node_of T.tree steps.old.items at.now)) }
+    ensures whole { OnOk result (AreWhole T.is_whole values.new.items) }
+    ensures same { OnOk result (steps.new.items ≡ steps.old.items) }
+    ensures keeps { OnOk result (IsReady T.tree T.is_whole T.custom task.now kept.new) }
+    ensures refused { IfErr result (IsStop (asked task.now) (document T.tree T.custom task.now)) }
+{
+    match arg {
+        FnArg::Literal(literal) => push_scalar(task.alloc, scalar_of(literal), values),
+        FnArg::Test(test) => push_test(task, test, values, at, steps, kept),
+        FnArg::Filter(filter) => {
+            let truth = filter_holds(task, filter, at, steps, kept)?;
+            push_scalar(task.alloc, Scalar::Truth(truth), values)
+        }
+    }
+}
+
+/// Follows the arguments of a custom function by the values of a query, or by what a call answers.
+#[cycle(walk)]
+fn push_test<'a: 's, 's, T: Queryable>(
+    task: &Task<'a, 's, T>,
+    test: &'s Test,
+    values: &mut Vec<Arg<'a, T>>,
+    at: &'a T,
+    steps: &mut Vec<StepRef<'s>>,
+    kept: &mut Kept<'a, 's, T>,
+) -> Queried<()>
+    requires whole { IsTrue (T.is_whole at.now) }
+    requires within { size (T.tree at.now) ≤ size (T.tree task.now.root.now) }
+    requires here { LeadTo T.tree steps.old.items task.now.root.now at.now }
+    requires part { StandIn (asked task.now) (test_patterns (test_view test.now)) }
+    requires ready { IsReady T.tree T.is_whole T.custom task.now kept.old }
+    requires others { AreWhole T.is_whole values.old.items }
+    ensures value { OnOk result (trees_of T.tree values.new.items ≡ trees_of T.tree values.old.items ++ test_trees (test_view test.now) (document T.tree T.custom task.now) (node_of T.tree steps.old.items at.now)) }
+    ensures whole { OnOk result (AreWhole T.is_whole values.new.items) }
+    ensures same { OnOk result (steps.new.items ≡ steps.old.items) }
+    ensures keeps { OnOk result (IsReady T.tree T.is_whole T.custom task.now kept.new) }
+    ensures refused { IfErr result (IsStop (asked task.now) (document T.tree T.custom task.now)) }
+{
+    match test {
+        Test::RelQuery(segments) => {
+            let nodes = gather(task, segments, Kind::Values, at, steps, kept)?;
+            push_values(&nodes, values)
+        }
+        Test::AbsQuery(query) => {
+            let place = absolute(task, query, Kind::Values, kept)?;
+            push_values(kept.answer(place), values)
+        }
+        Test::Function(function) => answer(task, function, at, steps, kept)?.push_to(
+            task.alloc, values,
+        ),
+    }
+}
+
+/// An argument as a value.
+#[cycle(walk)]
+fn argument_value<'a: 's, 's, T: Queryable>(
+    task: &Task<'a, 's, T>,
+    arg: &'s FnArg,
+    at: &'a T,
+    steps: &mut Vec<StepRef<'s>>,
+    kept: &mut Kept<'a, 's, T>,
+) -> Queried<Operand<'a, 's, T>>
+    requires whole { IsTrue (T.is_whole at.now) }
+    requires within { size (T.tree at.now) ≤ size (T.tree task.now.root.now) }
+    requires here { LeadTo T.tree steps.old.items task.now.root.now at.now }
+    requires part { StandIn (asked task.now) (argument_patterns (argument_view arg.now)) }
+    requires ready { IsReady T.tree T.is_whole T.custom task.now kept.old }
+    ensures value { IfOk result (λ o. operand_tree T.tree o ≡ argument_value (argument_view arg.now) (document T.tree T.custom task.now) (node_of T.tree steps.old.items at.now)) }
+    ensures whole { IfOk result (λ o. IsTrue (operand_is_whole T.is_whole o)) }
+    ensures same { OnOk result (steps.new.items ≡ steps.old.items) }
+    ensures keeps { OnOk result (IsReady T.tree T.is_whole T.custom task.now kept.new) }
+    ensures refused { IfErr result (IsStop (asked task.now) (document T.tree T.custom task.now)) }
+{
+    match arg {
+        FnArg::Literal(literal) => Ok(Operand::Plain(scalar_of(literal))),
+        FnArg::Test(test) => test_value(task, test, at, steps, kept),
+        FnArg::Filter(filter) => Ok(Operand::Plain(Scalar::Truth(filter_holds(
+            task, filter, at, steps, kept,
+        )?))),
+    }
+}
+
+/// The value of the only node of a query, or what a call answers.
+#[cycle(walk)]
+fn test_value<'a: 's, 's, T: Queryable>(
+    task: &Task<'a, 's, T>,
+    test: &'s Test,
+    at: &'a T,
+    steps: &mut Vec<StepRef<'s>>,
+    kept: &mut Kept<'a, 's, T>,
+) -> Queried<Operand<'a, 's, T>>
+    requires whole { IsTrue (T.is_whole at.now) }
+    requires within { size (T.tree at.now) ≤ size (T.tree task.now.root.now) }
+    requires here { LeadTo T.tree steps.old.items task.now.root.now at.now }
+    requires part { StandIn (asked task.now) (test_patterns (test_view test.now)) }
+    requires ready { IsReady T.tree T.is_whole T.custom task.now kept.old }
+    ensures value { IfOk result (λ o. operand_tree T.tree o ≡ test_value (test_view test.now) (document T.tree T.custom task.now) (node_of T.tree steps.old.items at.now)) }
+    ensures whole { IfOk result (λ o. IsTrue (operand_is_whole T.is_whole o)) }
+    ensures same { OnOk result (steps.new.items ≡ steps.old.items) }
+    ensures keeps { OnOk result (IsReady T.tree T.is_whole T.custom task.now kept.new) }
+    ensures refused { IfErr result (IsStop (asked task.now) (document T.tree T.custom task.now)) }
+{
+    match test {
+        Test::RelQuery(segments) => Ok(Operand::lent(gather(
+            task,
+            segments,
+            Kind::Only,
+            at,
+            steps,
+            kept,
+        )?.only())),
+        Test::AbsQuery(query) => {
+            let place = absolute(task, query, Kind::Only, kept)?;
+            Ok(Operand::lent(kept.answer(place).only()))
+        }
+        Test::Function(function) => answer(task, function, at, steps, kept),
+    }
+}
+
+/// What the nodes of an argument give to a sink.
+#[cycle(walk)]
+fn argument_nodes<'a: 's, 's, T: Queryable>(
+    task: &Task<'a, 's, T>,
+    arg: &'s FnArg,
+    kind: Kind,
+    at: &'a T,
+    steps: &mut Vec<StepRef<'s>>,
+    kept: &mut Kept<'a, 's, T>,
+) -> Queried<Gathered<'a, T>>
+    requires whole { IsTrue (T.is_whole at.now) }
+    requires within { size (T.tree at.now) ≤ size (T.tree task.now.root.now) }
+    requires here { LeadTo T.tree steps.old.items task.now.root.now at.now }
+    requires part { StandIn (asked task.now) (argument_patterns (argument_view arg.now)) }
+    requires ready { IsReady T.tree T.is_whole T.custom task.now kept.old }
+    ensures given { IfOk result (λ g. gathered T.tree T.is_whole kept.new g ≡ give (start kind) (argument_nodes (argument_view arg.now) (document T.tree T.custom task.now) (node_of T.tree steps.old.items at.now))) }
+    ensures within { IfOk result (λ g. IsGathered kept.new g) }
+    ensures same { OnOk result (steps.new.items ≡ steps.old.items) }
+    ensures keeps { OnOk result (IsReady T.tree T.is_whole T.custom task.now kept.new) }
+    ensures refused { IfErr result (IsStop (asked task.now) (document T.tree T.custom task.now)) }
+{
+    match arg {
+        FnArg::Test(test) => test_nodes(task, test, kind, at, steps, kept),
+        FnArg::Literal(_) => Ok(Gathered::Own(Sink::start(task.alloc, kind))),
+        FnArg::Filter(_) => Ok(Gathered::Own(Sink::start(task.alloc, kind))),
+    }
+}
+
+/// What the nodes of a query give to a sink.
+#[cycle(walk)]
+fn test_nodes<'a: 's, 's, T: Queryable>(
+    task: &Task<'a, 's, T>,
+    test: &'s Test,
+    kind: Kind,
+    at: &'a T,
+    steps: &mut Vec<StepRef<'s>>,
+    kept: &mut Kept<'a, 's, T>,
+) -> Queried<Gathered<'a, T>>
+    requires whole { IsTrue (T.is_whole at.now) }
+    requires within { size (T.tree at.now) ≤ size (T.tree task.now.root.now) }
+    requires here { LeadTo T.tree steps.old.items task.now.root.now at.now }
+    requires part { StandIn (asked task.now) (test_patterns (test_view test.now)) }
+    requires ready { IsReady T.tree T.is_whole T.custom task.now kept.old }
+    ensures given { IfOk result (λ g. gathered T.tree T.is_whole kept.new g ≡ give (start kind) (test_nodes (test_view test.now) (document T.tree T.custom task.now) (node_of T.tree steps.old.items at.now))) }
+    ensures within { IfOk result (λ g. IsGathered kept.new g) }
+    ensures same { OnOk result (steps.new.items ≡ steps.old.items) }
+    ensures keeps { OnOk result (IsReady T.tree T.is_whole T.custom task.now kept.new) }
+    ensures refused { IfErr result (IsStop (asked task.now) (document T.tree T.custom task.now)) }
+{
+    match test {
+        Test::RelQuery(segments) => Ok(Gathered::Own(gather(
+            task, segments, kind, at, steps, kept,
+        )?)),
+        Test::AbsQuery(query) => Ok(Gathered::Kept(absolute(task, query, kind, kept)?)),
+        Test::Function(_) => Ok(Gathered::Own(Sink::start(task.alloc, kind))),
+    }
+}
+
+/// What the nodes of these segments, from a value on, give to a sink.
+#[cycle(walk)]
+pub fn gather<'a: 's, 's, T: Queryable>(
+    task: &Task<'a, 's, T>,
+    segments: &'s [Segment],
+    kind: Kind,
+    at: &'a T,
+    steps: &mut Vec<StepRef<'s>>,
+    kept: &mut Kept<'a, 's, T>,
+) -> Queried<Sink<'a, T>>
+    requires whole { IsTrue (T.is_whole at.now) }
+    requires within { size (T.tree at.now) ≤ size (T.tree task.now.root.now) }
+    requires here { LeadTo T.tree steps.old.items task.now.root.now at.now }
+    requires part { StandIn (asked task.now) (segments_patterns (segments_in segments.now)) }
+    requires ready { IsReady T.tree T.is_whole T.custom task.now kept.old }
+    ensures given { IfOk result (λ s. seen T.tree T.is_whole s ≡ give (start kind) (through (segments_in segments.now) (document T.tree T.custom task.now) (node_of T.tree steps.old.items at.now))) }
+    ensures same { OnOk result (steps.new.items ≡ steps.old.items) }
+    ensures keeps { OnOk result (IsReady T.tree T.is_whole T.custom task.now kept.new) }
+    ensures refused { IfErr result (IsStop (asked task.now) (document T.tree T.custom task.now)) }
+{
+    let mut sink = Sink::start(task.alloc, kind);
+    let _goes_on = walk(task, segments, at, steps, kept, &mut sink)?;
+    Ok(sink)
+}
+
+/// Where the answer of a query from the root is kept. It is found when it is first needed.
+#[cycle(walk)]
+pub fn absolute<'a: 's, 's, T: Queryable>(
+    task: &Task<'a, 's, T>,
+    query: &'s JpQuery,
+    kind: Kind,
+    kept: &mut Kept<'a, 's, T>,
+) -> Queried<usize>
+    requires part { StandIn (asked task.now) (segments_patterns (query_view query.now)) }
+    requires ready { IsReady T.tree T.is_whole T.custom task.now kept.old }
+    ensures within { IfOk result (λ i. i < length (answers_of kept.new)) }
+    ensures right { IfOk result (λ i. seen_at T.tree T.is_whole (answers_of kept.new) i ≡ give (start kind) (nodelist (query_view query.now) (document T.tree T.custom task.now))) }
+    ensures keeps { OnOk result (IsReady T.tree T.is_whole T.custom task.now kept.new) }
+    ensures refused { IfErr result (IsStop (asked task.now) (document T.tree T.custom task.now)) }
+{
+    if let Some(place) = kept.find(query, kind) {
+        return Ok(place);
+    }
+    let mut steps = Vec::new(task.alloc);
+    let answer = gather(task, &query.segments, kind, task.root, &mut steps, kept)?;
+    Ok(kept.keep(query, kind, answer)?)
+}

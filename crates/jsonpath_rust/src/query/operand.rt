@@ -1,0 +1,375 @@
+//! The sides of a comparison, and what functions take and answer.
+ghost use Rattle.std.specs.Prelude.{◌≡◌, ◌++◌, [], ◌∷◌, Some, IsTrue, IfOk, IfErr, IfSome, OnOk, option_map, option_and_then, option_to_list};
+ghost use Rattle.jsonpath_parser.specs.Syntax.{compare};
+ghost use Rattle.jsonpath_parser.specs.View.{literal_view, comparison_view, comparable_view};
+ghost use Rattle.jsonpath_parser.specs.declared.errors.JsonPathError.TheVariants.{OutOfMemory};
+ghost use Rattle.jsonpath_base.specs.Tree.{as_text, as_int};
+ghost use Rattle.jsonpath_base.specs.Same.{same};
+ghost use Rattle.jsonpath_rust.specs.Comparing.{are_equal, is_below, compares};
+ghost use Rattle.jsonpath_rust.specs.Functions.{length_of, counted, is_true};
+ghost use Rattle.jsonpath_rust.specs.Meaning.{literal_tree};
+ghost use Rattle.jsonpath_rust.specs.Sinks.{seen, values_in, ValuesAreWhole};
+ghost use Rattle.jsonpath_rust.specs.Operands.{scalar_tree, operand_tree, operand_is_whole, operator_of, trees_of, AreWhole};
+
+use crate::query::Queried;
+use crate::query::queryable::{Arg, Queryable};
+use crate::query::sink::{GREATEST_COUNT, Sink};
+use jsonpath_base::text::{text_length, text_less};
+use jsonpath_parser::model::{Comparable, Comparison, Literal};
+use std::alloc::Global;
+
+/// A value without parts.
+#[derive(Clone, Copy)]
+pub enum Scalar<'s> {
+    Null,
+    Truth(bool),
+    Number(i64),
+    Text(&'s str),
+}
+
+/// A side of a comparison, or what a function answers.
+#[derive(Drop)]
+pub enum Operand<'a, 's, T> {
+    Absent,
+    /// A value in the document.
+    Lent(&'a T),
+    /// A value that a custom function made.
+    Made(T),
+    Plain(Scalar<'s>),
+}
+
+/// The operator of a comparison.
+#[derive(Clone, Copy)]
+pub enum Sign {
+    Eq,
+    Ne,
+    Gt,
+    Gte,
+    Lt,
+    Lte,
+}
+
+/// The operator of a comparison and its two sides.
+#[inline(always)]
+pub fn sides(comparison: &Comparison) -> (Sign, &Comparable, &Comparable)
+    ensures { comparison_view comparison.now ≡ compare (operator_of result.0) (comparable_view result.1.now) (comparable_view result.2.now) }
+{
+    match comparison {
+        Comparison::Eq(left, right) => (Sign::Eq, left, right),
+        Comparison::Ne(left, right) => (Sign::Ne, left, right),
+        Comparison::Gt(left, right) => (Sign::Gt, left, right),
+        Comparison::Gte(left, right) => (Sign::Gte, left, right),
+        Comparison::Lt(left, right) => (Sign::Lt, left, right),
+        Comparison::Lte(left, right) => (Sign::Lte, left, right),
+    }
+}
+
+/// The value of a literal.
+#[inline(always)]
+pub fn scalar_of(literal: &Literal) -> Scalar<'_>
+    ensures { scalar_tree result ≡ literal_tree (literal_view literal.now) }
+{
+    match literal {
+        Literal::Int(number) => Scalar::Number(*number),
+        Literal::String(text) => Scalar::Text(text.as_str()),
+        Literal::Bool(truth) => Scalar::Truth(*truth),
+        Literal::Null => Scalar::Null,
+    }
+}
+
+/// A count as a value.
+#[inline(always)]
+pub fn count_scalar<'s>(count: usize) -> Scalar<'s>
+    ensures { scalar_tree result ≡ counted count }
+{
+    Scalar::Number(count.min(GREATEST_COUNT) as i64)
+}
+
+impl<'a, 's, T: Queryable> Operand<'a, 's, T> {
+    /// A value in the document, if there is one.
+    #[inline(always)]
+    pub fn lent(value: Option<&'a T>) -> Self
+        requires { IfSome value (λ v. IsTrue (T.is_whole v.now)) }
+        ensures value { operand_tree T.tree result ≡ option_map (λ v. T.tree v.now) value.entry }
+        ensures whole { IsTrue (operand_is_whole T.is_whole result) }
+    {
+        match value {
+            Some(value) => Operand::Lent(value),
+            None => Operand::Absent,
+        }
+    }
+
+    /// The text.
+    #[inline(always)]
+    pub fn as_text(&self) -> Option<&str>
+        requires { IsTrue (operand_is_whole T.is_whole self.now) }
+        ensures { option_map (λ s. s.now) result ≡ option_and_then as_text (operand_tree T.tree self.now) }
+    {
+        match self {
+            Operand::Lent(value) => value.as_str(),
+            Operand::Made(value) => value.as_str(),
+            Operand::Plain(Scalar::Text(text)) => Some(*text),
+            _ => None,
+        }
+    }
+
+    /// The number.
+    #[inline(always)]
+    pub fn as_number(&self) -> Option<i64>
+        requires { IsTrue (operand_is_whole T.is_whole self.now) }
+        ensures { result ≡ option_and_then as_int (operand_tree T.tree self.now) }
+    {
+        match self {
+            Operand::Lent(value) => value.as_i64(),
+            Operand::Made(value) => value.as_i64(),
+            Operand::Plain(Scalar::Number(number)) => Some(*number),
+            _ => None,
+        }
+    }
+
+    /// Whether it is the truth true.
+    #[inline(always)]
+    pub fn is_true(&self) -> bool
+        requires { IsTrue (operand_is_whole T.is_whole self.now) }
+        ensures { result ≡ is_true (operand_tree T.tree self.now) }
+    {
+        match self {
+            Operand::Lent(value) => value.as_bool() == Some(true),
+            Operand::Made(value) => value.as_bool() == Some(true),
+            Operand::Plain(Scalar::Truth(truth)) => *truth,
+            _ => false,
+        }
+    }
+
+    /// The length of a text, a list or an object (RFC 9535, 2.4.4).
+    pub fn length(&self, alloc: Global) -> Queried<Operand<'a, 's, T>>
+        requires { IsTrue (operand_is_whole T.is_whole self.now) }
+        ensures value { IfOk result (λ o. operand_tree T.tree o ≡ length_of (operand_tree T.tree self.now)) }
+        ensures whole { IfOk result (λ o. IsTrue (operand_is_whole T.is_whole o)) }
+        ensures memory { IfErr result (λ e. e ≡ OutOfMemory) }
+    {
+        match self {
+            Operand::Lent(value) => length_of(alloc, *value),
+            Operand::Made(value) => length_of(alloc, value),
+            Operand::Plain(Scalar::Text(text)) => Ok(Operand::Plain(count_scalar(text_length(
+                text,
+            )))),
+            _ => Ok(Operand::Absent),
+        }
+    }
+
+    /// Follows the arguments of a custom function by this one, if it is not absent.
+    pub fn push_to(self, alloc: Global, args: &mut Vec<Arg<'a, T>>) -> Queried<()>
+        requires own { IsTrue (operand_is_whole T.is_whole self) }
+        requires others { AreWhole T.is_whole args.old.items }
+        ensures value { OnOk result (trees_of T.tree args.new.items ≡ trees_of T.tree args.old.items ++ option_to_list (operand_tree T.tree self.entry)) }
+        ensures whole { OnOk result (AreWhole T.is_whole args.new.items) }
+        ensures memory { IfErr result (λ e. e ≡ OutOfMemory) }
+    {
+        match self {
+            Operand::Absent => Ok(()),
+            Operand::Lent(value) => {
+                args.push(Arg::Borrowed(value))?;
+                Ok(())
+            }
+            Operand::Made(value) => {
+                args.push(Arg::Owned(value))?;
+                Ok(())
+            }
+            Operand::Plain(scalar) => push_scalar(alloc, scalar, args),
+        }
+    }
+}
+
+/// Follows the arguments of a custom function by a value without parts.
+pub fn push_scalar<'a, T: Queryable>(
+    alloc: Global,
+    scalar: Scalar<'_>,
+    args: &mut Vec<Arg<'a, T>>,
+) -> Queried<()>
+    requires { AreWhole T.is_whole args.old.items }
+    ensures value { OnOk result (trees_of T.tree args.new.items ≡ trees_of T.tree args.old.items ++ scalar_tree scalar.entry ∷ []) }
+    ensures whole { OnOk result (AreWhole T.is_whole args.new.items) }
+    ensures memory { IfErr result (λ e. e ≡ OutOfMemory) }
+{
+    let value = made(alloc, scalar)?;
+    args.push(Arg::Owned(value))?;
+    Ok(())
+}
+
+/// Follows the arguments of a custom function by the values that a sink was given.
+pub fn push_values<'a, T: Queryable>(nodes: &Sink<'a, T>, args: &mut Vec<Arg<'a, T>>) -> Queried<()>
+    requires nodes { ValuesAreWhole (seen T.tree T.is_whole nodes.now) }
+    requires others { AreWhole T.is_whole args.old.items }
+    ensures value { OnOk result (trees_of T.tree args.new.items ≡ trees_of T.tree args.old.items ++ values_in (seen T.tree T.is_whole nodes.now)) }
+    ensures whole { OnOk result (AreWhole T.is_whole args.new.items) }
+    ensures memory { IfErr result (λ e. e ≡ OutOfMemory) }
+{
+    if let Sink::Values(values) = nodes {
+        for value in values {
+            args.push(Arg::Borrowed(*value))?;
+        }
+    }
+    Ok(())
+}
+
+/// A value without parts, as a value of the document's type.
+fn made<T: Queryable>(alloc: Global, scalar: Scalar<'_>) -> Queried<T>
+    ensures value { IfOk result (λ v. T.tree v ≡ scalar_tree scalar.entry) }
+    ensures whole { IfOk result (λ v. IsTrue (T.is_whole v)) }
+    ensures memory { IfErr result (λ e. e ≡ OutOfMemory) }
+{
+    match scalar {
+        Scalar::Null => Ok(T::null()),
+        Scalar::Truth(truth) => T::from_bool(alloc, truth),
+        Scalar::Number(number) => T::from_i64(alloc, number),
+        Scalar::Text(text) => T::from_text(alloc, text),
+    }
+}
+
+/// The length of a value (RFC 9535, 2.4.4).
+fn length_of<'a, 's, T: Queryable>(alloc: Global, value: &T) -> Queried<Operand<'a, 's, T>>
+    requires { IsTrue (T.is_whole value.now) }
+    ensures value { IfOk result (λ o. operand_tree T.tree o ≡ length_of (Some (T.tree value.now))) }
+    ensures whole { IfOk result (λ o. IsTrue (operand_is_whole T.is_whole o)) }
+    ensures memory { IfErr result (λ e. e ≡ OutOfMemory) }
+{
+    if let Some(text) = value.as_str() {
+        return Ok(Operand::Plain(count_scalar(text_length(text))));
+    }
+    if let Some(items) = value.as_array() {
+        return Ok(Operand::Plain(count_scalar(items.len())));
+    }
+    match value.as_object(alloc)? {
+        Some(members) => Ok(Operand::Plain(count_scalar(members.len()))),
+        None => Ok(Operand::Absent),
+    }
+}
+
+/// Whether the comparison holds (RFC 9535, 2.3.5.2.2).
+pub fn compares<'a, 's, T: Queryable>(
+    sign: Sign,
+    left: &Operand<'a, 's, T>,
+    right: &Operand<'a, 's, T>,
+) -> bool
+    requires left { IsTrue (operand_is_whole T.is_whole left.now) }
+    requires right { IsTrue (operand_is_whole T.is_whole right.now) }
+    ensures { result ≡ compares (operator_of sign) (operand_tree T.tree left.now) (operand_tree T.tree right.now) }
+{
+    match sign {
+        Sign::Eq => are_equal(left, right),
+        Sign::Ne => !are_equal(left, right),
+        Sign::Lt => is_below(left, right),
+        Sign::Lte => is_below(left, right) || are_equal(left, right),
+        Sign::Gt => is_below(right, left),
+        Sign::Gte => is_below(right, left) || are_equal(left, right),
+    }
+}
+
+/// Whether both are absent, or the same.
+fn are_equal<'a, 's, T: Queryable>(left: &Operand<'a, 's, T>, right: &Operand<'a, 's, T>) -> bool
+    requires left { IsTrue (operand_is_whole T.is_whole left.now) }
+    requires right { IsTrue (operand_is_whole T.is_whole right.now) }
+    ensures { result ≡ are_equal (operand_tree T.tree left.now) (operand_tree T.tree right.now) }
+{
+    match left {
+        Operand::Absent => is_absent(right),
+        Operand::Lent(value) => is_value(*value, right),
+        Operand::Made(value) => is_value(value, right),
+        Operand::Plain(scalar) => is_scalar(*scalar, right),
+    }
+}
+
+/// Whether it is absent.
+#[inline(always)]
+fn is_absent<'a, 's, T: Queryable>(operand: &Operand<'a, 's, T>) -> bool
+    ensures { result ≡ are_equal None (operand_tree T.tree operand.now) }
+{
+    match operand {
+        Operand::Absent => true,
+        _ => false,
+    }
+}
+
+/// Whether the operand is the same as the value.
+#[inline(always)]
+fn is_value<'a, 's, T: Queryable>(value: &T, operand: &Operand<'a, 's, T>) -> bool
+    requires left { IsTrue (T.is_whole value.now) }
+    requires right { IsTrue (operand_is_whole T.is_whole operand.now) }
+    ensures { result ≡ are_equal (Some (T.tree value.now)) (operand_tree T.tree operand.now) }
+{
+    match operand {
+        Operand::Absent => false,
+        Operand::Lent(other) => value.equal(*other),
+        Operand::Made(other) => value.equal(other),
+        Operand::Plain(scalar) => value_is_scalar(value, *scalar),
+    }
+}
+
+/// Whether the operand is the same as the value without parts.
+#[inline(always)]
+fn is_scalar<'a, 's, T: Queryable>(scalar: Scalar<'_>, operand: &Operand<'a, 's, T>) -> bool
+    requires { IsTrue (operand_is_whole T.is_whole operand.now) }
+    ensures { result ≡ are_equal (Some (scalar_tree scalar.entry)) (operand_tree T.tree operand.now) }
+{
+    match operand {
+        Operand::Absent => false,
+        Operand::Lent(value) => scalar_is_value(scalar, *value),
+        Operand::Made(value) => scalar_is_value(scalar, value),
+        Operand::Plain(other) => scalars_are_same(scalar, *other),
+    }
+}
+
+#[inline(always)]
+fn value_is_scalar<T: Queryable>(value: &T, scalar: Scalar<'_>) -> bool
+    requires { IsTrue (T.is_whole value.now) }
+    ensures { result ≡ same (T.tree value.now) (scalar_tree scalar.entry) }
+{
+    match scalar {
+        Scalar::Null => value.equal(&T::null()),
+        Scalar::Truth(truth) => value.as_bool() == Some(truth),
+        Scalar::Number(number) => value.as_i64() == Some(number),
+        Scalar::Text(text) => value.as_str() == Some(text),
+    }
+}
+
+#[inline(always)]
+fn scalar_is_value<T: Queryable>(scalar: Scalar<'_>, value: &T) -> bool
+    requires { IsTrue (T.is_whole value.now) }
+    ensures { result ≡ same (scalar_tree scalar.entry) (T.tree value.now) }
+{
+    match scalar {
+        Scalar::Null => T::null().equal(value),
+        Scalar::Truth(truth) => value.as_bool() == Some(truth),
+        Scalar::Number(number) => value.as_i64() == Some(number),
+        Scalar::Text(text) => value.as_str() == Some(text),
+    }
+}
+
+#[inline(always)]
+fn scalars_are_same(left: Scalar<'_>, right: Scalar<'_>) -> bool
+    ensures { result ≡ same (scalar_tree left.entry) (scalar_tree right.entry) }
+{
+    match (left, right) {
+        (Scalar::Null, Scalar::Null) => true,
+        (Scalar::Truth(a), Scalar::Truth(b)) => a == b,
+        (Scalar::Number(a), Scalar::Number(b)) => a == b,
+        (Scalar::Text(a), Scalar::Text(b)) => a == b,
+        _ => false,
+    }
+}
+
+/// Whether both are numbers or both are texts, and the left is less.
+fn is_below<'a, 's, T: Queryable>(left: &Operand<'a, 's, T>, right: &Operand<'a, 's, T>) -> bool
+    requires left { IsTrue (operand_is_whole T.is_whole left.now) }
+    requires right { IsTrue (operand_is_whole T.is_whole right.now) }
+    ensures { result ≡ is_below (operand_tree T.tree left.now) (operand_tree T.tree right.now) }
+{
+    match (left.as_number(), right.as_number()) {
+        (Some(a), Some(b)) => a < b,
+        _ => match (left.as_text(), right.as_text()) {
+            (Some(a), Some(b)) => text_less(a, b),
+            _ => false,
+        },
+    }
+}
