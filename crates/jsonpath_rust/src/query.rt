@@ -20,6 +20,7 @@ mod sink;
 #[cfg(test)]
 mod tests;
 mod walk;
+mod way;
 
 use crate::query::queryable::Queryable;
 use jsonpath_parser::errors::JsonPathError;
