@@ -1,6 +1,5 @@
 pub mod JsonTexts
 pub mod KnownBytes
 pub mod Lines
-pub mod Documents
 pub mod Depths
 pub mod Told

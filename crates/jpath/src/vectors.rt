@@ -3,11 +3,20 @@
 //! The nodes of a table `ORDERED` come in the order in which a `Value` walks the members of an object. A `Doc` walks them
 //! the other way round, so these rows are not asked of it; nor are those of `SET_ROWS`, for it has no functions of sets.
 //! The rows of a table `DOC_ROWS` are asked of a `Doc` alone, and all others of both types.
+//!
+//! `literals`, `makers`, `parts` and `trees` have rows for the calls of the parser, and their tests; `documents` and
+//! `queries` test documents through their trait, and the calls that ask them.
+mod documents;
 mod filters;
 mod functions;
+mod literals;
+mod makers;
 mod names;
+mod parts;
+mod queries;
 mod runs;
 mod strings;
+mod trees;
 mod whole;
 
 use crate::fault::Fault;

@@ -71,8 +71,3 @@ all_lent (v ∷ vs) h =
 
 pub lent_members_whole : (d : Doc) (vs : List (Bor (List ℕ) × Bor Doc)) (ns : Named) → map lent_pair vs ≡ ns → Some ns ≡ as_members (doc_tree d) → IsTrue (doc_is_whole d) → All (λ m. IsTrue (doc_is_whole m.1.now)) vs
 lent_members_whole d vs ns e f h = all_lent vs (ap (λ ms. members_distinct (members ms)) e ∙ object_values ns (object_distinct d ns f h))
-
--- ---- of equal trees
-
-pub copy_whole : (d c : Doc) → doc_tree c ≡ doc_tree d → IsTrue (doc_is_whole d) → IsTrue (doc_is_whole c)
-copy_whole d c e h = ap has_distinct_names e ∙ h

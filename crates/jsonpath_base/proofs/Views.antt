@@ -181,22 +181,6 @@ get_whole k v r e h = found_whole r (subst (λ o. IfSome o (λ x. data_whole x �
 
 -- ---- members
 
-number_no_members : (o : Option ℤ) → as_members (tree_of_number o) ≡ None
-number_no_members None = refl
-number_no_members (Some n) = refl
-
-as_members-tree_of : (d : Data) → as_members (tree_of d) ≡ option_map (λ ms. pairs (members_of ms)) (json_find.as_object d)
-as_members-tree_of json.null = refl
-as_members-tree_of (json.boolean b) = refl
-as_members-tree_of (json.number n) = number_no_members (json_find.as_i64 n)
-as_members-tree_of (json.string s) = refl
-as_members-tree_of (json.array ds) = refl
-as_members-tree_of (json.object ms) = refl
-
--- the members of the map that `as_object` of serde_json lends
-pub as_members-value_tree : (v : Value) (o : Option json.Members) → o ≡ json_find.as_object (view v) → option_map (λ ms. pairs (members_of ms)) o ≡ as_members (value_tree v)
-as_members-value_tree v o e = sym (as_members-tree_of (view v) ∙ ap (option_map (λ ms. pairs (members_of ms))) (sym e))
-
 pub all_members_whole : (es : List Entry) → members_are_whole (members_view es) ≡ true → All (λ e. IsTrue (value_is_whole e.1)) es
 all_members_whole [] h = All-nil (λ e. IsTrue (value_is_whole e.1))
 all_members_whole (e ∷ es) h =

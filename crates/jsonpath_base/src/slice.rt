@@ -1,6 +1,7 @@
 //! The places that a slice selector picks in an array (RFC 9535, 2.3.4).
-ghost use Rattle.std.specs.Prelude.{◌≡◌, ◌<◌, ◌≤◌, suc, pos, negsuc, ◌+ℤ◌, ◌-ℤ◌, neg_ℤ, unwrap_or, All, IfOk, IfErr};
-ghost use Rattle.std.specs.Iterator.{YieldsFirst, item_count};
+ghost use Rattle.std.specs.Prelude.{◌≡◌, ◌<◌, ◌≤◌, suc, pos, negsuc, ◌+ℤ◌, ◌-ℤ◌, neg_ℤ, unwrap_or, length, All, Some, IfSome, IfOk, IfErr};
+ghost use Rattle.std.specs.Iterator.{UpTo, YieldsFirst, item_count};
+ghost use Rattle.std.specs.Iterator.SizeHint.{IsWithinCount};
 ghost use Rattle.jsonpath_base.specs.Slice.{slice_of, clamped, normalized};
 ghost use Rattle.jsonpath_base.specs.SliceSteps.{places_left, picked_of};
 
@@ -45,7 +46,12 @@ impl Iterator for SlicePlaces {
         }
     }
 
-    fn size_hint(&self) -> (usize, Option<usize>) {
+    /// Both bounds are the number of places that are left.
+    fn size_hint(&self) -> (usize, Option<usize>)
+        ensures lower { IsWithinCount result.0 (item_count places_left self.now) }
+        ensures upper { IfSome result.1 (UpTo (item_count places_left self.now)) }
+        ensures exact { result ≡ (length (places_left self.now), Some (length (places_left self.now))) }
+    {
         let left = self.len();
         (left, Some(left))
     }

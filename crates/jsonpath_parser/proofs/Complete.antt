@@ -65,7 +65,3 @@ any_over v a more h stop = let (w, hw, e) = h in rw e (any_reads (a ++ more) mor
 -- a whole text, whether its number literals have values or not
 pub complete_any : (t : Query) (text : List ℕ) → Spells IsAny t text → whole_query (number_reading Any) text ≡ Some t
 complete_any t text h = complete_query IsAny any_start (number_reading Any) any_over t text h
-
--- no text spells two queries
-pub one_query : (t u : Query) (text : List ℕ) → Spells IsValued t text → Spells IsValued u text → t ≡ u
-one_query t u text h k = let e = complete_valued t text h in let f = complete_valued u text k in cc

@@ -51,10 +51,6 @@ brackets b a c more = simp append_assoc
 pub behind_mark : (b c a d more : List ℕ) (mark : ℕ) → (b ++ (mark ∷ (c ++ (a ++ d)))) ++ more ≡ b ++ (mark ∷ (c ++ (a ++ (d ++ more))))
 behind_mark b c a d more mark = simp append_assoc
 
--- two bytes tell each other
-comma_close : (b : ℕ) → b ≡ 93 → (b == 44) ≡ false
-comma_close b h = grind (arith, nat_tests)
-
 module _ (Number : Option ℤ → List ℕ → Type 0) where
   -- a filter spells its argument
   pub spells_argument : (f : Filter) (a : List ℕ) → SpellsLogical Number f a → SpellsArgument Number (as_argument f) a

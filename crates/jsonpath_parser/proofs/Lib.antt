@@ -31,6 +31,7 @@ pub mod StringSound
 pub mod StringTurns
 pub mod Turns
 pub mod Typed
+pub mod ValuelessLaws
 pub mod ViewEquations
 pub mod Whole
 pub mod Widening

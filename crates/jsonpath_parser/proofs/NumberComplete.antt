@@ -1,5 +1,5 @@
 -- A number literal is read whole, with its one value, where the text after it cannot continue it.
-use Rattle.std.proofs.Common.{◌≡◌, ℕ, ◌≤◌, Bool, true, false, ◌||◌, ◌==◌, ℤ, List, [], ◌∷◌, ◌++◌, length, Option, Some, None, option_and_then, refl, sym, ap, ◌∙◌, inl, inr, append_assoc, arith}
+use Rattle.std.proofs.Common.{◌≡◌, ℕ, ◌≤◌, Bool, true, false, ◌||◌, ◌==◌, ℤ, List, [], ◌∷◌, ◌++◌, length, Option, Some, refl, ap, ◌∙◌, inl, inr, append_assoc, arith}
 use Rattle.std.proofs.lemmas.Bool.Decides.{nat_tests}
 use Rattle.std.specs.Str.Parse.{digits_value}
 use Rattle.jsonpath_parser.specs.Lexical.{is_digit, IsRun}
@@ -175,41 +175,3 @@ complete_number v text more h stop =
     let n = digits_value 10 (w ++ h.fraction) in
     let same = one_value (signed h.minus n) (length h.fraction) h.exponent _ v (sound_value h.minus n (length h.fraction) h.exponent) h.is_value in
     rw (h.spelled, regroup a w b c more) (read ∙ ap (λ o. Some (o, more)) same)
-
--- A number literal has one value.
-pub one_number : (v w : Option ℤ) (a : List ℕ) → SpellsNumber v a → SpellsNumber w a → v ≡ w
-one_number v w a hv hw =
-    let x = complete_number v a [] hv refl in
-    let y = complete_number w a [] hw refl in
-    let same : ◌≡◌ {A = Option (Option ℤ × List ℕ)} (Some (v, [])) (Some (w, [])) = sym x ∙ y in
-    let pair : ◌≡◌ {A = Option ℤ × List ℕ} (v, []) (w, []) = cc in
-    ap (λ (q : Option ℤ × List ℕ). q.0) pair
-
--- a chain that gives nothing had nothing to begin with
-bind_none : {A B : Type 0} (f : A → B) (o : Option A) → option_and_then (λ x. Some (f x)) o ≡ None → o ≡ None
-bind_none f (Some x) e = absurd (cc)
-bind_none f None e = refl
-
--- a digit at the front is read
-whole_some : (text : List ℕ) → is_digit (first text) ≡ true → whole_part_at text ≡ None → ⊥
-unfolding whole_part_at digits_at
-whole_some text digit none = by_test (first text == 48) refl
-  where
-    by_test : (v : Bool) → (first text == 48) ≡ v → ⊥
-    by_test true e = let some = rw e at none in cc
-    by_test false e = let some = rw (e, digit) at none in cc
-
--- the text behind the sign
-number_none : (text t1 : List ℕ) (minus : Bool) → sign_at text ≡ (minus, t1) → number_at text ≡ None → whole_part_at t1 ≡ None
-unfolding number_at
-number_none text t1 minus signs none = let later = rw signs at none in bind_none _ (whole_part_at t1) later
-
--- Where nothing is read, no number literal stands at the front.
-pub unread_number : (v : Option ℤ) (text a rest : List ℕ) → number_at text ≡ None → SpellsNumber v a → text ≡ a ++ rest → ⊥
-unread_number v text front rest none h e =
-    let a = h.sign_text in
-    let w = h.whole in
-    let later = h.fraction_text ++ (h.exponent_text ++ rest) in
-    let whole : text ≡ a ++ (w ++ later) = e ∙ ap (λ x. x ++ rest) h.spelled ∙ regroup a w h.fraction_text h.exponent_text rest in
-    let digit = whole_start w later h.is_whole_part in
-    whole_some (w ++ later) digit (number_none (a ++ (w ++ later)) (w ++ later) h.minus (sign_over h.minus a (w ++ later) h.sign_spelled digit) (rw whole at none))

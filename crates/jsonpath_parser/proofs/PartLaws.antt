@@ -1,10 +1,10 @@
 -- What the grammar functions of a cursor answer, where a kind of tree is read as it is spelled.
-use Rattle.std.proofs.Common.{◌≡◌, ℕ, ◌≤◌, Bool, true, ℤ, List, [], ◌∷◌, ◌++◌, ◌-◌, length, take, drop, Option, Some, None, Result, Ok, Err, MatchResult, IsOkAnd, IfErr, refl, sym, ap, ◌∙◌, subst, append_assoc, append-nil, length-append, take-append-drop, arith}
+use Rattle.std.proofs.Common.{◌≡◌, ℕ, Bool, true, ℤ, List, [], ◌++◌, ◌-◌, length, take, drop, Option, Some, None, Result, Ok, Err, MatchResult, IsOkAnd, refl, sym, ap, ◌∙◌, subst, append_assoc, append-nil, length-append, take-append-drop, arith}
 use Rattle.std.proofs.Math.Seq.{drop-append_seam}
 use Rattle.std.proofs.lemmas.Str.{IsCharBoundary-from_drop}
 use Rattle.std.specs.Borrow.{Bor}
 use Rattle.std.specs.Str.{IsUtf8, IsCharBoundary}
-use Rattle.jsonpath_parser.specs.Parts.{text_of, rest_of, Spelling, IsPart, IsPartRefusal, ReadsPart}
+use Rattle.jsonpath_parser.specs.Parts.{text_of, rest_of, Spelling, IsPartRefusal, ReadsPart}
 use Rattle.jsonpath_parser.specs.Reading.{Read, Reads}
 use Rattle.jsonpath_parser.specs.ReadingParts.{IsPartsRefusal}
 use Rattle.jsonpath_parser.specs.Values.{IsValued, IsAny}
@@ -93,7 +93,7 @@ any_read spells typed view reading law text (Err stop) e all = absurd all
 -- a refusal is one of the text's
 pub part_refused : {T V : Type 0} {spells : Spelling V} {typed : V → Bool} {view : T → V} {reading : Numbers → List ℕ → Read V} → Law spells typed reading
     → (c : Cursor) (stop : Stop) (again : Result (T × Bor (List ℕ)) Stop) (e : JsonPathError) → ((stop ≡ Memory → ⊥) → reading Valued (rest_of c) ≡ None)
-    → Reads view again (reading Any (rest_of c)) → IsPartsRefusal (text_of c) stop again e → ReadsPart spells typed view c c (Err e)
+    → Reads view again (reading Any (rest_of c)) → IsPartsRefusal c stop again e → ReadsPart spells typed view c c (Err e)
 part_refused {T} {V} {spells} {typed} {view} {reading} law c stop again e none any is = record {
   read = tt;
   whole = λ v h k. only e is v h k;
@@ -102,14 +102,14 @@ part_refused {T} {V} {spells} {typed} {view} {reading} law c stop again e none a
   same = refl;
 }
   where
-    only : (e : JsonPathError) → IsPartsRefusal (text_of c) stop again e → (v : V) → spells IsValued v (rest_of c) → typed v ≡ true → e ≡ error.OutOfMemory
+    only : (e : JsonPathError) → IsPartsRefusal c stop again e → (v : V) → spells IsValued v (rest_of c) → typed v ≡ true → e ≡ error.OutOfMemory
     only error.OutOfMemory is v h k = refl
     only (error.PestError place) is v h k = absurd (whole_refused spells typed view reading law (rest_of c) stop none is.1 v h k)
     only (error.InvalidNumber literal) is v h k = absurd (whole_refused spells typed view reading law (rest_of c) stop none is.0 v h k)
     only _ is v h k = absurd is
 
-    refusals : (e : JsonPathError) → IsPartsRefusal (text_of c) stop again e → IsPartRefusal spells typed c e
+    refusals : (e : JsonPathError) → IsPartsRefusal c stop again e → IsPartRefusal spells typed c e
     refusals error.OutOfMemory is = tt
     refusals (error.PestError place) is = (is.0, any_refused spells typed view reading law (rest_of c) again any is.2)
-    refusals (error.InvalidNumber literal) is = any_read spells typed view reading law (rest_of c) again any is.1
+    refusals (error.InvalidNumber literal) is = (is.1, any_read spells typed view reading law (rest_of c) again any is.2)
     refusals _ is = absurd is

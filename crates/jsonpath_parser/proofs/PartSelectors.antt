@@ -1,5 +1,5 @@
 -- A slice and a selector that the whole text is: also the blanks at its end are read.
-use Rattle.std.proofs.Common.{◌≡◌, ℕ, ◌<◌, ◌≤◌, ◌==◌, true, false, ℤ, List, [], ◌∷◌, ◌++◌, length, Option, Some, None, refl, ap, ◌∙◌, inl, inr, append_assoc, append-nil, length-append, arith}
+use Rattle.std.proofs.Common.{◌≡◌, ℕ, ◌<◌, ◌≤◌, true, ℤ, List, [], ◌∷◌, ◌++◌, length, Option, Some, None, refl, ap, ◌∙◌, inl, inr, append_assoc, append-nil, length-append, arith}
 use Rattle.jsonpath_parser.specs.Grammar.{SpellsBound, SpellsStep, SpellsSlice, SpellsSelector, SpellsArgument}
 use Rattle.jsonpath_parser.specs.Lexical.{is_digit, IsBlank}
 use Rattle.jsonpath_parser.specs.Reading.{Read, first, skip_blank}

@@ -1,7 +1,6 @@
 -- A string that is spelled is read, whatever follows it, and has one value.
 use Rattle.std.proofs.Common.{◌≡◌, ℕ, zero, suc, ◌+◌, ◌<◌, true, false, ◌==◌, List, [], ◌∷◌, ◌++◌, length, drop, Some, option_and_then, refl, sym, ap, ◌∙◌, inl, inr, append_assoc, append-nil, length-append, arith}
 use Rattle.std.proofs.lemmas.Bool.Decides.{nat_tests}
-use Rattle.std.proofs.lemmas.Option.{some_pair_parts}
 use Rattle.std.proofs.lemmas.Str.Ascii.{encode_ascii}
 use Rattle.std.specs.Char.{encode_utf8}
 use Rattle.std.specs.List.{concat}
@@ -133,7 +132,3 @@ complete_string v a more h =
     let split : a ++ more ≡ q ∷ (x ++ q ∷ more) = rw text (ap (λ t. q ∷ t) (append_assoc x (q ∷ []) more)) in
     let room : length x < suc (length (x ++ q ∷ more)) = omega (arith, length-append x (q ∷ more)) in
     rw (split, value) (string_quote q (x ++ q ∷ more) quote ∙ chars_over q (suc (length (x ++ q ∷ more))) [] cs x more quote hx room)
-
--- a text spells one value
-pub one_string : (v w a : List ℕ) → SpellsString v a → SpellsString w a → v ≡ w
-one_string v w a h k = (some_pair_parts v w [] [] (sym (complete_string v a [] h) ∙ complete_string w a [] k)).0

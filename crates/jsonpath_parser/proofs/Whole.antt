@@ -1,5 +1,5 @@
 -- What the readings of a whole text say of the trees that it derives.
-use Rattle.std.proofs.Common.{◌≡◌, ℕ, ◌≤◌, Bool, true, false, is_some, cond, ℤ, pos, List, length, Option, Some, None, unwrap_or, option_and_then, arith, refl, sym, ◌∙◌, ap, subst}
+use Rattle.std.proofs.Common.{◌≡◌, ℕ, ◌≤◌, Bool, true, false, is_some, cond, ℤ, List, Option, Some, None, option_and_then, arith, refl, subst}
 use Rattle.jsonpath_parser.specs.Depth.{depth}
 use Rattle.jsonpath_parser.specs.Derives.{Derives, SpellsLoosely, IsRefusal}
 use Rattle.jsonpath_parser.specs.Grammar.{Spells}
@@ -13,7 +13,6 @@ use Rattle.jsonpath_parser.specs.declared.errors.JsonPathError.TheVariants.{Pest
 use Rattle.jsonpath_parser.specs.declared.grammar.literals.Numbers.TheVariants.{Valued, Any}
 use Rattle.jsonpath_parser.proofs.Complete.{complete_valued, complete_any}
 use Rattle.jsonpath_parser.proofs.Sound.{sound_valued, sound_any}
-use Rattle.jsonpath_parser.proofs.SoundParts.{bind_ok, chosen}
 use Rattle.jsonpath_parser.proofs.Widening.{spells_wider}
 
 -- a literal with a value is one that may have any
@@ -98,7 +97,7 @@ unread_loosely text t none h =
 -- a refusal of the reading is a refusal of the text
 pub refusal_of : (limit : ℕ) (text : List ℕ) (e : JsonPathError) → IsReadRefusal limit text e → IsRefusal limit text e
 refusal_of limit text (MaxNestingDepthExceeded n) h = h
-refusal_of limit text (InvalidNumber said) h = (h.0, read_loosely text h.2, λ t d. unread_none limit text t h.1 d)
+refusal_of limit text (InvalidNumber said) h = (h.0, h.2.0, read_loosely text h.2.1, λ t d. unread_none limit text t h.1 d)
 refusal_of limit text (PestError place) h = (h.0, h.2.0, λ t s. unread_loosely text t h.2.1 s)
 refusal_of limit text OutOfMemory h = h
 refusal_of limit text _ h = absurd h

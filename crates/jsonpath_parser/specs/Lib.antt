@@ -7,6 +7,7 @@ pub mod Syntax
 pub mod View
 pub mod Typing
 pub mod Grammar
+pub mod Valueless
 pub mod Values
 pub mod Parts
 pub mod Depth

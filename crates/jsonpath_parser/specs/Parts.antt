@@ -1,7 +1,8 @@
 -- What the grammar functions of a cursor answer: each reads one kind of tree at the cursor's place (RFC 9535, 2.1 to 2.5).
-use Rattle.std.specs.Prelude.{◌≡◌, ℕ, ◌≤◌, ◌-◌, Bool, true, ℤ, List, [], ◌++◌, length, codes, Option, Result, MatchResult, IfOk, IfErr, OnErr, ⊤}
+use Rattle.std.specs.Prelude.{◌≡◌, ℕ, ◌≤◌, ◌-◌, Bool, true, ℤ, List, [], ◌++◌, length, codes, Option, Result, MatchResult, IfOk, IfErr, OnErr, string_bytes, ⊤}
 use Rattle.jsonpath_parser.specs.Grammar.{SpellsSlice, SpellsSingularSteps, SpellsSingularQuery, SpellsSegment, SpellsTest}
 use Rattle.jsonpath_parser.specs.Syntax.{SingularStep, SingularQuery, Segment, descendant, Segments, relative}
+use Rattle.jsonpath_parser.specs.Valueless.{IsValuelessIn}
 use Rattle.jsonpath_parser.specs.Values.{IsValued, IsAny}
 use Rattle.jsonpath_parser.specs.declared.errors.JsonPathError.{JsonPathError}
 use Rattle.jsonpath_parser.specs.declared.errors.JsonPathError.TheVariants.{PestError, InvalidNumber, OutOfMemory}
@@ -54,9 +55,9 @@ pub record IsPart {V : Type 0} (spells : Spelling V) (typed : V → Bool) (v : V
   pub one_tree : (w : V) → spells IsAny w part → w ≡ v
   pub moved : rest_of old ≡ part ++ rest_of new
 
--- The refusals, each with what it means: the rest would spell such a tree if its number literals without a value had one; it spells none whatever values its number literals had, and the place is at most the text's length; memory ran out.
+-- The refusals, each with what it means: the rest would spell such a tree if its number literals without a value had one, and what is said is nothing, or a number literal without a value that stands in the rest; it spells none whatever values its number literals had, and the place is at most the text's length; memory ran out.
 abbrev pub IsPartRefusal : {V : Type 0} → Spelling V → (V → Bool) → Cursor → JsonPathError → Type 0
-IsPartRefusal {V} spells typed c (InvalidNumber found) = (v : V) × spells IsAny v (rest_of c) × (typed v ≡ true)
+IsPartRefusal {V} spells typed c (InvalidNumber said) = IsValuelessIn (rest_of c) (string_bytes said) × ((v : V) × spells IsAny v (rest_of c) × (typed v ≡ true))
 IsPartRefusal {V} spells typed c (PestError place) = (place ≤ length (text_of c)) × ((v : V) → spells IsAny v (rest_of c) → typed v ≡ true → ⊥)
 IsPartRefusal spells typed c OutOfMemory = ⊤
 IsPartRefusal spells typed c _ = ⊥

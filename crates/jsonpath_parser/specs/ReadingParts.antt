@@ -1,12 +1,15 @@
 -- What the parts of a query are read as, each by itself, and which refusal they get. The laws of proofs/ join it to the grammar, so a user need not believe it.
-use Rattle.std.specs.Prelude.{◌≡◌, ℕ, suc, ◌≤◌, ◌==◌, Bool, if◌then◌else◌, ℤ, List, [], length, Option, Some, None, Result, MatchResult, IsOkAnd, ⊤}
+use Rattle.std.specs.Prelude.{◌≡◌, ℕ, suc, ◌≤◌, ◌==◌, Bool, if◌then◌else◌, ℤ, List, [], length, Option, Some, None, Result, MatchResult, IsOkAnd, string_bytes, ⊤}
 use Rattle.std.specs.Borrow.{Bor}
+use Rattle.jsonpath_parser.specs.Parts.{text_of, rest_of}
 use Rattle.jsonpath_parser.specs.Reading.{Read, ◌>>=◌, first}
 use Rattle.jsonpath_parser.specs.ReadingGrammar.{number_reading, comparable_of, filter_of, shorthand_at, selection_at, operand_at, basic_at, conjunction_at, all_segments_at, segment_at, selector_at, logical_at, argument_at}
 use Rattle.jsonpath_parser.specs.Syntax.{Literal, SingularQuery, Selector, slice, Segment, one, Segments, Filter, atom, Atom, comparison, Comparison, Comparable, literal, function, singular, Test, relative, absolute, call, Call, Argument, literal_argument, test_argument, filter_argument, Query}
+use Rattle.jsonpath_parser.specs.Valueless.{IsValuelessIn}
 use Rattle.jsonpath_parser.specs.declared.errors.JsonPathError.{JsonPathError}
 use Rattle.jsonpath_parser.specs.declared.errors.JsonPathError.TheVariants.{PestError, InvalidNumber, OutOfMemory}
 use Rattle.jsonpath_parser.specs.declared.grammar.literals.Numbers.{Numbers}
+use Rattle.jsonpath_parser.specs.declared.parts.Cursor.{Cursor}
 use Rattle.jsonpath_parser.specs.declared.stop.Stop.{Stop}
 use Rattle.jsonpath_parser.specs.declared.stop.Stop.TheVariants.{Memory}
 
@@ -114,9 +117,9 @@ module _ (numbers : Numbers) (text : List ℕ) where
 
 -- ---- refusals
 
--- The refusal of a text whose reading stopped; `again` is what it is read as with any number literals. The place is at most the text's length.
-abbrev pub IsPartsRefusal : {T : Type 0} → List ℕ → Stop → Result (T × Bor (List ℕ)) Stop → JsonPathError → Type 0
-IsPartsRefusal text stop again (InvalidNumber found) = (stop ≡ Memory → ⊥) × IsOkAnd again (λ p. p.1.now ≡ [])
-IsPartsRefusal text stop again (PestError place) = (place ≤ length text) × (stop ≡ Memory → ⊥) × MatchResult again (λ p. p.1.now ≡ [] → ⊥) (λ e. e ≡ Memory → ⊥)
-IsPartsRefusal text stop again OutOfMemory = ⊤
-IsPartsRefusal text stop again _ = ⊥
+-- The refusal at a cursor, where reading stopped; `again` is what it is read as with any number literals. The place is at most the text's length.
+abbrev pub IsPartsRefusal : {T : Type 0} → Cursor → Stop → Result (T × Bor (List ℕ)) Stop → JsonPathError → Type 0
+IsPartsRefusal c stop again (InvalidNumber said) = (stop ≡ Memory → ⊥) × IsValuelessIn (rest_of c) (string_bytes said) × IsOkAnd again (λ p. p.1.now ≡ [])
+IsPartsRefusal c stop again (PestError place) = (place ≤ length (text_of c)) × (stop ≡ Memory → ⊥) × MatchResult again (λ p. p.1.now ≡ [] → ⊥) (λ e. e ≡ Memory → ⊥)
+IsPartsRefusal c stop again OutOfMemory = ⊤
+IsPartsRefusal c stop again _ = ⊥

@@ -4,8 +4,6 @@ ghost use Rattle.std.specs.Prelude.{◌≡◌, ◌-◌, length, drop};
 mod filters;
 mod places;
 mod queries;
-#[cfg(test)]
-mod tests;
 
 pub use self::filters::{
     comp_expr, comparable, filter_atom, function_expr, literal, logical_expr, logical_expr_and,

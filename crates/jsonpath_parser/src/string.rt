@@ -1,6 +1,6 @@
 //! Quoted strings (RFC 9535, 2.3.1). Each function reads its text once, from the left, and never goes back over what
 //! it has read.
-ghost use Rattle.std.specs.Prelude.{◌≡◌, suc, ◌<◌, ◌≤◌, [], true, length, slice_index, IfOk, IfSome, if◌then◌else◌, string_bytes};
+ghost use Rattle.std.specs.Prelude.{◌≡◌, ◌≢◌, suc, ◌<◌, ◌≤◌, [], true, length, slice_index, IfOk, IfSome, if◌then◌else◌, string_bytes, IfErr};
 ghost use Rattle.std.specs.Char.{digit_value};
 ghost use Rattle.std.specs.List.{prefix_len};
 ghost use Rattle.jsonpath_parser.specs.Depth.{is_quote};
@@ -81,6 +81,7 @@ fn escape(quote: u8, s: &str) -> Result<(char, &str), Stop>
     requires { is_quote quote ≡ true }
     ensures value { Reads (λ c. c) result (spec.escape_at quote s.now) }
     ensures shorter { IfOk result (λ p. length p.1.now < length s.now) }
+    ensures no_memory { IfErr result (λ e. e ≢ Stop.Memory) }
 {
     if first(s) == b'u' {
         return unicode(skip(s, 1));
@@ -114,6 +115,7 @@ fn escaped(quote: u8, byte: u8) -> Option<u8>
 fn unicode(s: &str) -> Result<(char, &str), Stop>
     ensures value { Reads (λ c. c) result (spec.unicode_at s.now) }
     ensures shorter { IfOk result (λ p. length p.1.now < length s.now) }
+    ensures no_memory { IfErr result (λ e. e ≢ Stop.Memory) }
 {
     let Some(code) = code(s) else {
         return Err(Stop::Syntax(s.len()));
@@ -134,6 +136,7 @@ fn low(high: u32, s: &str) -> Result<(char, &str), Stop>
     requires { strings.is_high_surrogate high ≡ true }
     ensures value { Reads (λ c. c) result (spec.low_at high s.now) }
     ensures shorter { IfOk result (λ p. length p.1.now < length s.now) }
+    ensures no_memory { IfErr result (λ e. e ≢ Stop.Memory) }
 {
     if first(s) != b'\\' || byte_at(s, 1) != b'u' {
         return Err(Stop::Syntax(s.len()));
@@ -186,89 +189,4 @@ fn hex_digit(byte: u8) -> Option<u32>
     ensures ascii { IfSome result (λ d. (0 < byte) × (byte < 128)) }
 {
     char::from(byte).to_digit(16)
-}
-
-#[cfg(test)]
-mod tests {
-    use super::*;
-
-    fn reads(alloc: Global, text: &str, value: &str, rest: &str) -> bool {
-        match string(alloc, text) {
-            Ok((read, after)) => read.as_str() == value && after == rest,
-            Err(_) => false,
-        }
-    }
-
-    #[test]
-    fn values(rt: HostRuntime) {
-        for (text, value) in [
-            ("''", ""),
-            ("\"\\u0061\"", "a"),
-            ("\"a'\"", "a'"),
-            ("'a\"'", "a\""),
-            ("'\\''", "'"),
-            ("\"\\\"\"", "\""),
-            ("'\\b\\f\\n\\r\\t\\/\\\\'", "\u{8}\u{c}\n\r\t/\\"),
-            ("\"\\b\\f\\n\\r\\t\\/\\\\\"", "\u{8}\u{c}\n\r\t/\\"),
-            ("'\\u000B\\u000b\\u0000'", "\u{b}\u{b}\u{0}"),
-            ("'x\\u00e9y\\u00E9z'", "x\u{e9}y\u{e9}z"),
-            (
-                "'\\uABCD\\uabcd\\uEF01\\uef01'",
-                "\u{abcd}\u{abcd}\u{ef01}\u{ef01}",
-            ),
-            ("'\\uD7FF\\uE000\\uFFFF'", "\u{d7ff}\u{e000}\u{ffff}"),
-            ("\"\\uD834\\uDD1E\"", "\u{1d11e}"),
-            ("'\\ud800\\udc00\\uDBFF\\uDFFF'", "\u{10000}\u{10ffff}"),
-            (
-                "' \u{7f}\u{80}\u{263a}\u{1f600}'",
-                " \u{7f}\u{80}\u{263a}\u{1f600}",
-            ),
-        ] {
-            assert!(rt; reads(rt.alloc(), text, value, ""), "{text}");
-        }
-    }
-
-    #[test]
-    fn the_rest_is_left(rt: HostRuntime) {
-        assert!(rt; reads(rt.alloc(), "'a']['b']", "a", "]['b']"));
-        assert!(rt; reads(rt.alloc(), "\"\\u00611\"\"", "a1", "\""));
-    }
-
-    #[test]
-    fn refusals(rt: HostRuntime) {
-        for text in [
-            "",
-            "a",
-            "\\'a'",
-            "'",
-            "\"a'",
-            "'a\\'",
-            "'a\\",
-            "'\\u006",
-            "'\\\"'",
-            "\"\\'\"",
-            "'\\a'",
-            "'\\B'",
-            "'\\U0061'",
-            "'\\u061'",
-            "'\\u+061'",
-            "'\\u00G0'",
-            "'\\u006\u{e9}'",
-            "\"\\uD800\"",
-            "\"\\uDC00\"",
-            "'\\uD800\\u0061'",
-            "'\\uD834\\uD834'",
-            "'\\uDD1E\\uD834'",
-            "'\\uD834uDD1E'",
-            "'\\uD834\\\\uDD1E'",
-            "'\t'",
-            "'\u{0}'",
-            "\"\u{1f}\"",
-        ] {
-            assert!(rt;
-                matches!(string(rt.alloc(), text), Err(Stop::Syntax(left)) if left <= text.len()),
-                "{text}"
-            );
-        }
-    }
 }

@@ -37,13 +37,6 @@ paths_answered q doc answer e = subst (Along HasOnlyPath (selected q doc)) (sym 
 pub values_answered : (q : Query) (doc : Document) (answer : List Tree) → IsTrue (has_distinct_names doc.root) → answer ≡ map (λ n. n.tree) (nodelist q doc) → Along (IsValueAt doc) (selected q doc) answer
 values_answered q doc answer distinct e = subst (Along (IsValueAt doc) (selected q doc)) (sym e) (along_values doc (nodelist q doc) (nodes_at q doc distinct))
 
--- ---- where the query comes from a text
-
--- the record of what is answered
-pub lists_nodes : {V : Type 0} (r : Result V JsonPathError) (show : V → List (List ℕ × Tree)) (limit : ℕ) (text : List ℕ) (doc : Document) (q : Query) → Derives limit text q → IfOk r (λ v. Along (IsNodeAt doc) (selected q doc) (show v)) → IfOk r (λ v. Along HasOnlyPath (selected q doc) (show v)) → IfOk r (λ v. ListsNodes limit text doc (show v))
-lists_nodes (Ok v) show limit text doc q d h k = record { query = q; derived = d; nodes = h; only_path = k }
-lists_nodes (Err e) show limit text doc q d h k = tt
-
 -- the paths alone
 along_normal : (ns : List Node) → Along IsNormal (map (λ n. n.location) ns) (map (λ n. normal n.location) ns)
 along_normal [] = tt
@@ -58,15 +51,3 @@ normal_answered q doc answer e = subst (Along IsNormal (selected q doc)) (sym e)
 
 pub only_answered : (q : Query) (doc : Document) (answer : List (List ℕ)) → answer ≡ map (λ n. normal n.location) (nodelist q doc) → Along IsOnlyPath (selected q doc) answer
 only_answered q doc answer e = subst (Along IsOnlyPath (selected q doc)) (sym e) (along_only (nodelist q doc))
-
--- ---- refusals
-
--- the text is no query
-pub text_refused : {V : Type 0} (r : Result V JsonPathError) (limit : ℕ) (text : List ℕ) (doc : Document) → IfErr r (IsRefusal limit text) → IfErr r (IsQueryRefusal limit text doc)
-text_refused (Ok v) limit text doc h = tt
-text_refused (Err e) limit text doc h = inl h
-
--- the text is a query, and its nodes are refused
-pub nodes_refused : {V : Type 0} (r : Result V JsonPathError) (limit : ℕ) (text : List ℕ) (doc : Document) (q : Query) → Derives limit text q → IfErr r (IsStop q doc) → IfErr r (IsQueryRefusal limit text doc)
-nodes_refused (Ok v) limit text doc q d h = tt
-nodes_refused (Err e) limit text doc q d h = inr (q, d, h)

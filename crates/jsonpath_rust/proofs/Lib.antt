@@ -1,5 +1,6 @@
 pub mod Answers
 pub mod Arguments
+pub mod Leaves
 pub mod Made
 pub mod Nodelist
 pub mod NodesAt
@@ -8,3 +9,4 @@ pub mod Patterns
 pub mod Sinks
 pub mod Trees
 pub mod Walks
+pub mod Way

@@ -33,22 +33,6 @@ all_at P xs i x all h e = subst P (sym e) (All-get_or P xs i x h all)
 
 -- ---- which children a tree has
 
-pub children_at-list : (l : Location) (t : Tree) (ts : List Tree) → Some ts ≡ as_list t → children_at l t ≡ element_nodes l 0 ts
-children_at-list l (list us) ts h = ap (λ o. element_nodes l 0 (list_or o)) (sym h)
-children_at-list l (object us) ts h = none_some ts h
-children_at-list l null ts h = none_some ts h
-children_at-list l (truth b) ts h = none_some ts h
-children_at-list l (number n) ts h = none_some ts h
-children_at-list l (text s) ts h = none_some ts h
-
-pub children_at-object : (l : Location) (t : Tree) (ms : List (List ℕ × Tree)) → Some ms ≡ as_members t → children_at l t ≡ member_nodes l ms
-children_at-object l (list us) ms h = none_some ms h
-children_at-object l (object us) ms h = ap (λ o. member_nodes l (members_or o)) (sym h)
-children_at-object l null ms h = none_some ms h
-children_at-object l (truth b) ms h = none_some ms h
-children_at-object l (number n) ms h = none_some ms h
-children_at-object l (text s) ms h = none_some ms h
-
 pub children_at-none : (l : Location) (t : Tree) → None ≡ as_list t → None ≡ as_members t → children_at l t ≡ []
 children_at-none l (list us) h k = none_some _ (sym h)
 children_at-none l (object us) h k = none_some _ (sym k)

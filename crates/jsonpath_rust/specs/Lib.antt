@@ -10,5 +10,6 @@ pub mod Sinks
 pub mod Walking
 pub mod Keeping
 pub mod Operands
+pub mod Way
 pub mod Weight
 pub mod Patterns

@@ -17,9 +17,8 @@ mod operand;
 pub mod queryable;
 mod singular;
 mod sink;
-#[cfg(test)]
-mod tests;
 mod walk;
+mod way;
 
 use crate::query::queryable::Queryable;
 use jsonpath_parser::errors::JsonPathError;

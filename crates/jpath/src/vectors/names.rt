@@ -42,14 +42,17 @@ pub static SPELLED_AT_LENGTH: [Row; 1] = [Row(
     &[("$[0]", r#"{"a":[true,-1],"b":"é\n"}"#)],
 )];
 
-pub static NO_QUERIES: [&str; 8] = [
+pub static NO_QUERIES: [&str; 11] = [
     "",
+    " $",
     "$. a",
     "$.a ",
     "$[]",
     "$[01]",
     "$[-0]",
     "$..",
+    "$.1",
+    "$[9007199254740992]",
     "$[-9007199254740992]",
 ];
 

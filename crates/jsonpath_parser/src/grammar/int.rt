@@ -1,5 +1,5 @@
 //! Whole numbers, as indexes are written (RFC 9535, 2.1 and 2.3.3.1).
-ghost use Rattle.std.specs.Prelude.{◌≡◌, ◌<◌, ◌≤◌, length, IfOk};
+ghost use Rattle.std.specs.Prelude.{◌≡◌, ◌≢◌, ◌<◌, ◌≤◌, length, IfOk, IfErr};
 ghost use Rattle.jsonpath_parser.specs.Reading.{Reads};
 ghost use Rattle.jsonpath_parser.specs.Reading as spec;
 
@@ -15,6 +15,7 @@ fn magnitude(s: &str) -> Result<(u64, &str), Stop>
     ensures value { Reads (λ n. n) result (spec.magnitude_at s.now) }
     ensures shorter { IfOk result (λ p. length p.1.now < length s.now) }
     ensures small { IfOk result (λ p. p.0 ≤ 9007199254740991) }
+    ensures no_memory { IfErr result (λ e. e ≢ Stop.Memory) }
 {
     let (digits, rest) = digit_run(s);
     if first(digits) == b'0' && digits.len() > 1 {
@@ -34,6 +35,7 @@ fn magnitude(s: &str) -> Result<(u64, &str), Stop>
 pub fn int(s: &str) -> Result<(i64, &str), Stop>
     ensures value { Reads (λ n. n) result (spec.int_at s.now) }
     ensures shorter { IfOk result (λ p. length p.1.now < length s.now) }
+    ensures no_memory { IfErr result (λ e. e ≢ Stop.Memory) }
 {
     if first(s) != b'-' {
         let (value, rest) = magnitude(s)?;

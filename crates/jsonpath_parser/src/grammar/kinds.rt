@@ -1,5 +1,5 @@
 //! The parts of a query, each read by itself (RFC 9535, 2.1 to 2.5). A tree that is not well-typed is refused.
-ghost use Rattle.std.specs.Prelude.{◌≡◌, true, map, option_map};
+ghost use Rattle.std.specs.Prelude.{◌≡◌, ◌≢◌, true, map, option_map, IfErr};
 ghost use Rattle.jsonpath_parser.specs.Reading.{Gives, Reads};
 ghost use Rattle.jsonpath_parser.specs.ReadingGrammar.{filter_of, comparable_of, steps_of, numbered_at};
 ghost use Rattle.jsonpath_parser.specs.ReadingParts as spec;
@@ -355,7 +355,8 @@ pub fn selector(alloc: Global, numbers: Numbers, s: &str) -> Result<(Selector, &
 /// The start, the end and the step of a slice.
 #[tactic(auto, unfolding(crate::specs::ReadingParts::taken_at))]
 pub fn slice(s: &str) -> Result<((Option<i64>, Option<i64>, Option<i64>), &str), Stop>
-    ensures { Reads (λ p. p) result (taken_at spec.slice_in (λ p. true) (numbered_at s.now)) }
+    ensures value { Reads (λ p. p) result (taken_at spec.slice_in (λ p. true) (numbered_at s.now)) }
+    ensures no_memory { IfErr result (λ e. e ≢ Stop.Memory) }
 {
     let (selector, rest) = numbered(s)?;
     match slice_in(&selector) {

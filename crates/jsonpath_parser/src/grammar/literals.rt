@@ -1,5 +1,5 @@
 //! Number literals in a query text (RFC 9535, 2.3.5.1).
-ghost use Rattle.std.specs.Prelude.{◌<◌, length, IfOk, Some};
+ghost use Rattle.std.specs.Prelude.{◌<◌, ◌≢◌, length, IfOk, Some, IfErr};
 ghost use Rattle.jsonpath_parser.specs.Reading.{Reads};
 ghost use Rattle.jsonpath_parser.specs.ReadingGrammar.{number_reading};
 
@@ -20,6 +20,7 @@ pub enum Numbers {
 pub fn number_literal(numbers: Numbers, s: &str) -> Result<(i64, &str), Stop>
     ensures value { Reads (λ n. Some n) result (number_reading numbers s.now) }
     ensures shorter { IfOk result (λ p. length p.1.now < length s.now) }
+    ensures no_memory { IfErr result (λ e. e ≢ Stop.Memory) }
 {
     let (value, rest) = number(s)?;
     match (value, numbers) {

@@ -1,5 +1,5 @@
 //! What stands on a side of a comparison, or alone (RFC 9535, 2.3.5.1).
-ghost use Rattle.std.specs.Prelude.{◌≡◌, ℕ, ◌<◌, ◌≤◌, length, IfOk, map, option_map};
+ghost use Rattle.std.specs.Prelude.{◌≡◌, ◌≢◌, ℕ, ◌<◌, ◌≤◌, length, IfOk, map, option_map, IfErr};
 ghost use Rattle.jsonpath_parser.specs.Reading.{Gives, Reads};
 ghost use Rattle.jsonpath_parser.specs.ReadingGrammar as spec;
 ghost use Rattle.jsonpath_parser.specs.ReadingGrammar.{number_reading};
@@ -121,7 +121,8 @@ pub fn comparable(alloc: Global, operand: FnArg, left: usize) -> Result<Comparab
 
 /// The argument as a logical expression; `left` bytes follow it.
 pub fn filter(argument: FnArg, left: usize) -> Result<Filter, Stop>
-    ensures { Gives filter_view result (spec.filter_of (argument_view argument)) }
+    ensures value { Gives filter_view result (spec.filter_of (argument_view argument)) }
+    ensures no_memory { IfErr result (λ e. e ≢ Stop.Memory) }
 {
     match argument {
         FnArg::Literal(_) => Err(Stop::Syntax(left)),
@@ -132,7 +133,8 @@ pub fn filter(argument: FnArg, left: usize) -> Result<Filter, Stop>
 
 /// The test behind `!`; `left` bytes follow it.
 pub fn negated_test(operand: FnArg, left: usize) -> Result<FnArg, Stop>
-    ensures { Gives argument_view result (spec.negated_of (argument_view operand)) }
+    ensures value { Gives argument_view result (spec.negated_of (argument_view operand)) }
+    ensures no_memory { IfErr result (λ e. e ≢ Stop.Memory) }
 {
     match operand {
         FnArg::Test(expr) => Ok(FnArg::Filter(Filter::Atom(FilterAtom::Test { expr, not: true }))),

@@ -1,5 +1,5 @@
 //! Indexes and slices (RFC 9535, 2.3.3 and 2.3.4).
-ghost use Rattle.std.specs.Prelude.{◌≡◌, ◌<◌, ◌≤◌, length, IfOk};
+ghost use Rattle.std.specs.Prelude.{◌≡◌, ◌≢◌, ◌<◌, ◌≤◌, length, IfOk, IfErr};
 ghost use Rattle.jsonpath_parser.specs.Reading.{Reads};
 ghost use Rattle.jsonpath_parser.specs.ReadingGrammar as spec;
 ghost use Rattle.jsonpath_parser.specs.View.{selector_view};
@@ -22,6 +22,7 @@ pub fn is_int_first(byte: u8) -> bool
 fn end(s: &str) -> Result<(Option<i64>, &str), Stop>
     ensures value { Reads (λ n. n) result (spec.end_at s.now) }
     ensures within { IfOk result (λ p. length p.1.now ≤ length s.now) }
+    ensures no_memory { IfErr result (λ e. e ≢ Stop.Memory) }
 {
     if !is_int_first(first(s)) {
         return Ok((None, s));
@@ -35,6 +36,7 @@ fn end(s: &str) -> Result<(Option<i64>, &str), Stop>
 fn step(s: &str) -> Result<(Option<i64>, &str), Stop>
     ensures value { Reads (λ n. n) result (spec.step_at s.now) }
     ensures within { IfOk result (λ p. length p.1.now ≤ length s.now) }
+    ensures no_memory { IfErr result (λ e. e ≢ Stop.Memory) }
 {
     let start = skip_blank(s);
     if !is_int_first(first(start)) {
@@ -49,6 +51,7 @@ fn step(s: &str) -> Result<(Option<i64>, &str), Stop>
 fn slice(start: Option<i64>, s: &str) -> Result<(Selector, &str), Stop>
     ensures value { Reads selector_view result (spec.slice_at start s.now) }
     ensures within { IfOk result (λ p. length p.1.now ≤ length s.now) }
+    ensures no_memory { IfErr result (λ e. e ≢ Stop.Memory) }
 {
     let (end, after) = end(skip_blank(s))?;
     if first(after) != b':' {
@@ -63,6 +66,7 @@ fn slice(start: Option<i64>, s: &str) -> Result<(Selector, &str), Stop>
 pub fn numbered(s: &str) -> Result<(Selector, &str), Stop>
     ensures value { Reads selector_view result (spec.numbered_at s.now) }
     ensures shorter { IfOk result (λ p. length p.1.now < length s.now) }
+    ensures no_memory { IfErr result (λ e. e ≢ Stop.Memory) }
 {
     if first(s) == b':' {
         return slice(None, skip(s, 1));

@@ -1,5 +1,5 @@
 //! Names, words and operators (RFC 9535, 2.3.5.1, 2.4 and 2.5.1.1).
-ghost use Rattle.std.specs.Prelude.{◌≡◌, ◌<◌, ◌≤◌, length, IfOk, option_map, string_bytes};
+ghost use Rattle.std.specs.Prelude.{◌≡◌, ◌≢◌, ◌<◌, ◌≤◌, length, IfOk, option_map, string_bytes, IfErr};
 ghost use Rattle.jsonpath_parser.specs.Reading.{Reads};
 ghost use Rattle.jsonpath_parser.specs.Reading as reading;
 ghost use Rattle.jsonpath_parser.specs.ReadingGrammar as spec;
@@ -42,6 +42,7 @@ pub fn shorthand(alloc: Global, s: &str) -> Result<(Selector, &str), Stop>
 pub fn word(s: &str) -> Result<(&str, &str), Stop>
     ensures value { Reads (λ w. w.now) result (spec.word_at s.now) }
     ensures shorter { IfOk result (λ p. length p.1.now < length s.now) }
+    ensures no_memory { IfErr result (λ e. e ≢ Stop.Memory) }
 {
     if !is_function_first(first(s)) {
         return Err(Stop::Syntax(s.len()));
@@ -85,6 +86,7 @@ pub fn is_operator_first(byte: u8) -> bool
 pub fn read_operator(s: &str) -> Result<(Operator, &str), Stop>
     ensures value { Reads operator_view result (spec.operator_at s.now) }
     ensures shorter { IfOk result (λ p. length p.1.now < length s.now) }
+    ensures no_memory { IfErr result (λ e. e ≢ Stop.Memory) }
 {
     match (first(s), byte_at(s, 1)) {
         (b'=', b'=') => Ok((Operator::Equal, skip(s, 2))),

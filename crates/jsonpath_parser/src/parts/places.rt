@@ -60,7 +60,7 @@ pub fn refusal<T: Drop>(
     stop: Stop,
     again: Result<(T, &str), Stop>,
 ) -> JsonPathError
-    ensures { IsPartsRefusal (text_of cursor.now) stop again.entry result }
+    ensures { IsPartsRefusal cursor.now stop again.entry result }
 {
     let Stop::Syntax(left) = stop else {
         return JsonPathError::OutOfMemory;

@@ -16,37 +16,38 @@ use crate::query::filter_test::filter_holds;
 use crate::query::kept::{Gathered, Kept, Task};
 use crate::query::operand::{Operand, Scalar, count_scalar, push_scalar, push_values, scalar_of};
 use crate::query::queryable::{Arg, Queryable};
-use crate::query::sink::{Kind, Sink, StepRef};
+use crate::query::sink::{Kind, Sink};
 use crate::query::walk::walk;
+use crate::query::way::Way;
 use jsonpath_parser::model::{FnArg, JpQuery, Segment, Test, TestFunction};
 
-/// What a function answers at a value, to which these steps lead.
+/// What a function answers at a value, to which this way leads.
 #[cycle(walk)]
 pub fn answer<'a: 's, 's, T: Queryable>(
     task: &Task<'a, 's, T>,
     function: &'s TestFunction,
     at: &'a T,
-    steps: &mut Vec<StepRef<'s>>,
+    way: &mut Way<'s>,
     kept: &mut Kept<'a, 's, T>,
 ) -> Queried<Operand<'a, 's, T>>
     requires whole { IsTrue (T.is_whole at.now) }
     requires within { size (T.tree at.now) ≤ size (T.tree task.now.root.now) }
-    requires here { LeadTo T.tree steps.old.items task.now.root.now at.now }
+    requires here { LeadTo T.tree way.old.steps.items task.now.root.now at.now }
     requires part { StandIn (asked task.now) (call_patterns (call_view function.now)) }
     requires ready { IsReady T.tree T.is_whole T.custom task.now kept.old }
-    ensures value { IfOk result (λ o. operand_tree T.tree o ≡ answer (call_view function.now) (document T.tree T.custom task.now) (node_of T.tree steps.old.items at.now)) }
+    ensures value { IfOk result (λ o. operand_tree T.tree o ≡ answer (call_view function.now) (document T.tree T.custom task.now) (node_of T.tree way.old.steps.items at.now)) }
     ensures whole { IfOk result (λ o. IsTrue (operand_is_whole T.is_whole o)) }
-    ensures same { OnOk result (steps.new.items ≡ steps.old.items) }
+    ensures same { OnOk result (way.new.steps.items ≡ way.old.steps.items) }
     ensures keeps { OnOk result (IsReady T.tree T.is_whole T.custom task.now kept.new) }
     ensures refused { IfErr result (IsStop (asked task.now) (document T.tree T.custom task.now)) }
 {
     match function {
-        TestFunction::Custom(name, args) => custom(task, name, args, at, steps, kept),
-        TestFunction::Length(arg) => argument_value(task, arg, at, steps, kept)?.length(task.alloc),
-        TestFunction::Value(arg) => only_value(task, arg, at, steps, kept),
-        TestFunction::Count(arg) => count(task, arg, at, steps, kept),
-        TestFunction::Search(text, pattern) => found(task, text, pattern, false, at, steps, kept),
-        TestFunction::Match(text, pattern) => found(task, text, pattern, true, at, steps, kept),
+        TestFunction::Custom(name, args) => custom(task, name, args, at, way, kept),
+        TestFunction::Length(arg) => argument_value(task, arg, at, way, kept)?.length(task.alloc),
+        TestFunction::Value(arg) => only_value(task, arg, at, way, kept),
+        TestFunction::Count(arg) => count(task, arg, at, way, kept),
+        TestFunction::Search(text, pattern) => found(task, text, pattern, false, at, way, kept),
+        TestFunction::Match(text, pattern) => found(task, text, pattern, true, at, way, kept),
     }
 }
 
@@ -56,21 +57,21 @@ fn count<'a: 's, 's, T: Queryable>(
     task: &Task<'a, 's, T>,
     arg: &'s FnArg,
     at: &'a T,
-    steps: &mut Vec<StepRef<'s>>,
+    way: &mut Way<'s>,
     kept: &mut Kept<'a, 's, T>,
 ) -> Queried<Operand<'a, 's, T>>
     requires whole { IsTrue (T.is_whole at.now) }
     requires within { size (T.tree at.now) ≤ size (T.tree task.now.root.now) }
-    requires here { LeadTo T.tree steps.old.items task.now.root.now at.now }
+    requires here { LeadTo T.tree way.old.steps.items task.now.root.now at.now }
     requires part { StandIn (asked task.now) (argument_patterns (argument_view arg.now)) }
     requires ready { IsReady T.tree T.is_whole T.custom task.now kept.old }
-    ensures value { IfOk result (λ o. operand_tree T.tree o ≡ count_of (argument_nodes (argument_view arg.now) (document T.tree T.custom task.now) (node_of T.tree steps.old.items at.now))) }
+    ensures value { IfOk result (λ o. operand_tree T.tree o ≡ count_of (argument_nodes (argument_view arg.now) (document T.tree T.custom task.now) (node_of T.tree way.old.steps.items at.now))) }
     ensures whole { IfOk result (λ o. IsTrue (operand_is_whole T.is_whole o)) }
-    ensures same { OnOk result (steps.new.items ≡ steps.old.items) }
+    ensures same { OnOk result (way.new.steps.items ≡ way.old.steps.items) }
     ensures keeps { OnOk result (IsReady T.tree T.is_whole T.custom task.now kept.new) }
     ensures refused { IfErr result (IsStop (asked task.now) (document T.tree T.custom task.now)) }
 {
-    let nodes = argument_nodes(task, arg, Kind::Count, at, steps, kept)?;
+    let nodes = argument_nodes(task, arg, Kind::Count, at, way, kept)?;
     Ok(Operand::Plain(count_scalar(kept.given(&nodes).counted())))
 }
 
@@ -80,21 +81,21 @@ fn only_value<'a: 's, 's, T: Queryable>(
     task: &Task<'a, 's, T>,
     arg: &'s FnArg,
     at: &'a T,
-    steps: &mut Vec<StepRef<'s>>,
+    way: &mut Way<'s>,
     kept: &mut Kept<'a, 's, T>,
 ) -> Queried<Operand<'a, 's, T>>
     requires whole { IsTrue (T.is_whole at.now) }
     requires within { size (T.tree at.now) ≤ size (T.tree task.now.root.now) }
-    requires here { LeadTo T.tree steps.old.items task.now.root.now at.now }
+    requires here { LeadTo T.tree way.old.steps.items task.now.root.now at.now }
     requires part { StandIn (asked task.now) (argument_patterns (argument_view arg.now)) }
     requires ready { IsReady T.tree T.is_whole T.custom task.now kept.old }
-    ensures value { IfOk result (λ o. operand_tree T.tree o ≡ only_value (argument_nodes (argument_view arg.now) (document T.tree T.custom task.now) (node_of T.tree steps.old.items at.now))) }
+    ensures value { IfOk result (λ o. operand_tree T.tree o ≡ only_value (argument_nodes (argument_view arg.now) (document T.tree T.custom task.now) (node_of T.tree way.old.steps.items at.now))) }
     ensures whole { IfOk result (λ o. IsTrue (operand_is_whole T.is_whole o)) }
-    ensures same { OnOk result (steps.new.items ≡ steps.old.items) }
+    ensures same { OnOk result (way.new.steps.items ≡ way.old.steps.items) }
     ensures keeps { OnOk result (IsReady T.tree T.is_whole T.custom task.now kept.new) }
     ensures refused { IfErr result (IsStop (asked task.now) (document T.tree T.custom task.now)) }
 {
-    let nodes = argument_nodes(task, arg, Kind::Only, at, steps, kept)?;
+    let nodes = argument_nodes(task, arg, Kind::Only, at, way, kept)?;
     Ok(Operand::lent(kept.given(&nodes).only()))
 }
 
@@ -106,23 +107,23 @@ fn found<'a: 's, 's, T: Queryable>(
     pattern: &'s FnArg,
     whole: bool,
     at: &'a T,
-    steps: &mut Vec<StepRef<'s>>,
+    way: &mut Way<'s>,
     kept: &mut Kept<'a, 's, T>,
 ) -> Queried<Operand<'a, 's, T>>
     requires whole { IsTrue (T.is_whole at.now) }
     requires within { size (T.tree at.now) ≤ size (T.tree task.now.root.now) }
-    requires here { LeadTo T.tree steps.old.items task.now.root.now at.now }
+    requires here { LeadTo T.tree way.old.steps.items task.now.root.now at.now }
     requires part { StandIn (asked task.now) ((whole, argument_view pattern.now) ∷ (argument_patterns (argument_view text.now) ++ argument_patterns (argument_view pattern.now))) }
     requires ready { IsReady T.tree T.is_whole T.custom task.now kept.old }
-    ensures value { IfOk result (λ o. operand_tree T.tree o ≡ Some (truth (is_found whole (argument_value (argument_view text.now) (document T.tree T.custom task.now) (node_of T.tree steps.old.items at.now)) (argument_value (argument_view pattern.now) (document T.tree T.custom task.now) (node_of T.tree steps.old.items at.now))))) }
+    ensures value { IfOk result (λ o. operand_tree T.tree o ≡ Some (truth (is_found whole (argument_value (argument_view text.now) (document T.tree T.custom task.now) (node_of T.tree way.old.steps.items at.now)) (argument_value (argument_view pattern.now) (document T.tree T.custom task.now) (node_of T.tree way.old.steps.items at.now))))) }
     ensures whole { IfOk result (λ o. IsTrue (operand_is_whole T.is_whole o)) }
-    ensures same { OnOk result (steps.new.items ≡ steps.old.items) }
+    ensures same { OnOk result (way.new.steps.items ≡ way.old.steps.items) }
     ensures keeps { OnOk result (IsReady T.tree T.is_whole T.custom task.now kept.new) }
     ensures refused { IfErr result (IsStop (asked task.now) (document T.tree T.custom task.now)) }
 {
     let is_literal = matches!(pattern, FnArg::Literal(_));
-    let text = argument_value(task, text, at, steps, kept)?;
-    let pattern = argument_value(task, pattern, at, steps, kept)?;
+    let text = argument_value(task, text, at, way, kept)?;
+    let pattern = argument_value(task, pattern, at, way, kept)?;
     let found = kept.is_found(task.alloc, &text, &pattern, whole, is_literal)?;
     Ok(Operand::Plain(Scalar::Truth(found)))
 }
@@ -134,23 +135,23 @@ fn custom<'a: 's, 's, T: Queryable>(
     name: &'s String,
     args: &'s [FnArg],
     at: &'a T,
-    steps: &mut Vec<StepRef<'s>>,
+    way: &mut Way<'s>,
     kept: &mut Kept<'a, 's, T>,
 ) -> Queried<Operand<'a, 's, T>>
     requires whole { IsTrue (T.is_whole at.now) }
     requires within { size (T.tree at.now) ≤ size (T.tree task.now.root.now) }
-    requires here { LeadTo T.tree steps.old.items task.now.root.now at.now }
+    requires here { LeadTo T.tree way.old.steps.items task.now.root.now at.now }
     requires part { StandIn (asked task.now) (arguments_patterns (arguments_in args.now)) }
     requires ready { IsReady T.tree T.is_whole T.custom task.now kept.old }
-    ensures value { IfOk result (λ o. operand_tree T.tree o ≡ Some (T.custom (string_bytes name.now) (all_trees (arguments_in args.now) (document T.tree T.custom task.now) (node_of T.tree steps.old.items at.now)))) }
+    ensures value { IfOk result (λ o. operand_tree T.tree o ≡ Some (T.custom (string_bytes name.now) (all_trees (arguments_in args.now) (document T.tree T.custom task.now) (node_of T.tree way.old.steps.items at.now)))) }
     ensures whole { IfOk result (λ o. IsTrue (operand_is_whole T.is_whole o)) }
-    ensures same { OnOk result (steps.new.items ≡ steps.old.items) }
+    ensures same { OnOk result (way.new.steps.items ≡ way.old.steps.items) }
     ensures keeps { OnOk result (IsReady T.tree T.is_whole T.custom task.now kept.new) }
     ensures refused { IfErr result (IsStop (asked task.now) (document T.tree T.custom task.now)) }
 {
     let mut values = Vec::new(task.alloc);
     for arg in args {
-        push_argument(task, arg, &mut values, at, steps, kept)?;
+        push_argument(task, arg, &mut values, at, way, kept)?;
     }
     Ok(Operand::Made(T::extension_custom(task.alloc, name, &values)?))
 }
@@ -162,26 +163,26 @@ fn push_argument<'a: 's, 's, T: Queryable>(
     arg: &'s FnArg,
     values: &mut Vec<Arg<'a, T>>,
     at: &'a T,
-    steps: &mut Vec<StepRef<'s>>,
+    way: &mut Way<'s>,
     kept: &mut Kept<'a, 's, T>,
 ) -> Queried<()>
     requires whole { IsTrue (T.is_whole at.now) }
     requires within { size (T.tree at.now) ≤ size (T.tree task.now.root.now) }
-    requires here { LeadTo T.tree steps.old.items task.now.root.now at.now }
+    requires here { LeadTo T.tree way.old.steps.items task.now.root.now at.now }
     requires part { StandIn (asked task.now) (argument_patterns (argument_view arg.now)) }
     requires ready { IsReady T.tree T.is_whole T.custom task.now kept.old }
     requires others { AreWhole T.is_whole values.old.items }
-    ensures value { OnOk result (trees_of T.tree values.new.items ≡ trees_of T.tree values.old.items ++ argument_trees (argument_view arg.now) (document T.tree T.custom task.now) (node_of T.tree steps.old.items at.now)) }
+    ensures value { OnOk result (trees_of T.tree values.new.items ≡ trees_of T.tree values.old.items ++ argument_trees (argument_view arg.now) (document T.tree T.custom task.now) (node_of T.tree way.old.steps.items at.now)) }
     ensures whole { OnOk result (AreWhole T.is_whole values.new.items) }
-    ensures same { OnOk result (steps.new.items ≡ steps.old.items) }
+    ensures same { OnOk result (way.new.steps.items ≡ way.old.steps.items) }
     ensures keeps { OnOk result (IsReady T.tree T.is_whole T.custom task.now kept.new) }
     ensures refused { IfErr result (IsStop (asked task.now) (document T.tree T.custom task.now)) }
 {
     match arg {
         FnArg::Literal(literal) => push_scalar(task.alloc, scalar_of(literal), values),
-        FnArg::Test(test) => push_test(task, test, values, at, steps, kept),
+        FnArg::Test(test) => push_test(task, test, values, at, way, kept),
         FnArg::Filter(filter) => {
-            let truth = filter_holds(task, filter, at, steps, kept)?;
+            let truth = filter_holds(task, filter, at, way, kept)?;
             push_scalar(task.alloc, Scalar::Truth(truth), values)
         }
     }
@@ -194,31 +195,31 @@ fn push_test<'a: 's, 's, T: Queryable>(
     test: &'s Test,
     values: &mut Vec<Arg<'a, T>>,
     at: &'a T,
-    steps: &mut Vec<StepRef<'s>>,
+    way: &mut Way<'s>,
     kept: &mut Kept<'a, 's, T>,
 ) -> Queried<()>
     requires whole { IsTrue (T.is_whole at.now) }
     requires within { size (T.tree at.now) ≤ size (T.tree task.now.root.now) }
-    requires here { LeadTo T.tree steps.old.items task.now.root.now at.now }
+    requires here { LeadTo T.tree way.old.steps.items task.now.root.now at.now }
     requires part { StandIn (asked task.now) (test_patterns (test_view test.now)) }
     requires ready { IsReady T.tree T.is_whole T.custom task.now kept.old }
     requires others { AreWhole T.is_whole values.old.items }
-    ensures value { OnOk result (trees_of T.tree values.new.items ≡ trees_of T.tree values.old.items ++ test_trees (test_view test.now) (document T.tree T.custom task.now) (node_of T.tree steps.old.items at.now)) }
+    ensures value { OnOk result (trees_of T.tree values.new.items ≡ trees_of T.tree values.old.items ++ test_trees (test_view test.now) (document T.tree T.custom task.now) (node_of T.tree way.old.steps.items at.now)) }
     ensures whole { OnOk result (AreWhole T.is_whole values.new.items) }
-    ensures same { OnOk result (steps.new.items ≡ steps.old.items) }
+    ensures same { OnOk result (way.new.steps.items ≡ way.old.steps.items) }
     ensures keeps { OnOk result (IsReady T.tree T.is_whole T.custom task.now kept.new) }
     ensures refused { IfErr result (IsStop (asked task.now) (document T.tree T.custom task.now)) }
 {
     match test {
         Test::RelQuery(segments) => {
-            let nodes = gather(task, segments, Kind::Values, at, steps, kept)?;
+            let nodes = gather(task, segments, Kind::Values, at, way, kept)?;
             push_values(&nodes, values)
         }
         Test::AbsQuery(query) => {
             let place = absolute(task, query, Kind::Values, kept)?;
             push_values(kept.answer(place), values)
         }
-        Test::Function(function) => answer(task, function, at, steps, kept)?.push_to(
+        Test::Function(function) => answer(task, function, at, way, kept)?.push_to(
             task.alloc, values,
         ),
     }
@@ -230,25 +231,25 @@ fn argument_value<'a: 's, 's, T: Queryable>(
     task: &Task<'a, 's, T>,
     arg: &'s FnArg,
     at: &'a T,
-    steps: &mut Vec<StepRef<'s>>,
+    way: &mut Way<'s>,
     kept: &mut Kept<'a, 's, T>,
 ) -> Queried<Operand<'a, 's, T>>
     requires whole { IsTrue (T.is_whole at.now) }
     requires within { size (T.tree at.now) ≤ size (T.tree task.now.root.now) }
-    requires here { LeadTo T.tree steps.old.items task.now.root.now at.now }
+    requires here { LeadTo T.tree way.old.steps.items task.now.root.now at.now }
     requires part { StandIn (asked task.now) (argument_patterns (argument_view arg.now)) }
     requires ready { IsReady T.tree T.is_whole T.custom task.now kept.old }
-    ensures value { IfOk result (λ o. operand_tree T.tree o ≡ argument_value (argument_view arg.now) (document T.tree T.custom task.now) (node_of T.tree steps.old.items at.now)) }
+    ensures value { IfOk result (λ o. operand_tree T.tree o ≡ argument_value (argument_view arg.now) (document T.tree T.custom task.now) (node_of T.tree way.old.steps.items at.now)) }
     ensures whole { IfOk result (λ o. IsTrue (operand_is_whole T.is_whole o)) }
-    ensures same { OnOk result (steps.new.items ≡ steps.old.items) }
+    ensures same { OnOk result (way.new.steps.items ≡ way.old.steps.items) }
     ensures keeps { OnOk result (IsReady T.tree T.is_whole T.custom task.now kept.new) }
     ensures refused { IfErr result (IsStop (asked task.now) (document T.tree T.custom task.now)) }
 {
     match arg {
         FnArg::Literal(literal) => Ok(Operand::Plain(scalar_of(literal))),
-        FnArg::Test(test) => test_value(task, test, at, steps, kept),
+        FnArg::Test(test) => test_value(task, test, at, way, kept),
         FnArg::Filter(filter) => Ok(Operand::Plain(Scalar::Truth(filter_holds(
-            task, filter, at, steps, kept,
+            task, filter, at, way, kept,
         )?))),
     }
 }
@@ -259,17 +260,17 @@ fn test_value<'a: 's, 's, T: Queryable>(
     task: &Task<'a, 's, T>,
     test: &'s Test,
     at: &'a T,
-    steps: &mut Vec<StepRef<'s>>,
+    way: &mut Way<'s>,
     kept: &mut Kept<'a, 's, T>,
 ) -> Queried<Operand<'a, 's, T>>
     requires whole { IsTrue (T.is_whole at.now) }
     requires within { size (T.tree at.now) ≤ size (T.tree task.now.root.now) }
-    requires here { LeadTo T.tree steps.old.items task.now.root.now at.now }
+    requires here { LeadTo T.tree way.old.steps.items task.now.root.now at.now }
     requires part { StandIn (asked task.now) (test_patterns (test_view test.now)) }
     requires ready { IsReady T.tree T.is_whole T.custom task.now kept.old }
-    ensures value { IfOk result (λ o. operand_tree T.tree o ≡ test_value (test_view test.now) (document T.tree T.custom task.now) (node_of T.tree steps.old.items at.now)) }
+    ensures value { IfOk result (λ o. operand_tree T.tree o ≡ test_value (test_view test.now) (document T.tree T.custom task.now) (node_of T.tree way.old.steps.items at.now)) }
     ensures whole { IfOk result (λ o. IsTrue (operand_is_whole T.is_whole o)) }
-    ensures same { OnOk result (steps.new.items ≡ steps.old.items) }
+    ensures same { OnOk result (way.new.steps.items ≡ way.old.steps.items) }
     ensures keeps { OnOk result (IsReady T.tree T.is_whole T.custom task.now kept.new) }
     ensures refused { IfErr result (IsStop (asked task.now) (document T.tree T.custom task.now)) }
 {
@@ -279,14 +280,14 @@ fn test_value<'a: 's, 's, T: Queryable>(
             segments,
             Kind::Only,
             at,
-            steps,
+            way,
             kept,
         )?.only())),
         Test::AbsQuery(query) => {
             let place = absolute(task, query, Kind::Only, kept)?;
             Ok(Operand::lent(kept.answer(place).only()))
         }
-        Test::Function(function) => answer(task, function, at, steps, kept),
+        Test::Function(function) => answer(task, function, at, way, kept),
     }
 }
 
@@ -297,22 +298,22 @@ fn argument_nodes<'a: 's, 's, T: Queryable>(
     arg: &'s FnArg,
     kind: Kind,
     at: &'a T,
-    steps: &mut Vec<StepRef<'s>>,
+    way: &mut Way<'s>,
     kept: &mut Kept<'a, 's, T>,
 ) -> Queried<Gathered<'a, T>>
     requires whole { IsTrue (T.is_whole at.now) }
     requires within { size (T.tree at.now) ≤ size (T.tree task.now.root.now) }
-    requires here { LeadTo T.tree steps.old.items task.now.root.now at.now }
+    requires here { LeadTo T.tree way.old.steps.items task.now.root.now at.now }
     requires part { StandIn (asked task.now) (argument_patterns (argument_view arg.now)) }
     requires ready { IsReady T.tree T.is_whole T.custom task.now kept.old }
-    ensures given { IfOk result (λ g. gathered T.tree T.is_whole kept.new g ≡ give (start kind) (argument_nodes (argument_view arg.now) (document T.tree T.custom task.now) (node_of T.tree steps.old.items at.now))) }
+    ensures given { IfOk result (λ g. gathered T.tree T.is_whole kept.new g ≡ give (start kind) (argument_nodes (argument_view arg.now) (document T.tree T.custom task.now) (node_of T.tree way.old.steps.items at.now))) }
     ensures within { IfOk result (λ g. IsGathered kept.new g) }
-    ensures same { OnOk result (steps.new.items ≡ steps.old.items) }
+    ensures same { OnOk result (way.new.steps.items ≡ way.old.steps.items) }
     ensures keeps { OnOk result (IsReady T.tree T.is_whole T.custom task.now kept.new) }
     ensures refused { IfErr result (IsStop (asked task.now) (document T.tree T.custom task.now)) }
 {
     match arg {
-        FnArg::Test(test) => test_nodes(task, test, kind, at, steps, kept),
+        FnArg::Test(test) => test_nodes(task, test, kind, at, way, kept),
         FnArg::Literal(_) => Ok(Gathered::Own(Sink::start(task.alloc, kind))),
         FnArg::Filter(_) => Ok(Gathered::Own(Sink::start(task.alloc, kind))),
     }
@@ -325,24 +326,22 @@ fn test_nodes<'a: 's, 's, T: Queryable>(
     test: &'s Test,
     kind: Kind,
     at: &'a T,
-    steps: &mut Vec<StepRef<'s>>,
+    way: &mut Way<'s>,
     kept: &mut Kept<'a, 's, T>,
 ) -> Queried<Gathered<'a, T>>
     requires whole { IsTrue (T.is_whole at.now) }
     requires within { size (T.tree at.now) ≤ size (T.tree task.now.root.now) }
-    requires here { LeadTo T.tree steps.old.items task.now.root.now at.now }
+    requires here { LeadTo T.tree way.old.steps.items task.now.root.now at.now }
     requires part { StandIn (asked task.now) (test_patterns (test_view test.now)) }
     requires ready { IsReady T.tree T.is_whole T.custom task.now kept.old }
-    ensures given { IfOk result (λ g. gathered T.tree T.is_whole kept.new g ≡ give (start kind) (test_nodes (test_view test.now) (document T.tree T.custom task.now) (node_of T.tree steps.old.items at.now))) }
+    ensures given { IfOk result (λ g. gathered T.tree T.is_whole kept.new g ≡ give (start kind) (test_nodes (test_view test.now) (document T.tree T.custom task.now) (node_of T.tree way.old.steps.items at.now))) }
     ensures within { IfOk result (λ g. IsGathered kept.new g) }
-    ensures same { OnOk result (steps.new.items ≡ steps.old.items) }
+    ensures same { OnOk result (way.new.steps.items ≡ way.old.steps.items) }
     ensures keeps { OnOk result (IsReady T.tree T.is_whole T.custom task.now kept.new) }
     ensures refused { IfErr result (IsStop (asked task.now) (document T.tree T.custom task.now)) }
 {
     match test {
-        Test::RelQuery(segments) => Ok(Gathered::Own(gather(
-            task, segments, kind, at, steps, kept,
-        )?)),
+        Test::RelQuery(segments) => Ok(Gathered::Own(gather(task, segments, kind, at, way, kept)?)),
         Test::AbsQuery(query) => Ok(Gathered::Kept(absolute(task, query, kind, kept)?)),
         Test::Function(_) => Ok(Gathered::Own(Sink::start(task.alloc, kind))),
     }
@@ -355,21 +354,21 @@ pub fn gather<'a: 's, 's, T: Queryable>(
     segments: &'s [Segment],
     kind: Kind,
     at: &'a T,
-    steps: &mut Vec<StepRef<'s>>,
+    way: &mut Way<'s>,
     kept: &mut Kept<'a, 's, T>,
 ) -> Queried<Sink<'a, T>>
     requires whole { IsTrue (T.is_whole at.now) }
     requires within { size (T.tree at.now) ≤ size (T.tree task.now.root.now) }
-    requires here { LeadTo T.tree steps.old.items task.now.root.now at.now }
+    requires here { LeadTo T.tree way.old.steps.items task.now.root.now at.now }
     requires part { StandIn (asked task.now) (segments_patterns (segments_in segments.now)) }
     requires ready { IsReady T.tree T.is_whole T.custom task.now kept.old }
-    ensures given { IfOk result (λ s. seen T.tree T.is_whole s ≡ give (start kind) (through (segments_in segments.now) (document T.tree T.custom task.now) (node_of T.tree steps.old.items at.now))) }
-    ensures same { OnOk result (steps.new.items ≡ steps.old.items) }
+    ensures given { IfOk result (λ s. seen T.tree T.is_whole s ≡ give (start kind) (through (segments_in segments.now) (document T.tree T.custom task.now) (node_of T.tree way.old.steps.items at.now))) }
+    ensures same { OnOk result (way.new.steps.items ≡ way.old.steps.items) }
     ensures keeps { OnOk result (IsReady T.tree T.is_whole T.custom task.now kept.new) }
     ensures refused { IfErr result (IsStop (asked task.now) (document T.tree T.custom task.now)) }
 {
     let mut sink = Sink::start(task.alloc, kind);
-    let _goes_on = walk(task, segments, at, steps, kept, &mut sink)?;
+    let _goes_on = walk(task, segments, at, way, kept, &mut sink)?;
     Ok(sink)
 }
 
@@ -391,7 +390,7 @@ pub fn absolute<'a: 's, 's, T: Queryable>(
     if let Some(place) = kept.find(query, kind) {
         return Ok(place);
     }
-    let mut steps = Vec::new(task.alloc);
-    let answer = gather(task, &query.segments, kind, task.root, &mut steps, kept)?;
+    let mut way = Way::new(task.alloc);
+    let answer = gather(task, &query.segments, kind, task.root, &mut way, kept)?;
     Ok(kept.keep(query, kind, answer)?)
 }

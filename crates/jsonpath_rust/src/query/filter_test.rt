@@ -14,32 +14,33 @@ use crate::query::kept::{Kept, Task};
 use crate::query::operand::{Operand, compares, scalar_of, sides};
 use crate::query::queryable::Queryable;
 use crate::query::singular::singular_value;
-use crate::query::sink::{Kind, StepRef};
+use crate::query::sink::Kind;
+use crate::query::way::Way;
 use jsonpath_parser::model::{Comparable, Comparison, Filter, FilterAtom, Test};
 
-/// Whether a filter holds at a value, to which these steps lead.
+/// Whether a filter holds at a value, to which this way leads.
 #[cycle(walk)]
 pub fn filter_holds<'a: 's, 's, T: Queryable>(
     task: &Task<'a, 's, T>,
     filter: &'s Filter,
     at: &'a T,
-    steps: &mut Vec<StepRef<'s>>,
+    way: &mut Way<'s>,
     kept: &mut Kept<'a, 's, T>,
 ) -> Queried<bool>
     requires whole { IsTrue (T.is_whole at.now) }
     requires within { size (T.tree at.now) ≤ size (T.tree task.now.root.now) }
-    requires here { LeadTo T.tree steps.old.items task.now.root.now at.now }
+    requires here { LeadTo T.tree way.old.steps.items task.now.root.now at.now }
     requires part { StandIn (asked task.now) (filter_patterns (filter_view filter.now)) }
     requires ready { IsReady T.tree T.is_whole T.custom task.now kept.old }
-    ensures holds { IfOk result (λ b. b ≡ holds (filter_view filter.now) (document T.tree T.custom task.now) (node_of T.tree steps.old.items at.now)) }
-    ensures same { OnOk result (steps.new.items ≡ steps.old.items) }
+    ensures holds { IfOk result (λ b. b ≡ holds (filter_view filter.now) (document T.tree T.custom task.now) (node_of T.tree way.old.steps.items at.now)) }
+    ensures same { OnOk result (way.new.steps.items ≡ way.old.steps.items) }
     ensures keeps { OnOk result (IsReady T.tree T.is_whole T.custom task.now kept.new) }
     ensures refused { IfErr result (IsStop (asked task.now) (document T.tree T.custom task.now)) }
 {
     match filter {
-        Filter::Or(parts) => some_holds(task, parts, at, steps, kept),
-        Filter::And(parts) => each_holds(task, parts, at, steps, kept),
-        Filter::Atom(atom) => atom_holds(task, atom, at, steps, kept),
+        Filter::Or(parts) => some_holds(task, parts, at, way, kept),
+        Filter::And(parts) => each_holds(task, parts, at, way, kept),
+        Filter::Atom(atom) => atom_holds(task, atom, at, way, kept),
     }
 }
 
@@ -49,21 +50,21 @@ fn some_holds<'a: 's, 's, T: Queryable>(
     task: &Task<'a, 's, T>,
     parts: &'s [Filter],
     at: &'a T,
-    steps: &mut Vec<StepRef<'s>>,
+    way: &mut Way<'s>,
     kept: &mut Kept<'a, 's, T>,
 ) -> Queried<bool>
     requires whole { IsTrue (T.is_whole at.now) }
     requires within { size (T.tree at.now) ≤ size (T.tree task.now.root.now) }
-    requires here { LeadTo T.tree steps.old.items task.now.root.now at.now }
+    requires here { LeadTo T.tree way.old.steps.items task.now.root.now at.now }
     requires part { StandIn (asked task.now) (filters_patterns (filters_in parts.now)) }
     requires ready { IsReady T.tree T.is_whole T.custom task.now kept.old }
-    ensures holds { IfOk result (λ b. b ≡ some_holds (filters_in parts.now) (document T.tree T.custom task.now) (node_of T.tree steps.old.items at.now)) }
-    ensures same { OnOk result (steps.new.items ≡ steps.old.items) }
+    ensures holds { IfOk result (λ b. b ≡ some_holds (filters_in parts.now) (document T.tree T.custom task.now) (node_of T.tree way.old.steps.items at.now)) }
+    ensures same { OnOk result (way.new.steps.items ≡ way.old.steps.items) }
     ensures keeps { OnOk result (IsReady T.tree T.is_whole T.custom task.now kept.new) }
     ensures refused { IfErr result (IsStop (asked task.now) (document T.tree T.custom task.now)) }
 {
     for part in parts {
-        if filter_holds(task, part, at, steps, kept)? {
+        if filter_holds(task, part, at, way, kept)? {
             return Ok(true);
         }
     }
@@ -76,21 +77,21 @@ fn each_holds<'a: 's, 's, T: Queryable>(
     task: &Task<'a, 's, T>,
     parts: &'s [Filter],
     at: &'a T,
-    steps: &mut Vec<StepRef<'s>>,
+    way: &mut Way<'s>,
     kept: &mut Kept<'a, 's, T>,
 ) -> Queried<bool>
     requires whole { IsTrue (T.is_whole at.now) }
     requires within { size (T.tree at.now) ≤ size (T.tree task.now.root.now) }
-    requires here { LeadTo T.tree steps.old.items task.now.root.now at.now }
+    requires here { LeadTo T.tree way.old.steps.items task.now.root.now at.now }
     requires part { StandIn (asked task.now) (filters_patterns (filters_in parts.now)) }
     requires ready { IsReady T.tree T.is_whole T.custom task.now kept.old }
-    ensures holds { IfOk result (λ b. b ≡ each_holds (filters_in parts.now) (document T.tree T.custom task.now) (node_of T.tree steps.old.items at.now)) }
-    ensures same { OnOk result (steps.new.items ≡ steps.old.items) }
+    ensures holds { IfOk result (λ b. b ≡ each_holds (filters_in parts.now) (document T.tree T.custom task.now) (node_of T.tree way.old.steps.items at.now)) }
+    ensures same { OnOk result (way.new.steps.items ≡ way.old.steps.items) }
     ensures keeps { OnOk result (IsReady T.tree T.is_whole T.custom task.now kept.new) }
     ensures refused { IfErr result (IsStop (asked task.now) (document T.tree T.custom task.now)) }
 {
     for part in parts {
-        if !filter_holds(task, part, at, steps, kept)? {
+        if !filter_holds(task, part, at, way, kept)? {
             return Ok(false);
         }
     }
@@ -103,23 +104,23 @@ fn atom_holds<'a: 's, 's, T: Queryable>(
     task: &Task<'a, 's, T>,
     atom: &'s FilterAtom,
     at: &'a T,
-    steps: &mut Vec<StepRef<'s>>,
+    way: &mut Way<'s>,
     kept: &mut Kept<'a, 's, T>,
 ) -> Queried<bool>
     requires whole { IsTrue (T.is_whole at.now) }
     requires within { size (T.tree at.now) ≤ size (T.tree task.now.root.now) }
-    requires here { LeadTo T.tree steps.old.items task.now.root.now at.now }
+    requires here { LeadTo T.tree way.old.steps.items task.now.root.now at.now }
     requires part { StandIn (asked task.now) (atom_patterns (atom_view atom.now)) }
     requires ready { IsReady T.tree T.is_whole T.custom task.now kept.old }
-    ensures holds { IfOk result (λ b. b ≡ atom_holds (atom_view atom.now) (document T.tree T.custom task.now) (node_of T.tree steps.old.items at.now)) }
-    ensures same { OnOk result (steps.new.items ≡ steps.old.items) }
+    ensures holds { IfOk result (λ b. b ≡ atom_holds (atom_view atom.now) (document T.tree T.custom task.now) (node_of T.tree way.old.steps.items at.now)) }
+    ensures same { OnOk result (way.new.steps.items ≡ way.old.steps.items) }
     ensures keeps { OnOk result (IsReady T.tree T.is_whole T.custom task.now kept.new) }
     ensures refused { IfErr result (IsStop (asked task.now) (document T.tree T.custom task.now)) }
 {
     match atom {
-        FilterAtom::Filter { expr, not } => Ok(filter_holds(task, expr, at, steps, kept)? != *not),
-        FilterAtom::Test { expr, not } => Ok(test_holds(task, expr, at, steps, kept)? != *not),
-        FilterAtom::Comparison(comparison) => comparison_holds(task, comparison, at, steps, kept),
+        FilterAtom::Filter { expr, not } => Ok(filter_holds(task, expr, at, way, kept)? != *not),
+        FilterAtom::Test { expr, not } => Ok(test_holds(task, expr, at, way, kept)? != *not),
+        FilterAtom::Comparison(comparison) => comparison_holds(task, comparison, at, way, kept),
     }
 }
 
@@ -129,33 +130,26 @@ fn test_holds<'a: 's, 's, T: Queryable>(
     task: &Task<'a, 's, T>,
     test: &'s Test,
     at: &'a T,
-    steps: &mut Vec<StepRef<'s>>,
+    way: &mut Way<'s>,
     kept: &mut Kept<'a, 's, T>,
 ) -> Queried<bool>
     requires whole { IsTrue (T.is_whole at.now) }
     requires within { size (T.tree at.now) ≤ size (T.tree task.now.root.now) }
-    requires here { LeadTo T.tree steps.old.items task.now.root.now at.now }
+    requires here { LeadTo T.tree way.old.steps.items task.now.root.now at.now }
     requires part { StandIn (asked task.now) (test_patterns (test_view test.now)) }
     requires ready { IsReady T.tree T.is_whole T.custom task.now kept.old }
-    ensures holds { IfOk result (λ b. b ≡ test_holds (test_view test.now) (document T.tree T.custom task.now) (node_of T.tree steps.old.items at.now)) }
-    ensures same { OnOk result (steps.new.items ≡ steps.old.items) }
+    ensures holds { IfOk result (λ b. b ≡ test_holds (test_view test.now) (document T.tree T.custom task.now) (node_of T.tree way.old.steps.items at.now)) }
+    ensures same { OnOk result (way.new.steps.items ≡ way.old.steps.items) }
     ensures keeps { OnOk result (IsReady T.tree T.is_whole T.custom task.now kept.new) }
     ensures refused { IfErr result (IsStop (asked task.now) (document T.tree T.custom task.now)) }
 {
     match test {
-        Test::RelQuery(segments) => Ok(gather(
-            task,
-            segments,
-            Kind::Any,
-            at,
-            steps,
-            kept,
-        )?.has_any()),
+        Test::RelQuery(segments) => Ok(gather(task, segments, Kind::Any, at, way, kept)?.has_any()),
         Test::AbsQuery(query) => {
             let place = absolute(task, query, Kind::Any, kept)?;
             Ok(kept.answer(place).has_any())
         }
-        Test::Function(function) => Ok(answer(task, function, at, steps, kept)?.is_true()),
+        Test::Function(function) => Ok(answer(task, function, at, way, kept)?.is_true()),
     }
 }
 
@@ -165,22 +159,22 @@ fn comparison_holds<'a: 's, 's, T: Queryable>(
     task: &Task<'a, 's, T>,
     comparison: &'s Comparison,
     at: &'a T,
-    steps: &mut Vec<StepRef<'s>>,
+    way: &mut Way<'s>,
     kept: &mut Kept<'a, 's, T>,
 ) -> Queried<bool>
     requires whole { IsTrue (T.is_whole at.now) }
     requires within { size (T.tree at.now) ≤ size (T.tree task.now.root.now) }
-    requires here { LeadTo T.tree steps.old.items task.now.root.now at.now }
+    requires here { LeadTo T.tree way.old.steps.items task.now.root.now at.now }
     requires part { StandIn (asked task.now) (comparison_patterns (comparison_view comparison.now)) }
     requires ready { IsReady T.tree T.is_whole T.custom task.now kept.old }
-    ensures holds { IfOk result (λ b. b ≡ comparison_holds (comparison_view comparison.now) (document T.tree T.custom task.now) (node_of T.tree steps.old.items at.now)) }
-    ensures same { OnOk result (steps.new.items ≡ steps.old.items) }
+    ensures holds { IfOk result (λ b. b ≡ comparison_holds (comparison_view comparison.now) (document T.tree T.custom task.now) (node_of T.tree way.old.steps.items at.now)) }
+    ensures same { OnOk result (way.new.steps.items ≡ way.old.steps.items) }
     ensures keeps { OnOk result (IsReady T.tree T.is_whole T.custom task.now kept.new) }
     ensures refused { IfErr result (IsStop (asked task.now) (document T.tree T.custom task.now)) }
 {
     let (sign, left, right) = sides(comparison);
-    let left = side(task, left, at, steps, kept)?;
-    let right = side(task, right, at, steps, kept)?;
+    let left = side(task, left, at, way, kept)?;
+    let right = side(task, right, at, way, kept)?;
     Ok(compares(sign, &left, &right))
 }
 
@@ -190,23 +184,23 @@ fn side<'a: 's, 's, T: Queryable>(
     task: &Task<'a, 's, T>,
     comparable: &'s Comparable,
     at: &'a T,
-    steps: &mut Vec<StepRef<'s>>,
+    way: &mut Way<'s>,
     kept: &mut Kept<'a, 's, T>,
 ) -> Queried<Operand<'a, 's, T>>
     requires whole { IsTrue (T.is_whole at.now) }
     requires within { size (T.tree at.now) ≤ size (T.tree task.now.root.now) }
-    requires here { LeadTo T.tree steps.old.items task.now.root.now at.now }
+    requires here { LeadTo T.tree way.old.steps.items task.now.root.now at.now }
     requires part { StandIn (asked task.now) (comparable_patterns (comparable_view comparable.now)) }
     requires ready { IsReady T.tree T.is_whole T.custom task.now kept.old }
-    ensures value { IfOk result (λ o. operand_tree T.tree o ≡ value_of (comparable_view comparable.now) (document T.tree T.custom task.now) (node_of T.tree steps.old.items at.now)) }
+    ensures value { IfOk result (λ o. operand_tree T.tree o ≡ value_of (comparable_view comparable.now) (document T.tree T.custom task.now) (node_of T.tree way.old.steps.items at.now)) }
     ensures whole { IfOk result (λ o. IsTrue (operand_is_whole T.is_whole o)) }
-    ensures same { OnOk result (steps.new.items ≡ steps.old.items) }
+    ensures same { OnOk result (way.new.steps.items ≡ way.old.steps.items) }
     ensures keeps { OnOk result (IsReady T.tree T.is_whole T.custom task.now kept.new) }
     ensures refused { IfErr result (IsStop (asked task.now) (document T.tree T.custom task.now)) }
 {
     match comparable {
         Comparable::Literal(literal) => Ok(Operand::Plain(scalar_of(literal))),
-        Comparable::Function(function) => answer(task, function, at, steps, kept),
+        Comparable::Function(function) => answer(task, function, at, way, kept),
         Comparable::SingularQuery(query) => Ok(Operand::lent(singular_value(query, task.root, at))),
     }
 }

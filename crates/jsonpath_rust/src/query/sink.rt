@@ -1,16 +1,15 @@
 //! What is done with the nodes that a walk meets.
-ghost use Rattle.std.specs.Prelude.{◌≡◌, suc, min, ◌∷◌, [], map, option_map, ◌++◌, IsTrue, IfOk, IfSome, OnOk, IfErr, string_bytes, All};
-ghost use Rattle.jsonpath_parser.specs.Normal.{normal, step_text};
+ghost use Rattle.std.specs.Prelude.{◌≡◌, suc, min, ◌∷◌, [], map, option_map, IsTrue, IfOk, IfErr};
 ghost use Rattle.jsonpath_parser.specs.declared.errors.JsonPathError.TheVariants.{OutOfMemory};
 ghost use Rattle.jsonpath_rust.specs.Answer.{shown, paths_of};
 ghost use Rattle.jsonpath_rust.specs.Node.{Node};
 ghost use Rattle.jsonpath_rust.specs.Sinks.{Gives, seen, seen_only, start, is_found, counted, only_in, nodes_in, nodes_whole, values_in, values_whole, paths_in};
-ghost use Rattle.jsonpath_rust.specs.Walking.{node_of, step_of};
+ghost use Rattle.jsonpath_rust.specs.Walking.{node_of};
 
 use crate::query::queryable::Queryable;
+use crate::query::way::Way;
 use crate::query::{Queried, QueryPath, QueryRef};
-use jsonpath_base::step::{push_index, push_name};
-use std::alloc::{AllocError, Global};
+use std::alloc::Global;
 
 /// One step down, lent by the query or by the document.
 #[derive(Clone, Copy, Debug)]
@@ -76,21 +75,22 @@ impl<'a, T: Queryable> Sink<'a, T> {
         }
     }
 
-    /// Takes the value that these steps lead to. The answer says whether the walk goes on.
+    /// Takes the value that this way leads to. The answer says whether the walk goes on.
     #[inline(always)]
-    pub fn take(&mut self, alloc: Global, value: &'a T, steps: &[StepRef<'_>]) -> Queried<bool>
+    pub fn take(&mut self, alloc: Global, value: &'a T, way: &mut Way<'_>) -> Queried<bool>
         requires { IsTrue (T.is_whole value.now) }
-        ensures gave { IfOk result (λ b. Gives (seen T.tree T.is_whole self.old) (node_of T.tree steps.now value.now ∷ []) (seen T.tree T.is_whole self.new) b) }
+        ensures gave { IfOk result (λ b. Gives (seen T.tree T.is_whole self.old) (node_of T.tree way.old.steps.items value.now ∷ []) (seen T.tree T.is_whole self.new) b) }
+        ensures same { way.new.steps.items ≡ way.old.steps.items }
         ensures memory { IfErr result (λ e. e ≡ OutOfMemory) }
     {
         match self {
             Sink::Nodes(nodes) => {
-                let path = normalized_path(alloc, steps)?;
+                let path = way.path(alloc)?;
                 nodes.push(QueryRef { val: value, path })?;
                 Ok(true)
             }
             Sink::Paths(paths) => {
-                let path = normalized_path(alloc, steps)?;
+                let path = way.path(alloc)?;
                 paths.push(path)?;
                 Ok(true)
             }
@@ -216,40 +216,4 @@ fn take_only<'a, T: Queryable>(only: &mut Only<'a, T>, value: &'a T) -> bool
             false
         }
     }
-}
-
-/// The Normalized Path of these steps (RFC 9535, 2.7).
-fn normalized_path(alloc: Global, steps: &[StepRef<'_>]) -> Result<QueryPath, AllocError>
-    ensures value { IfOk result (λ path. string_bytes path ≡ normal (map step_of steps.now)) }
-{
-    let mut path = String::with_capacity(alloc, path_capacity(steps))?;
-    path.push('$')?;
-    for step in steps {
-        push_step(&mut path, *step)?;
-    }
-    Ok(path)
-}
-
-/// Appends a step to a path.
-#[inline(always)]
-fn push_step(path: &mut String, step: StepRef<'_>) -> Result<(), AllocError>
-    ensures value { OnOk result (string_bytes path.new ≡ string_bytes path.old ++ step_text (step_of step.entry)) }
-{
-    match step {
-        StepRef::Name(name) => push_name(path, name),
-        StepRef::Index(index) => push_index(path, index),
-    }
-}
-
-/// How many bytes the path of these steps takes, where no name is escaped and no index has more than nine digits.
-fn path_capacity(steps: &[StepRef<'_>]) -> usize {
-    let mut capacity: usize = 1;
-    for step in steps {
-        let step_capacity = match *step {
-            StepRef::Name(name) => name.len().saturating_add(4),
-            StepRef::Index(_index) => 11,
-        };
-        capacity = capacity.saturating_add(step_capacity);
-    }
-    capacity
 }

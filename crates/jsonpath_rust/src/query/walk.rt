@@ -1,11 +1,12 @@
 //! The evaluator: a walk that meets the nodes of a query depth-first, in the order of its nodelist (RFC 9535, 2.1.2).
 //!
 //! The way to the value at hand stands on a stack of borrowed steps, so nothing is kept for a node that is only passed.
-ghost use Rattle.std.specs.Prelude.{◌≡◌, ◌≤◌, ◌<◌, [], ◌∷◌, ◌++◌, map, option_to_list, IsTrue, IfOk, IfErr, IfSome, OnOk};
+ghost use Rattle.std.specs.Prelude.{◌≡◌, ◌≤◌, ◌<◌, [], ◌∷◌, ◌++◌, map, None, option_to_list, IsTrue, IfOk, IfErr, IfSome, OnOk};
 ghost use Rattle.std.specs.List.{flat_map};
 ghost use Rattle.jsonpath_parser.specs.Location.{Location};
 ghost use Rattle.jsonpath_parser.specs.Location as location;
 ghost use Rattle.jsonpath_parser.specs.View.{selector_view, segment_view, query_view};
+ghost use Rattle.jsonpath_base.specs.Tree.{as_list, as_members};
 ghost use Rattle.jsonpath_rust.specs.Document.{document_of};
 ghost use Rattle.jsonpath_rust.specs.Node.{Node, below, children};
 ghost use Rattle.jsonpath_rust.specs.Meaning as meaning;
@@ -22,6 +23,7 @@ use crate::query::kept::{Kept, Task};
 use crate::query::literals::{finders_of, patterns_of};
 use crate::query::queryable::Queryable;
 use crate::query::sink::{Sink, StepRef};
+use crate::query::way::Way;
 use jsonpath_base::pattern::Finder;
 use jsonpath_base::slice::slice_places;
 use jsonpath_parser::model::{Filter, JpQuery, Segment, Selector};
@@ -70,36 +72,36 @@ fn give_from_root<'a: 's, 's, T: Queryable>(
 {
     let task = Task { alloc, query, root };
     let mut kept = Kept::new(alloc, literals);
-    let mut steps = Vec::new(alloc);
-    walk(&task, &query.segments, root, &mut steps, &mut kept, sink)
+    let mut way = Way::new(alloc);
+    walk(&task, &query.segments, root, &mut way, &mut kept, sink)
 }
 
-/// Gives to the sink what the segments select from a value on, to which these steps lead. The answer says whether
+/// Gives to the sink what the segments select from a value on, to which this way leads. The answer says whether
 /// to go on.
 #[cycle(walk)]
 pub fn walk<'a: 's, 's, T: Queryable>(
     task: &Task<'a, 's, T>,
     segments: &'s [Segment],
     at: &'a T,
-    steps: &mut Vec<StepRef<'s>>,
+    way: &mut Way<'s>,
     kept: &mut Kept<'a, 's, T>,
     sink: &mut Sink<'a, T>,
 ) -> Queried<bool>
     requires whole { IsTrue (T.is_whole at.now) }
     requires within { size (T.tree at.now) ≤ size (T.tree task.now.root.now) }
-    requires here { LeadTo T.tree steps.old.items task.now.root.now at.now }
+    requires here { LeadTo T.tree way.old.steps.items task.now.root.now at.now }
     requires part { StandIn (asked task.now) (segments_patterns (segments_in segments.now)) }
     requires ready { IsReady T.tree T.is_whole T.custom task.now kept.old }
     ensures gave { IfOk result (λ b. Gives (seen T.tree T.is_whole sink.old)
-        (through (segments_in segments.now) (document T.tree T.custom task.now) (node_of T.tree steps.old.items at.now))
+        (through (segments_in segments.now) (document T.tree T.custom task.now) (node_of T.tree way.old.steps.items at.now))
         (seen T.tree T.is_whole sink.new) b) }
-    ensures same { OnOk result (steps.new.items ≡ steps.old.items) }
+    ensures same { OnOk result (way.new.steps.items ≡ way.old.steps.items) }
     ensures keeps { OnOk result (IsReady T.tree T.is_whole T.custom task.now kept.new) }
     ensures refused { IfErr result (IsStop (asked task.now) (document T.tree T.custom task.now)) }
 {
     match segments.split_first() {
-        None => sink.take(task.alloc, at, steps),
-        Some((first, rest)) => pass(task, first, rest, at, steps, kept, sink),
+        None => sink.take(task.alloc, at, way),
+        Some((first, rest)) => pass(task, first, rest, at, way, kept, sink),
     }
 }
 
@@ -111,27 +113,27 @@ fn pass<'a: 's, 's, T: Queryable>(
     first: &'s Segment,
     rest: &'s [Segment],
     at: &'a T,
-    steps: &mut Vec<StepRef<'s>>,
+    way: &mut Way<'s>,
     kept: &mut Kept<'a, 's, T>,
     sink: &mut Sink<'a, T>,
 ) -> Queried<bool>
     requires whole { IsTrue (T.is_whole at.now) }
     requires within { size (T.tree at.now) ≤ size (T.tree task.now.root.now) }
-    requires here { LeadTo T.tree steps.old.items task.now.root.now at.now }
+    requires here { LeadTo T.tree way.old.steps.items task.now.root.now at.now }
     requires part { StandIn (asked task.now) (segment_patterns (segment_view first.now) ++ segments_patterns (segments_in rest.now)) }
     requires ready { IsReady T.tree T.is_whole T.custom task.now kept.old }
     ensures gave { IfOk result (λ b. Gives (seen T.tree T.is_whole sink.old)
         (flat_map (through (segments_in rest.now) (document T.tree T.custom task.now))
-        (replaced (segment_view first.now) (document T.tree T.custom task.now) (node_of T.tree steps.old.items at.now)))
+        (replaced (segment_view first.now) (document T.tree T.custom task.now) (node_of T.tree way.old.steps.items at.now)))
         (seen T.tree T.is_whole sink.new) b) }
-    ensures same { OnOk result (steps.new.items ≡ steps.old.items) }
+    ensures same { OnOk result (way.new.steps.items ≡ way.old.steps.items) }
     ensures keeps { OnOk result (IsReady T.tree T.is_whole T.custom task.now kept.new) }
     ensures refused { IfErr result (IsStop (asked task.now) (document T.tree T.custom task.now)) }
 {
     match first {
-        Segment::Selector(selector) => pick(task, selector, rest, at, steps, kept, sink),
-        Segment::Selectors(selectors) => pick_each(task, selectors, rest, at, steps, kept, sink),
-        Segment::Descendant(inner) => act(task, Action::Below(inner), rest, at, steps, kept, sink),
+        Segment::Selector(selector) => pick(task, selector, rest, at, way, kept, sink),
+        Segment::Selectors(selectors) => pick_each(task, selectors, rest, at, way, kept, sink),
+        Segment::Descendant(inner) => act(task, Action::Below(inner), rest, at, way, kept, sink),
     }
 }
 
@@ -142,25 +144,25 @@ fn pick_each<'a: 's, 's, T: Queryable>(
     selectors: &'s [Selector],
     rest: &'s [Segment],
     at: &'a T,
-    steps: &mut Vec<StepRef<'s>>,
+    way: &mut Way<'s>,
     kept: &mut Kept<'a, 's, T>,
     sink: &mut Sink<'a, T>,
 ) -> Queried<bool>
     requires whole { IsTrue (T.is_whole at.now) }
     requires within { size (T.tree at.now) ≤ size (T.tree task.now.root.now) }
-    requires here { LeadTo T.tree steps.old.items task.now.root.now at.now }
+    requires here { LeadTo T.tree way.old.steps.items task.now.root.now at.now }
     requires part { StandIn (asked task.now) (selectors_patterns (selectors_in selectors.now) ++ segments_patterns (segments_in rest.now)) }
     requires ready { IsReady T.tree T.is_whole T.custom task.now kept.old }
     ensures gave { IfOk result (λ b. Gives (seen T.tree T.is_whole sink.old)
         (flat_map (through (segments_in rest.now) (document T.tree T.custom task.now))
-        (all_pick (selectors_in selectors.now) (document T.tree T.custom task.now) (node_of T.tree steps.old.items at.now)))
+        (all_pick (selectors_in selectors.now) (document T.tree T.custom task.now) (node_of T.tree way.old.steps.items at.now)))
         (seen T.tree T.is_whole sink.new) b) }
-    ensures same { OnOk result (steps.new.items ≡ steps.old.items) }
+    ensures same { OnOk result (way.new.steps.items ≡ way.old.steps.items) }
     ensures keeps { OnOk result (IsReady T.tree T.is_whole T.custom task.now kept.new) }
     ensures refused { IfErr result (IsStop (asked task.now) (document T.tree T.custom task.now)) }
 {
     for selector in selectors {
-        if !pick(task, selector, rest, at, steps, kept, sink)? {
+        if !pick(task, selector, rest, at, way, kept, sink)? {
             return Ok(false);
         }
     }
@@ -175,20 +177,20 @@ fn pick<'a: 's, 's, T: Queryable>(
     selector: &'s Selector,
     rest: &'s [Segment],
     at: &'a T,
-    steps: &mut Vec<StepRef<'s>>,
+    way: &mut Way<'s>,
     kept: &mut Kept<'a, 's, T>,
     sink: &mut Sink<'a, T>,
 ) -> Queried<bool>
     requires whole { IsTrue (T.is_whole at.now) }
     requires within { size (T.tree at.now) ≤ size (T.tree task.now.root.now) }
-    requires here { LeadTo T.tree steps.old.items task.now.root.now at.now }
+    requires here { LeadTo T.tree way.old.steps.items task.now.root.now at.now }
     requires part { StandIn (asked task.now) (selector_patterns (selector_view selector.now) ++ segments_patterns (segments_in rest.now)) }
     requires ready { IsReady T.tree T.is_whole T.custom task.now kept.old }
     ensures gave { IfOk result (λ b. Gives (seen T.tree T.is_whole sink.old)
         (flat_map (through (segments_in rest.now) (document T.tree T.custom task.now))
-        (picks (selector_view selector.now) (document T.tree T.custom task.now) (node_of T.tree steps.old.items at.now)))
+        (picks (selector_view selector.now) (document T.tree T.custom task.now) (node_of T.tree way.old.steps.items at.now)))
         (seen T.tree T.is_whole sink.new) b) }
-    ensures same { OnOk result (steps.new.items ≡ steps.old.items) }
+    ensures same { OnOk result (way.new.steps.items ≡ way.old.steps.items) }
     ensures keeps { OnOk result (IsReady T.tree T.is_whole T.custom task.now kept.new) }
     ensures refused { IfErr result (IsStop (asked task.now) (document T.tree T.custom task.now)) }
 {
@@ -200,13 +202,13 @@ fn pick<'a: 's, 's, T: Queryable>(
                 rest,
                 StepRef::Name(name),
                 child,
-                steps,
+                way,
                 kept,
                 sink,
             ),
             None => Ok(true),
         },
-        Selector::Wildcard => each_child(task, Action::All, rest, at, steps, kept, sink),
+        Selector::Wildcard => each_child(task, Action::All, rest, at, way, kept, sink),
         Selector::Index(index) => match element(at, *index) {
             Some((place, child)) => at_child(
                 task,
@@ -214,24 +216,16 @@ fn pick<'a: 's, 's, T: Queryable>(
                 rest,
                 StepRef::Index(place),
                 child,
-                steps,
+                way,
                 kept,
                 sink,
             ),
             None => Ok(true),
         },
         Selector::Slice(start, end, step) => pick_slice(
-            task, *start, *end, *step, rest, at, steps, kept, sink,
+            task, *start, *end, *step, rest, at, way, kept, sink,
         ),
-        Selector::Filter(filter) => each_child(
-            task,
-            Action::If(filter),
-            rest,
-            at,
-            steps,
-            kept,
-            sink,
-        ),
+        Selector::Filter(filter) => each_child(task, Action::If(filter), rest, at, way, kept, sink),
     }
 }
 
@@ -244,20 +238,20 @@ fn pick_slice<'a: 's, 's, T: Queryable>(
     step: Option<i64>,
     rest: &'s [Segment],
     at: &'a T,
-    steps: &mut Vec<StepRef<'s>>,
+    way: &mut Way<'s>,
     kept: &mut Kept<'a, 's, T>,
     sink: &mut Sink<'a, T>,
 ) -> Queried<bool>
     requires whole { IsTrue (T.is_whole at.now) }
     requires within { size (T.tree at.now) ≤ size (T.tree task.now.root.now) }
-    requires here { LeadTo T.tree steps.old.items task.now.root.now at.now }
+    requires here { LeadTo T.tree way.old.steps.items task.now.root.now at.now }
     requires part { StandIn (asked task.now) (segments_patterns (segments_in rest.now)) }
     requires ready { IsReady T.tree T.is_whole T.custom task.now kept.old }
     ensures gave { IfOk result (λ b. Gives (seen T.tree T.is_whole sink.old)
         (flat_map (through (segments_in rest.now) (document T.tree T.custom task.now))
-        (sliced start end step (node_of T.tree steps.old.items at.now)))
+        (sliced start end step (node_of T.tree way.old.steps.items at.now)))
         (seen T.tree T.is_whole sink.new) b) }
-    ensures same { OnOk result (steps.new.items ≡ steps.old.items) }
+    ensures same { OnOk result (way.new.steps.items ≡ way.old.steps.items) }
     ensures keeps { OnOk result (IsReady T.tree T.is_whole T.custom task.now kept.new) }
     ensures refused { IfErr result (IsStop (asked task.now) (document T.tree T.custom task.now)) }
 {
@@ -271,7 +265,7 @@ fn pick_slice<'a: 's, 's, T: Queryable>(
             rest,
             StepRef::Index(place),
             &items[place],
-            steps,
+            way,
             kept,
             sink,
         )? {
@@ -288,20 +282,20 @@ fn each_child<'a: 's, 's, T: Queryable>(
     action: Action<'s>,
     rest: &'s [Segment],
     at: &'a T,
-    steps: &mut Vec<StepRef<'s>>,
+    way: &mut Way<'s>,
     kept: &mut Kept<'a, 's, T>,
     sink: &mut Sink<'a, T>,
 ) -> Queried<bool>
     requires whole { IsTrue (T.is_whole at.now) }
     requires within { size (T.tree at.now) ≤ size (T.tree task.now.root.now) }
-    requires here { LeadTo T.tree steps.old.items task.now.root.now at.now }
+    requires here { LeadTo T.tree way.old.steps.items task.now.root.now at.now }
     requires part { StandIn (asked task.now) (action_patterns action ++ segments_patterns (segments_in rest.now)) }
     requires ready { IsReady T.tree T.is_whole T.custom task.now kept.old }
     ensures gave { IfOk result (λ b. Gives (seen T.tree T.is_whole sink.old)
         (flat_map (through (segments_in rest.now) (document T.tree T.custom task.now))
-        (flat_map (acted action.entry (document T.tree T.custom task.now)) (children (node_of T.tree steps.old.items at.now))))
+        (flat_map (acted action.entry (document T.tree T.custom task.now)) (children (node_of T.tree way.old.steps.items at.now))))
         (seen T.tree T.is_whole sink.new) b) }
-    ensures same { OnOk result (steps.new.items ≡ steps.old.items) }
+    ensures same { OnOk result (way.new.steps.items ≡ way.old.steps.items) }
     ensures keeps { OnOk result (IsReady T.tree T.is_whole T.custom task.now kept.new) }
     ensures refused { IfErr result (IsStop (asked task.now) (document T.tree T.custom task.now)) }
 {
@@ -313,7 +307,7 @@ fn each_child<'a: 's, 's, T: Queryable>(
                 rest,
                 StepRef::Index(i),
                 child,
-                steps,
+                way,
                 kept,
                 sink,
             )? {
@@ -328,7 +322,7 @@ fn each_child<'a: 's, 's, T: Queryable>(
                 rest,
                 StepRef::Name(member.0),
                 member.1,
-                steps,
+                way,
                 kept,
                 sink,
             )? {
@@ -348,26 +342,26 @@ fn at_child<'a: 's, 's, T: Queryable>(
     rest: &'s [Segment],
     step: StepRef<'s>,
     child: &'a T,
-    steps: &mut Vec<StepRef<'s>>,
+    way: &mut Way<'s>,
     kept: &mut Kept<'a, 's, T>,
     sink: &mut Sink<'a, T>,
 ) -> Queried<bool>
     requires whole { IsTrue (T.is_whole child.now) }
     requires within { size (T.tree child.now) ≤ size (T.tree task.now.root.now) }
-    requires here { LeadTo T.tree (steps.old.items ++ step ∷ []) task.now.root.now child.now }
+    requires here { LeadTo T.tree (way.old.steps.items ++ step ∷ []) task.now.root.now child.now }
     requires part { StandIn (asked task.now) (action_patterns action ++ segments_patterns (segments_in rest.now)) }
     requires ready { IsReady T.tree T.is_whole T.custom task.now kept.old }
     ensures gave { IfOk result (λ b. Gives (seen T.tree T.is_whole sink.old)
         (flat_map (through (segments_in rest.now) (document T.tree T.custom task.now))
-        (acted action.entry (document T.tree T.custom task.now) (below (map step_of steps.old.items) (step_of step.entry) (T.tree child.now))))
+        (acted action.entry (document T.tree T.custom task.now) (below (map step_of way.old.steps.items) (step_of step.entry) (T.tree child.now))))
         (seen T.tree T.is_whole sink.new) b) }
-    ensures same { OnOk result (steps.new.items ≡ steps.old.items) }
+    ensures same { OnOk result (way.new.steps.items ≡ way.old.steps.items) }
     ensures keeps { OnOk result (IsReady T.tree T.is_whole T.custom task.now kept.new) }
     ensures refused { IfErr result (IsStop (asked task.now) (document T.tree T.custom task.now)) }
 {
-    steps.push(step)?;
-    let goes_on = act(task, action, rest, child, steps, kept, sink)?;
-    let _ = steps.pop();
+    way.push(step)?;
+    let goes_on = act(task, action, rest, child, way, kept, sink)?;
+    way.pop();
     Ok(goes_on)
 }
 
@@ -379,40 +373,53 @@ fn act<'a: 's, 's, T: Queryable>(
     action: Action<'s>,
     rest: &'s [Segment],
     at: &'a T,
-    steps: &mut Vec<StepRef<'s>>,
+    way: &mut Way<'s>,
     kept: &mut Kept<'a, 's, T>,
     sink: &mut Sink<'a, T>,
 ) -> Queried<bool>
     requires whole { IsTrue (T.is_whole at.now) }
     requires within { size (T.tree at.now) ≤ size (T.tree task.now.root.now) }
-    requires here { LeadTo T.tree steps.old.items task.now.root.now at.now }
+    requires here { LeadTo T.tree way.old.steps.items task.now.root.now at.now }
     requires part { StandIn (asked task.now) (action_patterns action ++ segments_patterns (segments_in rest.now)) }
     requires ready { IsReady T.tree T.is_whole T.custom task.now kept.old }
     ensures gave { IfOk result (λ b. Gives (seen T.tree T.is_whole sink.old)
         (flat_map (through (segments_in rest.now) (document T.tree T.custom task.now))
-        (acted action.entry (document T.tree T.custom task.now) (node_of T.tree steps.old.items at.now)))
+        (acted action.entry (document T.tree T.custom task.now) (node_of T.tree way.old.steps.items at.now)))
         (seen T.tree T.is_whole sink.new) b) }
-    ensures same { OnOk result (steps.new.items ≡ steps.old.items) }
+    ensures same { OnOk result (way.new.steps.items ≡ way.old.steps.items) }
     ensures keeps { OnOk result (IsReady T.tree T.is_whole T.custom task.now kept.new) }
     ensures refused { IfErr result (IsStop (asked task.now) (document T.tree T.custom task.now)) }
 {
     match action {
-        Action::All => walk(task, rest, at, steps, kept, sink),
+        Action::All => walk(task, rest, at, way, kept, sink),
         Action::If(filter) => {
-            if filter_holds(task, filter, at, steps, kept)? {
-                walk(task, rest, at, steps, kept, sink)
+            if filter_holds(task, filter, at, way, kept)? {
+                walk(task, rest, at, way, kept, sink)
             } else {
                 Ok(true)
             }
         }
         Action::Below(segment) => {
-            if pass(task, segment, rest, at, steps, kept, sink)? {
-                each_child(task, action, rest, at, steps, kept, sink)
+            if is_leaf(at) {
+                return Ok(true);
+            }
+            if pass(task, segment, rest, at, way, kept, sink)? {
+                each_child(task, action, rest, at, way, kept, sink)
             } else {
                 Ok(false)
             }
         }
     }
+}
+
+/// Whether the value is a text or a number, which has no children.
+#[inline(always)]
+fn is_leaf<T: Queryable>(at: &T) -> bool
+    requires { IsTrue (T.is_whole at.now) }
+    ensures list { IsTrue result → None ≡ as_list (T.tree at.now) }
+    ensures object { IsTrue result → None ≡ as_members (T.tree at.now) }
+{
+    at.as_str().is_some() || at.as_i64().is_some()
 }
 
 /// The element that an index means in a list, with its place from 0 (RFC 9535, 2.3.3).

@@ -140,7 +140,7 @@ filters::ands-returns-in_err-filter-clause-value t c n k h1 h2 =
     let fits : length c.skip_blank.result.now ≤ n = omega (arith, l.invariant.1, c.skip_blank.ensures.within, c.skip.ensures.shorter, c.skip_blank-next.ensures.within) in
     let one = rw start_is at (c.in_ok-one.ensures.value n fits) in
     gives_err _ c.from_residual-in_err-filter.result _ c.in_err-filter.field-0.0 _ c.from_residual-in_err-filter.ensures.1 (λ y p. p) λ refused.
-    loop ∙ ands_other _ _ m _ _ _ _ (omega arith) go one (c.in_err-filter.ensures refused)
+    loop ∙ ands_other _ _ m _ _ _ _ (omega arith) go one (c.in_err-filter.ensures.value refused)
 
 pub filters::ands-ands-preserved : goal.filters::ands-ands-preserved
 filters::ands-ands-preserved t c =
@@ -157,7 +157,7 @@ filters::ands-ands-preserved t c =
           let (m, room, loop) = l.invariant.2 n k h1 h2 in
           let fits : length c.skip_blank.result.now ≤ n = omega (arith, l.invariant.1) in
           let one = rw start_is at (c.in_ok-one.ensures.value n fits) in
-          (m - 1, omega arith, rw (c.in_ok-push-2.ensures.items, filters_push l.found.items c.in_ok-filter.field-0) (loop ∙ ands_next _ _ m _ _ _ _ _ (omega arith) go one c.in_ok-filter.ensures)),
+          (m - 1, omega arith, rw (c.in_ok-push-2.ensures.items, filters_push l.found.items c.in_ok-filter.field-0) (loop ∙ ands_next _ _ m _ _ _ _ _ (omega arith) go one c.in_ok-filter.ensures.value)),
     )
 
 pub filters::ors-ors-init : goal.filters::ors-ors-init
@@ -190,7 +190,7 @@ filters::ors-returns-in_err-filter-clause-value t c n k h1 h2 =
     let fits : length c.skip_blank.result.now ≤ n = omega (arith, l.invariant.1, c.skip_blank.ensures.within, c.skip.ensures.shorter, c.skip_blank-next.ensures.within) in
     let one = rw start_is at (c.in_ok-one.ensures.value n fits) in
     gives_err _ c.from_residual-in_err-filter.result _ c.in_err-filter.field-0.0 _ c.from_residual-in_err-filter.ensures.1 (λ y p. p) λ refused.
-    loop ∙ ors_other _ _ m _ _ _ _ (omega arith) go one (c.in_err-filter.ensures refused)
+    loop ∙ ors_other _ _ m _ _ _ _ (omega arith) go one (c.in_err-filter.ensures.value refused)
 
 pub filters::ors-ors-preserved : goal.filters::ors-ors-preserved
 filters::ors-ors-preserved t c =
@@ -207,5 +207,5 @@ filters::ors-ors-preserved t c =
           let (m, room, loop) = l.invariant.2 n k h1 h2 in
           let fits : length c.skip_blank.result.now ≤ n = omega (arith, l.invariant.1) in
           let one = rw start_is at (c.in_ok-one.ensures.value n fits) in
-          (m - 1, omega arith, rw (c.in_ok-push-2.ensures.items, filters_push l.found.items c.in_ok-filter.field-0) (loop ∙ ors_next _ _ m _ _ _ _ _ (omega arith) go one c.in_ok-filter.ensures)),
+          (m - 1, omega arith, rw (c.in_ok-push-2.ensures.items, filters_push l.found.items c.in_ok-filter.field-0) (loop ∙ ors_next _ _ m _ _ _ _ _ (omega arith) go one c.in_ok-filter.ensures.value)),
     )

@@ -19,6 +19,9 @@ pub «walk::act-filter_holds-requires» : goal.«walk::act-filter_holds-requires
 pub «walk::act-walk-requires-then-branch» : goal.«walk::act-walk-requires-then-branch»
 «walk::act-walk-requires-then-branch» = walk.«walk::act-walk-requires-then-branch»
 
+pub «walk::act-is_leaf-requires» : goal.«walk::act-is_leaf-requires»
+«walk::act-is_leaf-requires» = walk.«walk::act-is_leaf-requires»
+
 pub «walk::act-pass-requires» : goal.«walk::act-pass-requires»
 «walk::act-pass-requires» = walk.«walk::act-pass-requires»
 
@@ -34,6 +37,9 @@ pub «walk::act-returns-then-branch-clause-gave» : goal.«walk::act-returns-the
 pub «walk::act-returns-else-branch-clause-gave» : goal.«walk::act-returns-else-branch-clause-gave»
 «walk::act-returns-else-branch-clause-gave» = walk.«walk::act-returns-else-branch-clause-gave»
 
+pub «walk::act-returns-then-is_leaf-clause-gave» : goal.«walk::act-returns-then-is_leaf-clause-gave»
+«walk::act-returns-then-is_leaf-clause-gave» = walk.«walk::act-returns-then-is_leaf-clause-gave»
+
 pub «walk::act-returns-then-branch-2-clause-gave» : goal.«walk::act-returns-then-branch-2-clause-gave»
 «walk::act-returns-then-branch-2-clause-gave» = walk.«walk::act-returns-then-branch-2-clause-gave»
 
@@ -45,6 +51,9 @@ pub «walk::at_child-act-requires» : goal.«walk::at_child-act-requires»
 
 pub «walk::at_child-returns-clause-gave» : goal.«walk::at_child-returns-clause-gave»
 «walk::at_child-returns-clause-gave» = walk.«walk::at_child-returns-clause-gave»
+
+pub «walk::at_child-returns-clause-same» : goal.«walk::at_child-returns-clause-same»
+«walk::at_child-returns-clause-same» = walk.«walk::at_child-returns-clause-same»
 
 pub «walk::each_child-at_child-requires» : goal.«walk::each_child-at_child-requires»
 «walk::each_child-at_child-requires» = walk.«walk::each_child-at_child-requires»

@@ -102,10 +102,10 @@ abbrev pub «invariant-walk::pick_each-loop-selector» : goal.«invariant-walk::
     let tree = g.T.Queryable.tree in
     let whole = g.T.Queryable.is_whole in
     let d = document tree g.T.Queryable.custom l.task in
-    let n = node_of tree l.initial.steps.items l.at in
+    let n = node_of tree l.initial.way.steps.items l.at in
     let rest = through (segments_in l.rest) d in
     record {
-      same : l.steps.items ≡ l.initial.steps.items;
+      same : l.way.steps.items ≡ l.initial.way.steps.items;
       ready : IsReady tree whole g.T.Queryable.custom l.task l.kept;
       given : give (seen tree whole l.sink) (flat_map rest (all_pick (selectors_in (drop l.selector-index l.selectors)) d n)) ≡ give (seen tree whole l.initial.sink) (flat_map rest (all_pick (selectors_in l.selectors) d n));
     }
@@ -115,10 +115,10 @@ abbrev pub «invariant-walk::pick_slice-loop-place» : goal.«invariant-walk::pi
     let tree = g.T.Queryable.tree in
     let whole = g.T.Queryable.is_whole in
     let d = document tree g.T.Queryable.custom l.task in
-    let n = node_of tree l.initial.steps.items l.at in
+    let n = node_of tree l.initial.way.steps.items l.at in
     let rest = through (segments_in l.rest) d in
     record {
-      same : l.steps.items ≡ l.initial.steps.items;
+      same : l.way.steps.items ≡ l.initial.way.steps.items;
       ready : IsReady tree whole g.T.Queryable.custom l.task l.kept;
       below : All (λ i. i < length l.items.items) (places_left l.place-iterator);
       given : give (seen tree whole l.sink) (flat_map rest (flat_map (λ k. element k n) (places_left l.place-iterator))) ≡ give (seen tree whole l.initial.sink) (flat_map rest (flat_map (λ k. element k n) (slice_of l.fn.start l.fn.end l.fn.step (length l.items.items))));
@@ -129,10 +129,10 @@ abbrev pub «invariant-walk::each_child-loop-i» : goal.«invariant-walk::each_c
     let tree = g.T.Queryable.tree in
     let whole = g.T.Queryable.is_whole in
     let d = document tree g.T.Queryable.custom l.task in
-    let n = node_of tree l.initial.steps.items l.at in
+    let n = node_of tree l.initial.way.steps.items l.at in
     let rest = through (segments_in l.rest) d in
     record {
-      same : l.steps.items ≡ l.initial.steps.items;
+      same : l.way.steps.items ≡ l.initial.way.steps.items;
       ready : IsReady tree whole g.T.Queryable.custom l.task l.kept;
       given : give (seen tree whole l.sink) (flat_map rest (flat_map (acted l.action d) (element_nodes n.location l.i (map tree (drop l.i l.child-items))))) ≡ give (seen tree whole l.initial.sink) (flat_map rest (flat_map (acted l.action d) (children n)));
     }
@@ -142,10 +142,10 @@ abbrev pub «invariant-walk::each_child-loop-member» : goal.«invariant-walk::e
     let tree = g.T.Queryable.tree in
     let whole = g.T.Queryable.is_whole in
     let d = document tree g.T.Queryable.custom l.task in
-    let n = node_of tree l.initial.steps.items l.at in
+    let n = node_of tree l.initial.way.steps.items l.at in
     let rest = through (segments_in l.rest) d in
     record {
-      same : l.steps.items ≡ l.initial.steps.items;
+      same : l.way.steps.items ≡ l.initial.way.steps.items;
       ready : IsReady tree whole g.T.Queryable.custom l.task l.kept;
       given : give (seen tree whole l.sink) (flat_map rest (flat_map (acted l.action d) (member_nodes n.location (map (λ m. (m.0.now, tree m.1.now)) (drop l.member-index l.member-items))))) ≡ give (seen tree whole l.initial.sink) (flat_map rest (flat_map (acted l.action d) (children n)));
     }
@@ -156,9 +156,9 @@ abbrev pub «invariant-filter_test::some_holds-loop-part» : goal.«invariant-fi
     let tree = g.T.Queryable.tree in
     let whole = g.T.Queryable.is_whole in
     let d = document tree g.T.Queryable.custom l.task in
-    let n = node_of tree l.initial.steps.items l.at in
+    let n = node_of tree l.initial.way.steps.items l.at in
     record {
-      same : l.steps.items ≡ l.initial.steps.items;
+      same : l.way.steps.items ≡ l.initial.way.steps.items;
       ready : IsReady tree whole g.T.Queryable.custom l.task l.kept;
       holds : some_holds (filters_in (drop l.part-index l.parts)) d n ≡ some_holds (filters_in l.parts) d n;
     }
@@ -169,9 +169,9 @@ abbrev pub «invariant-filter_test::each_holds-loop-part» : goal.«invariant-fi
     let tree = g.T.Queryable.tree in
     let whole = g.T.Queryable.is_whole in
     let d = document tree g.T.Queryable.custom l.task in
-    let n = node_of tree l.initial.steps.items l.at in
+    let n = node_of tree l.initial.way.steps.items l.at in
     record {
-      same : l.steps.items ≡ l.initial.steps.items;
+      same : l.way.steps.items ≡ l.initial.way.steps.items;
       ready : IsReady tree whole g.T.Queryable.custom l.task l.kept;
       holds : each_holds (filters_in (drop l.part-index l.parts)) d n ≡ each_holds (filters_in l.parts) d n;
     }
@@ -182,9 +182,9 @@ abbrev pub «invariant-call::custom-loop-arg» : goal.«invariant-call::custom-l
     let tree = g.T.Queryable.tree in
     let whole = g.T.Queryable.is_whole in
     let d = document tree g.T.Queryable.custom l.task in
-    let n = node_of tree l.initial.steps.items l.at in
+    let n = node_of tree l.initial.way.steps.items l.at in
     record {
-      same : l.steps.items ≡ l.initial.steps.items;
+      same : l.way.steps.items ≡ l.initial.way.steps.items;
       ready : IsReady tree whole g.T.Queryable.custom l.task l.kept;
       trees : trees_of tree l.values.items ++ all_trees (arguments_in (drop l.arg-index l.args)) d n ≡ all_trees (arguments_in l.args) d n;
       whole : AreWhole whole l.values.items;

@@ -65,7 +65,7 @@ pub «call::answer-returns-in-Custom-clause-value» : goal.«call::answer-return
     let tree = g.T.Queryable.tree in
     let custom = g.T.Queryable.custom in
     let d = document tree custom c.args.task.now in
-    let n = node_of tree c.args.steps.now.items c.args.at.now in
+    let n = node_of tree c.args.way.now.steps.items c.args.at.now in
     let e = ap call_view c.in-Custom.is ∙ call_view-Custom c.in-Custom.name c.in-Custom.args in
     ok_through _ (operand_tree tree) _ _ (ap (λ (xs : List FnArg). Some (custom (string_bytes c.in-Custom.name) (all_trees (arguments_in xs) d n))) c.deref.ensures.value ∙ sym (ap (λ f. answer f d n) e)) c.custom.ensures.value
 
@@ -74,7 +74,7 @@ pub «call::answer-returns-in_ok-argument_value-in-Length-clause-value» : goal.
     let tree = g.T.Queryable.tree in
     let custom = g.T.Queryable.custom in
     let d = document tree custom c.args.task.now in
-    let n = node_of tree c.args.steps.now.items c.args.at.now in
+    let n = node_of tree c.args.way.now.steps.items c.args.at.now in
     let e = ap call_view c.in-Length.is ∙ call_view-Length c.in-Length.arg in
     ok_through _ (operand_tree tree) _ _ (ap length_of (c.in_ok-argument_value-in-Length.ensures.value ∙ ap (λ (a : FnArg). argument_value (argument_view a) d n) c.deref-in-Length.ensures) ∙ sym (ap (λ f. answer f d n) e)) c.length.ensures.value
 
@@ -83,7 +83,7 @@ pub «call::answer-returns-in-Value-clause-value» : goal.«call::answer-returns
     let tree = g.T.Queryable.tree in
     let custom = g.T.Queryable.custom in
     let d = document tree custom c.args.task.now in
-    let n = node_of tree c.args.steps.now.items c.args.at.now in
+    let n = node_of tree c.args.way.now.steps.items c.args.at.now in
     let e = ap call_view c.in-Value.is ∙ call_view-Value c.in-Value.arg in
     ok_through _ (operand_tree tree) _ _ (sym (ap (λ f. answer f d n) e)) c.only_value.ensures.value
 
@@ -92,7 +92,7 @@ pub «call::answer-returns-in-Count-clause-value» : goal.«call::answer-returns
     let tree = g.T.Queryable.tree in
     let custom = g.T.Queryable.custom in
     let d = document tree custom c.args.task.now in
-    let n = node_of tree c.args.steps.now.items c.args.at.now in
+    let n = node_of tree c.args.way.now.steps.items c.args.at.now in
     let e = ap call_view c.in-Count.is ∙ call_view-Count c.in-Count.arg in
     ok_through _ (operand_tree tree) _ _ (sym (ap (λ f. answer f d n) e)) c.count.ensures.value
 
@@ -101,7 +101,7 @@ pub «call::answer-returns-in-Search-clause-value» : goal.«call::answer-return
     let tree = g.T.Queryable.tree in
     let custom = g.T.Queryable.custom in
     let d = document tree custom c.args.task.now in
-    let n = node_of tree c.args.steps.now.items c.args.at.now in
+    let n = node_of tree c.args.way.now.steps.items c.args.at.now in
     let e = ap call_view c.in-Search.is ∙ call_view-Search c.in-Search.text c.in-Search.pattern in
     ok_through _ (operand_tree tree) _ _ (sym (ap (λ f. answer f d n) e)) c.found.ensures.value
 
@@ -110,7 +110,7 @@ pub «call::answer-returns-in-Match-clause-value» : goal.«call::answer-returns
     let tree = g.T.Queryable.tree in
     let custom = g.T.Queryable.custom in
     let d = document tree custom c.args.task.now in
-    let n = node_of tree c.args.steps.now.items c.args.at.now in
+    let n = node_of tree c.args.way.now.steps.items c.args.at.now in
     let e = ap call_view c.in-Match.is ∙ call_view-Match c.in-Match.text c.in-Match.pattern in
     ok_through _ (operand_tree tree) _ _ (sym (ap (λ f. answer f d n) e)) c.found-in-Match.ensures.value
 
@@ -136,7 +136,7 @@ pub «call::only_value-lent-requires» : goal.«call::only_value-lent-requires»
     let whole = g.T.Queryable.is_whole in
     let custom = g.T.Queryable.custom in
     let d = document tree custom c.args.task.now in
-    let n = node_of tree c.args.steps.now.items c.args.at.now in
+    let n = node_of tree c.args.way.now.steps.items c.args.at.now in
     only_is_whole tree whole c.only.result _ (argument_nodes (argument_view c.args.arg.now) d n) c.only.ensures (c.given.ensures ∙ c.in_ok-nodes.ensures.given)
 
 pub «call::only_value-returns-clause-value» : goal.«call::only_value-returns-clause-value»
@@ -145,7 +145,7 @@ pub «call::only_value-returns-clause-value» : goal.«call::only_value-returns-
     let whole = g.T.Queryable.is_whole in
     let custom = g.T.Queryable.custom in
     let d = document tree custom c.args.task.now in
-    let n = node_of tree c.args.steps.now.items c.args.at.now in
+    let n = node_of tree c.args.way.now.steps.items c.args.at.now in
     c.lent.ensures.value ∙ only_is_tree tree whole c.only.result _ (argument_nodes (argument_view c.args.arg.now) d n) c.only.ensures (c.given.ensures ∙ c.in_ok-nodes.ensures.given)
 
 pub «call::found-argument_value-requires» : goal.«call::found-argument_value-requires»
@@ -165,7 +165,7 @@ pub «call::found-returns-clause-value» : goal.«call::found-returns-clause-val
     let tree = g.T.Queryable.tree in
     let custom = g.T.Queryable.custom in
     let d = document tree custom c.args.task.now in
-    let n = node_of tree c.args.steps.now.items c.args.at.now in
+    let n = node_of tree c.args.way.now.steps.items c.args.at.now in
     let pattern = c.in_ok-pattern.ensures.value ∙ ap (λ q. argument_value (argument_view c.args.pattern.now) d (node_of tree q c.args.at.now)) c.in_ok-text.ensures.same in
     ap (λ b. Some (truth b)) (c.in_ok-found.ensures.value ∙ ap (λ o. functions.is_found c.args.whole o (operand_tree tree c.in_ok-pattern.pattern)) c.in_ok-text.ensures.value ∙ ap (functions.is_found c.args.whole (argument_value (argument_view c.args.text.now) d n)) pattern)
 
@@ -181,7 +181,7 @@ pub «call::found-returns-in_err-found-clause-refused» : goal.«call::found-ret
     let tree = g.T.Queryable.tree in
     let custom = g.T.Queryable.custom in
     let d = document tree custom c.args.task.now in
-    let n = node_of tree c.args.steps.now.items c.args.at.now in
+    let n = node_of tree c.args.way.now.steps.items c.args.at.now in
     let pattern = c.in_ok-pattern.ensures.value ∙ ap (λ q. argument_value (argument_view c.args.pattern.now) d (node_of tree q c.args.at.now)) c.in_ok-text.ensures.same in
     let why : IsStop (asked c.args.task.now) d c.in_err-found.field-0.0 = λ h. let k = c.in_err-found.ensures.refused h in (k.0, pattern_asked (asked c.args.task.now) d c.args.whole (argument_view c.args.pattern.now) _ n _ c.requires.part c.requires.here pattern k.1) in
     passed_on c.from_residual-in_err-found.result _ (IsStop (asked c.args.task.now) d) c.from_residual-in_err-found.ensures.1 (λ y q. subst (IsStop (asked c.args.task.now) d) (sym q) why)
@@ -197,7 +197,7 @@ pub «call::custom-loop-arg-init» : goal.«call::custom-loop-arg-init»
     let whole = g.T.Queryable.is_whole in
     let custom = g.T.Queryable.custom in
     let d = document tree custom c.args.task.now in
-    let n = node_of tree c.args.steps.now.items c.args.at.now in
+    let n = node_of tree c.args.way.now.steps.items c.args.at.now in
     record { same = refl; ready = c.requires.ready; trees = ap (λ xs. trees_of tree xs ++ all_trees (arguments_in c.args.args.now) d n) c.new-values.ensures.items; whole = subst (AreWhole whole) (sym c.new-values.ensures.items) (All-nil _) }
 
 pub «call::custom-loop-arg-preserved» : goal.«call::custom-loop-arg-preserved»
@@ -206,7 +206,7 @@ pub «call::custom-loop-arg-preserved» : goal.«call::custom-loop-arg-preserved
     let whole = g.T.Queryable.is_whole in
     let custom = g.T.Queryable.custom in
     let d = document tree custom c.args.task.now in
-    let n = node_of tree c.args.steps.now.items c.args.at.now in
+    let n = node_of tree c.args.way.now.steps.items c.args.at.now in
     let inv = c.loop-arg.invariant in
     let item = c.arg-item.result in
     let was = trees_of tree c.loop-arg.values.items in
@@ -219,7 +219,7 @@ pub «call::custom-returns-clause-value» : goal.«call::custom-returns-clause-v
     let tree = g.T.Queryable.tree in
     let custom = g.T.Queryable.custom in
     let d = document tree custom c.args.task.now in
-    let n = node_of tree c.args.steps.now.items c.args.at.now in
+    let n = node_of tree c.args.way.now.steps.items c.args.at.now in
     let inv = c.loop-arg.invariant in
     let all = trees_of tree c.loop-arg.values.items in
     let end = sym (append-nil all) ∙ parts_end (λ (xs : List FnArg). all ++ all_trees (arguments_in xs) d n) c.args.args.now c.loop-arg.arg-index _ c.loop-arg-test.false inv.trees in
@@ -247,7 +247,7 @@ pub «call::push_argument-returns-in-Literal-clause-value» : goal.«call::push_
     let tree = g.T.Queryable.tree in
     let custom = g.T.Queryable.custom in
     let d = document tree custom c.args.task.now in
-    let n = node_of tree c.args.steps.now.items c.args.at.now in
+    let n = node_of tree c.args.way.now.steps.items c.args.at.now in
     let e = ap argument_view c.in-Literal.is ∙ argument_view-Literal c.in-Literal.literal in
     let old = trees_of tree c.args.values.now.items in
     on_ok_as _ _ _ _ (ap (λ x. old ++ x ∷ []) c.scalar_of.ensures ∙ sym (ap (λ a. old ++ argument_trees a d n) e)) c.push_scalar.ensures.value
@@ -257,7 +257,7 @@ pub «call::push_argument-returns-in-Test-clause-value» : goal.«call::push_arg
     let tree = g.T.Queryable.tree in
     let custom = g.T.Queryable.custom in
     let d = document tree custom c.args.task.now in
-    let n = node_of tree c.args.steps.now.items c.args.at.now in
+    let n = node_of tree c.args.way.now.steps.items c.args.at.now in
     let e = ap argument_view c.in-Test.is ∙ argument_view-Test c.in-Test.test in
     let old = trees_of tree c.args.values.now.items in
     on_ok_as _ _ _ _ (ap (λ (q : Test). old ++ test_trees (test_view q) d n) c.deref.ensures ∙ sym (ap (λ a. old ++ argument_trees a d n) e)) c.push_test.ensures.value
@@ -267,7 +267,7 @@ pub «call::push_argument-returns-in_ok-truth-in-Filter-clause-value» : goal.«
     let tree = g.T.Queryable.tree in
     let custom = g.T.Queryable.custom in
     let d = document tree custom c.args.task.now in
-    let n = node_of tree c.args.steps.now.items c.args.at.now in
+    let n = node_of tree c.args.way.now.steps.items c.args.at.now in
     let e = ap argument_view c.in-Filter.is ∙ argument_view-Filter c.in-Filter.filter in
     let old = trees_of tree c.args.values.now.items in
     on_ok_as _ _ _ _ (ap (λ b. old ++ truth b ∷ []) c.in_ok-truth-in-Filter.ensures.holds ∙ sym (ap (λ a. old ++ argument_trees a d n) e)) c.push_scalar-in-Filter.ensures.value
@@ -295,7 +295,7 @@ pub «call::push_test-push_values-requires-clause-nodes» : goal.«call::push_te
     let tree = g.T.Queryable.tree in
     let custom = g.T.Queryable.custom in
     let d = document tree custom c.args.task.now in
-    let n = node_of tree c.args.steps.now.items c.args.at.now in
+    let n = node_of tree c.args.way.now.steps.items c.args.at.now in
     values_are_whole _ (through (segments_in c.deref.result.now) d n) c.in_ok-nodes-in-RelQuery.ensures.given
 
 pub «call::push_test-push_values-requires-clause-others» : goal.«call::push_test-push_values-requires-clause-others»
@@ -322,7 +322,7 @@ pub «call::push_test-returns-in_ok-nodes-in-RelQuery-clause-value» : goal.«ca
     let tree = g.T.Queryable.tree in
     let custom = g.T.Queryable.custom in
     let d = document tree custom c.args.task.now in
-    let n = node_of tree c.args.steps.now.items c.args.at.now in
+    let n = node_of tree c.args.way.now.steps.items c.args.at.now in
     let e = ap test_view c.in-RelQuery.is ∙ test_view-RelQuery c.in-RelQuery.segments in
     let ns = ap (λ (gs : List Segment). through (segments_in gs) d n) c.deref.ensures.value ∙ through-applied (segments_in c.in-RelQuery.segments.items) d n in
     let old = trees_of tree c.args.values.now.items in
@@ -333,7 +333,7 @@ pub «call::push_test-returns-in_ok-place-in-AbsQuery-clause-value» : goal.«ca
     let tree = g.T.Queryable.tree in
     let custom = g.T.Queryable.custom in
     let d = document tree custom c.args.task.now in
-    let n = node_of tree c.args.steps.now.items c.args.at.now in
+    let n = node_of tree c.args.way.now.steps.items c.args.at.now in
     let e = ap test_view c.in-AbsQuery.is ∙ test_view-AbsQuery c.in-AbsQuery.query in
     let old = trees_of tree c.args.values.now.items in
     on_ok_as _ _ _ _ (ap (λ ts. old ++ ts) (ap values_in (c.answer.ensures ∙ c.in_ok-place-in-AbsQuery.ensures.right) ∙ values_all _) ∙ sym (ap (λ q. old ++ test_trees q d n) e)) c.push_values-in-AbsQuery.ensures.value
@@ -343,7 +343,7 @@ pub «call::push_test-returns-in_ok-answer-in-Function-clause-value» : goal.«c
     let tree = g.T.Queryable.tree in
     let custom = g.T.Queryable.custom in
     let d = document tree custom c.args.task.now in
-    let n = node_of tree c.args.steps.now.items c.args.at.now in
+    let n = node_of tree c.args.way.now.steps.items c.args.at.now in
     let e = ap test_view c.in-Function.is ∙ test_view-Function c.in-Function.function in
     let old = trees_of tree c.args.values.now.items in
     on_ok_as _ _ _ _ (ap (λ o. old ++ option_to_list o) (c.in_ok-answer-in-Function.ensures.value ∙ ap (λ (f : TestFunction). answer (call_view f) d n) c.deref-in-Function.ensures) ∙ sym (ap (λ q. old ++ test_trees q d n) e)) c.push_to.ensures.value
@@ -363,7 +363,7 @@ pub «call::argument_value-returns-in-Literal-clause-value» : goal.«call::argu
     let tree = g.T.Queryable.tree in
     let custom = g.T.Queryable.custom in
     let d = document tree custom c.args.task.now in
-    let n = node_of tree c.args.steps.now.items c.args.at.now in
+    let n = node_of tree c.args.way.now.steps.items c.args.at.now in
     let e = ap argument_view c.in-Literal.is ∙ argument_view-Literal c.in-Literal.literal in
     ap (λ x. Some x) c.scalar_of.ensures ∙ sym (ap (λ a. argument_value a d n) e)
 
@@ -372,7 +372,7 @@ pub «call::argument_value-returns-in-Test-clause-value» : goal.«call::argumen
     let tree = g.T.Queryable.tree in
     let custom = g.T.Queryable.custom in
     let d = document tree custom c.args.task.now in
-    let n = node_of tree c.args.steps.now.items c.args.at.now in
+    let n = node_of tree c.args.way.now.steps.items c.args.at.now in
     let e = ap argument_view c.in-Test.is ∙ argument_view-Test c.in-Test.test in
     ok_through _ (operand_tree tree) _ _ (ap (λ (q : Test). test_value (test_view q) d n) c.deref.ensures ∙ sym (ap (λ a. argument_value a d n) e)) c.test_value.ensures.value
 
@@ -381,7 +381,7 @@ pub «call::argument_value-returns-in_ok-filter_holds-in-Filter-clause-value» :
     let tree = g.T.Queryable.tree in
     let custom = g.T.Queryable.custom in
     let d = document tree custom c.args.task.now in
-    let n = node_of tree c.args.steps.now.items c.args.at.now in
+    let n = node_of tree c.args.way.now.steps.items c.args.at.now in
     let e = ap argument_view c.in-Filter.is ∙ argument_view-Filter c.in-Filter.filter in
     ap (λ b. Some (truth b)) c.in_ok-filter_holds-in-Filter.ensures.holds ∙ sym (ap (λ a. argument_value a d n) e)
 
@@ -409,7 +409,7 @@ pub «call::test_value-lent-requires» : goal.«call::test_value-lent-requires»
     let whole = g.T.Queryable.is_whole in
     let custom = g.T.Queryable.custom in
     let d = document tree custom c.args.task.now in
-    let n = node_of tree c.args.steps.now.items c.args.at.now in
+    let n = node_of tree c.args.way.now.steps.items c.args.at.now in
     only_is_whole tree whole c.only.result _ (through (segments_in c.deref.result.now) d n) c.only.ensures c.in_ok-gather-in-RelQuery.ensures.given
 
 pub «call::test_value-lent-requires-in-AbsQuery» : goal.«call::test_value-lent-requires-in-AbsQuery»
@@ -426,7 +426,7 @@ pub «call::test_value-returns-in_ok-gather-in-RelQuery-clause-value» : goal.«
     let whole = g.T.Queryable.is_whole in
     let custom = g.T.Queryable.custom in
     let d = document tree custom c.args.task.now in
-    let n = node_of tree c.args.steps.now.items c.args.at.now in
+    let n = node_of tree c.args.way.now.steps.items c.args.at.now in
     let e = ap test_view c.in-RelQuery.is ∙ test_view-RelQuery c.in-RelQuery.segments in
     let ns = ap (λ (gs : List Segment). through (segments_in gs) d n) c.deref.ensures.value ∙ through-applied (segments_in c.in-RelQuery.segments.items) d n in
     c.lent.ensures.value ∙ only_is_tree tree whole c.only.result _ (through (segments_in c.deref.result.now) d n) c.only.ensures c.in_ok-gather-in-RelQuery.ensures.given ∙ ap only_value ns ∙ sym (ap (λ q. test_value q d n) e)
@@ -437,7 +437,7 @@ pub «call::test_value-returns-in_ok-place-in-AbsQuery-clause-value» : goal.«c
     let whole = g.T.Queryable.is_whole in
     let custom = g.T.Queryable.custom in
     let d = document tree custom c.args.task.now in
-    let n = node_of tree c.args.steps.now.items c.args.at.now in
+    let n = node_of tree c.args.way.now.steps.items c.args.at.now in
     let e = ap test_view c.in-AbsQuery.is ∙ test_view-AbsQuery c.in-AbsQuery.query in
     c.lent-in-AbsQuery.ensures.value ∙ only_is_tree tree whole c.only-in-AbsQuery.result _ (nodelist (query_view c.in-AbsQuery.query) d) c.only-in-AbsQuery.ensures (c.answer.ensures ∙ c.in_ok-place-in-AbsQuery.ensures.right) ∙ sym (ap (λ q. test_value q d n) e)
 
@@ -446,7 +446,7 @@ pub «call::test_value-returns-in-Function-clause-value» : goal.«call::test_va
     let tree = g.T.Queryable.tree in
     let custom = g.T.Queryable.custom in
     let d = document tree custom c.args.task.now in
-    let n = node_of tree c.args.steps.now.items c.args.at.now in
+    let n = node_of tree c.args.way.now.steps.items c.args.at.now in
     let e = ap test_view c.in-Function.is ∙ test_view-Function c.in-Function.function in
     ok_through _ (operand_tree tree) _ _ (ap (λ (f : TestFunction). answer (call_view f) d n) c.deref-in-Function.ensures ∙ sym (ap (λ q. test_value q d n) e)) c.answer-in-Function.ensures.value
 
@@ -461,7 +461,7 @@ pub «call::argument_nodes-returns-in-Test-clause-given» : goal.«call::argumen
     let whole = g.T.Queryable.is_whole in
     let custom = g.T.Queryable.custom in
     let d = document tree custom c.args.task.now in
-    let n = node_of tree c.args.steps.now.items c.args.at.now in
+    let n = node_of tree c.args.way.now.steps.items c.args.at.now in
     let e = ap argument_view c.in-Test.is ∙ argument_view-Test c.in-Test.test in
     ok_through _ (gathered tree whole c.test_nodes.new.kept) _ _ (ap (give (start c.args.kind)) (ap (λ (q : Test). test_nodes (test_view q) d n) c.deref.ensures ∙ sym (ap (λ a. argument_nodes a d n) e))) c.test_nodes.ensures.given
 
@@ -473,7 +473,7 @@ pub «call::argument_nodes-returns-in-Literal-clause-given» : goal.«call::argu
     let tree = g.T.Queryable.tree in
     let custom = g.T.Queryable.custom in
     let d = document tree custom c.args.task.now in
-    let n = node_of tree c.args.steps.now.items c.args.at.now in
+    let n = node_of tree c.args.way.now.steps.items c.args.at.now in
     let e = ap argument_view c.in-Literal.is ∙ argument_view-Literal c.in-Literal.field-0 in
     c.start.ensures ∙ sym (ap (λ a. give (start c.args.kind) (argument_nodes a d n)) e)
 
@@ -482,7 +482,7 @@ pub «call::argument_nodes-returns-in-Filter-clause-given» : goal.«call::argum
     let tree = g.T.Queryable.tree in
     let custom = g.T.Queryable.custom in
     let d = document tree custom c.args.task.now in
-    let n = node_of tree c.args.steps.now.items c.args.at.now in
+    let n = node_of tree c.args.way.now.steps.items c.args.at.now in
     let e = ap argument_view c.in-Filter.is ∙ argument_view-Filter c.in-Filter.field-0 in
     c.start-in-Filter.ensures ∙ sym (ap (λ a. give (start c.args.kind) (argument_nodes a d n)) e)
 
@@ -501,7 +501,7 @@ pub «call::test_nodes-returns-in_ok-gather-in-RelQuery-clause-given» : goal.«
     let tree = g.T.Queryable.tree in
     let custom = g.T.Queryable.custom in
     let d = document tree custom c.args.task.now in
-    let n = node_of tree c.args.steps.now.items c.args.at.now in
+    let n = node_of tree c.args.way.now.steps.items c.args.at.now in
     let e = ap test_view c.in-RelQuery.is ∙ test_view-RelQuery c.in-RelQuery.segments in
     let ns = ap (λ (gs : List Segment). through (segments_in gs) d n) c.deref.ensures.value ∙ through-applied (segments_in c.in-RelQuery.segments.items) d n in
     c.in_ok-gather-in-RelQuery.ensures.given ∙ ap (give (start c.args.kind)) (ns ∙ sym (ap (λ q. test_nodes q d n) e))
@@ -511,7 +511,7 @@ pub «call::test_nodes-returns-in_ok-absolute-in-AbsQuery-clause-given» : goal.
     let tree = g.T.Queryable.tree in
     let custom = g.T.Queryable.custom in
     let d = document tree custom c.args.task.now in
-    let n = node_of tree c.args.steps.now.items c.args.at.now in
+    let n = node_of tree c.args.way.now.steps.items c.args.at.now in
     let e = ap test_view c.in-AbsQuery.is ∙ test_view-AbsQuery c.in-AbsQuery.query in
     c.in_ok-absolute-in-AbsQuery.ensures.right ∙ ap (give (start c.args.kind)) (sym (ap (λ q. test_nodes q d n) e))
 
@@ -523,7 +523,7 @@ pub «call::test_nodes-returns-in-Function-clause-given» : goal.«call::test_no
     let tree = g.T.Queryable.tree in
     let custom = g.T.Queryable.custom in
     let d = document tree custom c.args.task.now in
-    let n = node_of tree c.args.steps.now.items c.args.at.now in
+    let n = node_of tree c.args.way.now.steps.items c.args.at.now in
     let e = ap test_view c.in-Function.is ∙ test_view-Function c.in-Function.field-0 in
     c.start.ensures ∙ sym (ap (λ q. give (start c.args.kind) (test_nodes q d n)) e)
 
@@ -535,14 +535,14 @@ pub «call::gather-returns-clause-given» : goal.«call::gather-returns-clause-g
     let tree = g.T.Queryable.tree in
     let custom = g.T.Queryable.custom in
     let d = document tree custom c.args.task.now in
-    let n = node_of tree c.args.steps.now.items c.args.at.now in
+    let n = node_of tree c.args.way.now.steps.items c.args.at.now in
     c.in_ok-_goes_on.ensures.gave.given ∙ ap (λ s. give s (through (segments_in c.args.segments.now) d n)) c.start-sink.ensures
 
 pub «call::absolute-gather-requires» : goal.«call::absolute-gather-requires»
 «call::absolute-gather-requires» g t c κs within =
     let e = query_view-segments c.args.query.now in
     let gs = c.deref.ensures.value in
-    (down _ _ _ _ _ _ c.decreases (omega (arith, ap segments_weight e, ap (λ (xs : List Segment). segments_weight (segments_in xs)) gs)) (omega arith), (within, (c.requires.ready.root, (omega arith, (leads_as _ _ _ _ c.new-steps.ensures.items refl, (part_as (λ (xs : List Segment). segments_patterns (segments_in xs)) _ _ _ (sym gs) (part_as segments_patterns _ _ _ e c.requires.part), c.requires.ready))))))
+    (down _ _ _ _ _ _ c.decreases (omega (arith, ap segments_weight e, ap (λ (xs : List Segment). segments_weight (segments_in xs)) gs)) (omega arith), (within, (c.requires.ready.root, (omega arith, (leads_as _ _ _ _ c.new-way.ensures refl, (part_as (λ (xs : List Segment). segments_patterns (segments_in xs)) _ _ _ (sym gs) (part_as segments_patterns _ _ _ e c.requires.part), c.requires.ready))))))
 
 pub «call::absolute-returns-in-Some-clause-within» : goal.«call::absolute-returns-in-Some-clause-within»
 «call::absolute-returns-in-Some-clause-within» g t c = c.in-Some.ensures.within
@@ -563,7 +563,7 @@ pub «call::absolute-returns-clause-right» : goal.«call::absolute-returns-clau
     let custom = g.T.Queryable.custom in
     let d = document tree custom c.args.task.now in
     let at = λ (q : List StepRef) (gs : List Segment). through (segments_in gs) d (node_of tree q c.args.task.now.root.now) in
-    let all = ap (λ q. at q c.deref.result.now) c.new-steps.ensures.items ∙ ap (at []) c.deref.ensures.value ∙ nodelist-through (segments_in c.args.query.now.segments.items) d ∙ ap (λ q. nodelist q d) (sym (query_view-segments c.args.query.now)) in
+    let all = ap (λ q. at q c.deref.result.now) c.new-way.ensures ∙ ap (at []) c.deref.ensures.value ∙ nodelist-through (segments_in c.args.query.now.segments.items) d ∙ ap (λ q. nodelist q d) (sym (query_view-segments c.args.query.now)) in
     let given = c.in_ok-answer.ensures.given ∙ ap (give (start c.args.kind)) all in
     c.in_ok-keep.ensures.place ∙ given
 
@@ -573,7 +573,7 @@ pub «call::absolute-returns-clause-keeps» : goal.«call::absolute-returns-clau
     let custom = g.T.Queryable.custom in
     let d = document tree custom c.args.task.now in
     let at = λ (q : List StepRef) (gs : List Segment). through (segments_in gs) d (node_of tree q c.args.task.now.root.now) in
-    let all = ap (λ q. at q c.deref.result.now) c.new-steps.ensures.items ∙ ap (at []) c.deref.ensures.value ∙ nodelist-through (segments_in c.args.query.now.segments.items) d ∙ ap (λ q. nodelist q d) (sym (query_view-segments c.args.query.now)) in
+    let all = ap (λ q. at q c.deref.result.now) c.new-way.ensures ∙ ap (at []) c.deref.ensures.value ∙ nodelist-through (segments_in c.args.query.now.segments.items) d ∙ ap (λ q. nodelist q d) (sym (query_view-segments c.args.query.now)) in
     let given = c.in_ok-answer.ensures.given ∙ ap (give (start c.args.kind)) all in
     record { root = c.requires.ready.root; answers = c.in_ok-keep.ensures.right d given c.in_ok-answer.ensures.keeps.answers }
 

@@ -45,7 +45,7 @@ pub «filter_test::filter_holds-returns-in-Or-clause-holds» : goal.«filter_tes
     let tree = g.T.Queryable.tree in
     let custom = g.T.Queryable.custom in
     let d = document tree custom c.args.task.now in
-    let n = node_of tree c.args.steps.now.items c.args.at.now in
+    let n = node_of tree c.args.way.now.steps.items c.args.at.now in
     let e = ap filter_view c.in-Or.is ∙ filter_view-Or c.in-Or.parts in
     ok_as _ _ _ (ap (λ (fs : List Filter). some_holds (filters_in fs) d n) c.deref.ensures.value ∙ sym (ap (λ f. holds f d n) e)) c.some_holds.ensures.holds
 
@@ -54,7 +54,7 @@ pub «filter_test::filter_holds-returns-in-And-clause-holds» : goal.«filter_te
     let tree = g.T.Queryable.tree in
     let custom = g.T.Queryable.custom in
     let d = document tree custom c.args.task.now in
-    let n = node_of tree c.args.steps.now.items c.args.at.now in
+    let n = node_of tree c.args.way.now.steps.items c.args.at.now in
     let e = ap filter_view c.in-And.is ∙ filter_view-And c.in-And.parts in
     ok_as _ _ _ (ap (λ (fs : List Filter). each_holds (filters_in fs) d n) c.deref-in-And.ensures.value ∙ sym (ap (λ f. holds f d n) e)) c.each_holds.ensures.holds
 
@@ -63,7 +63,7 @@ pub «filter_test::filter_holds-returns-in-Atom-clause-holds» : goal.«filter_t
     let tree = g.T.Queryable.tree in
     let custom = g.T.Queryable.custom in
     let d = document tree custom c.args.task.now in
-    let n = node_of tree c.args.steps.now.items c.args.at.now in
+    let n = node_of tree c.args.way.now.steps.items c.args.at.now in
     let e = ap filter_view c.in-Atom.is ∙ filter_view-Atom c.in-Atom.atom in
     ok_as _ _ _ (sym (ap (λ f. holds f d n) e)) c.atom_holds.ensures.holds
 
@@ -77,7 +77,7 @@ pub «filter_test::some_holds-returns-then-branch-clause-holds» : goal.«filter
     let tree = g.T.Queryable.tree in
     let custom = g.T.Queryable.custom in
     let d = document tree custom c.args.task.now in
-    let n = node_of tree c.args.steps.now.items c.args.at.now in
+    let n = node_of tree c.args.way.now.steps.items c.args.at.now in
     let inv = c.loop-part.invariant in
     let item = c.part-item.result in
     let here = c.in_ok-filter_holds.ensures.holds ∙ ap (λ q. holds (filter_view item) d (node_of tree q c.args.at.now)) inv.same in
@@ -88,7 +88,7 @@ pub «filter_test::some_holds-loop-part-preserved» : goal.«filter_test::some_h
     let tree = g.T.Queryable.tree in
     let custom = g.T.Queryable.custom in
     let d = document tree custom c.args.task.now in
-    let n = node_of tree c.args.steps.now.items c.args.at.now in
+    let n = node_of tree c.args.way.now.steps.items c.args.at.now in
     let inv = c.loop-part.invariant in
     let item = c.part-item.result in
     let here = c.in_ok-filter_holds.ensures.holds ∙ ap (λ q. holds (filter_view item) d (node_of tree q c.args.at.now)) inv.same in
@@ -99,7 +99,7 @@ pub «filter_test::some_holds-returns-clause-holds» : goal.«filter_test::some_
     let tree = g.T.Queryable.tree in
     let custom = g.T.Queryable.custom in
     let d = document tree custom c.args.task.now in
-    let n = node_of tree c.args.steps.now.items c.args.at.now in
+    let n = node_of tree c.args.way.now.steps.items c.args.at.now in
     parts_end (λ (fs : List Filter). some_holds (filters_in fs) d n) c.args.parts.now c.loop-part.part-index _ c.loop-part-test.false c.loop-part.invariant.holds
 
 pub «filter_test::each_holds-filter_holds-requires» : goal.«filter_test::each_holds-filter_holds-requires»
@@ -112,7 +112,7 @@ pub «filter_test::each_holds-returns-then-not-branch-clause-holds» : goal.«fi
     let tree = g.T.Queryable.tree in
     let custom = g.T.Queryable.custom in
     let d = document tree custom c.args.task.now in
-    let n = node_of tree c.args.steps.now.items c.args.at.now in
+    let n = node_of tree c.args.way.now.steps.items c.args.at.now in
     let inv = c.loop-part.invariant in
     let item = c.part-item.result in
     let here = c.in_ok-filter_holds.ensures.holds ∙ ap (λ q. holds (filter_view item) d (node_of tree q c.args.at.now)) inv.same in
@@ -123,7 +123,7 @@ pub «filter_test::each_holds-loop-part-preserved» : goal.«filter_test::each_h
     let tree = g.T.Queryable.tree in
     let custom = g.T.Queryable.custom in
     let d = document tree custom c.args.task.now in
-    let n = node_of tree c.args.steps.now.items c.args.at.now in
+    let n = node_of tree c.args.way.now.steps.items c.args.at.now in
     let inv = c.loop-part.invariant in
     let item = c.part-item.result in
     let here = c.in_ok-filter_holds.ensures.holds ∙ ap (λ q. holds (filter_view item) d (node_of tree q c.args.at.now)) inv.same in
@@ -134,7 +134,7 @@ pub «filter_test::each_holds-returns-clause-holds» : goal.«filter_test::each_
     let tree = g.T.Queryable.tree in
     let custom = g.T.Queryable.custom in
     let d = document tree custom c.args.task.now in
-    let n = node_of tree c.args.steps.now.items c.args.at.now in
+    let n = node_of tree c.args.way.now.steps.items c.args.at.now in
     parts_end (λ (fs : List Filter). each_holds (filters_in fs) d n) c.args.parts.now c.loop-part.part-index _ c.loop-part-test.false c.loop-part.invariant.holds
 
 pub «filter_test::atom_holds-filter_holds-requires» : goal.«filter_test::atom_holds-filter_holds-requires»
@@ -157,7 +157,7 @@ pub «filter_test::atom_holds-returns-in_ok-filter_holds-in-Filter-clause-holds�
     let tree = g.T.Queryable.tree in
     let custom = g.T.Queryable.custom in
     let d = document tree custom c.args.task.now in
-    let n = node_of tree c.args.steps.now.items c.args.at.now in
+    let n = node_of tree c.args.way.now.steps.items c.args.at.now in
     let e = ap atom_view c.in-Filter.is ∙ atom_view-Filter c.in-Filter.expr c.in-Filter.not in
     differs _ _ ∙ ap (turned c.in-Filter.not) (c.in_ok-filter_holds-in-Filter.ensures.holds ∙ ap (λ (f : Filter). holds (filter_view f) d n) c.deref.ensures) ∙ sym (ap (λ a. atom_holds a d n) e)
 
@@ -166,7 +166,7 @@ pub «filter_test::atom_holds-returns-in_ok-test_holds-in-Test-clause-holds» : 
     let tree = g.T.Queryable.tree in
     let custom = g.T.Queryable.custom in
     let d = document tree custom c.args.task.now in
-    let n = node_of tree c.args.steps.now.items c.args.at.now in
+    let n = node_of tree c.args.way.now.steps.items c.args.at.now in
     let e = ap atom_view c.in-Test.is ∙ atom_view-Test c.in-Test.expr c.in-Test.not in
     differs _ _ ∙ ap (turned c.in-Test.not) (c.in_ok-test_holds-in-Test.ensures.holds ∙ ap (λ (q : Test). test_holds (test_view q) d n) c.deref-in-Test.ensures) ∙ sym (ap (λ a. atom_holds a d n) e)
 
@@ -175,7 +175,7 @@ pub «filter_test::atom_holds-returns-in-Comparison-clause-holds» : goal.«filt
     let tree = g.T.Queryable.tree in
     let custom = g.T.Queryable.custom in
     let d = document tree custom c.args.task.now in
-    let n = node_of tree c.args.steps.now.items c.args.at.now in
+    let n = node_of tree c.args.way.now.steps.items c.args.at.now in
     let e = ap atom_view c.in-Comparison.is ∙ atom_view-Comparison c.in-Comparison.comparison in
     ok_as _ _ _ (ap (λ (x : Comparison). comparison_holds (comparison_view x) d n) c.deref-in-Comparison.ensures ∙ sym (ap (λ a. atom_holds a d n) e)) c.comparison_holds.ensures.holds
 
@@ -205,7 +205,7 @@ pub «filter_test::test_holds-returns-in_ok-gather-in-RelQuery-clause-holds» : 
     let tree = g.T.Queryable.tree in
     let custom = g.T.Queryable.custom in
     let d = document tree custom c.args.task.now in
-    let n = node_of tree c.args.steps.now.items c.args.at.now in
+    let n = node_of tree c.args.way.now.steps.items c.args.at.now in
     let e = ap test_view c.in-RelQuery.is ∙ test_view-RelQuery c.in-RelQuery.segments in
     let ns = ap (λ (gs : List Segment). through (segments_in gs) d n) c.deref.ensures.value ∙ through-applied (segments_in c.in-RelQuery.segments.items) d n in
     c.has_any.ensures ∙ ap is_found c.in_ok-gather-in-RelQuery.ensures.given ∙ found_any _ ∙ ap has_node ns ∙ sym (ap (λ q. test_holds q d n) e)
@@ -215,7 +215,7 @@ pub «filter_test::test_holds-returns-in_ok-place-in-AbsQuery-clause-holds» : g
     let tree = g.T.Queryable.tree in
     let custom = g.T.Queryable.custom in
     let d = document tree custom c.args.task.now in
-    let n = node_of tree c.args.steps.now.items c.args.at.now in
+    let n = node_of tree c.args.way.now.steps.items c.args.at.now in
     let e = ap test_view c.in-AbsQuery.is ∙ test_view-AbsQuery c.in-AbsQuery.query in
     c.has_any-in-AbsQuery.ensures ∙ ap is_found (c.answer.ensures ∙ c.in_ok-place-in-AbsQuery.ensures.right) ∙ found_any _ ∙ sym (ap (λ q. test_holds q d n) e)
 
@@ -224,7 +224,7 @@ pub «filter_test::test_holds-returns-in_ok-answer-in-Function-clause-holds» : 
     let tree = g.T.Queryable.tree in
     let custom = g.T.Queryable.custom in
     let d = document tree custom c.args.task.now in
-    let n = node_of tree c.args.steps.now.items c.args.at.now in
+    let n = node_of tree c.args.way.now.steps.items c.args.at.now in
     let e = ap test_view c.in-Function.is ∙ test_view-Function c.in-Function.function in
     c.is_true.ensures ∙ ap is_true (c.in_ok-answer-in-Function.ensures.value ∙ ap (λ (f : TestFunction). answer (call_view f) d n) c.deref-in-Function.ensures) ∙ sym (ap (λ q. test_holds q d n) e)
 
@@ -249,7 +249,7 @@ pub «filter_test::comparison_holds-returns-clause-holds» : goal.«filter_test:
     let tree = g.T.Queryable.tree in
     let custom = g.T.Queryable.custom in
     let d = document tree custom c.args.task.now in
-    let n = node_of tree c.args.steps.now.items c.args.at.now in
+    let n = node_of tree c.args.way.now.steps.items c.args.at.now in
     let s = c.sides-sign.ensures in
     let op = operator_of c.sides-sign.result.0 in
     let right = c.in_ok-right.ensures.value ∙ ap (λ q. value_of (comparable_view c.sides-sign.result.2.now) d (node_of tree q c.args.at.now)) c.in_ok-left.ensures.same in
@@ -274,7 +274,7 @@ pub «filter_test::side-returns-in-Literal-clause-value» : goal.«filter_test::
     let tree = g.T.Queryable.tree in
     let custom = g.T.Queryable.custom in
     let d = document tree custom c.args.task.now in
-    let n = node_of tree c.args.steps.now.items c.args.at.now in
+    let n = node_of tree c.args.way.now.steps.items c.args.at.now in
     let e = ap comparable_view c.in-Literal.is ∙ comparable_view-Literal c.in-Literal.literal in
     ap (λ x. Some x) c.scalar_of.ensures ∙ sym (ap (λ x. value_of x d n) e)
 
@@ -283,7 +283,7 @@ pub «filter_test::side-returns-in-Function-clause-value» : goal.«filter_test:
     let tree = g.T.Queryable.tree in
     let custom = g.T.Queryable.custom in
     let d = document tree custom c.args.task.now in
-    let n = node_of tree c.args.steps.now.items c.args.at.now in
+    let n = node_of tree c.args.way.now.steps.items c.args.at.now in
     let e = ap comparable_view c.in-Function.is ∙ comparable_view-Function c.in-Function.function in
     ok_through _ (operand_tree tree) _ _ (sym (ap (λ x. value_of x d n) e)) c.answer.ensures.value
 
@@ -292,6 +292,6 @@ pub «filter_test::side-returns-in-SingularQuery-clause-value» : goal.«filter_
     let tree = g.T.Queryable.tree in
     let custom = g.T.Queryable.custom in
     let d = document tree custom c.args.task.now in
-    let n = node_of tree c.args.steps.now.items c.args.at.now in
+    let n = node_of tree c.args.way.now.steps.items c.args.at.now in
     let e = ap comparable_view c.in-SingularQuery.is ∙ comparable_view-SingularQuery c.in-SingularQuery.query in
     c.lent.ensures.value ∙ c.singular_value.ensures.value n refl ∙ sym (ap (λ x. value_of x d n) e)

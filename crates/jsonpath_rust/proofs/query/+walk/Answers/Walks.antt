@@ -5,6 +5,7 @@ use Rattle.std.proofs.lemmas.List.{map-append}
 use Rattle.std.proofs.lemmas.List.Elements.{All-head, All-tail}
 use Rattle.std.specs.List.{flat_map}
 use Rattle.jsonpath_parser.specs.Location.{name, index}
+use Rattle.jsonpath_parser.specs.Syntax.{descendant}
 use Rattle.jsonpath_parser.specs.View.{segment_view, selector_view, filter_view}
 use Rattle.jsonpath_parser.specs.declared.model.Segment.{Segment}
 use Rattle.jsonpath_parser.specs.declared.model.Selector.{Selector}
@@ -21,6 +22,7 @@ use Rattle.jsonpath_rust.specs.Keeping.{document}
 use Rattle.jsonpath_rust.specs.declared.query.sink.StepRef.TheVariants.{Name, Index}
 use Rattle.jsonpath_rust.proofs.Sinks.{gives_none, gives_as, gives_stop, result_as, result_then, true_false}
 use Rattle.jsonpath_rust.proofs.Walks.{down, down_tree, turn_next, turn_stop, turn_end, selector_turns, element_turns, member_turns, place_next, place_stop, below_more, flat_map-alone, flat_map-filter}
+use Rattle.jsonpath_rust.proofs.Leaves.{replaced-none}
 use Rattle.jsonpath_rust.proofs.NodesAt.{leads_as, leads_below, leads_indexed, member_there}
 use Rattle.jsonpath_rust.proofs.Patterns.{part_as, part_left, part_right, part_both, part_at}
 use Rattle.jsonpath_rust.proofs.Trees.{child_there, all_at, element_size, pair_size, member_size, element_at, sliced-list, named_some, named_none}
@@ -45,6 +47,9 @@ pub «walk::act-walk-requires-then-branch» : goal.«walk::act-walk-requires-the
     let e = ap action_weight c.in-If.is in
     (down _ _ _ _ _ _ c.decreases (omega (arith, e)) (omega (arith, c.requires.within)), (within, (c.requires.whole, (c.requires.within, (leads_as _ _ _ _ c.in_ok-filter_holds-in-If.ensures.same c.requires.here, (part_right _ _ _ c.requires.part, c.in_ok-filter_holds-in-If.ensures.keeps))))))
 
+pub «walk::act-is_leaf-requires» : goal.«walk::act-is_leaf-requires»
+«walk::act-is_leaf-requires» g t c = c.requires.whole
+
 pub «walk::act-pass-requires» : goal.«walk::act-pass-requires»
 «walk::act-pass-requires» g t c κs within =
     let e = ap action_weight c.in-Below.is in
@@ -58,7 +63,7 @@ pub «walk::act-returns-in-All-clause-gave» : goal.«walk::act-returns-in-All-c
     let tree = g.T.Queryable.tree in
     let custom = g.T.Queryable.custom in
     let d = document tree custom c.args.task.now in
-    let n = node_of tree c.args.steps.now.items c.args.at.now in
+    let n = node_of tree c.args.way.now.steps.items c.args.at.now in
     let rest = through (segments_in c.args.rest.now) d in
     result_as _ _ _ _ _ (sym (append-nil (rest n)) ∙ ap (λ a. flat_map rest (acted a d n)) (sym c.in-All.is)) c.walk.ensures.gave
 
@@ -67,7 +72,7 @@ pub «walk::act-returns-then-branch-clause-gave» : goal.«walk::act-returns-the
     let tree = g.T.Queryable.tree in
     let custom = g.T.Queryable.custom in
     let d = document tree custom c.args.task.now in
-    let n = node_of tree c.args.steps.now.items c.args.at.now in
+    let n = node_of tree c.args.way.now.steps.items c.args.at.now in
     let rest = through (segments_in c.args.rest.now) d in
     let h = c.in_ok-filter_holds-in-If.ensures in
     result_as _ _ _ _ _ (ap (λ q. rest (node_of tree q c.args.at.now)) h.same ∙ kept_true rest (holds (filter_view c.in-If.filter.now) d) n (sym h.holds ∙ c.if-branch.true) ∙ ap (λ a. flat_map rest (acted a d n)) (sym c.in-If.is)) c.walk-then-branch.ensures.gave
@@ -77,17 +82,28 @@ pub «walk::act-returns-else-branch-clause-gave» : goal.«walk::act-returns-els
     let tree = g.T.Queryable.tree in
     let custom = g.T.Queryable.custom in
     let d = document tree custom c.args.task.now in
-    let n = node_of tree c.args.steps.now.items c.args.at.now in
+    let n = node_of tree c.args.way.now.steps.items c.args.at.now in
     let rest = through (segments_in c.args.rest.now) d in
     let h = c.in_ok-filter_holds-in-If.ensures in
     gives_none _ _ (ap (λ a. flat_map rest (acted a d n)) c.in-If.is ∙ kept_false rest (holds (filter_view c.in-If.filter.now) d) n (sym h.holds ∙ c.if-branch.false))
+
+pub «walk::act-returns-then-is_leaf-clause-gave» : goal.«walk::act-returns-then-is_leaf-clause-gave»
+«walk::act-returns-then-is_leaf-clause-gave» g t c =
+    let tree = g.T.Queryable.tree in
+    let custom = g.T.Queryable.custom in
+    let d = document tree custom c.args.task.now in
+    let n = node_of tree c.args.way.now.steps.items c.args.at.now in
+    let rest = through (segments_in c.args.rest.now) d in
+    let leaf = c.is_leaf.ensures in
+    let none = replaced-none (descendant (segment_view c.in-Below.segment.now)) d n.location n.tree (leaf.list c.if-is_leaf.true) (leaf.object c.if-is_leaf.true) in
+    gives_none _ _ (ap (λ a. flat_map rest (acted a d n)) c.in-Below.is ∙ ap (flat_map rest) none)
 
 pub «walk::act-returns-then-branch-2-clause-gave» : goal.«walk::act-returns-then-branch-2-clause-gave»
 «walk::act-returns-then-branch-2-clause-gave» g t c =
     let tree = g.T.Queryable.tree in
     let custom = g.T.Queryable.custom in
     let d = document tree custom c.args.task.now in
-    let n = node_of tree c.args.steps.now.items c.args.at.now in
+    let n = node_of tree c.args.way.now.steps.items c.args.at.now in
     let rest = through (segments_in c.args.rest.now) d in
     let h = replaced (segment_view c.in-Below.segment.now) d in
     let here = flat_map rest (h n) in
@@ -100,13 +116,13 @@ pub «walk::act-returns-else-branch-2-clause-gave» : goal.«walk::act-returns-e
     let tree = g.T.Queryable.tree in
     let custom = g.T.Queryable.custom in
     let d = document tree custom c.args.task.now in
-    let n = node_of tree c.args.steps.now.items c.args.at.now in
+    let n = node_of tree c.args.way.now.steps.items c.args.at.now in
     let rest = through (segments_in c.args.rest.now) d in
     let h = replaced (segment_view c.in-Below.segment.now) d in
     gives_stop _ _ _ _ _ _ _ (below_more rest h n.location n.tree ∙ ap (λ a. flat_map rest (acted a d n)) (sym c.in-Below.is)) c.in_ok-pass-in-Below.ensures.gave c.if-branch-2.false
 
 pub «walk::at_child-act-requires» : goal.«walk::at_child-act-requires»
-«walk::at_child-act-requires» g t c κs within = (down_tree _ _ _ _ _ c.decreases (omega arith), (within, (c.requires.whole, (c.requires.within, (leads_as _ _ _ _ c.in_ok-push.ensures.items c.requires.here, (c.requires.part, c.requires.ready))))))
+«walk::at_child-act-requires» g t c κs within = (down_tree _ _ _ _ _ c.decreases (omega arith), (within, (c.requires.whole, (c.requires.within, (leads_as _ _ _ _ c.in_ok-push.ensures.steps c.requires.here, (c.requires.part, c.requires.ready))))))
 
 pub «walk::at_child-returns-clause-gave» : goal.«walk::at_child-returns-clause-gave»
 «walk::at_child-returns-clause-gave» g t c =
@@ -115,28 +131,31 @@ pub «walk::at_child-returns-clause-gave» : goal.«walk::at_child-returns-claus
     let d = document tree custom c.args.task.now in
     let rest = through (segments_in c.args.rest.now) d in
     let x = tree c.args.child.now in
-    gives_as _ _ _ _ _ (ap (λ q. flat_map rest (acted c.args.action d (node_of tree q c.args.child.now))) c.in_ok-push.ensures.items ∙ ap (λ l. flat_map rest (acted c.args.action d (record { location = l; tree = x }))) (map-append step_of c.args.steps.now.items (c.args.step ∷ []))) c.in_ok-goes_on.ensures.gave
+    gives_as _ _ _ _ _ (ap (λ q. flat_map rest (acted c.args.action d (node_of tree q c.args.child.now))) c.in_ok-push.ensures.steps ∙ ap (λ l. flat_map rest (acted c.args.action d (record { location = l; tree = x }))) (map-append step_of c.args.way.now.steps.items (c.args.step ∷ []))) c.in_ok-goes_on.ensures.gave
+
+pub «walk::at_child-returns-clause-same» : goal.«walk::at_child-returns-clause-same»
+«walk::at_child-returns-clause-same» g t c = c.pop.ensures _ _ (c.in_ok-goes_on.ensures.same ∙ c.in_ok-push.ensures.steps)
 
 pub «walk::each_child-at_child-requires» : goal.«walk::each_child-at_child-requires»
 «walk::each_child-at_child-requires» g t c κs within =
     let tree = g.T.Queryable.tree in
     let some = ap (λ xs. Some (map tree xs)) c.deref-child-items.ensures.value ∙ c.in-Some.ensures.value c.requires.whole in
     let s = element_size tree (tree c.args.at.now) c.deref-child-items.result.now c.loop-i.i c.child-item.result some c.loop-i-test.true c.child-item.is in
-    (down_tree _ _ _ _ _ c.decreases (omega (arith, s)), (within, (all_at (λ x. IsTrue (g.T.Queryable.is_whole x)) c.deref-child-items.result.now c.loop-i.i c.child-item.result (let P : List _ → Type 0 = All (λ x. IsTrue (g.T.Queryable.is_whole x)) in subst P (sym c.deref-child-items.ensures.value) (c.in-Some.ensures.whole c.requires.whole)) c.loop-i-test.true c.child-item.is, (omega (arith, s, c.requires.within), (leads_below c.loop-i.steps.items (Index c.loop-i.i) (tree c.args.task.now.root.now) _ _ (leads_as _ _ _ _ c.loop-i.invariant.same c.requires.here) (child_there tree (tree c.args.at.now) c.deref-child-items.result.now c.loop-i.i c.child-item.result some c.loop-i-test.true c.child-item.is), (c.requires.part, c.loop-i.invariant.ready))))))
+    (down_tree _ _ _ _ _ c.decreases (omega (arith, s)), (within, (all_at (λ x. IsTrue (g.T.Queryable.is_whole x)) c.deref-child-items.result.now c.loop-i.i c.child-item.result (let P : List _ → Type 0 = All (λ x. IsTrue (g.T.Queryable.is_whole x)) in subst P (sym c.deref-child-items.ensures.value) (c.in-Some.ensures.whole c.requires.whole)) c.loop-i-test.true c.child-item.is, (omega (arith, s, c.requires.within), (leads_below c.loop-i.way.steps.items (Index c.loop-i.i) (tree c.args.task.now.root.now) _ _ (leads_as _ _ _ _ c.loop-i.invariant.same c.requires.here) (child_there tree (tree c.args.at.now) c.deref-child-items.result.now c.loop-i.i c.child-item.result some c.loop-i-test.true c.child-item.is), (c.requires.part, c.loop-i.invariant.ready))))))
 
 pub «walk::each_child-at_child-requires-in-loop-member» : goal.«walk::each_child-at_child-requires-in-loop-member»
 «walk::each_child-at_child-requires-in-loop-member» g t c κs within =
     let tree = g.T.Queryable.tree in
     let some = ap (λ xs. Some (map (λ m. (m.0.now, tree m.1.now)) xs)) c.deref-member-items.ensures.value ∙ rw c.in-Some-2.is at (c.in_ok-members.ensures.value c.requires.whole) in
     let s = pair_size (λ m. (m.0.now, tree m.1.now)) (tree c.args.at.now) c.deref-member-items.result.now c.loop-member.member-index c.member-item.result some c.loop-member-test.true c.member-item.is in
-    (down_tree _ _ _ _ _ c.decreases (omega (arith, s)), (within, (all_at (λ m. IsTrue (g.T.Queryable.is_whole m.1.now)) c.deref-member-items.result.now c.loop-member.member-index c.member-item.result (let P : List _ → Type 0 = All (λ m. IsTrue (g.T.Queryable.is_whole m.1.now)) in subst P (sym c.deref-member-items.ensures.value) (rw c.in-Some-2.is at (c.in_ok-members.ensures.whole c.requires.whole))) c.loop-member-test.true c.member-item.is, (omega (arith, s, c.requires.within), (leads_below c.loop-member.steps.items (Name c.member-item.result.0) (tree c.args.task.now.root.now) _ _ (leads_as _ _ _ _ c.loop-member.invariant.same c.requires.here) (member_there (λ m. (m.0.now, tree m.1.now)) (tree c.args.at.now) c.deref-member-items.result.now c.loop-member.member-index c.member-item.result (g.met.T.Queryable.distinct c.args.at.now c.requires.whole) some c.loop-member-test.true c.member-item.is), (c.requires.part, c.loop-member.invariant.ready))))))
+    (down_tree _ _ _ _ _ c.decreases (omega (arith, s)), (within, (all_at (λ m. IsTrue (g.T.Queryable.is_whole m.1.now)) c.deref-member-items.result.now c.loop-member.member-index c.member-item.result (let P : List _ → Type 0 = All (λ m. IsTrue (g.T.Queryable.is_whole m.1.now)) in subst P (sym c.deref-member-items.ensures.value) (rw c.in-Some-2.is at (c.in_ok-members.ensures.whole c.requires.whole))) c.loop-member-test.true c.member-item.is, (omega (arith, s, c.requires.within), (leads_below c.loop-member.way.steps.items (Name c.member-item.result.0) (tree c.args.task.now.root.now) _ _ (leads_as _ _ _ _ c.loop-member.invariant.same c.requires.here) (member_there (λ m. (m.0.now, tree m.1.now)) (tree c.args.at.now) c.deref-member-items.result.now c.loop-member.member-index c.member-item.result (g.met.T.Queryable.distinct c.args.at.now c.requires.whole) some c.loop-member-test.true c.member-item.is), (c.requires.part, c.loop-member.invariant.ready))))))
 
 pub «walk::each_child-returns-then-not-branch-clause-gave» : goal.«walk::each_child-returns-then-not-branch-clause-gave»
 «walk::each_child-returns-then-not-branch-clause-gave» g t c =
     let tree = g.T.Queryable.tree in
     let custom = g.T.Queryable.custom in
     let d = document tree custom c.args.task.now in
-    let n = node_of tree c.args.steps.now.items c.args.at.now in
+    let n = node_of tree c.args.way.now.steps.items c.args.at.now in
     let rest = through (segments_in c.args.rest.now) d in
     let act = acted c.args.action d in
     let inv = c.loop-i.invariant in
@@ -148,7 +167,7 @@ pub «walk::each_child-loop-i-preserved» : goal.«walk::each_child-loop-i-prese
     let tree = g.T.Queryable.tree in
     let custom = g.T.Queryable.custom in
     let d = document tree custom c.args.task.now in
-    let n = node_of tree c.args.steps.now.items c.args.at.now in
+    let n = node_of tree c.args.way.now.steps.items c.args.at.now in
     let rest = through (segments_in c.args.rest.now) d in
     let act = acted c.args.action d in
     let inv = c.loop-i.invariant in
@@ -160,7 +179,7 @@ pub «walk::each_child-returns-then-not-branch-2-clause-gave» : goal.«walk::ea
     let tree = g.T.Queryable.tree in
     let custom = g.T.Queryable.custom in
     let d = document tree custom c.args.task.now in
-    let n = node_of tree c.args.steps.now.items c.args.at.now in
+    let n = node_of tree c.args.way.now.steps.items c.args.at.now in
     let rest = through (segments_in c.args.rest.now) d in
     let act = acted c.args.action d in
     let inv = c.loop-member.invariant in
@@ -172,7 +191,7 @@ pub «walk::each_child-loop-member-preserved» : goal.«walk::each_child-loop-me
     let tree = g.T.Queryable.tree in
     let custom = g.T.Queryable.custom in
     let d = document tree custom c.args.task.now in
-    let n = node_of tree c.args.steps.now.items c.args.at.now in
+    let n = node_of tree c.args.way.now.steps.items c.args.at.now in
     let rest = through (segments_in c.args.rest.now) d in
     let act = acted c.args.action d in
     let inv = c.loop-member.invariant in
@@ -199,7 +218,7 @@ pub «walk::pass-returns-in-Selector-clause-gave» : goal.«walk::pass-returns-i
     let tree = g.T.Queryable.tree in
     let custom = g.T.Queryable.custom in
     let d = document tree custom c.args.task.now in
-    let n = node_of tree c.args.steps.now.items c.args.at.now in
+    let n = node_of tree c.args.way.now.steps.items c.args.at.now in
     let rest = through (segments_in c.args.rest.now) d in
     let e = ap segment_view c.in-Selector.is ∙ segment_view-Selector c.in-Selector.selector in
     result_as _ _ _ _ _ (ap (flat_map rest) (sym (ap (λ s. replaced s d n) e))) c.pick.ensures.gave
@@ -209,7 +228,7 @@ pub «walk::pass-returns-in-Selectors-clause-gave» : goal.«walk::pass-returns-
     let tree = g.T.Queryable.tree in
     let custom = g.T.Queryable.custom in
     let d = document tree custom c.args.task.now in
-    let n = node_of tree c.args.steps.now.items c.args.at.now in
+    let n = node_of tree c.args.way.now.steps.items c.args.at.now in
     let rest = through (segments_in c.args.rest.now) d in
     let e = ap segment_view c.in-Selectors.is ∙ segment_view-Selectors c.in-Selectors.selectors in
     result_as _ _ _ _ _ (ap (flat_map rest) (ap (λ (ss : List Selector). all_pick (selectors_in ss) d n) c.deref.ensures.value ∙ sym (ap (λ s. replaced s d n) e))) c.pick_each.ensures.gave
@@ -219,7 +238,7 @@ pub «walk::pass-returns-in-Descendant-clause-gave» : goal.«walk::pass-returns
     let tree = g.T.Queryable.tree in
     let custom = g.T.Queryable.custom in
     let d = document tree custom c.args.task.now in
-    let n = node_of tree c.args.steps.now.items c.args.at.now in
+    let n = node_of tree c.args.way.now.steps.items c.args.at.now in
     let rest = through (segments_in c.args.rest.now) d in
     let e = ap segment_view c.in-Descendant.is ∙ segment_view-Descendant c.in-Descendant.inner in
     result_as _ _ _ _ _ (ap (flat_map rest) (ap (λ (s : Segment). flat_map (replaced (segment_view s) d) (subtree n)) c.deref-in-Descendant.ensures ∙ sym (ap (λ s. replaced s d n) e))) c.act.ensures.gave
@@ -229,7 +248,7 @@ pub «walk::pick-at_child-requires» : goal.«walk::pick-at_child-requires»
     let tree = g.T.Queryable.tree in
     let s = member_size c.deref.result.now (tree c.args.at.now) (tree c.in-Some.child.now) (c.in-Some.ensures.value c.requires.whole) in
     let e = ap selector_view c.in-Name.is ∙ selector_view-Name c.in-Name.name in
-    (down _ _ _ _ _ _ c.decreases (omega (arith, ap selector_weight e)) (omega (arith, s, c.requires.within)), (within, (c.in-Some.ensures.whole c.requires.whole, (omega (arith, s, c.requires.within), (leads_below c.args.steps.now.items (Name c.deref-in-Some.result) (tree c.args.task.now.root.now) _ _ c.requires.here (ap (λ q. get q (tree c.args.at.now)) (c.deref-in-Some.ensures ∙ sym c.deref.ensures) ∙ sym (c.in-Some.ensures.value c.requires.whole)), (part_right _ _ _ c.requires.part, c.requires.ready))))))
+    (down _ _ _ _ _ _ c.decreases (omega (arith, ap selector_weight e)) (omega (arith, s, c.requires.within)), (within, (c.in-Some.ensures.whole c.requires.whole, (omega (arith, s, c.requires.within), (leads_below c.args.way.now.steps.items (Name c.deref-in-Some.result) (tree c.args.task.now.root.now) _ _ c.requires.here (ap (λ q. get q (tree c.args.at.now)) (c.deref-in-Some.ensures ∙ sym c.deref.ensures) ∙ sym (c.in-Some.ensures.value c.requires.whole)), (part_right _ _ _ c.requires.part, c.requires.ready))))))
 
 pub «walk::pick-each_child-requires» : goal.«walk::pick-each_child-requires»
 «walk::pick-each_child-requires» g t c κs within =
@@ -239,7 +258,7 @@ pub «walk::pick-each_child-requires» : goal.«walk::pick-each_child-requires»
 pub «walk::pick-at_child-requires-in-Some-element» : goal.«walk::pick-at_child-requires-in-Some-element»
 «walk::pick-at_child-requires-in-Some-element» g t c κs within =
     let e = ap selector_view c.in-Index.is ∙ selector_view-Index c.in-Index.index in
-    (down _ _ _ _ _ _ c.decreases (omega (arith, ap selector_weight e)) (omega (arith, c.in-Some-element.ensures.smaller, c.requires.within)), (within, (c.in-Some-element.ensures.whole, (omega (arith, c.in-Some-element.ensures.smaller, c.requires.within), (leads_indexed c.args.steps.now.items _ _ _ _ _ (g.met.T.Queryable.distinct c.args.at.now c.requires.whole) c.requires.here (c.in-Some-element.ensures.value (map step_of c.args.steps.now.items)), (part_right _ _ _ c.requires.part, c.requires.ready))))))
+    (down _ _ _ _ _ _ c.decreases (omega (arith, ap selector_weight e)) (omega (arith, c.in-Some-element.ensures.smaller, c.requires.within)), (within, (c.in-Some-element.ensures.whole, (omega (arith, c.in-Some-element.ensures.smaller, c.requires.within), (leads_indexed c.args.way.now.steps.items _ _ _ _ _ (g.met.T.Queryable.distinct c.args.at.now c.requires.whole) c.requires.here (c.in-Some-element.ensures.value (map step_of c.args.way.now.steps.items)), (part_right _ _ _ c.requires.part, c.requires.ready))))))
 
 pub «walk::pick-element-requires» : goal.«walk::pick-element-requires»
 «walk::pick-element-requires» g t c = c.requires.whole
@@ -259,7 +278,7 @@ pub «walk::pick-returns-in-Some-clause-gave» : goal.«walk::pick-returns-in-So
     let tree = g.T.Queryable.tree in
     let custom = g.T.Queryable.custom in
     let d = document tree custom c.args.task.now in
-    let n = node_of tree c.args.steps.now.items c.args.at.now in
+    let n = node_of tree c.args.way.now.steps.items c.args.at.now in
     let rest = through (segments_in c.args.rest.now) d in
     let e = ap selector_view c.in-Name.is ∙ selector_view-Name c.in-Name.name in
     let k = string_bytes c.in-Name.name in
@@ -272,7 +291,7 @@ pub «walk::pick-returns-in-None-clause-gave» : goal.«walk::pick-returns-in-No
     let tree = g.T.Queryable.tree in
     let custom = g.T.Queryable.custom in
     let d = document tree custom c.args.task.now in
-    let n = node_of tree c.args.steps.now.items c.args.at.now in
+    let n = node_of tree c.args.way.now.steps.items c.args.at.now in
     let rest = through (segments_in c.args.rest.now) d in
     let e = ap selector_view c.in-Name.is ∙ selector_view-Name c.in-Name.name in
     let h = c.in-None.ensures.value c.requires.whole ∙ ap (λ q. get q n.tree) c.deref.ensures in
@@ -283,7 +302,7 @@ pub «walk::pick-returns-in-Wildcard-clause-gave» : goal.«walk::pick-returns-i
     let tree = g.T.Queryable.tree in
     let custom = g.T.Queryable.custom in
     let d = document tree custom c.args.task.now in
-    let n = node_of tree c.args.steps.now.items c.args.at.now in
+    let n = node_of tree c.args.way.now.steps.items c.args.at.now in
     let rest = through (segments_in c.args.rest.now) d in
     let e = ap selector_view c.in-Wildcard.is ∙ selector_view-Wildcard in
     result_as _ _ _ _ _ (ap (flat_map rest) (flat_map-alone (children n) ∙ sym (ap (λ s. picks s d n) e))) c.each_child.ensures.gave
@@ -293,7 +312,7 @@ pub «walk::pick-returns-in-Some-element-clause-gave» : goal.«walk::pick-retur
     let tree = g.T.Queryable.tree in
     let custom = g.T.Queryable.custom in
     let d = document tree custom c.args.task.now in
-    let n = node_of tree c.args.steps.now.items c.args.at.now in
+    let n = node_of tree c.args.way.now.steps.items c.args.at.now in
     let rest = through (segments_in c.args.rest.now) d in
     let e = ap selector_view c.in-Index.is ∙ selector_view-Index c.in-Index.index in
     let fits : SFits w64 c.in-Index.index = search rules in
@@ -305,7 +324,7 @@ pub «walk::pick-returns-in-None-element-clause-gave» : goal.«walk::pick-retur
     let tree = g.T.Queryable.tree in
     let custom = g.T.Queryable.custom in
     let d = document tree custom c.args.task.now in
-    let n = node_of tree c.args.steps.now.items c.args.at.now in
+    let n = node_of tree c.args.way.now.steps.items c.args.at.now in
     let rest = through (segments_in c.args.rest.now) d in
     let e = ap selector_view c.in-Index.is ∙ selector_view-Index c.in-Index.index in
     let fits : SFits w64 c.in-Index.index = search rules in
@@ -317,7 +336,7 @@ pub «walk::pick-returns-in-Slice-clause-gave» : goal.«walk::pick-returns-in-S
     let tree = g.T.Queryable.tree in
     let custom = g.T.Queryable.custom in
     let d = document tree custom c.args.task.now in
-    let n = node_of tree c.args.steps.now.items c.args.at.now in
+    let n = node_of tree c.args.way.now.steps.items c.args.at.now in
     let rest = through (segments_in c.args.rest.now) d in
     let e = ap selector_view c.in-Slice.is ∙ selector_view-Slice c.in-Slice.start c.in-Slice.end c.in-Slice.step in
     result_as _ _ _ _ _ (ap (flat_map rest) (sym (ap (λ s. picks s d n) e))) c.pick_slice.ensures.gave
@@ -327,7 +346,7 @@ pub «walk::pick-returns-in-Filter-clause-gave» : goal.«walk::pick-returns-in-
     let tree = g.T.Queryable.tree in
     let custom = g.T.Queryable.custom in
     let d = document tree custom c.args.task.now in
-    let n = node_of tree c.args.steps.now.items c.args.at.now in
+    let n = node_of tree c.args.way.now.steps.items c.args.at.now in
     let rest = through (segments_in c.args.rest.now) d in
     let e = ap selector_view c.in-Filter.is ∙ selector_view-Filter c.in-Filter.filter in
     result_as _ _ _ _ _ (ap (flat_map rest) (flat_map-filter (holds (filter_view c.in-Filter.filter) d) (children n) ∙ sym (ap (λ s. picks s d n) e))) c.each_child-in-Filter.ensures.gave
@@ -342,7 +361,7 @@ pub «walk::pick_each-returns-then-not-branch-clause-gave» : goal.«walk::pick_
     let tree = g.T.Queryable.tree in
     let custom = g.T.Queryable.custom in
     let d = document tree custom c.args.task.now in
-    let n = node_of tree c.args.steps.now.items c.args.at.now in
+    let n = node_of tree c.args.way.now.steps.items c.args.at.now in
     let rest = through (segments_in c.args.rest.now) d in
     let inv = c.loop-selector.invariant in
     let k = gives_as _ _ _ _ _ (ap (λ q. flat_map rest (picks (selector_view c.selector-item.result) d (node_of tree q c.args.at.now))) inv.same) c.in_ok-pick.ensures.gave in
@@ -353,7 +372,7 @@ pub «walk::pick_each-loop-selector-preserved» : goal.«walk::pick_each-loop-se
     let tree = g.T.Queryable.tree in
     let custom = g.T.Queryable.custom in
     let d = document tree custom c.args.task.now in
-    let n = node_of tree c.args.steps.now.items c.args.at.now in
+    let n = node_of tree c.args.way.now.steps.items c.args.at.now in
     let rest = through (segments_in c.args.rest.now) d in
     let inv = c.loop-selector.invariant in
     let k = gives_as _ _ _ _ _ (ap (λ q. flat_map rest (picks (selector_view c.selector-item.result) d (node_of tree q c.args.at.now))) inv.same) c.in_ok-pick.ensures.gave in
@@ -364,7 +383,7 @@ pub «walk::pick_each-returns-clause-gave» : goal.«walk::pick_each-returns-cla
     let tree = g.T.Queryable.tree in
     let custom = g.T.Queryable.custom in
     let d = document tree custom c.args.task.now in
-    let n = node_of tree c.args.steps.now.items c.args.at.now in
+    let n = node_of tree c.args.way.now.steps.items c.args.at.now in
     let rest = through (segments_in c.args.rest.now) d in
     record { given = turn_end _ _ (selector_turns d n rest) c.args.selectors.now c.loop-selector.selector-index _ _ c.loop-selector-test.false c.loop-selector.invariant.given; stopped = λ h. true_false h }
 
@@ -373,7 +392,7 @@ pub «walk::pick_slice-returns-in_default-clause-gave» : goal.«walk::pick_slic
     let tree = g.T.Queryable.tree in
     let custom = g.T.Queryable.custom in
     let d = document tree custom c.args.task.now in
-    let n = node_of tree c.args.steps.now.items c.args.at.now in
+    let n = node_of tree c.args.way.now.steps.items c.args.at.now in
     let rest = through (segments_in c.args.rest.now) d in
     let h = c.in_default.ensures.value c.requires.whole in
     gives_none _ _ (ap (λ o. flat_map rest (flat_map (λ ts. flat_map (λ k. element k n) (slice_of c.args.start c.args.end c.args.step (length ts))) (option_to_list o))) (sym h))
@@ -389,7 +408,7 @@ pub «walk::pick_slice-at_child-requires» : goal.«walk::pick_slice-at_child-re
     let P : ℕ → Type 0 = λ i. i < length items in
     let inside : place < length items = All-head P place _ (subst (All P) steps inv.below) in
     let s = element_size tree (tree c.args.at.now) items place c.index.result.now some inside c.index.ensures in
-    (down _ _ _ _ _ _ c.decreases (omega arith) (omega (arith, s, c.requires.within)), (within, (all_at (λ x. IsTrue (g.T.Queryable.is_whole x)) items place c.index.result.now (c.in-Some.ensures.whole c.requires.whole) inside c.index.ensures, (omega (arith, s, c.requires.within), (leads_below c.loop-place.steps.items (Index place) (tree c.args.task.now.root.now) _ _ (leads_as _ _ _ _ inv.same c.requires.here) (child_there tree (tree c.args.at.now) items place c.index.result.now some inside c.index.ensures), (c.requires.part, inv.ready))))))
+    (down _ _ _ _ _ _ c.decreases (omega arith) (omega (arith, s, c.requires.within)), (within, (all_at (λ x. IsTrue (g.T.Queryable.is_whole x)) items place c.index.result.now (c.in-Some.ensures.whole c.requires.whole) inside c.index.ensures, (omega (arith, s, c.requires.within), (leads_below c.loop-place.way.steps.items (Index place) (tree c.args.task.now.root.now) _ _ (leads_as _ _ _ _ inv.same c.requires.here) (child_there tree (tree c.args.at.now) items place c.index.result.now some inside c.index.ensures), (c.requires.part, inv.ready))))))
 
 pub «walk::pick_slice-index-requires» : goal.«walk::pick_slice-index-requires»
 «walk::pick_slice-index-requires» g t c =
@@ -407,7 +426,7 @@ pub «walk::pick_slice-returns-then-not-branch-clause-gave» : goal.«walk::pick
     let whole = g.T.Queryable.is_whole in
     let custom = g.T.Queryable.custom in
     let d = document tree custom c.args.task.now in
-    let n = node_of tree c.args.steps.now.items c.args.at.now in
+    let n = node_of tree c.args.way.now.steps.items c.args.at.now in
     let rest = through (segments_in c.args.rest.now) d in
     let items = c.in-Some.items.now.items in
     let some = c.in-Some.ensures.value c.requires.whole in
@@ -426,7 +445,7 @@ pub «walk::pick_slice-loop-place-preserved» : goal.«walk::pick_slice-loop-pla
     let tree = g.T.Queryable.tree in
     let custom = g.T.Queryable.custom in
     let d = document tree custom c.args.task.now in
-    let n = node_of tree c.args.steps.now.items c.args.at.now in
+    let n = node_of tree c.args.way.now.steps.items c.args.at.now in
     let rest = through (segments_in c.args.rest.now) d in
     let items = c.in-Some.items.now.items in
     let some = c.in-Some.ensures.value c.requires.whole in
@@ -446,7 +465,7 @@ pub «walk::pick_slice-returns-clause-gave» : goal.«walk::pick_slice-returns-c
     let whole = g.T.Queryable.is_whole in
     let custom = g.T.Queryable.custom in
     let d = document tree custom c.args.task.now in
-    let n = node_of tree c.args.steps.now.items c.args.at.now in
+    let n = node_of tree c.args.way.now.steps.items c.args.at.now in
     let rest = through (segments_in c.args.rest.now) d in
     let items = c.in-Some.items.now.items in
     let some = c.in-Some.ensures.value c.requires.whole in

@@ -15,4 +15,4 @@ returns-clause-gave g c =
     let tree = g.T.Queryable.tree in
     let d = document_of tree g.T.Queryable.custom c.args.root.now in
     let at = λ (q : List StepRef) (gs : List Segment). through (segments_in gs) d (node_of tree q c.args.root.now) in
-    result_as _ _ _ _ _ (ap (λ q. at q c.deref.result.now) c.new-steps.ensures.items ∙ ap (at []) c.deref.ensures.value ∙ nodelist-through (segments_in c.args.query.now.segments.items) d ∙ ap (λ q. nodelist q d) (sym (query_view-segments c.args.query.now))) c.walk.ensures.gave
+    result_as _ _ _ _ _ (ap (λ q. at q c.deref.result.now) c.new-way.ensures ∙ ap (at []) c.deref.ensures.value ∙ nodelist-through (segments_in c.args.query.now.segments.items) d ∙ ap (λ q. nodelist q d) (sym (query_view-segments c.args.query.now))) c.walk.ensures.gave

@@ -2,8 +2,8 @@
 ghost use Rattle.std.specs.Prelude.{◌≡◌, [], ◌∷◌, Some, IsTrue, IfOk};
 ghost use Rattle.jsonpath_base.specs.Tree.{as_list, truth};
 
-use crate::query::Queried;
-use crate::query::queryable::{Arg, Queryable};
+use jsonpath_rust::query::Queried;
+use jsonpath_rust::query::queryable::{Arg, Queryable};
 use serde_json::Value;
 use std::alloc::Global;
 use std::process::Abort;

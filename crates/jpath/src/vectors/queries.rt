@@ -1,8 +1,14 @@
-//! Queries, by texts and by trees.
-use super::*;
-use crate::JsonPath;
-use jsonpath_parser::model::{Segment, Selector};
+//! The calls on documents, by texts and by hand-built trees.
+use jsonpath_parser::errors::JsonPathError;
+use jsonpath_parser::model::{JpQuery, Segment, Selector};
+use jsonpath_rust::JsonPath;
+use jsonpath_rust::query::queryable::Queryable;
+use jsonpath_rust::query::{
+    QueryRef, js_path, js_path_path, js_path_process, js_path_process_vals, js_path_vals,
+    js_path_within,
+};
 use serde_json::Value;
+use std::alloc::Global;
 use std::process::Abort;
 use std::test::Fail;
 
@@ -148,33 +154,6 @@ fn paths_of_a_text(rt: HostRuntime) -> Result<(), Fail> {
         &paths,
         &["$[0]['a']", "$[0]['d']", "$[1]['a']", "$[1]['d']"],
     )
-}
-
-#[test]
-fn slices_and_descendants_of_a_text(rt: HostRuntime) -> Result<(), Fail> {
-    let document = Value::from_str(rt.alloc(), "{\"a\":[{\"b\":1},{\"b\":2}],\"b\":3}")?;
-    assert!(rt; document.is_whole());
-    let nodes = js_path(rt.alloc(), "$..b", &document)?;
-    let want = [(3, "$['b']"), (1, "$['a'][0]['b']"), (2, "$['a'][1]['b']")];
-    assert_nodes(&rt, &nodes, &want)?;
-    let nodes = js_path(rt.alloc(), "$.a[::-1].b", &document)?;
-    assert_nodes(&rt, &nodes, &[(2, "$['a'][1]['b']"), (1, "$['a'][0]['b']")])
-}
-
-#[test]
-fn filters_and_functions_of_a_text(rt: HostRuntime) -> Result<(), Fail> {
-    let document = Value::from_str(rt.alloc(), "[[0,1],[2],3]")?;
-    assert!(rt; document.is_whole());
-    let paths = js_path_path(rt.alloc(), "$[?@[?@>1]]", &document)?;
-    assert_paths(&rt, &paths, &["$[1]"])?;
-    let paths = js_path_path(rt.alloc(), "$[?count(@.*)==1||@==3]", &document)?;
-    assert_paths(&rt, &paths, &["$[1]", "$[2]"])?;
-    let texts = Value::from_str(rt.alloc(), "[\"a\",\"b\",\"ab\"]")?;
-    assert!(rt; texts.is_whole());
-    let paths = js_path_path(rt.alloc(), "$[?match(@,'a|b')]", &texts)?;
-    assert_paths(&rt, &paths, &["$[0]", "$[1]"])?;
-    let paths = js_path_path(rt.alloc(), "$[?in(@,$[0:2])]", &texts)?;
-    assert_paths(&rt, &paths, &[])
 }
 
 #[test]
