@@ -1,5 +1,5 @@
 -- What a run tells of its end, from what its parts tell.
-use Rattle.std.proofs.Common.{◌≡◌, ◌⊎◌, inl, inr, ℕ, List, take, Bool, true, IsTrue, Option, None, Some, Result, Ok, Err, OnOk, OnErr, IfErr, IfSome, refl}
+use Rattle.std.proofs.Common.{◌≡◌, inr, ℕ, List, IsTrue, Option, None, Some, Result, Ok, Err, OnOk, OnErr, IfErr, IfSome, refl}
 use Rattle.std.proofs.lemmas.Bool.{and_parts}
 use Rattle.std.specs.Io.KnownBytes.{Appends}
 use Rattle.std.specs.Result.{IsErrOf, IsErrAnd}
@@ -15,7 +15,7 @@ use Rattle.jpath.specs.Words.{Asked, asked_by}
 use Rattle.jpath.specs.Output.{IsJson, IsWholeJson, IsOutput, AppendsFront, IsFaultOf, printed}
 use Rattle.jpath.specs.Refused.{IsNoAnswer}
 use Rattle.jpath.specs.declared.fault.Fault.{Fault}
-use Rattle.jpath.specs.declared.fault.Fault.TheVariants.{Usage, Query, NotJson, NotWhole, Io, Memory}
+use Rattle.jpath.specs.declared.fault.Fault.TheVariants.{Query, Memory}
 
 -- a whole value has whole numbers
 whole_numbers : (v : Value) → IsTrue (value_is_whole v) → IsTrue (has_whole_numbers (view v))

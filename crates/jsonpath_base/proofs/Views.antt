@@ -14,7 +14,7 @@ use Rattle.serde_json.specs.Find as json_find
 use Rattle.serde_json.specs.View.{view, items_view, members_view}
 use Rattle.serde_json.specs.declared.value.Value.{Value}
 use Rattle.serde_json.proofs.Views.{Entry}
-use Rattle.jsonpath_base.specs.Tree.{Tree, find, get, as_list, as_members, elements, pairs, are_distinct, has_distinct_names, trees_distinct, members_distinct}
+use Rattle.jsonpath_base.specs.Tree.{Tree, find, get, as_list, elements, pairs, are_distinct, has_distinct_names, trees_distinct, members_distinct}
 use Rattle.jsonpath_base.specs.Values.{tree_of, tree_of_number, trees_of, members_of, has_whole_numbers, items_whole, members_whole, value_tree, value_is_whole}
 
 -- ---- names are distinct

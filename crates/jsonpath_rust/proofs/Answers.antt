@@ -1,17 +1,14 @@
 -- What the calls answer, from what the walk gave.
-use Rattle.std.proofs.Common.{◌≡◌, ℕ, List, [], ◌∷◌, map, Some, IsTrue, sym, subst, refl, Result, Ok, Err, IfOk, IfErr, inl, inr}
+use Rattle.std.proofs.Common.{◌≡◌, ℕ, List, [], ◌∷◌, map, Some, IsTrue, sym, subst, refl}
 use Rattle.jsonpath_parser.proofs.NormalLemmas.{only_path}
 use Rattle.jsonpath_parser.specs.Syntax.{Query}
-use Rattle.jsonpath_parser.specs.Derives.{Derives, IsRefusal}
 use Rattle.jsonpath_parser.specs.Normal.{normal, IsNormal, IsOnlyPath}
-use Rattle.jsonpath_rust.specs.Patterns.{IsStop, IsQueryRefusal}
-use Rattle.jsonpath_parser.specs.declared.errors.JsonPathError.{JsonPathError}
 use Rattle.jsonpath_base.specs.Tree.{Tree, has_distinct_names}
 use Rattle.jsonpath_base.specs.Places.{at}
 use Rattle.jsonpath_rust.specs.Document.{Document}
 use Rattle.jsonpath_rust.specs.Node.{Node}
 use Rattle.jsonpath_rust.specs.Meaning.{nodelist, selected}
-use Rattle.jsonpath_rust.specs.Answer.{Along, IsNodeAt, IsValueAt, HasOnlyPath, ListsNodes}
+use Rattle.jsonpath_rust.specs.Answer.{Along, IsNodeAt, IsValueAt, HasOnlyPath}
 use Rattle.jsonpath_rust.specs.Sinks.{answer_of}
 use Rattle.jsonpath_rust.proofs.NodesAt.{Each, nodes_at}
 

@@ -1,5 +1,5 @@
 -- The arguments of a custom function, one after another.
-use Rattle.std.proofs.Common.{◌≡◌, ℕ, suc, ◌+◌, ◌<◌, List, [], ◌∷◌, ◌++◌, map, length, get_or, drop, drop-cons, add-one, append_assoc, refl, sym, ◌∙◌, ap, subst, Bool, IsTrue, All, Bor}
+use Rattle.std.proofs.Common.{◌≡◌, ℕ, suc, ◌+◌, ◌<◌, List, [], ◌∷◌, ◌++◌, map, length, get_or, drop, drop-cons, add-one, append_assoc, sym, ◌∙◌, ap, subst, Bool, IsTrue, All, Bor}
 use Rattle.std.proofs.lemmas.List.{map-append, get_or-map, length-map}
 use Rattle.std.proofs.lemmas.List.Elements.{All-append, All-cons, All-nil, All-get_or}
 use Rattle.jsonpath_base.specs.Tree.{Tree}

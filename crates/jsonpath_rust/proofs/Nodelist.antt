@@ -1,5 +1,5 @@
 -- The nodelist of a query, reached node by node.
-use Rattle.std.proofs.Common.{◌≡◌, List, [], ◌∷◌, ◌++◌, append-nil, sym, ◌∙◌}
+use Rattle.std.proofs.Common.{◌≡◌, List, [], ◌∷◌, append-nil, sym, ◌∙◌}
 use Rattle.std.specs.List.{flat_map}
 use Rattle.jsonpath_parser.specs.Syntax.{Segments, no_segments, segment, Query}
 use Rattle.jsonpath_rust.specs.Document.{Document}

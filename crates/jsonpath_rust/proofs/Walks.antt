@@ -5,7 +5,6 @@ use Rattle.std.proofs.lemmas.List.{at_drop_all}
 use Rattle.std.specs.List.{flat_map}
 use Rattle.jsonpath_parser.specs.Location.{Location, name, index}
 use Rattle.jsonpath_parser.specs.View.{selector_view}
-use Rattle.jsonpath_parser.specs.declared.model.Selector.{Selector}
 use Rattle.jsonpath_base.specs.Tree.{Tree}
 use Rattle.jsonpath_rust.specs.Document.{Document}
 use Rattle.jsonpath_rust.specs.Node.{Node, below, element_nodes, member_nodes, children_at, subtree, subtree_at}

@@ -1,5 +1,5 @@
 -- What a query answers.
-use Rattle.std.specs.Prelude.{◌≡◌, ℕ, List, [], ◌∷◌, ◌++◌, map, Option, Some, string_bytes, String}
+use Rattle.std.specs.Prelude.{◌≡◌, ℕ, List, [], ◌∷◌, map, Some, string_bytes, String}
 use Rattle.jsonpath_parser.specs.Location.{Location}
 use Rattle.jsonpath_parser.specs.Normal.{IsNormal, IsOnlyPath}
 use Rattle.jsonpath_parser.specs.Syntax.{Query}

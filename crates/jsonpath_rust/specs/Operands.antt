@@ -1,5 +1,5 @@
 -- What the two sides of a comparison and the arguments of calls are inside the evaluator, for its contracts alone.
-use Rattle.std.specs.Prelude.{◌≡◌, ℕ, List, map, Bool, true, Option, Some, None, IsTrue, All}
+use Rattle.std.specs.Prelude.{List, map, Bool, true, Option, Some, None, IsTrue, All}
 use Rattle.jsonpath_parser.specs.Syntax.{Operator, equal, not_equal, greater, greater_or_equal, less, less_or_equal}
 use Rattle.jsonpath_base.specs.Tree as tree
 use Rattle.jsonpath_base.specs.Tree.{Tree}

@@ -1,4 +1,4 @@
-use Rattle.std.proofs.Common.{◌≡◌, ◌∙◌, sym, subst, inr, map, string_bytes}
+use Rattle.std.proofs.Common.{◌∙◌, sym, subst, inr, map, string_bytes}
 use Rattle.jpath.specs.Output.{IsFaultOf}
 use Rattle.jpath.proofs.Told.{told, told_front, no_answer, at_err, passed_on}
 use Rattle.jpath.proofs.run.run.Goals as goal

@@ -1,10 +1,10 @@
-use Rattle.std.proofs.Common.{ℕ, ◌+◌, ◌*◌, ◌≡◌, ◌<◌, ◌++◌, drop, map, length, All, IsTrue}
+use Rattle.std.proofs.Common.{◌+◌, ◌*◌, ◌≡◌, ◌<◌, ◌++◌, drop, map, length, All}
 use Rattle.std.specs.List.{flat_map}
 use Rattle.jsonpath_parser.specs.View.{segment_view, selector_view, filter_view, atom_view, test_view, comparison_view, comparable_view, call_view, argument_view, query_view}
 use Rattle.jsonpath_base.specs.Slice.{slice_of}
 use Rattle.jsonpath_base.specs.SliceSteps.{places_left}
 use Rattle.jsonpath_rust.specs.Node.{element_nodes, member_nodes, children}
-use Rattle.jsonpath_rust.specs.Meaning.{all_pick, sliced, element, some_holds, each_holds, all_trees}
+use Rattle.jsonpath_rust.specs.Meaning.{all_pick, element, some_holds, each_holds, all_trees}
 use Rattle.jsonpath_rust.specs.Walking.{segments_in, selectors_in, filters_in, arguments_in, through, node_of, acted}
 use Rattle.jsonpath_rust.specs.Sinks.{seen, give}
 use Rattle.jsonpath_rust.specs.Keeping.{IsReady, document}

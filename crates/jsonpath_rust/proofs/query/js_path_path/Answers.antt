@@ -1,4 +1,4 @@
-use Rattle.std.proofs.Common.{◌≡◌, ◌∙◌, subst, map, List, string_bytes, String}
+use Rattle.std.proofs.Common.{◌∙◌, subst, string_bytes}
 use Rattle.jsonpath_parser.specs.Normal.{IsNormal}
 use Rattle.jsonpath_parser.specs.Syntax.{Query}
 use Rattle.jsonpath_parser.specs.View.{query_view}

@@ -1,4 +1,4 @@
-use Rattle.std.proofs.Common.{◌≡◌, ◌∙◌, map, List}
+use Rattle.std.proofs.Common.{◌∙◌}
 use Rattle.jsonpath_parser.specs.View.{query_view}
 use Rattle.jsonpath_rust.specs.Document.{document_of}
 use Rattle.jsonpath_rust.specs.Meaning.{nodelist}

@@ -1,4 +1,4 @@
-use Rattle.std.proofs.Common.{◌≡◌, ap, sym, ◌∙◌, [], Some, None, w64, SFits, rules}
+use Rattle.std.proofs.Common.{ap, sym, ◌∙◌, [], Some, None, w64, SFits, rules}
 use Rattle.std.proofs.lemmas.Int.{to_z-of_z}
 use Rattle.jsonpath_parser.specs.View.{step_view}
 use Rattle.jsonpath_rust.specs.Node.{Node}

@@ -1,4 +1,4 @@
-use Rattle.std.proofs.Common.{◌≡◌, ◌<◌, map, ℕ, length, List, arith, Some, sym, ◌∙◌, ap, w64, rules, SFits}
+use Rattle.std.proofs.Common.{◌≡◌, map, length, Some, sym, ◌∙◌, ap, w64, rules, SFits}
 use Rattle.std.proofs.lemmas.Int.{to_z-of_z}
 use Rattle.std.proofs.lemmas.List.{length-map}
 use Rattle.jsonpath_rust.specs.Meaning.{element_of}

@@ -1,5 +1,4 @@
-use Rattle.std.proofs.Common.{◌≡◌, ap, sym, ◌∙◌, List, []}
-use Rattle.jsonpath_parser.specs.View.{query_view}
+use Rattle.std.proofs.Common.{ap, sym, ◌∙◌, List, []}
 use Rattle.jsonpath_parser.specs.declared.model.Segment.{Segment}
 use Rattle.jsonpath_parser.proofs.ViewEquations.{query_view-segments}
 use Rattle.jsonpath_rust.specs.Document.{document_of}

@@ -1,4 +1,4 @@
-use Rattle.std.proofs.Common.{◌≡◌, refl}
+use Rattle.std.proofs.Common.{refl}
 use Rattle.jsonpath_rust.proofs.query.sink.Sink.take.Goals as goal
 
 pub returns-in-Only-clause-gave : goal.returns-in-Only-clause-gave
