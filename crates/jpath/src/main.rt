@@ -2,12 +2,10 @@
 #![tactic(auto)]
 
 mod fault;
-#[cfg(test)]
-mod hostile;
 mod output;
 mod run;
 #[cfg(test)]
-mod vectors;
+mod tests;
 mod words;
 
 use fault::Fault;

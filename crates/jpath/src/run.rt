@@ -9,7 +9,7 @@ ghost use Rattle.jpath.specs.Output.{IsJson, IsNoDocument, IsOutput, AppendsFron
 use crate::fault::Fault;
 use crate::output::printed;
 use crate::words::request_of;
-use jsonpath_parser::parse_json_path_within;
+use jsonpath_parser::{let_go, parse_json_path_within};
 use serde_json::Value;
 use std::alloc::{AllocError, Global};
 use std::io::{Read, Write};
@@ -47,8 +47,16 @@ pub fn run<R: Read, W: Write>(
         return Err(Fault::Usage);
     };
     let query = parse_json_path_within(alloc, request.query, request.depth)?;
-    let document = read_document(alloc, reader)?;
-    let output = printed(alloc, request.command, &query, &document)?;
+    let document = match read_document(alloc, reader) {
+        Ok(document) => document,
+        Err(fault) => {
+            let_go(query);
+            return Err(fault);
+        }
+    };
+    let printed = printed(alloc, request.command, &query, &document);
+    let_go(query);
+    let output = printed?;
     write_out(writer, output.as_bytes())
 }
 

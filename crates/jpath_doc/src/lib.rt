@@ -6,8 +6,6 @@ mod customs;
 mod documents;
 mod kinds;
 mod sameness;
-#[cfg(test)]
-mod tests;
 mod values;
 mod walks;
 

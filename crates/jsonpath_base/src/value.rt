@@ -46,27 +46,3 @@ fn members_whole(members: &Map<String, Value>) -> bool
     }
     true
 }
-
-#[cfg(test)]
-mod tests {
-    use super::*;
-    use std::test::Fail;
-
-    #[test]
-    fn whole_numbers(rt: HostRuntime) -> Result<(), Fail> {
-        let cases = [
-            (
-                "[null,true,\"1.5\",-9223372036854775808,{\"a\":[9223372036854775807]}]",
-                true,
-            ),
-            ("[0,{\"a\":[1.5]}]", false),
-            ("{\"a\":9223372036854775808}", false),
-            ("1e3", false),
-        ];
-        for (text, want) in cases {
-            let value = Value::from_str(rt.alloc(), text)?;
-            assert_eq!(rt; whole(&value), want, "at {text}");
-        }
-        Ok(())
-    }
-}

@@ -1,12 +1,12 @@
 -- What the grammar functions of a cursor answer, where a kind of tree is read as it is spelled.
-use Rattle.std.proofs.Common.{◌≡◌, ℕ, Bool, true, ℤ, List, [], ◌++◌, ◌-◌, length, take, drop, Option, Some, None, Result, Ok, Err, MatchResult, IsOkAnd, refl, sym, ap, ◌∙◌, subst, append_assoc, append-nil, length-append, take-append-drop, arith}
+use Rattle.std.proofs.Common.{◌≡◌, ℕ, Bool, true, false, ℤ, List, [], ◌++◌, ◌-◌, length, take, drop, Option, Some, None, Result, Ok, Err, MatchResult, IsOkAnd, refl, sym, ap, ◌∙◌, subst, inl, inr, append_assoc, append-nil, length-append, take-append-drop, arith}
 use Rattle.std.proofs.Math.Seq.{drop-append_seam}
 use Rattle.std.proofs.lemmas.Str.{IsCharBoundary-from_drop}
 use Rattle.std.specs.Borrow.{Bor}
 use Rattle.std.specs.Str.{IsUtf8, IsCharBoundary}
 use Rattle.jsonpath_parser.specs.Parts.{text_of, rest_of, Spelling, IsPartRefusal, ReadsPart}
-use Rattle.jsonpath_parser.specs.Reading.{Read, Reads}
-use Rattle.jsonpath_parser.specs.ReadingParts.{IsPartsRefusal}
+use Rattle.jsonpath_parser.specs.Reading.{Read, Gives, Reads}
+use Rattle.jsonpath_parser.specs.ReadingParts.{IsPartsRefusal, taken_at, Takes, StaysInText, IsAnswer}
 use Rattle.jsonpath_parser.specs.Values.{IsValued, IsAny}
 use Rattle.jsonpath_parser.specs.declared.errors.JsonPathError.{JsonPathError}
 use Rattle.jsonpath_parser.specs.declared.errors.JsonPathError.TheVariants as error
@@ -113,3 +113,89 @@ part_refused {T} {V} {spells} {typed} {view} {reading} law c stop again e none a
     refusals (error.PestError place) is = (is.0, any_refused spells typed view reading law (rest_of c) again any is.2)
     refusals (error.InvalidNumber literal) is = (is.1, any_read spells typed view reading law (rest_of c) again any is.2)
     refusals _ is = absurd is
+
+-- ---- one reading of a kind of tree
+
+-- What a kind's three functions compute at a cursor: a tree is read, turned into one of the kind, and checked.
+pub record Kind {X T V W : Type 0} (whole : X → V) (view : T → W) (take : V → Option W) (typed : W → Bool) (base : Numbers → List ℕ → Read V) (reads : Numbers → Result (X × Bor (List ℕ)) Stop → Type 0) (takes : X → Result T Stop → Type 0) (checks : Bor T → Bool → Type 0) (text : List ℕ) : Type 0 where
+  pub read : (numbers : Numbers) (r : _) → reads numbers r → Reads whole r (base numbers text)
+  pub made : (x : X) (t : _) → takes x t → Gives view t (take (whole x))
+  pub checked : (t : Bor T) (b : Bool) → checks t b → b ≡ typed (view t.now)
+
+-- what is not taken is nothing
+not_made : {V W : Type 0} (take : V → Option W) (typed : W → Bool) (r : Read V) (v : V) (rest : List ℕ) → r ≡ Some (v, rest) → take v ≡ None → taken_at take typed r ≡ None
+unfolding taken_at
+not_made take typed r v rest e f = rw (e, f) refl
+
+not_read : {V W : Type 0} (take : V → Option W) (typed : W → Bool) (r : Read V) → r ≡ None → taken_at take typed r ≡ None
+unfolding taken_at
+not_read take typed r e = rw e refl
+
+made_so : {V W : Type 0} (take : V → Option W) (typed : W → Bool) (r : Read V) (v : V) (w : W) (rest : List ℕ) → r ≡ Some (v, rest) → take v ≡ Some w → typed w ≡ true → taken_at take typed r ≡ Some (w, rest)
+unfolding taken_at
+made_so take typed r v w rest e f t = rw (e, f, t) refl
+
+not_typed : {V W : Type 0} (take : V → Option W) (typed : W → Bool) (r : Read V) (v : V) (w : W) (rest : List ℕ) → r ≡ Some (v, rest) → take v ≡ Some w → typed w ≡ false → taken_at take typed r ≡ None
+unfolding taken_at
+not_typed take typed r v w rest e f t = rw (e, f, t) refl
+
+-- so the kind is read
+module _ {X T V W : Type 0} {whole : X → V} {view : T → W} {take : V → Option W} {typed : W → Bool} {base : Numbers → List ℕ → Read V} {reads : Numbers → Result (X × Bor (List ℕ)) Stop → Type 0} {takes : X → Result T Stop → Type 0} {checks : Bor T → Bool → Type 0} where
+  takes_reads : (text : List ℕ) → Kind whole view take typed base reads takes checks text
+      → (numbers : Numbers) (outcome : Result (T × Bor (List ℕ)) Stop) → Takes reads takes checks numbers outcome → Reads view outcome (taken_at take typed (base numbers text))
+  takes_reads text k numbers (Ok p) h =
+      let (x, read, took, (t, check, same)) = h in
+      let holds : typed (view p.0) ≡ true = subst (λ u. typed (view u) ≡ true) same (sym (k.checked t true check)) in
+      made_so take typed (base numbers text) (whole x) (view p.0) p.1.now (k.read numbers (Ok (x, p.1)) read) (k.made x (Ok p.0) took) holds
+  takes_reads text k numbers (Err e) h = λ other. elim h [
+    | inl stopped ↦ not_read take typed (base numbers text) (k.read numbers (Err e) stopped other)
+    | inr left ↦ (
+        let (p, read, why) = left in
+        let at : base numbers text ≡ Some (whole p.0, p.1.now) = k.read numbers (Ok p) read in
+        elim why [
+          | inl none ↦ not_made take typed (base numbers text) (whole p.0) p.1.now at (k.made p.0 (Err e) none other)
+          | inr wrong ↦ (
+              let (t, check, took, clear) = wrong in
+              not_typed take typed (base numbers text) (whole p.0) (view t.now) p.1.now at (k.made p.0 (Ok t.now) took) (sym (k.checked t false check)))
+        ])
+  ]
+
+  module _ {spells : Spelling W} (law : Law spells typed (λ numbers text. taken_at take typed (base numbers text))) where
+    pub kind_stays : (c : Cursor) → Kind whole view take typed base reads takes checks (rest_of c) → StaysInText reads takes checks c
+    kind_stays c k = record {
+      ends = elim [
+        | Ok p ↦ λ h. part_stays law c (view p.0) p.1.now (takes_reads (rest_of c) k Valued (Ok p) h)
+        | Err e ↦ λ h. tt
+      ];
+    }
+
+    pub kind_read : (old new : Cursor) → Kind whole view take typed base reads takes checks (rest_of old) → (result : Result T JsonPathError) → IsAnswer reads takes checks old new result → ReadsPart spells typed view old new result
+    kind_read old new k (Ok t) a = part_read law old new t (takes_reads (rest_of old) k Valued (Ok (t, new.rest)) a.tree) a.same
+    kind_read old new k (Err e) a =
+        let (stop, stopped, (again, read, is)) = a.refusal in
+        let refused : ReadsPart spells typed view old old (Err e) = part_refused law old stop again e (takes_reads (rest_of old) k Valued (Err stop) stopped) (takes_reads (rest_of old) k Any again read) is in
+        subst (λ c. ReadsPart spells typed view old c (Err e)) (sym a.kept) refused
+
+-- what was read first, and taken, is what reading and taking give
+taken_from : {X T : Type 0} (reads : Numbers → Result (X × Bor (List ℕ)) Stop → Type 0) (takes : X → Result T Stop → Type 0) (checks : Bor T → Bool → Type 0)
+    → (numbers : Numbers) (first : Result (X × Bor (List ℕ)) Stop) → reads numbers first
+    → (outcome : Result (T × Bor (List ℕ)) Stop) → Takes (λ n r. r ≡ first) takes checks Valued outcome → Takes reads takes checks numbers outcome
+taken_from reads takes checks numbers first h (Ok p) t = let (x, e, took, good) = t in (x, subst (λ r. reads numbers r) (sym e) h, took, good)
+taken_from reads takes checks numbers first h (Err e) t = elim t [
+  | inl q ↦ inl (subst (λ r. reads numbers r) (sym q) h)
+  | inr w ↦ (let (p, q, why) = w in inr (p, subst (λ r. reads numbers r) (sym q) h, why))
+]
+
+module _ {X T : Type 0} {reads : Numbers → Result (X × Bor (List ℕ)) Stop → Type 0} {takes : X → Result T Stop → Type 0} {checks : Bor T → Bool → Type 0} where
+  pub stays_behind : (c : Cursor) → StaysInText reads takes checks c → (first : Result (X × Bor (List ℕ)) Stop) → reads Valued first
+      → (t : T) (rest : Bor (List ℕ)) → Takes (λ n r. r ≡ first) takes checks Valued (Ok (t, rest)) → drop (length (text_of c) - length rest.now) (text_of c) ≡ rest.now
+  stays_behind c stays first h t rest k = stays.ends (Ok (t, rest)) (taken_from reads takes checks Valued first h (Ok (t, rest)) k)
+
+  pub refused_answer : (c : Cursor) (first second : Result (X × Bor (List ℕ)) Stop) (stop : Stop) (again : Result (T × Bor (List ℕ)) Stop) (e : JsonPathError) → reads Valued first → reads Any second
+      → Takes (λ n r. r ≡ first) takes checks Valued (Err stop) → Takes (λ n r. r ≡ second) takes checks Valued again → IsPartsRefusal c stop again e → IsAnswer reads takes checks c c (Err e)
+  refused_answer c first second stop again e h k stopped read is = record {
+    tree = tt;
+    refusal = (stop, taken_from reads takes checks Valued first h (Err stop) stopped, (again, taken_from reads takes checks Any second k again read, is));
+    kept = refl;
+    same = refl;
+  }

@@ -1,5 +1,5 @@
 -- What the parts of a query are read as, each by itself, and which refusal they get. The laws of proofs/ join it to the grammar, so a user need not believe it.
-use Rattle.std.specs.Prelude.{◌≡◌, ℕ, suc, ◌≤◌, ◌==◌, Bool, if◌then◌else◌, ℤ, List, [], length, Option, Some, None, Result, MatchResult, IsOkAnd, string_bytes, ⊤}
+use Rattle.std.specs.Prelude.{◌≡◌, ◌⊎◌, ℕ, suc, ◌≤◌, ◌==◌, Bool, true, false, if◌then◌else◌, ℤ, List, [], length, Option, Some, None, Result, Ok, Err, MatchResult, IsOkAnd, IfOk, IfErr, OnErr, ◌-◌, drop, string_bytes, ⊤}
 use Rattle.std.specs.Borrow.{Bor}
 use Rattle.jsonpath_parser.specs.Parts.{text_of, rest_of}
 use Rattle.jsonpath_parser.specs.Reading.{Read, ◌>>=◌, first}
@@ -9,6 +9,7 @@ use Rattle.jsonpath_parser.specs.Valueless.{IsValuelessIn}
 use Rattle.jsonpath_parser.specs.declared.errors.JsonPathError.{JsonPathError}
 use Rattle.jsonpath_parser.specs.declared.errors.JsonPathError.TheVariants.{PestError, InvalidNumber, OutOfMemory}
 use Rattle.jsonpath_parser.specs.declared.grammar.literals.Numbers.{Numbers}
+use Rattle.jsonpath_parser.specs.declared.grammar.literals.Numbers.TheVariants.{Valued, Any}
 use Rattle.jsonpath_parser.specs.declared.parts.Cursor.{Cursor}
 use Rattle.jsonpath_parser.specs.declared.stop.Stop.{Stop}
 use Rattle.jsonpath_parser.specs.declared.stop.Stop.TheVariants.{Memory}
@@ -123,3 +124,22 @@ IsPartsRefusal c stop again (InvalidNumber said) = (stop ≡ Memory → ⊥) × 
 IsPartsRefusal c stop again (PestError place) = (place ≤ length (text_of c)) × (stop ≡ Memory → ⊥) × MatchResult again (λ p. p.1.now ≡ [] → ⊥) (λ e. e ≡ Memory → ⊥)
 IsPartsRefusal c stop again OutOfMemory = ⊤
 IsPartsRefusal c stop again _ = ⊥
+
+-- ---- one reading of a kind of tree: what is read, how it is turned into a tree of the kind, and whether that is well-typed
+
+module _ {X T : Type 0} (reads : Numbers → Result (X × Bor (List ℕ)) Stop → Type 0) (takes : X → Result T Stop → Type 0) (checks : Bor T → Bool → Type 0) where
+  -- a tree of the kind and the text after it, or what stopped the reading
+  abbrev pub Takes : Numbers → Result (T × Bor (List ℕ)) Stop → Type 0
+  Takes numbers (Ok p) = (x : X) × reads numbers (Ok (x, p.1)) × takes x (Ok p.0) × ((t : Bor T) × checks t true × (t.now ≡ p.0))
+  Takes numbers (Err e) = reads numbers (Err e) ⊎ ((p : X × Bor (List ℕ)) × reads numbers (Ok p) × (takes p.0 (Err e) ⊎ ((t : Bor T) × checks t false × takes p.0 (Ok t.now) × (e ≡ Memory → ⊥))))
+
+  -- where a tree is read, the cursor's text ends in what stands after it
+  pub record StaysInText (c : Cursor) : Type 0 where
+    pub ends : (outcome : _) → Takes Valued outcome → IfOk outcome (λ p. drop (length (text_of c) - length p.1.now) (text_of c) ≡ p.1.now)
+
+  -- what a cursor's function answers, by what reading answers
+  pub record IsAnswer (old new : Cursor) (result : Result T JsonPathError) : Type 0 where
+    pub tree : IfOk result (λ t. Takes Valued (Ok (t, new.rest)))
+    pub refusal : IfErr result (λ e. (stop : Stop) × Takes Valued (Err stop) × ((again : _) × Takes Any again × IsPartsRefusal old stop again e))
+    pub kept : OnErr result (new ≡ old)
+    pub same : text_of new ≡ text_of old

@@ -13,6 +13,7 @@ mod string;
 mod text;
 mod typing;
 
+pub use model::let_go;
 pub use parse::{MAX_NESTING_DEPTH, parse_json_path, parse_json_path_within};
 pub use parts::{
     Cursor, child_segment, comp_expr, comparable, filter_atom, function_expr, jp_query, literal,

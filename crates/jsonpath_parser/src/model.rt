@@ -6,8 +6,10 @@ ghost use Rattle.jsonpath_parser.specs.View.{segment_view, selector_view, filter
 ghost use Rattle.jsonpath_parser.specs.declared.errors.JsonPathError.TheVariants.{OutOfMemory};
 
 pub(crate) mod call;
+pub(crate) mod operator;
 mod refusal;
 
+use self::operator::Operator;
 use self::refusal::invalid;
 use crate::errors::{JsonPathError, Parsed};
 use std::alloc::Global;
@@ -180,6 +182,10 @@ impl JpQuery {
     }
 }
 
+/// Gives back the memory of the query's whole tree. A caller in another crate that hands its tree back here need not
+/// drop it itself.
+pub fn let_go(_query: JpQuery) {}
+
 impl Segment {
     /// The segment of one name.
     ///
@@ -254,15 +260,13 @@ impl Comparison {
         // With one of the six it takes no memory.
         ensures succeeds { IsSome (operator_of op.now) → IsOk result }
     {
-        match op {
-            "==" => Ok(Comparison::Eq(left, right)),
-            "!=" => Ok(Comparison::Ne(left, right)),
-            ">" => Ok(Comparison::Gt(left, right)),
-            ">=" => Ok(Comparison::Gte(left, right)),
-            "<" => Ok(Comparison::Lt(left, right)),
-            "<=" => Ok(Comparison::Lte(left, right)),
-            _ => Err(invalid(alloc, "no comparison operator: ", op)),
-        }
+        let Some(operator) = Operator::of(op) else {
+            // A call of `drop` is proved at once; where a scope ends, each variant is a case.
+            drop(left);
+            drop(right);
+            return Err(invalid(alloc, "no comparison operator: ", op));
+        };
+        Ok(operator.compare(left, right))
     }
 
     /// Left and right.

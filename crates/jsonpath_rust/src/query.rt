@@ -3,7 +3,7 @@ ghost use Rattle.std.specs.Prelude.{◌≡◌, map, All, IsTrue, IfOk, IfErr, Ma
 ghost use Rattle.jsonpath_parser.specs.Derives.{Derives};
 ghost use Rattle.jsonpath_parser.specs.Syntax.{Query};
 ghost use Rattle.jsonpath_parser.specs.View.{query_view};
-ghost use Rattle.jsonpath_parser.specs.Normal.{IsNormal};
+ghost use Rattle.jsonpath_parser.specs.Normal.{IsNormal, IsOnlyPath};
 ghost use Rattle.jsonpath_rust.specs.Document.{document_of};
 ghost use Rattle.jsonpath_rust.specs.Meaning.{selected};
 ghost use Rattle.jsonpath_rust.specs.Patterns.{IsStop, IsQueryRefusal};
@@ -23,7 +23,7 @@ mod way;
 use crate::query::queryable::Queryable;
 use jsonpath_parser::errors::JsonPathError;
 use jsonpath_parser::model::JpQuery;
-use jsonpath_parser::{MAX_NESTING_DEPTH, parse_json_path, parse_json_path_within};
+use jsonpath_parser::{MAX_NESTING_DEPTH, let_go, parse_json_path, parse_json_path_within};
 use std::alloc::Global;
 
 /// The text of a Normalized Path (RFC 9535, 2.7).
@@ -112,7 +112,9 @@ pub fn js_path_within<'a, T: Queryable>(
     ensures refused { IfErr result (IsQueryRefusal depth path.now (document_of T.tree T.custom value.now)) }
 {
     let query = parse_json_path_within(alloc, path, depth)?;
-    js_path_process(alloc, &query, value)
+    let nodes = js_path_process(alloc, &query, value);
+    let_go(query);
+    nodes
 }
 
 /// The values of the nodes that a query text selects in a document, in order. It refuses as [`js_path`] does, and
@@ -133,7 +135,9 @@ pub fn js_path_vals<'a, T: Queryable>(
     ensures refused { IfErr result (IsQueryRefusal 128 path.now (document_of T.tree T.custom value.now)) }
 {
     let query = parse_json_path(alloc, path)?;
-    js_path_process_vals(alloc, &query, value)
+    let values = js_path_process_vals(alloc, &query, value);
+    let_go(query);
+    values
 }
 
 /// The Normalized Paths of the nodes that a query text selects in a document, in order. It refuses as [`js_path`] does.
@@ -148,8 +152,23 @@ pub fn js_path_path<T: Queryable>(alloc: Global, path: &str, value: &T) -> Queri
     ensures refused { IfErr result (IsQueryRefusal 128 path.now (document_of T.tree T.custom value.now)) }
 {
     let query = parse_json_path(alloc, path)?;
+    let paths = process_paths(alloc, &query, value);
+    let_go(query);
+    paths
+}
+
+/// The Normalized Paths of the nodes that a query selects in a document, in order. It refuses as [`js_path_process`]
+/// does.
+fn process_paths<T: Queryable>(alloc: Global, query: &JpQuery, value: &T) -> Queried<Vec<QueryPath>>
+    requires { IsTrue (T.is_whole value.now) }
+    ensures paths { IfOk result (λ v. Along IsNormal
+        (selected (query_view query.now) (document_of T.tree T.custom value.now)) (paths_of v.items)) }
+    ensures only_path { IfOk result (λ v. Along IsOnlyPath
+        (selected (query_view query.now) (document_of T.tree T.custom value.now)) (paths_of v.items)) }
+    ensures refused { IfErr result (IsStop (query_view query.now) (document_of T.tree T.custom value.now)) }
+{
     let mut sink = sink::Sink::Paths(Vec::new(alloc));
-    let _goes_on = walk::give_nodes(alloc, &query, value, &mut sink)?;
+    let _goes_on = walk::give_nodes(alloc, query, value, &mut sink)?;
     Ok(sink.into_paths(alloc))
 }
 

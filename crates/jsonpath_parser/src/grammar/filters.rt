@@ -2,15 +2,14 @@
 ghost use Rattle.std.specs.Prelude.{◌≡◌, ℕ, ◌<◌, ◌≤◌, length, IfOk};
 ghost use Rattle.jsonpath_parser.specs.Reading.{Reads};
 ghost use Rattle.jsonpath_parser.specs.ReadingGrammar as spec;
-ghost use Rattle.jsonpath_parser.specs.ReadingGrammar.{operator_view};
 ghost use Rattle.jsonpath_parser.specs.ReadingGrammar.{number_reading};
-ghost use Rattle.jsonpath_parser.specs.Syntax.{filter_then, no_filters, compare};
-ghost use Rattle.jsonpath_parser.specs.View.{argument_view, comparable_view, comparison_view, filter_view, filters_view};
+ghost use Rattle.jsonpath_parser.specs.Syntax.{filter_then, no_filters};
+ghost use Rattle.jsonpath_parser.specs.View.{argument_view, filter_view, filters_view};
 
 use super::literals::Numbers;
 use super::operands::{comparable, filter, negated_test, operand};
-use super::words::{Operator, is_operator_first, is_twice, read_operator};
-use crate::model::{Comparable, Comparison, Filter, FilterAtom, FnArg};
+use super::words::{is_operator_first, is_twice, read_operator};
+use crate::model::{Filter, FilterAtom, FnArg};
 use crate::stop::Stop;
 use crate::text::{first, skip, skip_blank};
 use std::alloc::Global;
@@ -49,20 +48,6 @@ fn negated(alloc: Global, numbers: Numbers, s: &str) -> Result<(FnArg, &str), St
     Ok((negated_test(test, rest.len())?, rest))
 }
 
-/// The comparison of two values.
-fn comparison(operator: Operator, left: Comparable, right: Comparable) -> Comparison
-    ensures { comparison_view result ≡ compare (operator_view operator) (comparable_view left) (comparable_view right) }
-{
-    match operator {
-        Operator::Equal => Comparison::Eq(left, right),
-        Operator::NotEqual => Comparison::Ne(left, right),
-        Operator::Greater => Comparison::Gt(left, right),
-        Operator::GreaterOrEqual => Comparison::Gte(left, right),
-        Operator::Less => Comparison::Lt(left, right),
-        Operator::LessOrEqual => Comparison::Lte(left, right),
-    }
-}
-
 /// A comparison, from its operator on.
 #[cycle(reading)]
 #[tactic(auto, unfolding(crate::specs::ReadingGrammar::compared_at))]
@@ -74,7 +59,7 @@ fn compared(alloc: Global, numbers: Numbers, left: FnArg, s: &str) -> Result<(Fn
     let (right, rest) = operand(alloc, numbers, skip_blank(after))?;
     let left = comparable(alloc, left, s.len())?;
     let right = comparable(alloc, right, rest.len())?;
-    let atom = FilterAtom::Comparison(Box::new(alloc, comparison(operator, left, right))?);
+    let atom = FilterAtom::Comparison(Box::new(alloc, operator.compare(left, right))?);
     Ok((FnArg::Filter(Filter::Atom(atom)), rest))
 }
 

@@ -6,6 +6,7 @@ ghost use Rattle.jsonpath_parser.specs.ReadingGrammar as spec;
 ghost use Rattle.jsonpath_parser.specs.ReadingGrammar.{operator_view};
 ghost use Rattle.jsonpath_parser.specs.View.{selector_view, literal_view};
 
+use crate::model::operator::Operator;
 use crate::model::{Literal, Selector};
 use crate::stop::Stop;
 use crate::text::{byte_at, first, function_run, is_function_first, is_name_first, name_run, skip};
@@ -60,17 +61,6 @@ pub fn word_literal(word: &str) -> Option<Literal>
         "null" => Some(Literal::Null),
         _ => None,
     }
-}
-
-/// How two values are compared (2.3.5.2.2).
-#[derive(Clone, Copy, Debug)]
-pub enum Operator {
-    Equal,
-    NotEqual,
-    Greater,
-    GreaterOrEqual,
-    Less,
-    LessOrEqual,
 }
 
 /// Whether an operator may begin with this byte.

@@ -166,6 +166,8 @@ impl TestFunction {
             return Err(invalid(alloc, "wrong number of arguments for the function ", name));
         };
         if !call.takes() {
+            // A call of `drop` is proved at once; where a scope ends, each variant is a case.
+            drop(call);
             return Err(invalid(alloc, "wrong kind of arguments for the function ", name));
         }
         Ok(call)

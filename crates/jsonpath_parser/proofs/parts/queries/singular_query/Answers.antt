@@ -1,13 +1,11 @@
-use Rattle.std.proofs.Common.{refl}
+use Rattle.std.proofs.Common.{refl, of_calls}
 use Rattle.jsonpath_parser.proofs.PartKinds.{singular_law}
-use Rattle.jsonpath_parser.proofs.PartLaws.{part_stays, part_read, part_refused}
+use Rattle.jsonpath_parser.proofs.PartLaws.{kind_stays, kind_read}
+use Rattle.jsonpath_parser.specs.View.{argument_view, singular_view}
 use Rattle.jsonpath_parser.proofs.parts.queries.singular_query.Goals as goal
 
-pub invariant_of-cursor : goal.invariant_of-cursor
-invariant_of-cursor c = record { behind = part_stays singular_law c.args.cursor.now _ c.in-Ok.rest.now c.in-Ok.ensures }
+pub part-requires : goal.part-requires
+part-requires c κs = ((refl, tt), ((λ a n s. tt), ((λ x l. tt), ((λ t. tt), kind_stays {whole = argument_view} {view = singular_view} singular_law c.args.cursor.now (record { read = λ numbers r p. search of_calls; made = λ x t p. search of_calls; checked = λ t b p. search of_calls })))))
 
-pub returns-in-Ok : goal.returns-in-Ok
-returns-in-Ok c = part_read singular_law c.args.cursor.now _ c.in-Ok.tree c.in-Ok.ensures refl
-
-pub returns-in-Err : goal.returns-in-Err
-returns-in-Err c = part_refused singular_law c.args.cursor.now c.in-Err.stop c.singular-again.result c.refusal.result c.in-Err.ensures c.singular-again.ensures c.refusal.ensures
+pub returns : goal.returns
+returns c = kind_read {whole = argument_view} {view = singular_view} singular_law c.args.cursor.now c.part.new.cursor (record { read = λ numbers r p. search of_calls; made = λ x t p. search of_calls; checked = λ t b p. search of_calls }) c.part.result c.part.ensures

@@ -1,0 +1,156 @@
+//! Streams that give and take little at a time, and that fail.
+use crate::run::run;
+use std::alloc::{AllocError, Global};
+use std::io;
+use std::io::{ErrorKind, Read, Write};
+use std::test::Fail;
+
+/// Gives a byte at a time, and fails once it has no reads left.
+#[derive(Drop)]
+struct ByteReader<'t> {
+    bytes: &'t [u8],
+    reads_left: usize,
+}
+
+impl Read for ByteReader<'_> {
+    fn read(&mut self, buf: &mut [u8]) -> io::Result<usize> {
+        if self.reads_left == 0 {
+            return Err(io::Error::from(ErrorKind::Other));
+        }
+        self.reads_left -= 1;
+        match self.bytes.split_first() {
+            Some((byte, rest)) if !buf.is_empty() => {
+                buf[0] = *byte;
+                self.bytes = rest;
+                Ok(1)
+            }
+            _ => Ok(0),
+        }
+    }
+}
+
+/// How a `SmallWriter` fails: by the write behind those that it has left, or by each flush.
+#[derive(Clone, Copy, Debug)]
+enum Failing {
+    Write,
+    /// The write takes nothing.
+    EmptyWrite,
+    Flush,
+}
+
+/// Takes five bytes at a time.
+#[derive(Drop)]
+struct SmallWriter {
+    written: Vec<u8>,
+    writes_left: usize,
+    failing: Failing,
+}
+
+impl Write for SmallWriter {
+    fn write(&mut self, buf: &[u8]) -> io::Result<usize> {
+        if self.writes_left == 0 {
+            return match self.failing {
+                Failing::EmptyWrite => Ok(0),
+                Failing::Write | Failing::Flush => Err(io::Error::from(ErrorKind::Other)),
+            };
+        }
+        self.writes_left -= 1;
+        let count = buf.len().min(5);
+        self.written.extend_from_slice(&buf[..count])?;
+        Ok(count)
+    }
+
+    fn flush(&mut self) -> io::Result<()> {
+        match self.failing {
+            Failing::Flush => Err(io::Error::from(ErrorKind::Other)),
+            Failing::Write | Failing::EmptyWrite => Ok(()),
+        }
+    }
+}
+
+const DOCUMENT: &[u8] = b"[1,2]";
+
+const OUTPUT: &[u8] = b"$[0]\t1\n$[1]\t2\n";
+
+/// The exit status of a run with the words `nodes` and `$[*]`.
+fn status<R: Read, W: Write>(
+    alloc: Global,
+    reader: &mut R,
+    writer: &mut W,
+) -> Result<u8, AllocError> {
+    match run(alloc, words(alloc)?.as_slice(), reader, writer) {
+        Ok(()) => Ok(0),
+        Err(fault) => Ok(fault.status()),
+    }
+}
+
+fn words(alloc: Global) -> Result<Vec<String>, AllocError> {
+    let mut words = Vec::new(alloc);
+    words.push(String::from_str(alloc, "nodes")?)?;
+    words.push(String::from_str(alloc, "$[*]")?)?;
+    Ok(words)
+}
+
+/// The exit status where a reader gives the document by so many reads, and what is written.
+fn read_by_bytes(alloc: Global, reads: usize) -> Result<(u8, Vec<u8>), AllocError> {
+    let mut reader = ByteReader {
+        bytes: DOCUMENT,
+        reads_left: reads,
+    };
+    let mut written = Vec::new(alloc);
+    let status = status(alloc, &mut reader, &mut written)?;
+    Ok((status, written))
+}
+
+#[test]
+fn failing_reads(rt: HostRuntime) -> Result<(), Fail> {
+    // Five reads of a byte, and one of the end.
+    for reads in 0..=6 {
+        let wanted: (u8, &[u8]) = if reads < 6 { (5, b"") } else { (0, OUTPUT) };
+        let (status, written) = read_by_bytes(rt.alloc(), reads)?;
+        assert_eq!(rt; (status, written.as_slice()), wanted, "{reads} reads");
+    }
+    Ok(())
+}
+
+/// The exit status where a writer takes so many writes and fails so, and what is written.
+fn written_by_fives(
+    alloc: Global,
+    writes: usize,
+    failing: Failing,
+) -> Result<(u8, Vec<u8>), AllocError> {
+    let mut reader = DOCUMENT;
+    let mut writer = SmallWriter {
+        written: Vec::new(alloc),
+        writes_left: writes,
+        failing,
+    };
+    let status = status(alloc, &mut reader, &mut writer)?;
+    Ok((status, writer.written))
+}
+
+/// How many writes a writer takes and how it fails; the exit status, and how many bytes are written. The fourteen
+/// bytes of the output take three writes.
+static WRITERS: [(usize, Failing, u8, usize); 8] = [
+    (0, Failing::Write, 5, 0),
+    (1, Failing::Write, 5, 5),
+    (2, Failing::Write, 5, 10),
+    (3, Failing::Write, 0, 14),
+    (0, Failing::EmptyWrite, 5, 0),
+    (1, Failing::EmptyWrite, 5, 5),
+    (2, Failing::EmptyWrite, 5, 10),
+    (3, Failing::Flush, 5, 14),
+];
+
+#[test]
+fn failing_writes_and_flushes(rt: HostRuntime) -> Result<(), Fail> {
+    for (writes, failing, wanted, length) in &WRITERS {
+        let (status, written) = written_by_fives(rt.alloc(), *writes, *failing)?;
+        assert_eq!(rt;
+            (status, written.as_slice()),
+            (*wanted, &OUTPUT[..*length]),
+            "{failing:?} behind {writes} writes"
+        );
+    }
+    Ok(())
+}

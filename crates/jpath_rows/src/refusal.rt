@@ -1,0 +1,27 @@
+//! The kinds of refusals, as rows name them.
+use jsonpath_parser::errors::JsonPathError;
+
+/// Whether the answer is a refusal of that kind, of a text of that length.
+pub fn is_refused<T>(answer: &Result<T, JsonPathError>, kind: &str, length: usize) -> bool {
+    match answer {
+        Ok(_) => false,
+        Err(error) => is_kind(error, kind, length),
+    }
+}
+
+/// `PestError`, at a place within the text; `InvalidNumber` and the literal; `MaxNestingDepthExceeded` and the depth.
+fn is_kind(error: &JsonPathError, kind: &str, length: usize) -> bool {
+    match error {
+        JsonPathError::PestError(place) => kind == "PestError" && *place <= length,
+        JsonPathError::InvalidNumber(literal) => {
+            kind.strip_prefix("InvalidNumber ") == Some(literal.as_str())
+        }
+        JsonPathError::MaxNestingDepthExceeded(depth) => {
+            match kind.strip_prefix("MaxNestingDepthExceeded ") {
+                Some(limit) => limit.parse::<usize>() == Ok(*depth),
+                None => false,
+            }
+        }
+        _ => false,
+    }
+}
