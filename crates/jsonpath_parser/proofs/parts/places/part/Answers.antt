@@ -1,4 +1,3 @@
-use Rattle.std.proofs.Common.{refl}
 use Rattle.jsonpath_parser.proofs.PartLaws.{stays_behind, refused_answer}
 use Rattle.jsonpath_parser.proofs.parts.places.part.Goals as goal
 
