@@ -1,8 +1,9 @@
 use Rattle.std.proofs.Common.{◌∙◌, subst, string_bytes}
+use Rattle.std.specs.List.{AllZip}
 use Rattle.jsonpath_parser.specs.Normal.{IsNormal}
 use Rattle.jsonpath_parser.specs.Syntax.{Query}
 use Rattle.jsonpath_parser.specs.View.{query_view}
-use Rattle.jsonpath_rust.specs.Answer.{Along, paths_of}
+use Rattle.jsonpath_rust.specs.Answer.{paths_of}
 use Rattle.jsonpath_rust.specs.Document.{document_of}
 use Rattle.jsonpath_rust.specs.Meaning.{nodelist, selected}
 use Rattle.jsonpath_rust.proofs.Sinks.{given_paths}
@@ -21,4 +22,4 @@ returns-clause-only g c t derived =
     let q = query_view c.in_ok-query.query in
     let doc = document_of g.T.Queryable.tree g.T.Queryable.custom c.args.value.now in
     let shown = c.into_paths.ensures ∙ given_paths (λ p. string_bytes p) c.new.result.items _ (nodelist q doc) c.new.ensures.items c.in_ok-_goes_on.ensures.gave.given in
-    subst (λ (p : Query). Along IsNormal (selected p doc) (paths_of c.into_paths.result.items)) (c.in_ok-query.ensures.only t derived) (normal_answered q doc _ shown)
+    subst (λ (p : Query). AllZip IsNormal (selected p doc) (paths_of c.into_paths.result.items)) (c.in_ok-query.ensures.only t derived) (normal_answered q doc _ shown)
