@@ -15,7 +15,7 @@ use Rattle.regex_syntax.specs.Grammar.{Names, read, group_count}
 use Rattle.regex_syntax.specs.declared.error.ErrorKind.{ErrorKind}
 use Rattle.regex_syntax.specs.declared.error.ErrorKind.TheVariants.{OutOfMemory}
 use Rattle.jsonpath_base.specs.Pattern.{reading, is_found}
-use Rattle.jsonpath_base.specs.PatternParts.{FindsSame}
+use Rattle.jsonpath_base.specs.inner.PatternParts.{FindsSame}
 
 -- what is read, up to a depth
 within : ℕ → Option (Nested Re × Names) → Option Re

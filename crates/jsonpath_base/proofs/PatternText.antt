@@ -4,8 +4,8 @@ use Rattle.std.proofs.lemmas.Bool.{eqb-true}
 use Rattle.std.proofs.lemmas.List.{at_drop_more}
 use Rattle.std.proofs.lemmas.Str.{encodes-append, chars-append, IsUtf8-append}
 use Rattle.std.specs.Str.{chars, IsUtf8}
-use Rattle.jsonpath_base.specs.Pattern.{translated, behind_backslash, wrapped}
-use Rattle.jsonpath_base.specs.PatternParts.{written, inside_after, escaped_after}
+use Rattle.jsonpath_base.specs.Pattern.{is_char, translated, behind_backslash, wrapped}
+use Rattle.jsonpath_base.specs.inner.PatternParts.{written, inside_after, escaped_after}
 
 -- what the rest of a pattern becomes, in a state
 abbrev pub rest : Bool → Bool → List ℕ → List ℕ
@@ -15,7 +15,7 @@ rest inside escaped cs = if escaped then behind_backslash inside cs else transla
 abbrev pub left : Bool → Bool → List ℕ → List ℕ
 left inside escaped cs = encode_utf8_all (rest inside escaped cs)
 
-rest-plain : (i slash dot : Bool) (c : ℕ) (cs : List ℕ) → slash ≡ (c == 92) → dot ≡ (c == 46) →
+rest-plain : (i slash dot : Bool) (c : ℕ) (cs : List ℕ) → slash ≡ is_char (codes "\\") c → dot ≡ is_char (codes ".") c →
     rest i false (c ∷ cs) ≡ written i false c ++ rest (inside_after i false c) (escaped_after false c) cs
 unfolding translated
 rest-plain true true dot c cs s d = rw (eqb-true c 92 (sym s)) refl
@@ -28,7 +28,7 @@ rest-plain false false false c cs s d = rw (← s, ← d) refl
 rest-cons : (i e : Bool) (c : ℕ) (cs : List ℕ) → rest i e (c ∷ cs) ≡ written i e c ++ rest (inside_after i e c) (escaped_after e c) cs
 unfolding behind_backslash
 rest-cons i true c cs = refl
-rest-cons i false c cs = rest-plain i (c == 92) (c == 46) c cs refl refl
+rest-cons i false c cs = rest-plain i _ _ c cs refl refl
 
 left-cons : (i e : Bool) (c : ℕ) (cs : List ℕ) →
     left i e (c ∷ cs) ≡ encode_utf8_all (written i e c) ++ left (inside_after i e c) (escaped_after e c) cs

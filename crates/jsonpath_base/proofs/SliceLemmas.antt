@@ -8,7 +8,8 @@ use Rattle.std.proofs.Math.Nat.{add-mod_right, mod-eq_of_lt, add-div_right, div-
 use Rattle.std.specs.Int.RustNames.{unsigned_abs, int_lt, int_le}
 use Rattle.std.specs.List.{range_with_len}
 use Rattle.jsonpath_base.specs.Slice.{down_from, picks_rising, picks_falling, clamped, normalized, slice_by, slice_of}
-use Rattle.jsonpath_base.specs.SliceSteps.{is_risen, is_fallen, rising_places, falling_places, places_left, picked_of}
+use Rattle.jsonpath_base.specs.SliceSteps.{is_risen, is_fallen, rising_places, falling_places, places_left}
+use Rattle.jsonpath_base.specs.inner.Picked.{picked_of}
 use Rattle.jsonpath_base.specs.declared.slice.SlicePlaces.{SlicePlaces}
 
 -- ---- filters of ranges
@@ -179,8 +180,8 @@ picked_more (suc n) step some moves =
           ap suc (front ∙ sym (ap (λ k. picked_of k step) none))
       | inr many ↦
           let left : suc n - step ≡ suc (n - step) = omega (arith, many) in
-          let whole : n - step + step ≡ n = omega (arith, many) in
-          let front : n / step ≡ (n - step) / step + 1 = ap (λ k. k / step) (sym whole) ∙ add-div_right (n - step) moves in
+          let sum : n - step + step ≡ n = omega (arith, many) in
+          let front : n / step ≡ (n - step) / step + 1 = ap (λ k. k / step) (sym sum) ∙ add-div_right (n - step) moves in
           let next : (n - step) / step + 1 ≡ suc ((n - step) / step) = omega arith in
           ap suc (front ∙ next ∙ sym (ap (λ k. picked_of k step) left))
     ]

@@ -1,12 +1,11 @@
 pub mod Tree
 pub mod Places
-pub mod Steps
 pub mod Values
 pub mod Pattern
-pub mod PatternParts
 pub mod PatternViews
 pub mod Same
 pub mod SetFunctions
 pub mod Slice
 pub mod SliceSteps
 pub mod Texts
+pub mod inner

@@ -1,13 +1,20 @@
 -- What `match` and `search` find (RFC 9535, 2.4.6 and 2.4.7). A pattern is the list of its characters, a text that of its bytes in UTF-8.
-use Rattle.std.specs.Prelude.{ℕ, Bool, false, not, ◌&&◌, ◌==◌, nat_le, List, [], ◌∷◌, ◌++◌, Option, None, Some, IsSome, is_some, option_and_then, codes, chars, ⊤, if◌then◌else◌}
+use Rattle.std.specs.Prelude.{ℕ, Bool, true, false, not, ◌&&◌, ◌==◌, nat_le, List, [], ◌∷◌, ◌++◌, Option, None, Some, IsSome, is_some, option_and_then, codes, chars, ⊤, if◌then◌else◌}
 use Rattle.regex.specs.Patterns.{Re, find_str, default_config}
 use Rattle.regex_syntax.specs.Grammar.{read}
 use Rattle.jsonpath_parser.specs.declared.errors.JsonPathError.{JsonPathError}
 use Rattle.jsonpath_parser.specs.declared.errors.JsonPathError.TheVariants.{OutOfMemory, InvalidJsonPath}
+use Rattle.jsonpath_base.specs.declared.pattern.Extent.{Extent}
+use Rattle.jsonpath_base.specs.declared.pattern.Extent.TheVariants.{Entire, Substring}
+
+-- the character is the one of this text
+abbrev pub is_char : List ℕ → ℕ → Bool
+is_char (d ∷ []) c = c == d
+is_char _ c = false
 
 -- whether a character behind this one stands in a class: `[` opens one, `]` closes it
 abbrev pub is_inside : Bool → ℕ → Bool
-is_inside inside c = if inside then not (c == 93) else c == 91
+is_inside inside c = if inside then not (is_char (codes "]") c) else is_char (codes "[") c
 
 -- From an I-Regexp to what `regex` reads (RFC 9485, 5.3), inside a class or not: outside one `.` stands for each character but a line feed
 -- and a carriage return. A backslash and the character behind it are copied, as is all else.
@@ -15,8 +22,8 @@ unfoldable mutual
   pub translated : Bool → List ℕ → List ℕ
   translated inside [] = []
   translated inside (c ∷ cs) =
-      if c == 92 then c ∷ behind_backslash inside cs
-      else (if c == 46 && not inside then codes "[^\\n\\r]" ++ translated inside cs
+      if is_char (codes "\\") c then c ∷ behind_backslash inside cs
+      else (if is_char (codes ".") c && not inside then codes "[^\\n\\r]" ++ translated inside cs
       else c ∷ translated (is_inside inside c) cs)
 
   pub behind_backslash : Bool → List ℕ → List ℕ
@@ -27,30 +34,35 @@ unfoldable mutual
 unfoldable pub reading : List ℕ → Option Re
 reading cs = option_and_then (λ (re, _). if nat_le re.depth default_config.nest_limit then Some re.value else None) (read default_config cs)
 
--- the text, to be found where a whole text is it (RFC 9485, 5.3)
+-- the text, to be found where an entire text is it (RFC 9485, 5.3)
 abbrev pub wrapped : List ℕ → List ℕ
 wrapped cs = codes "^(?:" ++ cs ++ codes ")$"
 
--- What `match` looks for where `whole`, and else `search`, by the translated pattern. For `match` this has to have a reading alone too:
--- `a)|(b` has none.
+-- whether a pattern has to match the entire text
+abbrev pub is_entire : Extent → Bool
+is_entire Entire = true
+is_entire Substring = false
+
+-- What is looked for by the translated pattern: with true for `match`, which asks of the entire text, and with false for `search`. For
+-- `match` this has to have a reading alone too: `a)|(b` has none.
 abbrev pub sought : Bool → List ℕ → Option Re
-sought whole cs = if whole then (if is_some (reading cs) then reading (wrapped cs) else None) else reading cs
+sought entire cs = if entire then (if is_some (reading cs) then reading (wrapped cs) else None) else reading cs
 
 -- the same by the bytes of the pattern
 abbrev pub pattern_sought : Bool → List ℕ → Option Re
-pattern_sought whole pattern = sought whole (translated false (chars pattern))
+pattern_sought entire pattern = sought entire (translated false (chars pattern))
 
 -- whether something to look for is found in a text
 abbrev pub is_found : Option Re → List ℕ → Bool
 is_found None text = false
 is_found (Some re) text = is_some (find_str re text 0)
 
--- what `match` answers where `whole`, and else `search`, for the bytes of a pattern and of a text
+-- what `match` answers, with true, and `search`, with false, for the bytes of a pattern and of a text
 abbrev pub found : Bool → List ℕ → List ℕ → Bool
-found whole pattern text = is_found (pattern_sought whole pattern) text
+found entire pattern text = is_found (pattern_sought entire pattern) text
 
--- memory ran out, or there is something to look for, and `regex` refused it for its size
-abbrev pub IsRefusal : Option Re → JsonPathError → Type 0
-IsRefusal sought OutOfMemory = ⊤
-IsRefusal sought (InvalidJsonPath _) = IsSome sought
-IsRefusal sought _ = ⊥
+-- why what looks for it cannot be built: memory ran out, or there is something to look for, and `regex` refused it for its size
+abbrev pub IsPatternRefusal : Option Re → JsonPathError → Type 0
+IsPatternRefusal sought OutOfMemory = ⊤
+IsPatternRefusal sought (InvalidJsonPath _) = IsSome sought
+IsPatternRefusal sought _ = ⊥

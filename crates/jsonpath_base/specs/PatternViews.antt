@@ -1,5 +1,6 @@
 -- What a pattern that was read stands for, and which one a finder asks.
 use Rattle.std.specs.Prelude.{ℕ, Bool, List, string_bytes}
+use Rattle.jsonpath_base.specs.Pattern.{is_entire}
 use Rattle.jsonpath_base.specs.declared.pattern.Pattern.{Pattern}
 use Rattle.jsonpath_base.specs.declared.pattern.Finder.{Finder}
 
@@ -7,9 +8,9 @@ use Rattle.jsonpath_base.specs.declared.pattern.Finder.{Finder}
 abbrev pub source_of : Pattern → List ℕ
 source_of p = string_bytes p.source
 
--- whether it is asked of whole texts, as `match` does
-abbrev pub is_of_whole : Pattern → Bool
-is_of_whole p = p.whole
+-- whether it was read for `match`, and not for `search`
+abbrev pub is_for_match : Pattern → Bool
+is_for_match p = is_entire p.extent
 
 abbrev pub pattern_of : Finder → Pattern
 pattern_of f = f.pattern.now

@@ -1,6 +1,5 @@
--- Only contracts inside the crate cite what stands here, but for `places_left`, of which a user need know no more than what the clauses
--- of `slice_places` and of `next` say.
-use Rattle.std.specs.Prelude.{ℕ, zero, suc, ◌-◌, ◌/◌, ◌%◌, Bool, ◌&&◌, ◌==◌, nat_le, nat_lt, List, filter, if◌then◌else◌}
+-- What a slice has still to give. Of `places_left` a user need know no more than what the clauses of `slice_places` and of `next` say.
+use Rattle.std.specs.Prelude.{ℕ, suc, ◌-◌, ◌%◌, Bool, ◌&&◌, ◌==◌, nat_le, nat_lt, List, filter, if◌then◌else◌}
 use Rattle.std.specs.List.{range_with_len}
 use Rattle.jsonpath_base.specs.Slice.{down_from}
 use Rattle.jsonpath_base.specs.declared.slice.SlicePlaces.{SlicePlaces}
@@ -22,8 +21,3 @@ falling_places lower upper step = filter (is_fallen lower upper step) (down_from
 -- the places that are still to come
 unfoldable pub places_left : SlicePlaces → List ℕ
 places_left p = if p.falls then falling_places p.end p.at (suc p.between) else rising_places p.at p.end (suc p.between)
-
--- how many of n numbers in a row are picked, where the first is, and then each that lies a step on
-abbrev pub picked_of : ℕ → ℕ → ℕ
-picked_of zero step = 0
-picked_of (suc n) step = suc (n / step)

@@ -1,40 +1,73 @@
 //! The patterns of `match` and `search` (RFC 9535, 2.4.6 and 2.4.7).
 ghost use Rattle.std.specs.Prelude.{◌≡◌, ◌↔◌, ◌++◌, ◌==◌, IsTrue, false, Option, IsSome, is_some, chars, codes, IfOk, IfErr, OnOk, string_bytes, encode_utf8_all};
 ghost use Rattle.regex.specs.Patterns.{Re};
-ghost use Rattle.jsonpath_base.specs.Pattern.{translated, reading, wrapped, sought, pattern_sought, found, IsRefusal};
-ghost use Rattle.jsonpath_base.specs.PatternParts.{written, inside_after, escaped_after, FindsSame, MatchesSame};
+ghost use Rattle.jsonpath_base.specs.Pattern.{translated, reading, wrapped, is_entire, sought, pattern_sought, found, IsPatternRefusal};
+ghost use Rattle.jsonpath_base.specs.inner.PatternParts.{written, inside_after, escaped_after, FindsSame, MatchesSame};
 
 use jsonpath_parser::errors::{JsonPathError, Parsed};
 use regex::{Error, Matcher, Regex};
 use regex_syntax::{Config, ErrorKind, parse};
 use std::alloc::{AllocError, Global};
 
+/// What of a text a pattern has to match.
+#[derive(Clone, Copy)]
+enum Extent {
+    /// The entire text, as `match` asks.
+    Entire,
+    /// Some substring, as `search` asks.
+    Substring,
+}
+
+impl Extent {
+    /// The entire text where `whole`.
+    fn of(whole: bool) -> Extent
+        ensures { is_entire result ≡ whole }
+    {
+        if whole {
+            Extent::Entire
+        } else {
+            Extent::Substring
+        }
+    }
+
+    /// Whether it is the entire text.
+    fn is_entire(self) -> bool
+        ensures { result ≡ is_entire self }
+    {
+        match self {
+            Extent::Entire => true,
+            Extent::Substring => false,
+        }
+    }
+}
+
 /// A pattern that was read once, to be asked of many texts.
 #[derive(Drop)]
 pub struct Pattern {
     source: String,
-    whole: bool,
+    extent: Extent,
     // None where there is nothing to look for
     regex: Option<Regex>,
-    ghost same: { FindsSame (pattern_sought whole (string_bytes source)) regex },
+    ghost same: { FindsSame (pattern_sought (is_entire extent) (string_bytes source)) regex },
 }
 
 impl Pattern {
-    ghost use Rattle.jsonpath_base.specs.PatternViews.{source_of, is_of_whole, pattern_of};
+    ghost use Rattle.jsonpath_base.specs.PatternViews.{source_of, is_for_match, pattern_of};
 
     /// Reads a pattern: where `whole`, for `match`, else for `search`. A text that `regex` cannot read is found nowhere.
     /// `InvalidJsonPath` comes only where `regex` can read it and refuses it for its size; else memory ran out.
     /// Counted repetitions are built as if they were written out, so `(a{1000}){1000}` costs as a million characters do.
     pub fn new(alloc: Global, pattern: &str, whole: bool) -> Parsed<Pattern>
         ensures source { IfOk result (λ p. source_of p ≡ pattern.now) }
-        ensures whole { IfOk result (λ p. is_of_whole p ≡ whole) }
-        ensures refused { IfErr result (IsRefusal (pattern_sought whole pattern.now)) }
+        ensures extent { IfOk result (λ p. is_for_match p ≡ whole) }
+        ensures refused { IfErr result (IsPatternRefusal (pattern_sought whole pattern.now)) }
     {
-        let regex = built_for(alloc, pattern, whole)?;
+        let extent = Extent::of(whole);
+        let regex = built_for(alloc, pattern, extent)?;
         let source = String::from_str(alloc, pattern)?;
         Ok(Pattern {
             source,
-            whole,
+            extent,
             regex,
         })
     }
@@ -48,16 +81,16 @@ impl Pattern {
 
     /// Whether it was read for `match`.
     pub fn is_whole(&self) -> bool
-        ensures { result ≡ is_of_whole self.now }
+        ensures { result ≡ is_for_match self.now }
     {
-        self.whole
+        self.extent.is_entire()
     }
 
     /// Whether it was read from this text, and for `match` where `whole`.
     pub fn is_of(&self, pattern: &str, whole: bool) -> bool
-        ensures { IsTrue result ↔ (source_of self.now ≡ pattern.now) × (is_of_whole self.now ≡ whole) }
+        ensures { IsTrue result ↔ (source_of self.now ≡ pattern.now) × (is_for_match self.now ≡ whole) }
     {
-        self.whole == whole && self.source.as_str() == pattern
+        self.is_whole() == whole && self.source.as_str() == pattern
     }
 
     /// What asks this pattern of many texts: what one search has worked out is kept for the next.
@@ -76,7 +109,7 @@ impl Pattern {
 
     /// What `match` or `search` answers for a text. For many texts a [`Finder`] is faster.
     pub fn is_found(&self, alloc: Global, text: &str) -> Result<bool, AllocError>
-        ensures value { IfOk result (λ b. b ≡ found (is_of_whole self.now) (source_of self.now) text.now) }
+        ensures value { IfOk result (λ b. b ≡ found (is_for_match self.now) (source_of self.now) text.now) }
     {
         let mut finder = self.finder(alloc)?;
         Ok(finder.is_found(text))
@@ -89,22 +122,22 @@ pub struct Finder<'p> {
     pattern: &'p Pattern,
     // None where there is nothing to look for
     matcher: Option<Matcher<'p>>,
-    ghost same: { MatchesSame (pattern_sought pattern.now.whole (string_bytes pattern.now.source)) matcher },
+    ghost same: { MatchesSame (pattern_sought (is_entire pattern.now.extent) (string_bytes pattern.now.source)) matcher },
 }
 
 impl<'p> Finder<'p> {
-    ghost use Rattle.jsonpath_base.specs.PatternViews.{source_of, is_of_whole, pattern_of};
+    ghost use Rattle.jsonpath_base.specs.PatternViews.{source_of, is_for_match, pattern_of};
 
     /// Whether its pattern was read from this text, and for `match` where `whole`.
     pub fn is_of(&self, pattern: &str, whole: bool) -> bool
-        ensures { IsTrue result ↔ (source_of (pattern_of self.now) ≡ pattern.now) × (is_of_whole (pattern_of self.now) ≡ whole) }
+        ensures { IsTrue result ↔ (source_of (pattern_of self.now) ≡ pattern.now) × (is_for_match (pattern_of self.now) ≡ whole) }
     {
         self.pattern.is_of(pattern, whole)
     }
 
     /// What `match` or `search` answers for a text. It never fails: where memory runs out it searches more slowly.
     pub fn is_found(&mut self, text: &str) -> bool
-        ensures value { result ≡ found (is_of_whole (pattern_of self.old)) (source_of (pattern_of self.old)) text.now }
+        ensures value { result ≡ found (is_for_match (pattern_of self.old)) (source_of (pattern_of self.old)) text.now }
         ensures same { pattern_of self.new ≡ pattern_of self.old }
     {
         match &mut self.matcher {
@@ -118,7 +151,7 @@ impl<'p> Finder<'p> {
 /// [`Pattern`]. It refuses as [`Pattern::new`] does.
 pub fn found(alloc: Global, text: &str, pattern: &str, whole: bool) -> Parsed<bool>
     ensures value { IfOk result (λ b. b ≡ found whole pattern.now text.now) }
-    ensures refused { IfErr result (IsRefusal (pattern_sought whole pattern.now)) }
+    ensures refused { IfErr result (IsPatternRefusal (pattern_sought whole pattern.now)) }
 {
     let read = Pattern::new(alloc, pattern, whole)?;
     Ok(read.is_found(alloc, text)?)
@@ -133,7 +166,7 @@ pub fn found_again(
     whole: bool,
 ) -> Parsed<bool>
     ensures value { IfOk result (λ b. b ≡ found whole pattern.now text.now) }
-    ensures refused { IfErr result (IsRefusal (pattern_sought whole pattern.now)) }
+    ensures refused { IfErr result (IsPatternRefusal (pattern_sought whole pattern.now)) }
 {
     if let Some(read) = kept.as_ref() {
         if read.is_of(pattern, whole) {
@@ -141,18 +174,18 @@ pub fn found_again(
         }
     }
     let read = Pattern::new(alloc, pattern, whole)?;
-    let answer = read.is_found(alloc, text)?;
+    let is_found = read.is_found(alloc, text)?;
     *kept = Some(read);
-    Ok(answer)
+    Ok(is_found)
 }
 
 /// What looks for a pattern, or None where there is nothing to look for.
-fn built_for(alloc: Global, pattern: &str, whole: bool) -> Parsed<Option<Regex>>
-    ensures same { IfOk result (FindsSame (pattern_sought whole pattern.now)) }
-    ensures refused { IfErr result (IsRefusal (pattern_sought whole pattern.now)) }
+fn built_for(alloc: Global, pattern: &str, extent: Extent) -> Parsed<Option<Regex>>
+    ensures same { IfOk result (FindsSame (pattern_sought (is_entire extent) pattern.now)) }
+    ensures refused { IfErr result (IsPatternRefusal (pattern_sought (is_entire extent) pattern.now)) }
 {
     let text = translate(alloc, pattern)?;
-    if !whole {
+    if !extent.is_entire() {
         return built(alloc, text.as_str());
     }
     if !is_read(alloc, text.as_str())? {
@@ -165,7 +198,7 @@ fn built_for(alloc: Global, pattern: &str, whole: bool) -> Parsed<Option<Regex>>
 /// The regex of a text, or None where it has no reading.
 fn built(alloc: Global, text: &str) -> Parsed<Option<Regex>>
     ensures same { IfOk result (FindsSame (reading (chars text.now))) }
-    ensures refused { IfErr result (IsRefusal (reading (chars text.now))) }
+    ensures refused { IfErr result (IsPatternRefusal (reading (chars text.now))) }
 {
     match Regex::new(alloc, text) {
         Ok(regex) => Ok(Some(regex)),
@@ -178,7 +211,7 @@ fn built(alloc: Global, text: &str) -> Parsed<Option<Regex>>
 
 /// The error for a text that has a reading and is refused.
 fn too_large(alloc: Global) -> JsonPathError
-    ensures { (sought : Option Re) → IsSome sought → IsRefusal sought result }
+    ensures { (sought : Option Re) → IsSome sought → IsPatternRefusal sought result }
 {
     match String::from_str(alloc, "a pattern is too large") {
         Ok(text) => JsonPathError::InvalidJsonPath(text),
@@ -199,14 +232,14 @@ fn is_read(alloc: Global, text: &str) -> Result<bool, AllocError>
     }
 }
 
-/// The text, to be found at a whole text.
+/// The text, to be found where an entire text is it.
 fn wrap(alloc: Global, text: &str) -> Result<String, AllocError>
     ensures spelled { IfOk result (λ w. chars (string_bytes w) ≡ wrapped (chars text.now)) }
 {
-    let mut whole = String::from_str(alloc, "^(?:")?;
-    whole.push_str(text)?;
-    whole.push_str(")$")?;
-    Ok(whole)
+    let mut anchored = String::from_str(alloc, "^(?:")?;
+    anchored.push_str(text)?;
+    anchored.push_str(")$")?;
+    Ok(anchored)
 }
 
 /// The pattern with each `.` outside a class and behind no backslash as `[^\n\r]`.

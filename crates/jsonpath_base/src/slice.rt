@@ -3,7 +3,8 @@ ghost use Rattle.std.specs.Prelude.{◌≡◌, ◌<◌, ◌≤◌, suc, pos, neg
 ghost use Rattle.std.specs.Iterator.{UpTo, YieldsFirst, item_count};
 ghost use Rattle.std.specs.Iterator.SizeHint.{IsWithinCount};
 ghost use Rattle.jsonpath_base.specs.Slice.{slice_of, clamped, normalized};
-ghost use Rattle.jsonpath_base.specs.SliceSteps.{places_left, picked_of};
+ghost use Rattle.jsonpath_base.specs.SliceSteps.{places_left};
+ghost use Rattle.jsonpath_base.specs.inner.Picked.{picked_of};
 
 use jsonpath_parser::errors::{JsonPathError, Parsed};
 use std::alloc::Global;
@@ -33,16 +34,16 @@ impl Iterator for SlicePlaces {
             if self.at <= self.end {
                 return None;
             }
-            let place = self.at - 1;
-            self.at = place.saturating_sub(self.between);
-            Some(place)
+            let index = self.at - 1;
+            self.at = index.saturating_sub(self.between);
+            Some(index)
         } else {
             if self.end <= self.at {
                 return None;
             }
-            let place = self.at;
-            self.at = (place + 1).saturating_add(self.between);
-            Some(place)
+            let index = self.at;
+            self.at = (index + 1).saturating_add(self.between);
+            Some(index)
         }
     }
 
@@ -132,8 +133,8 @@ pub fn picked(
     Ok(places)
 }
 
-/// Where a part of a slice points, from 0 to the length.
-fn low_place(part: i64, len: usize) -> usize
+/// Where a part of a slice that rises points, from 0 to the length.
+fn rising_bound(part: i64, len: usize) -> usize
     ensures value { pos result ≡ clamped (pos 0) (pos len) (normalized len part) }
     ensures within { result ≤ len }
 {
@@ -144,8 +145,8 @@ fn low_place(part: i64, len: usize) -> usize
     }
 }
 
-/// One more than where a part of a slice with a falling step points, from 0 to the length.
-fn high_place(part: i64, len: usize) -> usize
+/// One more than where a part of a slice that falls points, from 0 to the length.
+fn falling_bound(part: i64, len: usize) -> usize
     ensures value { pos result ≡ clamped (negsuc 0) (pos len -ℤ pos 1) (normalized len part) +ℤ pos 1 }
     ensures within { result ≤ len }
 {
@@ -163,7 +164,7 @@ fn rising_start(start: Option<i64>, len: usize) -> usize
     ensures { pos result ≡ clamped (pos 0) (pos len) (normalized len (unwrap_or start (pos 0))) }
 {
     match start {
-        Some(part) => low_place(part, len),
+        Some(part) => rising_bound(part, len),
         None => 0,
     }
 }
@@ -174,7 +175,7 @@ fn rising_end(end: Option<i64>, len: usize) -> usize
     ensures within { result ≤ len }
 {
     match end {
-        Some(part) => low_place(part, len),
+        Some(part) => rising_bound(part, len),
         None => len,
     }
 }
@@ -185,7 +186,7 @@ fn falling_start(start: Option<i64>, len: usize) -> usize
     ensures within { result ≤ len }
 {
     match start {
-        Some(part) => high_place(part, len),
+        Some(part) => falling_bound(part, len),
         None => len,
     }
 }
@@ -195,7 +196,7 @@ fn falling_end(end: Option<i64>, len: usize) -> usize
     ensures { pos result ≡ clamped (negsuc 0) (pos len -ℤ pos 1) (normalized len (unwrap_or end (neg_ℤ (pos len) -ℤ pos 1))) +ℤ pos 1 }
 {
     match end {
-        Some(part) => high_place(part, len),
+        Some(part) => falling_bound(part, len),
         None => 0,
     }
 }

@@ -2,7 +2,7 @@
 ghost use Rattle.std.specs.Prelude.{◌≡◌, ◌<◌, length, IsTrue, IfOk, IfErr, IfSome, OnOk};
 ghost use Rattle.jsonpath_parser.specs.View.{query_view};
 ghost use Rattle.jsonpath_parser.specs.declared.errors.JsonPathError.TheVariants.{OutOfMemory};
-ghost use Rattle.jsonpath_base.specs.Pattern.{found, pattern_sought, IsRefusal};
+ghost use Rattle.jsonpath_base.specs.Pattern.{found, pattern_sought, IsPatternRefusal};
 ghost use Rattle.jsonpath_rust.specs.Document.{Document};
 ghost use Rattle.jsonpath_rust.specs.Meaning.{nodelist};
 ghost use Rattle.jsonpath_rust.specs.Functions.{is_found};
