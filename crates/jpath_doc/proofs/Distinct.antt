@@ -10,7 +10,7 @@ use Rattle.std.specs.List.Sorted.{IsStrictlySortedBy}
 use Rattle.std.specs.Map.{keys_of}
 use Rattle.std.specs.Ordering.{is_eq, ordering_reverse}
 use Rattle.jsonpath_base.specs.Tree.{object, pairs, are_distinct, has_distinct_names, members_distinct}
-use Rattle.jpath_doc.specs.DocTree.{doc_tree, shown, members}
+use Rattle.jpath_doc.specs.DocTree.{doc_tree, pairs_of, members}
 use Rattle.jpath_doc.proofs.Docs.{Entry, pair, pairs-members, last_first}
 use Rattle.jpath_doc.proofs.Reversing.{Named, names}
 
@@ -29,7 +29,7 @@ still_new : (k : String Global) (ns : List (List ℕ)) (ks : List (String Global
 still_new k ns [] h new = tt
 still_new k ns (l ∷ ks) h new = (rw (other_name k l h.0) new.0, still_new k ns ks h.1 new.1)
 
-distinct_onto : (es : List Entry) (acc : Named) → IsStrictlySortedBy string_cmp (keys_of es) → AreNew (names acc) (keys_of es) → are_distinct (names acc) ≡ true → are_distinct (names (reverse_aux (shown es) acc)) ≡ true
+distinct_onto : (es : List Entry) (acc : Named) → IsStrictlySortedBy string_cmp (keys_of es) → AreNew (names acc) (keys_of es) → are_distinct (names acc) ≡ true → are_distinct (names (reverse_aux (pairs_of es) acc)) ≡ true
 unfolding IsStrictlySortedBy
 distinct_onto [] acc h new d = d
 distinct_onto (e ∷ es) acc h new d = distinct_onto es (pair e ∷ acc) h.1 (still_new e.0 (names acc) (keys_of es) h.0 new.1) (rw new.0 d)
@@ -38,14 +38,14 @@ none_new : (ks : List (String Global)) → AreNew [] ks
 none_new [] = tt
 none_new (k ∷ ks) = (refl, none_new ks)
 
-pub distinct_object : (es : List Entry) → IsStrictlySortedBy string_cmp (keys_of es) → members_distinct (members (reverse (shown es))) ≡ true → IsTrue (has_distinct_names (object (members (reverse (shown es)))))
+pub distinct_object : (es : List Entry) → IsStrictlySortedBy string_cmp (keys_of es) → members_distinct (members (reverse (pairs_of es))) ≡ true → IsTrue (has_distinct_names (object (members (reverse (pairs_of es)))))
 distinct_object es h d =
-    and_from (are_distinct (names (pairs (members (reverse (shown es)))))) _
-    (ap (λ ms. are_distinct (names ms)) (pairs-members (reverse (shown es))) ∙ distinct_onto es [] h (none_new (keys_of es)) refl)
+    and_from (are_distinct (names (pairs (members (reverse (pairs_of es)))))) _
+    (ap (λ ms. are_distinct (names ms)) (pairs-members (reverse (pairs_of es))) ∙ distinct_onto es [] h (none_new (keys_of es)) refl)
     d
 
 -- ---- along a walk
 
-pub more_members : (es left : List Entry) (e : Entry) → es ≡ left ++ e ∷ [] → IsTrue (has_distinct_names (doc_tree e.1)) → members_distinct (members (reverse (shown es))) ≡ members_distinct (members (reverse (shown left)))
+pub more_members : (es left : List Entry) (e : Entry) → es ≡ left ++ e ∷ [] → IsTrue (has_distinct_names (doc_tree e.1)) → members_distinct (members (reverse (pairs_of es))) ≡ members_distinct (members (reverse (pairs_of left)))
 more_members es left e h d =
-    ap (λ xs. members_distinct (members (reverse (shown xs)))) h ∙ ap (λ ms. members_distinct (members ms)) (last_first left e) ∙ ap (λ b. b && members_distinct (members (reverse (shown left)))) d
+    ap (λ xs. members_distinct (members (reverse (pairs_of xs)))) h ∙ ap (λ ms. members_distinct (members ms)) (last_first left e) ∙ ap (λ b. b && members_distinct (members (reverse (pairs_of left)))) d

@@ -4,7 +4,7 @@ use Rattle.std.proofs.lemmas.List.{map-append, reverse-append}
 use Rattle.jpath_doc.specs.declared.Doc as doc
 use Rattle.jpath_doc.specs.declared.Doc.{Doc, the_lemmas}
 use Rattle.jsonpath_base.specs.Tree.{Tree, list, object, elements, pairs, as_list, as_members}
-use Rattle.jpath_doc.specs.DocTree.{doc_tree, named, shown, trees, members}
+use Rattle.jpath_doc.specs.DocTree.{doc_tree, pair_of, pairs_of, trees, members}
 
 abbrev pub Entry : Type 0
 Entry = String Global × Doc
@@ -26,24 +26,24 @@ pairs-members (m ∷ ms) = ap (λ ns. m ∷ ns) (pairs-members ms)
 pub tree-List : (v : Vec Doc Global) → doc_tree (doc.List v) ≡ list (trees (map doc_tree v.items))
 tree-List v = search (rules, the_lemmas)
 
-named-entry_tree : (es : List Entry) → map named (map entry_tree es) ≡ shown es
-named-entry_tree [] = refl
-named-entry_tree (e ∷ es) = ap (λ ms. pair e ∷ ms) (named-entry_tree es)
+pair_of-entry_tree : (es : List Entry) → map pair_of (map entry_tree es) ≡ pairs_of es
+pair_of-entry_tree [] = refl
+pair_of-entry_tree (e ∷ es) = ap (λ ms. pair e ∷ ms) (pair_of-entry_tree es)
 
-tree-entries : (m : BTreeMap (String Global) Doc) → doc_tree (doc.Members m) ≡ object (members (reverse (map named (map entry_tree m.entries))))
+tree-entries : (m : BTreeMap (String Global) Doc) → doc_tree (doc.Members m) ≡ object (members (reverse (map pair_of (map entry_tree m.entries))))
 tree-entries m = search (rules, the_lemmas)
 
-pub tree-Members : (m : BTreeMap (String Global) Doc) → doc_tree (doc.Members m) ≡ object (members (reverse (shown m.entries)))
-tree-Members m = tree-entries m ∙ ap (λ ms. object (members (reverse ms))) (named-entry_tree m.entries)
+pub tree-Members : (m : BTreeMap (String Global) Doc) → doc_tree (doc.Members m) ≡ object (members (reverse (pairs_of m.entries)))
+tree-Members m = tree-entries m ∙ ap (λ ms. object (members (reverse ms))) (pair_of-entry_tree m.entries)
 
 -- the last entry walks first
-pub last_first : (es : List Entry) (e : Entry) → reverse (shown (es ++ e ∷ [])) ≡ pair e ∷ reverse (shown es)
-last_first es e = ap reverse (map-append pair es (e ∷ [])) ∙ reverse-append (shown es) (pair e ∷ [])
+pub last_first : (es : List Entry) (e : Entry) → reverse (pairs_of (es ++ e ∷ [])) ≡ pair e ∷ reverse (pairs_of es)
+last_first es e = ap reverse (map-append pair es (e ∷ [])) ∙ reverse-append (pairs_of es) (pair e ∷ [])
 
 -- ---- the parts
 
 pub list_elements : (d : Doc) (v : Vec Doc Global) → d ≡ doc.List v → Some (map doc_tree v.items) ≡ as_list (doc_tree d)
 list_elements d v e = sym (ap (λ x. as_list (doc_tree x)) e ∙ ap as_list (tree-List v) ∙ ap Some (elements-trees (map doc_tree v.items)))
 
-pub object_members : (d : Doc) (m : BTreeMap (String Global) Doc) → d ≡ doc.Members m → Some (reverse (shown m.entries)) ≡ as_members (doc_tree d)
-object_members d m e = sym (ap (λ x. as_members (doc_tree x)) e ∙ ap as_members (tree-Members m) ∙ ap Some (pairs-members (reverse (shown m.entries))))
+pub object_members : (d : Doc) (m : BTreeMap (String Global) Doc) → d ≡ doc.Members m → Some (reverse (pairs_of m.entries)) ≡ as_members (doc_tree d)
+object_members d m e = sym (ap (λ x. as_members (doc_tree x)) e ∙ ap as_members (tree-Members m) ∙ ap Some (pairs-members (reverse (pairs_of m.entries))))

@@ -15,7 +15,7 @@ use Rattle.jsonpath_base.specs.Tree.{Tree, tree, object}
 use Rattle.jsonpath_base.specs.Values.{tree_of, value_tree, trees_of, members_of}
 use Rattle.jpath_doc.specs.declared.Doc as doc
 use Rattle.jpath_doc.specs.declared.Doc.{Doc}
-use Rattle.jpath_doc.specs.DocTree.{doc_tree, shown, trees, members}
+use Rattle.jpath_doc.specs.DocTree.{doc_tree, pairs_of, trees, members}
 use Rattle.jpath_doc.specs.Turned.{turned, turned_trees, turned_members}
 use Rattle.jpath_doc.proofs.Copying.{put}
 use Rattle.jpath_doc.proofs.Docs.{tree-Members}
@@ -48,5 +48,5 @@ put_turned (first ∷ done) e more h =
     nat_list_cmp_total.antisymm (string_bytes e.0) (string_bytes first.0) ∙ ap ordering_reverse (below_middle first done e more h.0) in
     rw above (ap (λ ms. (string_bytes first.0, turned_value first.1) ∷ ms) (put_turned done e more h.1))
 
-pub of_object : (v : Value) (m : BTreeMap (String Global) Value) (ds : BTreeMap (String Global) Doc) → v ≡ value.Object m → shown ds.entries ≡ turned_members (members_of (members_view m.entries)) → doc_tree (doc.Members ds) ≡ turned_value v
+pub of_object : (v : Value) (m : BTreeMap (String Global) Value) (ds : BTreeMap (String Global) Doc) → v ≡ value.Object m → pairs_of ds.entries ≡ turned_members (members_of (members_view m.entries)) → doc_tree (doc.Members ds) ≡ turned_value v
 of_object v m ds e h = tree-Members ds ∙ ap (λ ms. object (members (reverse ms))) h ∙ sym (ap turned_value e ∙ ap (λ d. turned (tree_of d)) (view-Object m))

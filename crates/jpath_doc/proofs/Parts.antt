@@ -7,7 +7,7 @@ use Rattle.std.specs.Cmp.Lexicographic.{slice_cmp}
 use Rattle.std.specs.Map.{lookup}
 use Rattle.jpath_doc.specs.declared.Doc.{Doc}
 use Rattle.jsonpath_base.specs.Tree.{Tree, null, truth, number, text, list, object, Trees, no_trees, tree, Members, no_members, member, elements, pairs, find, as_list, as_members, are_distinct, has_distinct_names, trees_distinct, members_distinct}
-use Rattle.jpath_doc.specs.DocTree.{doc_tree, shown, trees, members}
+use Rattle.jpath_doc.specs.DocTree.{doc_tree, pairs_of, trees, members}
 use Rattle.jpath_doc.proofs.Docs.{Entry}
 use Rattle.jpath_doc.proofs.Reversing.{Named, names, find_turned, has_turned}
 
@@ -51,26 +51,26 @@ found : (b : Bool) (d : Doc) (r : Option Doc) (o : Option Tree) → option_map d
 found true d r o e = refl
 found false d r o e = e
 
-find_shown : (k : List ℕ) (es : List Entry) → option_map doc_tree (lookup (is_at (λ s. slice_cmp nat_cmp k (string_bytes s))) es) ≡ find k (shown es)
-find_shown k [] = refl
-find_shown k (e ∷ es) = found _ e.1 _ _ (find_shown k es) ∙ ap (λ b. cond b (Some (doc_tree e.1)) (find k (shown es))) (is_eq-slice_cmp k (string_bytes e.0))
+find_pairs_of : (k : List ℕ) (es : List Entry) → option_map doc_tree (lookup (is_at (λ s. slice_cmp nat_cmp k (string_bytes s))) es) ≡ find k (pairs_of es)
+find_pairs_of k [] = refl
+find_pairs_of k (e ∷ es) = found _ e.1 _ _ (find_pairs_of k es) ∙ ap (λ b. cond b (Some (doc_tree e.1)) (find k (pairs_of es))) (is_eq-slice_cmp k (string_bytes e.0))
 
 of_ref : (r : Option (Bor Doc)) → option_map (λ v. doc_tree v.now) r ≡ option_map doc_tree (option_copied r)
 of_ref None = refl
 of_ref (Some v) = refl
 
 -- what a map's `get` lends is the member of that name
-pub get_member : (k : List ℕ) (es : List Entry) (r : Option (Bor Doc)) → are_distinct (names (reverse (shown es))) ≡ true → option_copied r ≡ lookup (is_at (λ s. slice_cmp nat_cmp k (string_bytes s))) es
-    → option_map (λ v. doc_tree v.now) r ≡ find k (reverse (shown es))
-get_member k es r h e = of_ref r ∙ ap (option_map doc_tree) e ∙ find_shown k es ∙ sym (find_turned k (shown es) h)
+pub get_member : (k : List ℕ) (es : List Entry) (r : Option (Bor Doc)) → are_distinct (names (reverse (pairs_of es))) ≡ true → option_copied r ≡ lookup (is_at (λ s. slice_cmp nat_cmp k (string_bytes s))) es
+    → option_map (λ v. doc_tree v.now) r ≡ find k (reverse (pairs_of es))
+get_member k es r h e = of_ref r ∙ ap (option_map doc_tree) e ∙ find_pairs_of k es ∙ sym (find_turned k (pairs_of es) h)
 
 is_some-map : (o : Option Doc) → is_some (option_map doc_tree o) ≡ is_some o
 is_some-map None = refl
 is_some-map (Some d) = refl
 
 -- whether a map has a key is whether there is a member of that name
-pub has_member : (k : List ℕ) (es : List Entry) → is_some (lookup (is_at (λ s. slice_cmp nat_cmp k (string_bytes s))) es) ≡ is_some (find k (reverse (shown es)))
-has_member k es = sym (has_turned k (shown es) ∙ ap is_some (sym (find_shown k es)) ∙ is_some-map (lookup (is_at (λ s. slice_cmp nat_cmp k (string_bytes s))) es))
+pub has_member : (k : List ℕ) (es : List Entry) → is_some (lookup (is_at (λ s. slice_cmp nat_cmp k (string_bytes s))) es) ≡ is_some (find k (reverse (pairs_of es)))
+has_member k es = sym (has_turned k (pairs_of es) ∙ ap is_some (sym (find_pairs_of k es)) ∙ is_some-map (lookup (is_at (λ s. slice_cmp nat_cmp k (string_bytes s))) es))
 
 -- ---- parts of what has distinct names
 

@@ -1,6 +1,7 @@
 -- Members in the other order, where each name stands once.
 use Rattle.std.proofs.Common.{◌≡◌, ℕ, List, [], ◌∷◌, map, reverse, Option, Some, None, Bool, true, false, not, cond, ◌||◌, is_some, bytes_eq, refl, sym, ap, ◌∙◌, subst}
 use mathlib.Core.List.{reverse_aux}
+use Rattle.std.proofs.Math.Bool.{or-false}
 use Rattle.std.proofs.lemmas.Bool.{and_parts, or_parts, not-true}
 use Rattle.std.proofs.lemmas.List.{reverse-reverse}
 use Rattle.std.proofs.lemmas.Slice.Eq.{bytes_eq-Decides}
@@ -59,9 +60,5 @@ found_onto : (k : List ℕ) (ms acc : Named) → is_some (find k (reverse_aux ms
 found_onto k [] acc = refl
 found_onto k (m ∷ ms) acc = found_onto k ms (m ∷ acc) ∙ some_either (bytes_eq k m.0) m.1 (find k ms) (find k acc)
 
-or_false : (b : Bool) → (b || false) ≡ b
-or_false true = refl
-or_false false = refl
-
 pub has_turned : (k : List ℕ) (ms : Named) → is_some (find k (reverse ms)) ≡ is_some (find k ms)
-has_turned k ms = found_onto k ms [] ∙ or_false (is_some (find k ms))
+has_turned k ms = found_onto k ms [] ∙ or-false (is_some (find k ms))

@@ -8,7 +8,7 @@ use Rattle.std.specs.Map.{lookup}
 use Rattle.jpath_doc.specs.declared.Doc as doc
 use Rattle.jpath_doc.specs.declared.Doc.{Doc}
 use Rattle.jsonpath_base.specs.Tree.{Tree, object, find, get, as_list, as_members, has_distinct_names, trees_distinct, members_distinct}
-use Rattle.jpath_doc.specs.DocTree.{doc_tree, doc_is_whole, shown, trees, members}
+use Rattle.jpath_doc.specs.DocTree.{doc_tree, doc_is_whole, pairs_of, trees, members}
 use Rattle.jpath_doc.proofs.Docs.{tree-List, tree-Members, elements-trees, pairs-members}
 use Rattle.jpath_doc.proofs.Parts.{get_member, object_names, object_values, found_distinct}
 use Rattle.jpath_doc.proofs.Comparing.{list_distinct, object_distinct}
@@ -16,13 +16,13 @@ use Rattle.jpath_doc.proofs.Reversing.{Named}
 
 -- ---- a member
 
-tree_is : (d : Doc) (m : BTreeMap (String Global) Doc) → d ≡ doc.Members m → doc_tree d ≡ object (members (reverse (shown m.entries)))
+tree_is : (d : Doc) (m : BTreeMap (String Global) Doc) → d ≡ doc.Members m → doc_tree d ≡ object (members (reverse (pairs_of m.entries)))
 tree_is d m e = ap doc_tree e ∙ tree-Members m
 
 pub member_value : (k : List ℕ) (d : Doc) (m : BTreeMap (String Global) Doc) (r : Option (Bor Doc)) → d ≡ doc.Members m → option_copied r ≡ lookup (is_at (λ s. slice_cmp nat_cmp k (string_bytes s))) m.entries → IsTrue (doc_is_whole d)
     → option_map (λ v. doc_tree v.now) r ≡ get k (doc_tree d)
 member_value k d m r e g h =
-    let ns = reverse (shown m.entries) in
+    let ns = reverse (pairs_of m.entries) in
     get_member k m.entries r (object_names ns (subst (λ t. IsTrue (has_distinct_names t)) (tree_is d m e) h)) g ∙ sym (ap (get k) (tree_is d m e) ∙ ap (find k) (pairs-members ns))
 
 lent_whole : (r : Option (Bor Doc)) → IfSome (option_map (λ v. doc_tree v.now) r) (λ t. IsTrue (has_distinct_names t)) → IfSome r (λ v. IsTrue (doc_is_whole v.now))
@@ -32,7 +32,7 @@ lent_whole (Some v) h = h
 pub member_whole : (k : List ℕ) (d : Doc) (m : BTreeMap (String Global) Doc) (r : Option (Bor Doc)) → d ≡ doc.Members m → option_copied r ≡ lookup (is_at (λ s. slice_cmp nat_cmp k (string_bytes s))) m.entries → IsTrue (doc_is_whole d)
     → IfSome r (λ v. IsTrue (doc_is_whole v.now))
 member_whole k d m r e g h =
-    let ns = reverse (shown m.entries) in
+    let ns = reverse (pairs_of m.entries) in
     let distinct = subst (λ t. IsTrue (has_distinct_names t)) (tree_is d m e) h in
     lent_whole r (subst (λ o. IfSome o (λ t. IsTrue (has_distinct_names t))) (sym (get_member k m.entries r (object_names ns distinct) g)) (found_distinct k ns (object_values ns distinct)))
 

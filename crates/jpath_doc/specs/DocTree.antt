@@ -15,8 +15,9 @@ abbrev pub members : List (List ℕ × Tree) → Members
 members [] = no_members
 members (m ∷ ms) = member m.0 m.1 (members ms)
 
-abbrev pub named : String Global × Tree → List ℕ × Tree
-named m = (string_bytes m.0, m.1)
+-- a name and its tree
+abbrev pub pair_of : String Global × Tree → List ℕ × Tree
+pair_of m = (string_bytes m.0, m.1)
 
 -- one level, with each document inside already seen as its tree; members walk from the greatest name to the least
 abbrev pub doc_step : Doc-F Tree → Tree
@@ -25,7 +26,7 @@ doc_step (Doc-F.Bool b) = truth b
 doc_step (Doc-F.Num n) = number n
 doc_step (Doc-F.Text s) = text (string_bytes s)
 doc_step (Doc-F.List v) = list (trees v.items)
-doc_step (Doc-F.Members m) = object (members (reverse (map named m.entries)))
+doc_step (Doc-F.Members m) = object (members (reverse (map pair_of m.entries)))
 
 abbrev pub doc_tree : Doc → Tree
 doc_tree = fold-Doc Tree doc_step
@@ -34,9 +35,9 @@ doc_tree = fold-Doc Tree doc_step
 abbrev pub doc_is_whole : Doc → Bool
 doc_is_whole d = has_distinct_names (doc_tree d)
 
--- a map's entries, in the order of their names
-abbrev pub shown : List (String Global × Doc) → List (List ℕ × Tree)
-shown es = map (λ e. (string_bytes e.0, doc_tree e.1)) es
+-- the names and trees of a map's entries, in the order of their names
+abbrev pub pairs_of : List (String Global × Doc) → List (List ℕ × Tree)
+pairs_of es = map (λ e. (string_bytes e.0, doc_tree e.1)) es
 
 -- whether each is the same as the first
 abbrev pub all_same : List Tree → Bool

@@ -1,6 +1,6 @@
 //! Copies of documents.
 ghost use Rattle.std.specs.Prelude.{◌≡◌, IfOk, map};
-ghost use Rattle.jpath_doc.specs.DocTree.{doc_tree, shown};
+ghost use Rattle.jpath_doc.specs.DocTree.{doc_tree, pairs_of};
 
 use crate::Doc;
 use std::alloc::{AllocError, Global};
@@ -37,7 +37,7 @@ fn copy_members(
     alloc: Global,
     entries: &BTreeMap<String, Doc>,
 ) -> Result<BTreeMap<String, Doc>, AllocError>
-    ensures { IfOk result (λ m. shown m.entries ≡ shown entries.now.entries) }
+    ensures { IfOk result (λ m. pairs_of m.entries ≡ pairs_of entries.now.entries) }
 {
     let mut copies = BTreeMap::new(alloc);
     for (key, member) in entries.iter() {

@@ -2,7 +2,7 @@
 ghost use Rattle.std.specs.Prelude.{◌≡◌, map, option_map, reverse};
 ghost use Rattle.jsonpath_base.specs.Same.{same};
 ghost use Rattle.jsonpath_base.specs.Tree.{null, as_bool, as_int, as_text, as_list, as_members};
-ghost use Rattle.jpath_doc.specs.DocTree.{doc_tree, shown};
+ghost use Rattle.jpath_doc.specs.DocTree.{doc_tree, pairs_of};
 
 use crate::Doc;
 use std::collections::BTreeMap;
@@ -50,7 +50,7 @@ pub fn list(doc: &Doc) -> Option<&Vec<Doc>>
 }
 
 pub fn object(doc: &Doc) -> Option<&BTreeMap<String, Doc>>
-    ensures { option_map (λ m. reverse (shown m.now.entries)) result ≡ as_members (doc_tree doc.now) }
+    ensures { option_map (λ m. reverse (pairs_of m.now.entries)) result ≡ as_members (doc_tree doc.now) }
 {
     match doc {
         Doc::Members(members) => Some(members),

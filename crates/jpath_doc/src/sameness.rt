@@ -3,7 +3,7 @@ ghost use Rattle.std.specs.Prelude.{◌≡◌, IsTrue, map, reverse};
 ghost use Rattle.std.specs.List.{list_all};
 ghost use Rattle.jsonpath_base.specs.Tree.{object, has_distinct_names, trees_distinct};
 ghost use Rattle.jsonpath_base.specs.Same.{same, same_trees, same_members, has_name};
-ghost use Rattle.jpath_doc.specs.DocTree.{doc_tree, shown, trees, members};
+ghost use Rattle.jpath_doc.specs.DocTree.{doc_tree, pairs_of, trees, members};
 
 use crate::{Doc, kinds};
 use std::collections::BTreeMap;
@@ -50,8 +50,8 @@ fn same_items(left: &Vec<Doc>, right: &Vec<Doc>) -> bool
 /// Whether for each member on the left there is one of its name on the right, with the same value.
 #[cycle(same)]
 fn same_members(left: &BTreeMap<String, Doc>, right: &BTreeMap<String, Doc>) -> bool
-    requires { IsTrue (has_distinct_names (object (members (reverse (shown right.now.entries))))) }
-    ensures { result ≡ same_members (members (reverse (shown left.now.entries))) (reverse (shown right.now.entries)) }
+    requires { IsTrue (has_distinct_names (object (members (reverse (pairs_of right.now.entries))))) }
+    ensures { result ≡ same_members (members (reverse (pairs_of left.now.entries))) (reverse (pairs_of right.now.entries)) }
 {
     for (name, member) in left.iter().rev() {
         let Some(other) = right.get(name.as_str()) else {
@@ -66,7 +66,7 @@ fn same_members(left: &BTreeMap<String, Doc>, right: &BTreeMap<String, Doc>) -> 
 
 /// Whether each name on the right stands on the left.
 fn has_names(left: &BTreeMap<String, Doc>, right: &BTreeMap<String, Doc>) -> bool
-    ensures { result ≡ list_all (λ n. has_name (reverse (shown left.now.entries)) n.0) (reverse (shown right.now.entries)) }
+    ensures { result ≡ list_all (λ n. has_name (reverse (pairs_of left.now.entries)) n.0) (reverse (pairs_of right.now.entries)) }
 {
     for (name, _) in right.iter().rev() {
         if !left.contains_key(name.as_str()) {

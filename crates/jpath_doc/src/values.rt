@@ -2,7 +2,7 @@
 ghost use Rattle.std.specs.Prelude.{◌≡◌, IfOk, map};
 ghost use Rattle.serde_json.specs.View.{items_view, members_view};
 ghost use Rattle.jsonpath_base.specs.Values.{tree_of_number, value_tree, trees_of, members_of};
-ghost use Rattle.jpath_doc.specs.DocTree.{doc_tree, shown, trees};
+ghost use Rattle.jpath_doc.specs.DocTree.{doc_tree, pairs_of, trees};
 ghost use Rattle.jpath_doc.specs.Turned.{turned, turned_trees, turned_members};
 
 use crate::Doc;
@@ -51,7 +51,7 @@ fn of_members(
     alloc: Global,
     members: &Map<String, Value>,
 ) -> Result<BTreeMap<String, Doc>, AllocError>
-    ensures { IfOk result (λ m. shown m.entries ≡ turned_members (members_of (members_view members.now.entries))) }
+    ensures { IfOk result (λ m. pairs_of m.entries ≡ turned_members (members_of (members_view members.now.entries))) }
 {
     let mut docs = BTreeMap::new(alloc);
     for (key, member) in members.iter() {

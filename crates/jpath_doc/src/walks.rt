@@ -1,7 +1,7 @@
 //! Walks through a document.
 ghost use Rattle.std.specs.Prelude.{◌≡◌, IfOk, IsTrue, map, reverse};
 ghost use Rattle.jsonpath_base.specs.Tree.{object, has_distinct_names, trees_distinct};
-ghost use Rattle.jpath_doc.specs.DocTree.{doc_tree, shown, trees, members};
+ghost use Rattle.jpath_doc.specs.DocTree.{doc_tree, pairs_of, trees, members};
 
 use crate::Doc;
 use std::alloc::{AllocError, Global};
@@ -30,7 +30,7 @@ fn look_at_items(items: &Vec<Doc>)
 
 #[cycle(look)]
 fn look_at_members(entries: &BTreeMap<String, Doc>)
-    ensures { IsTrue (has_distinct_names (object (members (reverse (shown entries.now.entries))))) }
+    ensures { IsTrue (has_distinct_names (object (members (reverse (pairs_of entries.now.entries))))) }
 {
     for (_, member) in entries.iter().rev() {
         look(member);
@@ -42,7 +42,7 @@ pub fn lent_members<'a>(
     alloc: Global,
     entries: &'a BTreeMap<String, Doc>,
 ) -> Result<Vec<(&'a str, &'a Doc)>, AllocError>
-    ensures { IfOk result (λ v. map (λ m. (m.0.now, doc_tree m.1.now)) v.items ≡ reverse (shown entries.now.entries)) }
+    ensures { IfOk result (λ v. map (λ m. (m.0.now, doc_tree m.1.now)) v.items ≡ reverse (pairs_of entries.now.entries)) }
 {
     let mut lent = Vec::with_capacity(alloc, entries.len())?;
     for (name, member) in entries.iter().rev() {

@@ -2,9 +2,9 @@ use Rattle.std.proofs.Common.{◌≡◌, [], ◌∷◌, ◌++◌, string_bytes, 
 use Rattle.std.specs.List.Sorted.{IsStrictlySortedBy}
 use Rattle.std.specs.Map.{keys_of}
 use Rattle.std.specs.String.{string_cmp}
-use Rattle.jpath_doc.specs.DocTree.{shown}
+use Rattle.jpath_doc.specs.DocTree.{pairs_of}
 use Rattle.jpath_doc.proofs.Docs.{Entry}
-use Rattle.jpath_doc.proofs.Copying.{shown-insert_entry, put_last, copied_members}
+use Rattle.jpath_doc.proofs.Copying.{pairs_of-insert_entry, put_last, copied_members}
 use Rattle.jpath_doc.proofs.copies.+copy.Goals as goal
 
 pub copy-returns-in_ok-copy_members-in-Members : goal.copy-returns-in_ok-copy_members-in-Members
@@ -21,5 +21,5 @@ copy_members-loop-key-preserved t c =
     let same_name : string_bytes c.in_ok-name.name ≡ string_bytes e.0 = c.in_ok-name.ensures.cases in (
       done ++ e ∷ [],
       all ∙ sym (append_assoc done (e ∷ []) left),
-      ap shown c.in_ok-insert.ensures.entries ∙ shown-insert_entry l.copies.entries c.in_ok-name.name c.in_ok-copy.field-0 ∙ rw (same_name, c.in_ok-copy.ensures, l.invariant.2) last,
+      ap pairs_of c.in_ok-insert.ensures.entries ∙ pairs_of-insert_entry l.copies.entries c.in_ok-name.name c.in_ok-copy.field-0 ∙ rw (same_name, c.in_ok-copy.ensures, l.invariant.2) last,
     )

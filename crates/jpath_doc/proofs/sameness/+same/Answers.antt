@@ -1,7 +1,7 @@
 use Rattle.std.proofs.Common.{rules, arith, ◌≡◌, ◌<◌, ◌≤◌, ◌+◌, ◌&&◌, false, reverse, drop, length, get_or, sym, ap, ◌∙◌}
 use Rattle.std.specs.Option.{option_map_or}
 use Rattle.jsonpath_base.specs.Same.{same, same_members}
-use Rattle.jpath_doc.specs.DocTree.{doc_tree, shown, members}
+use Rattle.jpath_doc.specs.DocTree.{doc_tree, pairs_of, members}
 use Rattle.jpath_doc.proofs.Docs.{Entry}
 use Rattle.jpath_doc.proofs.Parts.{item_distinct, found_distinct, object_values}
 use Rattle.jpath_doc.proofs.Comparing.{lists_same, objects_same, list_size, object_size, item_size, last_size, list_distinct, object_distinct, same_lists, other_length, items_at, items_end, members_at, found_member, no_member, other_distinct, got_here, both_hold, first_fails}
@@ -63,15 +63,15 @@ same_items-returns t c =
 pub same_members-returns-in_default : goal.same_members-returns-in_default
 same_members-returns-in_default t c =
     let e : Entry = (c.in-Some.name.now, c.in-Some.member.now) in
-    let ns = reverse (shown c.args.right.now.entries) in
+    let ns = reverse (pairs_of c.args.right.now.entries) in
     let left = c.next.new.self.iter in
     let got = got_here c.args.right.now.entries _ _ c.get.result c.as_str.ensures.value c.requires c.get.ensures.value in
     sym (c.loop-name.invariant.0 ∙ members_at c.loop-name.name-iterator.iter left e ns c.in-Some.ensures.steps
-    ∙ ap (λ o. option_map_or (same (doc_tree e.1)) o false && same_members (members (reverse (shown left))) ns) (no_member _ ns c.get.result got c.in_default.is))
+    ∙ ap (λ o. option_map_or (same (doc_tree e.1)) o false && same_members (members (reverse (pairs_of left))) ns) (no_member _ ns c.get.result got c.in_default.is))
 
 pub same_members-same-requires : goal.same_members-same-requires
 same_members-same-requires t c =
-    let ns = reverse (shown c.args.right.now.entries) in
+    let ns = reverse (pairs_of c.args.right.now.entries) in
     let got = got_here c.args.right.now.entries _ _ c.get.result c.as_str.ensures.value c.requires c.get.ensures.value in
     let e : Entry = (c.in-Some.name.now, c.in-Some.member.now) in
     (omega (arith, last_size c.loop-name.name-iterator.iter c.next.new.self.iter e c.in-Some.ensures.steps, c.loop-name.invariant.1), other_distinct _ ns (doc_tree c.in-Some-get.other.now) (found_distinct _ ns (object_values ns c.requires)) (found_member _ ns c.get.result c.in-Some-get.other got c.in-Some-get.is))
@@ -79,9 +79,9 @@ same_members-same-requires t c =
 pub same_members-returns-then-not-same : goal.same_members-returns-then-not-same
 same_members-returns-then-not-same t c =
     let e : Entry = (c.in-Some.name.now, c.in-Some.member.now) in
-    let ns = reverse (shown c.args.right.now.entries) in
+    let ns = reverse (pairs_of c.args.right.now.entries) in
     let left = c.next.new.self.iter in
-    let rest = same_members (members (reverse (shown left))) ns in
+    let rest = same_members (members (reverse (pairs_of left))) ns in
     let got = got_here c.args.right.now.entries _ _ c.get.result c.as_str.ensures.value c.requires c.get.ensures.value in
     sym (c.loop-name.invariant.0 ∙ members_at c.loop-name.name-iterator.iter left e ns c.in-Some.ensures.steps
     ∙ ap (λ o. option_map_or (same (doc_tree e.1)) o false && rest) (found_member _ ns c.get.result c.in-Some-get.other got c.in-Some-get.is)
@@ -90,9 +90,9 @@ same_members-returns-then-not-same t c =
 pub same_members-loop-name-preserved : goal.same_members-loop-name-preserved
 same_members-loop-name-preserved t c =
     let e : Entry = (c.in-Some.name.now, c.in-Some.member.now) in
-    let ns = reverse (shown c.args.right.now.entries) in
+    let ns = reverse (pairs_of c.args.right.now.entries) in
     let left = c.next.new.self.iter in
-    let rest = same_members (members (reverse (shown left))) ns in
+    let rest = same_members (members (reverse (pairs_of left))) ns in
     let got = got_here c.args.right.now.entries _ _ c.get.result c.as_str.ensures.value c.requires c.get.ensures.value in
     let lighter = last_size c.loop-name.name-iterator.iter left e c.in-Some.ensures.steps in (
       c.loop-name.invariant.0 ∙ members_at c.loop-name.name-iterator.iter left e ns c.in-Some.ensures.steps
@@ -103,5 +103,5 @@ same_members-loop-name-preserved t c =
 
 pub same_members-returns : goal.same_members-returns
 same_members-returns t c =
-    let ns = reverse (shown c.args.right.now.entries) in
-    sym (c.loop-name.invariant.0 ∙ ap (λ es. same_members (members (reverse (shown es))) ns) c.in-None.ensures.steps.0)
+    let ns = reverse (pairs_of c.args.right.now.entries) in
+    sym (c.loop-name.invariant.0 ∙ ap (λ es. same_members (members (reverse (pairs_of es))) ns) c.in-None.ensures.steps.0)

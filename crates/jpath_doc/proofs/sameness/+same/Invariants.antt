@@ -1,7 +1,7 @@
 use Rattle.std.proofs.Common.{◌≡◌, ◌≤◌, ◌+◌, ◌*◌, map, reverse, drop}
 use Rattle.jsonpath_base.specs.Same.{same_members}
 use Rattle.jsonpath_rust.specs.Weight.{size, trees_size, members_size}
-use Rattle.jpath_doc.specs.DocTree.{doc_tree, shown, trees, members}
+use Rattle.jpath_doc.specs.DocTree.{doc_tree, pairs_of, trees, members}
 use Rattle.jpath_doc.proofs.Comparing.{same_lists}
 use Rattle.jpath_doc.proofs.sameness.+same.Given as goal
 
@@ -11,9 +11,9 @@ invariant-same_items-loop-i l = same_lists l.left.items l.right.items ≡ same_l
 
 abbrev pub invariant-same_members-loop-name : goal.invariant-same_members-loop-name
 invariant-same_members-loop-name l =
-    let ns = reverse (shown l.right.entries) in
-    let all = members (reverse (shown l.left.entries)) in
-    let left = members (reverse (shown l.name-iterator.iter)) in
+    let ns = reverse (pairs_of l.right.entries) in
+    let all = members (reverse (pairs_of l.left.entries)) in
+    let left = members (reverse (pairs_of l.name-iterator.iter)) in
     (same_members all ns ≡ same_members left ns) × (members_size left ≤ members_size all)
 
 abbrev pub decreases-same : goal.decreases-same
@@ -23,4 +23,4 @@ abbrev pub decreases-same_items : goal.decreases-same_items
 decreases-same_items l = 2 * trees_size (trees (map doc_tree l.left.now.items)) + 1
 
 abbrev pub decreases-same_members : goal.decreases-same_members
-decreases-same_members l = 2 * members_size (members (reverse (shown l.left.now.entries))) + 1
+decreases-same_members l = 2 * members_size (members (reverse (pairs_of l.left.now.entries))) + 1

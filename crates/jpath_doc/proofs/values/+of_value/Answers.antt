@@ -4,8 +4,8 @@ use Rattle.std.specs.List.Sorted.{IsStrictlySortedBy}
 use Rattle.std.specs.Map.{keys_of}
 use Rattle.std.specs.String.{string_cmp}
 use Rattle.serde_json.proofs.Views.{Entry}
-use Rattle.jpath_doc.specs.DocTree.{shown, trees}
-use Rattle.jpath_doc.proofs.Copying.{shown-insert_entry}
+use Rattle.jpath_doc.specs.DocTree.{pairs_of, trees}
+use Rattle.jpath_doc.proofs.Copying.{pairs_of-insert_entry}
 use Rattle.jpath_doc.proofs.OfValues.{turned_value, turned_entries, turned_trees-items, turned_members-entries, put_turned, of_object}
 use Rattle.jpath_doc.proofs.values.+of_value.Goals as goal
 
@@ -25,7 +25,7 @@ of_members-loop-key-preserved t c =
     let same_name : string_bytes c.in_ok-name.name ≡ string_bytes e.0 = c.in_ok-name.ensures.cases in (
       done ++ e ∷ [],
       all ∙ sym (append_assoc done (e ∷ []) left),
-      ap shown c.in_ok-insert.ensures.entries ∙ shown-insert_entry l.docs.entries c.in_ok-name.name c.in_ok-of_value.field-0 ∙ rw (same_name, c.in_ok-of_value.ensures, l.invariant.2) last,
+      ap pairs_of c.in_ok-insert.ensures.entries ∙ pairs_of-insert_entry l.docs.entries c.in_ok-name.name c.in_ok-of_value.field-0 ∙ rw (same_name, c.in_ok-of_value.ensures, l.invariant.2) last,
     )
 
 pub of_members-returns : goal.of_members-returns

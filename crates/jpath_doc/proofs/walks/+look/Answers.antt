@@ -1,6 +1,6 @@
 use Rattle.std.proofs.Common.{reverse, ap, sym, ◌∙◌, subst, IsTrue}
 use Rattle.jsonpath_base.specs.Tree.{has_distinct_names, members_distinct}
-use Rattle.jpath_doc.specs.DocTree.{doc_tree, shown, members}
+use Rattle.jpath_doc.specs.DocTree.{doc_tree, pairs_of, members}
 use Rattle.jpath_doc.proofs.Docs.{tree-Members}
 use Rattle.jpath_doc.proofs.Distinct.{distinct_object, more_members}
 use Rattle.jpath_doc.proofs.walks.+look.Goals as goal
@@ -13,4 +13,4 @@ look_at_members-loop-member-preserved t c = c.loop-member.invariant ∙ more_mem
 
 pub look_at_members-returns : goal.look_at_members-returns
 look_at_members-returns t c =
-    distinct_object c.args.entries.now.entries c.iter.ensures.ordered (c.loop-member.invariant ∙ ap (λ es. members_distinct (members (reverse (shown es)))) c.in-None.ensures.steps.0)
+    distinct_object c.args.entries.now.entries c.iter.ensures.ordered (c.loop-member.invariant ∙ ap (λ es. members_distinct (members (reverse (pairs_of es)))) c.in-None.ensures.steps.0)

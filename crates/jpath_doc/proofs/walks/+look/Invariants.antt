@@ -1,6 +1,6 @@
 use Rattle.std.proofs.Common.{◌≡◌, map, reverse, drop}
 use Rattle.jsonpath_base.specs.Tree.{trees_distinct, members_distinct}
-use Rattle.jpath_doc.specs.DocTree.{doc_tree, shown, trees, members}
+use Rattle.jpath_doc.specs.DocTree.{doc_tree, pairs_of, trees, members}
 use Rattle.jpath_doc.proofs.walks.+look.Given as goal
 
 -- what is to be shown of all is shown by what is left
@@ -8,4 +8,4 @@ abbrev pub invariant-look_at_items-loop-item : goal.invariant-look_at_items-loop
 invariant-look_at_items-loop-item l = trees_distinct (trees (map doc_tree l.item-items)) ≡ trees_distinct (trees (map doc_tree (drop l.item-index l.item-items)))
 
 abbrev pub invariant-look_at_members-loop-member : goal.invariant-look_at_members-loop-member
-invariant-look_at_members-loop-member l = members_distinct (members (reverse (shown l.entries.entries))) ≡ members_distinct (members (reverse (shown l.member-iterator.iter)))
+invariant-look_at_members-loop-member l = members_distinct (members (reverse (pairs_of l.entries.entries))) ≡ members_distinct (members (reverse (pairs_of l.member-iterator.iter)))
