@@ -1,5 +1,5 @@
 -- What the helpers behind `Pattern` do.
-use Rattle.std.specs.Prelude.{◌≡◌, ℕ, ◌<◌, Bool, false, not, ◌&&◌, ◌==◌, List, [], ◌∷◌, Option, None, Some, is_some, get_or, codes, if◌then◌else◌}
+use Rattle.std.specs.Prelude.{◌≡◌, ℕ, ◌<◌, Bool, false, not, ◌&&◌, List, [], ◌∷◌, Option, None, Some, is_some, get_or, codes, if◌then◌else◌}
 use Rattle.regex.specs.Patterns.{Re, find_str}
 use Rattle.regex.specs.Strings.{regex_pattern, matcher_pattern}
 use Rattle.regex.specs.declared.string.regex.Regex.{Regex}
