@@ -5,7 +5,7 @@ use Rattle.jsonpath_parser.specs.View.{filter_view}
 use Rattle.jsonpath_parser.proofs.parts.filters.logical_expr.Goals as goal
 
 pub part-requires : goal.part-requires
-part-requires c κs = ((refl, tt), ((λ a n s. tt), ((λ x l. tt), ((λ t. tt), kind_stays {whole = filter_view} {view = filter_view} logical_law c.args.cursor.now (record { read = λ numbers r p. search of_calls; made = λ x t p. search of_calls; checked = λ t b p. search of_calls })))))
+part-requires c κs = ((refl, tt), ((λ a n s. tt), ((λ x l. tt), ((λ t. tt), kind_stays {whole = filter_view} {view = filter_view} logical_law c.args.cursor.now (search of_calls)))))
 
 pub returns : goal.returns
-returns c = kind_read {whole = filter_view} {view = filter_view} logical_law c.args.cursor.now c.part.new.cursor (record { read = λ numbers r p. search of_calls; made = λ x t p. search of_calls; checked = λ t b p. search of_calls }) c.part.result c.part.ensures
+returns c = kind_read {whole = filter_view} {view = filter_view} logical_law c.args.cursor.now c.part.new.cursor (search of_calls) c.part.result c.part.ensures
