@@ -10,7 +10,7 @@ use Rattle.jsonpath_parser.specs.declared.errors.JsonPathError.{JsonPathError}
 use Rattle.jsonpath_parser.specs.declared.errors.JsonPathError.TheVariants.{PestError, InvalidNumber, OutOfMemory}
 use Rattle.jsonpath_parser.specs.declared.grammar.literals.Numbers.{Numbers}
 use Rattle.jsonpath_parser.specs.declared.grammar.literals.Numbers.TheVariants.{Valued, Any}
-use Rattle.jsonpath_parser.specs.declared.parts.Cursor.{Cursor}
+use Rattle.jsonpath_parser.specs.declared.cursor.Cursor.{Cursor}
 use Rattle.jsonpath_parser.specs.declared.stop.Stop.{Stop}
 use Rattle.jsonpath_parser.specs.declared.stop.Stop.TheVariants.{Memory}
 
