@@ -6,8 +6,8 @@ use Rattle.std.proofs.lemmas.Bool.Decides.{nat_tests}
 use Rattle.jsonpath_parser.specs.Depth.{is_quote}
 use Rattle.jsonpath_parser.specs.Grammar.{SpellsIndex, SpellsBound, SpellsStep, SpellsSlice}
 use Rattle.jsonpath_parser.specs.Lexical.{is_blank, is_digit, IsBlank}
-use Rattle.jsonpath_parser.specs.Reading.{first, skip_blank, int_at}
-use Rattle.jsonpath_parser.specs.ReadingGrammar.{is_int_first, end_at, step_at, slice_at, numbered_at}
+use Rattle.jsonpath_parser.specs.inner.Reading.{first, skip_blank, int_at}
+use Rattle.jsonpath_parser.specs.inner.ReadingGrammar.{is_int_first, end_at, step_at, slice_at, numbered_at}
 use Rattle.jsonpath_parser.specs.Syntax.{Selector, index, slice}
 use Rattle.jsonpath_parser.proofs.Fronts.{skip_over}
 use Rattle.jsonpath_parser.proofs.CompleteParts.{ends_logical, EndsLogical, logical_stops, skip_more, skip_again, front_other, int_start, int_over}

@@ -6,7 +6,7 @@ use Rattle.std.proofs.lemmas.Str.Parse.{IsNumeralModel, numerals_by_value, parse
 use Rattle.std.specs.List.{prefix_len}
 use Rattle.std.specs.Str.Parse.{digits_value, ParsesUnsigned}
 use Rattle.jsonpath_parser.specs.Lexical.{is_digit, IsRun}
-use Rattle.jsonpath_parser.specs.Reading.{split_while, first, is_magnitude, magnitude_at}
+use Rattle.jsonpath_parser.specs.inner.Reading.{split_while, first, is_magnitude, magnitude_at}
 use Rattle.jsonpath_parser.proofs.Fronts.{run_holds, front}
 
 -- the digits lie from 48 to 57

@@ -4,9 +4,9 @@ use Rattle.std.proofs.lemmas.Bool.Decides.{nat_tests}
 use Rattle.std.specs.Str.Parse.{digits_value}
 use Rattle.jsonpath_parser.specs.Lexical.{is_digit, IsRun}
 use Rattle.jsonpath_parser.specs.Numbers.{Exponent, raised, lowered, is_exponent_mark, IsDigits, SpellsSign, IsWholePart, SpellsFraction, SpellsExponent, signed, SpellsNumber}
-use Rattle.jsonpath_parser.specs.Reading.{first, split_while}
-use Rattle.jsonpath_parser.specs.ReadingNumbers.{digits_at, sign_at, whole_part_at, fraction_at, signed_digits_at, exponent_at, value_of, number_at}
-use Rattle.jsonpath_parser.specs.ReadingGrammar.{is_int_first}
+use Rattle.jsonpath_parser.specs.inner.Reading.{first, split_while}
+use Rattle.jsonpath_parser.specs.inner.ReadingNumbers.{digits_at, sign_at, whole_part_at, fraction_at, signed_digits_at, exponent_at, value_of, number_at}
+use Rattle.jsonpath_parser.specs.inner.ReadingGrammar.{is_int_first}
 use Rattle.jsonpath_parser.proofs.Fronts.{run_over}
 use Rattle.jsonpath_parser.proofs.NumberValues.{one_value, sound_value}
 

@@ -7,7 +7,7 @@ use Rattle.std.proofs.Math.Nat.{pow-suc, mul_assoc, one-le-pow, pow-le-pow_right
 use Rattle.std.specs.Char.{digit_value}
 use Rattle.std.specs.Str.Parse.{digits_value_after}
 use Rattle.jsonpath_parser.specs.Lexical.{is_digit, IsRun}
-use Rattle.jsonpath_parser.specs.ReadingNumbers.{IsUnheld}
+use Rattle.jsonpath_parser.specs.inner.ReadingNumbers.{IsUnheld}
 
 pub positive : (k : ℕ) → 0 < 10 ^ k
 positive k = one-le-pow k 10 (lit< tt)

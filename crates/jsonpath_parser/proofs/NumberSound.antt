@@ -6,8 +6,8 @@ use Rattle.std.specs.List.{prefix_len}
 use Rattle.std.specs.Str.Parse.{digits_value}
 use Rattle.jsonpath_parser.specs.Lexical.{is_digit, IsRun}
 use Rattle.jsonpath_parser.specs.Numbers.{Exponent, raised, lowered, is_exponent_mark, IsDigits, SpellsSign, IsWholePart, SpellsFraction, SpellsExponent, signed, IsValue, SpellsNumber}
-use Rattle.jsonpath_parser.specs.Reading.{first, split_while}
-use Rattle.jsonpath_parser.specs.ReadingNumbers.{digits_at, sign_at, whole_part_at, fraction_at, signed_digits_at, exponent_at, value_of, number_at}
+use Rattle.jsonpath_parser.specs.inner.Reading.{first, split_while}
+use Rattle.jsonpath_parser.specs.inner.ReadingNumbers.{digits_at, sign_at, whole_part_at, fraction_at, signed_digits_at, exponent_at, value_of, number_at}
 use Rattle.jsonpath_parser.proofs.Fronts.{run_holds}
 use Rattle.jsonpath_parser.proofs.NumberValues.{sound_value}
 use Rattle.jsonpath_parser.proofs.SoundParts.{bind_ok, chosen, at_front}

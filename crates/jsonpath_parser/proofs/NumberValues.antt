@@ -11,7 +11,7 @@ use Rattle.std.proofs.Math.IntN.{pos-*ℤ-pos, negsuc-*ℤ-pos}
 use Rattle.std.specs.Str.Parse.{digits_value, ParsesUnsigned}
 use Rattle.jsonpath_parser.specs.Lexical.{is_digit, IsRun}
 use Rattle.jsonpath_parser.specs.Numbers.{Exponent, up, down, signed, IsWhole, IsLong, IsValue}
-use Rattle.jsonpath_parser.specs.ReadingNumbers.{long_of, value_of, IsUnheld}
+use Rattle.jsonpath_parser.specs.inner.ReadingNumbers.{long_of, value_of, IsUnheld}
 use Rattle.jsonpath_parser.proofs.Ints.{numeral}
 use Rattle.jsonpath_parser.proofs.NumberPowers.{cancel, positive, unheld_scaled}
 

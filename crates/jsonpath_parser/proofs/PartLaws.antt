@@ -5,8 +5,8 @@ use Rattle.std.proofs.lemmas.Str.{IsCharBoundary-from_drop}
 use Rattle.std.specs.Borrow.{Bor}
 use Rattle.std.specs.Str.{IsUtf8, IsCharBoundary}
 use Rattle.jsonpath_parser.specs.Parts.{text_of, rest_of, Spelling, IsPartRefusal, ReadsPart}
-use Rattle.jsonpath_parser.specs.Reading.{Read, Gives, Reads}
-use Rattle.jsonpath_parser.specs.ReadingParts.{IsPartsRefusal, taken_at, Takes, StaysInText, IsAnswer}
+use Rattle.jsonpath_parser.specs.inner.Reading.{Read, Gives, Reads}
+use Rattle.jsonpath_parser.specs.inner.ReadingParts.{IsPartsRefusal, taken_at, Takes, StaysInText, IsAnswer}
 use Rattle.jsonpath_parser.specs.Values.{IsValued, IsAny}
 use Rattle.jsonpath_parser.specs.declared.errors.JsonPathError.{JsonPathError}
 use Rattle.jsonpath_parser.specs.declared.errors.JsonPathError.TheVariants as error

@@ -2,8 +2,8 @@
 use Rattle.std.proofs.Common.{◌≡◌, ℕ, ◌<◌, ◌≤◌, true, ℤ, List, [], ◌∷◌, ◌++◌, length, Option, Some, None, refl, ap, ◌∙◌, inl, inr, append_assoc, append-nil, length-append, arith}
 use Rattle.jsonpath_parser.specs.Grammar.{SpellsBound, SpellsStep, SpellsSlice, SpellsSelector, SpellsArgument}
 use Rattle.jsonpath_parser.specs.Lexical.{is_digit, IsBlank}
-use Rattle.jsonpath_parser.specs.Reading.{Read, first, skip_blank}
-use Rattle.jsonpath_parser.specs.ReadingGrammar.{is_int_first, slice_at, numbered_at, selector_at}
+use Rattle.jsonpath_parser.specs.inner.Reading.{Read, first, skip_blank}
+use Rattle.jsonpath_parser.specs.inner.ReadingGrammar.{is_int_first, slice_at, numbered_at, selector_at}
 use Rattle.jsonpath_parser.specs.Syntax.{Selector, name, wildcard, index, slice, filter, Argument}
 use Rattle.jsonpath_parser.proofs.CompleteParts.{EndsLogical, front_other, int_start, int_over}
 use Rattle.jsonpath_parser.proofs.CompleteSegments.{complete_logical, selector_string, selector_numbered, selector_filter, selector_star}

@@ -5,9 +5,9 @@ use Rattle.std.proofs.Common.{◌≡◌, ℕ, zero, suc, false, ◌==◌, ℤ, L
 use Rattle.jsonpath_parser.specs.Depth.{is_quote}
 use Rattle.jsonpath_parser.specs.Grammar.{Between, IsSeveral, SpellsSelector, SpellsSelectors, SpellsMoreSelectors, SpellsShorthand, SpellsSegment, SpellsSegments, SpellsLogical, SpellsArgument, SpellsSingularStep, SpellsSingularSteps}
 use Rattle.jsonpath_parser.specs.Lexical.{IsBlank}
-use Rattle.jsonpath_parser.specs.Reading.{Read, first, after_byte, skip_blank}
-use Rattle.jsonpath_parser.specs.ReadingGrammar.{push_segment, push_selector, selection_of, step_of, steps_of, filter_of, shorthand_at, starts_segment, logical_at, selector_at, selectors_at, selection_at, descendant_at, segment_at, segments_at, all_segments_at}
-use Rattle.jsonpath_parser.specs.ReadingStrings.{string_at}
+use Rattle.jsonpath_parser.specs.inner.Reading.{Read, first, after_byte, skip_blank}
+use Rattle.jsonpath_parser.specs.inner.ReadingGrammar.{push_segment, push_selector, selection_of, step_of, steps_of, filter_of, shorthand_at, starts_segment, logical_at, selector_at, selectors_at, selection_at, descendant_at, segment_at, segments_at, all_segments_at}
+use Rattle.jsonpath_parser.specs.inner.ReadingStrings.{string_at}
 use Rattle.jsonpath_parser.specs.Syntax.{SingularStep, name_step, index_step, Selector, name, wildcard, index, slice, filter, Selectors, no_selectors, selector, Segment, one, several, descendant, Segments, no_segments, segment, Filter, atom, test, Argument, literal_argument, test_argument, filter_argument}
 use Rattle.jsonpath_parser.proofs.Fronts.{skip_split}
 use Rattle.jsonpath_parser.proofs.Joins.{join_segments, segments_push, segments_none, join_selectors, selectors_push, selectors_push_end}

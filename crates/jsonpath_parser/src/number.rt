@@ -4,9 +4,9 @@ ghost use Rattle.std.specs.Option.{option_map};
 ghost use Rattle.std.specs.Str.Parse.{digits_value, digits_value_after};
 ghost use Rattle.jsonpath_parser.specs.Lexical.{is_digit, IsRun};
 ghost use Rattle.jsonpath_parser.specs.Numbers.{up, down};
-ghost use Rattle.jsonpath_parser.specs.Reading.{Reads};
-ghost use Rattle.jsonpath_parser.specs.ReadingNumbers.{exponent_view, number_of, IsTrimmed, IsUnheld};
-ghost use Rattle.jsonpath_parser.specs.ReadingNumbers as spec;
+ghost use Rattle.jsonpath_parser.specs.inner.Reading.{Reads};
+ghost use Rattle.jsonpath_parser.specs.inner.ReadingNumbers.{exponent_view, number_of, IsTrimmed, IsUnheld};
+ghost use Rattle.jsonpath_parser.specs.inner.ReadingNumbers as spec;
 
 use crate::stop::Stop;
 use crate::text::{digit_run, first, skip};
@@ -32,7 +32,7 @@ struct Mantissa {
 /// # Errors
 ///
 /// `Stop::Syntax` where no number literal stands at the front.
-#[tactic(auto, unfolding(crate::specs::ReadingNumbers::number_at))]
+#[tactic(auto, unfolding(crate::specs::inner::ReadingNumbers::number_at))]
 pub fn number(s: &str) -> Result<(Option<i64>, &str), Stop>
     ensures value { Reads (λ v. v) result (spec.number_at s.now) }
     ensures shorter { IfOk result (λ p. length p.1.now < length s.now) }
@@ -48,7 +48,7 @@ pub fn number(s: &str) -> Result<(Option<i64>, &str), Stop>
 }
 
 /// Whether `-` stands at the front, and what follows it.
-#[tactic(auto, unfolding(crate::specs::ReadingNumbers::sign_at))]
+#[tactic(auto, unfolding(crate::specs::inner::ReadingNumbers::sign_at))]
 fn sign(s: &str) -> (bool, &str)
     ensures value { (result.0, result.1.now) ≡ spec.sign_at s.now }
     ensures within { length result.1.now ≤ length s.now }
@@ -73,7 +73,7 @@ fn split_first(s: &str) -> (&str, &str)
 }
 
 /// The digits at the front, where there is one, and what follows them.
-#[tactic(auto, unfolding(crate::specs::ReadingNumbers::digits_at))]
+#[tactic(auto, unfolding(crate::specs::inner::ReadingNumbers::digits_at))]
 fn digits(s: &str) -> Option<(&str, &str)>
     ensures value { option_map (λ p. (p.0.now, p.1.now)) result ≡ spec.digits_at s.now }
     ensures run { IfSome result (λ p. IsRun is_digit p.0.now) }
@@ -87,7 +87,7 @@ fn digits(s: &str) -> Option<(&str, &str)>
 }
 
 /// `0`, or digits that do not begin with 0, and what follows them.
-#[tactic(auto, unfolding(crate::specs::ReadingNumbers::whole_part_at))]
+#[tactic(auto, unfolding(crate::specs::inner::ReadingNumbers::whole_part_at))]
 fn whole_part(s: &str) -> Option<(&str, &str)>
     ensures value { option_map (λ p. (p.0.now, p.1.now)) result ≡ spec.whole_part_at s.now }
     ensures run { IfSome result (λ p. IsRun is_digit p.0.now) }
@@ -101,7 +101,7 @@ fn whole_part(s: &str) -> Option<(&str, &str)>
 }
 
 /// The digits behind a point, and what follows them. Without a point, or without digits behind it, there are none.
-#[tactic(auto, unfolding(crate::specs::ReadingNumbers::fraction_at))]
+#[tactic(auto, unfolding(crate::specs::inner::ReadingNumbers::fraction_at))]
 fn fraction_part(s: &str) -> (&str, &str)
     ensures value { (result.0.now, result.1.now) ≡ spec.fraction_at s.now }
     ensures run { IsRun is_digit result.0.now }
@@ -117,7 +117,7 @@ fn fraction_part(s: &str) -> (&str, &str)
 }
 
 /// What may follow the mark of an exponent: perhaps a sign, and digits.
-#[tactic(auto, unfolding(crate::specs::ReadingNumbers::signed_digits_at))]
+#[tactic(auto, unfolding(crate::specs::inner::ReadingNumbers::signed_digits_at))]
 fn signed_digits(s: &str) -> Option<(Exponent<'_>, &str)>
     ensures value { option_map (λ p. (exponent_view p.0, p.1.now)) result ≡ spec.signed_digits_at s.now }
     ensures run { IfSome result (λ p. IsRun is_digit p.0.digits.now) }
@@ -134,7 +134,7 @@ fn signed_digits(s: &str) -> Option<(Exponent<'_>, &str)>
 }
 
 /// The exponent at the front, and what follows it. It is 0 where none stands there.
-#[tactic(auto, unfolding(crate::specs::ReadingNumbers::exponent_at))]
+#[tactic(auto, unfolding(crate::specs::inner::ReadingNumbers::exponent_at))]
 fn exponent_part(s: &str) -> (Exponent<'_>, &str)
     ensures value { (exponent_view result.0, result.1.now) ≡ spec.exponent_at s.now }
     ensures run { IsRun is_digit result.0.digits.now }
@@ -171,7 +171,7 @@ fn value(minus: bool, whole: &str, fraction: &str, exponent: Exponent<'_>) -> Op
 }
 
 /// The number with its sign.
-#[tactic(auto, unfolding(crate::specs::ReadingNumbers::long_of))]
+#[tactic(auto, unfolding(crate::specs::inner::ReadingNumbers::long_of))]
 fn long(minus: bool, size: u64) -> Option<i64>
     ensures { result ≡ spec.long_of minus size }
 {

@@ -2,8 +2,8 @@
 ghost use Rattle.std.specs.Prelude.{◌≡◌, ◌-◌, ◌<◌, ◌≤◌, length, drop, slice_index};
 ghost use Rattle.std.specs.List.{prefix_len};
 ghost use Rattle.jsonpath_parser.specs.Lexical as spec;
-ghost use Rattle.jsonpath_parser.specs.Reading.{split_while};
-ghost use Rattle.jsonpath_parser.specs.Reading as reading;
+ghost use Rattle.jsonpath_parser.specs.inner.Reading.{split_while};
+ghost use Rattle.jsonpath_parser.specs.inner.Reading as reading;
 
 /// The byte at `index`, or 0 past the end.
 #[inline]
@@ -102,7 +102,7 @@ fn function_len(bytes: &[u8]) -> usize
 }
 
 /// After the blanks.
-#[tactic(auto, using(crate::proofs::Runs::blank_boundary), unfolding(crate::specs::Reading::skip_blank))]
+#[tactic(auto, using(crate::proofs::Runs::blank_boundary), unfolding(crate::specs::inner::Reading::skip_blank))]
 pub fn skip_blank(s: &str) -> &str
     ensures rest { result.now ≡ reading.skip_blank s.now }
     ensures within { length result.now ≤ length s.now }

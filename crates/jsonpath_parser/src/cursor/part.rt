@@ -1,6 +1,6 @@
 //! How a part of a query is read at a cursor, and what is refused there.
 ghost use Rattle.std.specs.Prelude.{◌≡◌};
-ghost use Rattle.jsonpath_parser.specs.ReadingParts.{IsPartsRefusal, Takes, StaysInText, IsAnswer};
+ghost use Rattle.jsonpath_parser.specs.inner.ReadingParts.{IsPartsRefusal, Takes, StaysInText, IsAnswer};
 ghost use Rattle.jsonpath_parser.specs.declared.grammar.literals.Numbers.TheVariants.{Valued};
 
 use super::Cursor;

@@ -1,8 +1,8 @@
 //! The productions that a part of a query may be: what is read, and how that is turned into the tree (RFC 9535, 2.1 to 2.5).
 ghost use Rattle.std.specs.Prelude.{◌≡◌, true, Ok};
-ghost use Rattle.jsonpath_parser.specs.Reading.{Gives, Reads};
-ghost use Rattle.jsonpath_parser.specs.ReadingGrammar.{numbered_at};
-ghost use Rattle.jsonpath_parser.specs.ReadingParts as spec;
+ghost use Rattle.jsonpath_parser.specs.inner.Reading.{Gives, Reads};
+ghost use Rattle.jsonpath_parser.specs.inner.ReadingGrammar.{numbered_at};
+ghost use Rattle.jsonpath_parser.specs.inner.ReadingParts as spec;
 ghost use Rattle.jsonpath_parser.specs.View.{literal_view, singular_view, argument_view, atom_view, call_view, comparison_view, query_view, segment_view, segments_view, selector_view, test_view};
 
 pub use super::filters::{basic, conjunction, logical};
@@ -22,7 +22,7 @@ use crate::text::first;
 use std::alloc::Global;
 
 /// What may stand behind `..`.
-#[tactic(auto, unfolding(crate::specs::ReadingParts::child_in))]
+#[tactic(auto, unfolding(crate::specs::inner::ReadingParts::child_in))]
 pub fn child(alloc: Global, numbers: Numbers, s: &str) -> Result<(Segment, &str), Stop>
     ensures { Reads segment_view result (spec.child_in numbers s.now) }
 {

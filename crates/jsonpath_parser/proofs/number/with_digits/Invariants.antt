@@ -1,7 +1,7 @@
 use Rattle.std.proofs.Common.{◌≡◌, ◌+◌, ◌≤◌, drop}
 use Rattle.std.specs.Str.Parse.{digits_value_after}
 use Rattle.jsonpath_parser.specs.Lexical.{is_digit, IsRun}
-use Rattle.jsonpath_parser.specs.ReadingNumbers.{number_of, IsTrimmed}
+use Rattle.jsonpath_parser.specs.inner.ReadingNumbers.{number_of, IsTrimmed}
 use Rattle.jsonpath_parser.proofs.number.with_digits.Given as goal
 
 abbrev pub invariant-loop-byte : goal.invariant-loop-byte

@@ -5,7 +5,7 @@ use Rattle.jsonpath_parser.specs.declared.number.Exponent.{Exponent as CodeExpon
 use Rattle.jsonpath_parser.specs.declared.number.Mantissa.{Mantissa}
 use Rattle.jsonpath_parser.specs.Lexical.{is_digit}
 use Rattle.jsonpath_parser.specs.Numbers.{Exponent, raised, lowered, is_exponent_mark, up, down}
-use Rattle.jsonpath_parser.specs.Reading.{Read, ◌>>=◌, split_while, first}
+use Rattle.jsonpath_parser.specs.inner.Reading.{Read, ◌>>=◌, split_while, first}
 
 -- the digits at the front, where there is one
 unfoldable pub digits_at : List ℕ → Read (List ℕ)

@@ -4,9 +4,9 @@
 use Rattle.std.specs.Prelude.{ℕ, zero, suc, Bool, true, false, ◌&&◌, ◌||◌, ◌==◌, ℤ, pos, unwrap_or, if◌then◌else◌, List, [], ◌∷◌, length, drop, slice_index, codes, bytes_eq, Option, Some, None}
 use Rattle.jsonpath_parser.specs.Depth.{is_quote}
 use Rattle.jsonpath_parser.specs.Lexical.{is_digit, is_function_first, is_function_byte}
-use Rattle.jsonpath_parser.specs.Reading.{Read, ◌>>=◌, split_while, skip_blank, first, after_byte, int_at, name_at}
-use Rattle.jsonpath_parser.specs.ReadingNumbers.{number_at}
-use Rattle.jsonpath_parser.specs.ReadingStrings.{string_at}
+use Rattle.jsonpath_parser.specs.inner.Reading.{Read, ◌>>=◌, split_while, skip_blank, first, after_byte, int_at, name_at}
+use Rattle.jsonpath_parser.specs.inner.ReadingNumbers.{number_at}
+use Rattle.jsonpath_parser.specs.inner.ReadingStrings.{string_at}
 use Rattle.jsonpath_parser.specs.declared.grammar.literals.Numbers.{Numbers}
 use Rattle.jsonpath_parser.specs.declared.grammar.literals.Numbers.TheVariants.{Valued, Any}
 use Rattle.jsonpath_parser.specs.Syntax.{Literal, number, string, bool, null, SingularStep, name_step, index_step, current, root, Operator, equal, not_equal, greater, greater_or_equal, less, less_or_equal, Selector, name, wildcard, index, slice, filter, Selectors, no_selectors, selector, Segment, one, several, descendant, Segments, no_segments, segment, Filter, or, and, atom, Filters, no_filters, filter_then, group, test, comparison, compare, Comparable, literal, function, singular, relative, absolute, call, Call, Argument, literal_argument, test_argument, filter_argument, Arguments, no_arguments, argument, Query}
@@ -78,10 +78,6 @@ negated_of _ = None
 -- whether an int begins with this byte
 abbrev pub is_int_first : ℕ → Bool
 is_int_first b = is_digit b || b == 45
-
--- an int, where one begins here
-unfoldable pub bound_at : List ℕ → Read (Option ℤ)
-bound_at text = if is_int_first (first text) then int_at text >>= (λ i. Some (Some i.0, i.1)) else Some (None, text)
 
 -- a bound, and the blanks behind it
 unfoldable pub end_at : List ℕ → Read (Option ℤ)
