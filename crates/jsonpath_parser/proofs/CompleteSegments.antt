@@ -3,9 +3,8 @@
 -- That arguments of shorter texts are read is assumed: the law of arguments closes the circle.
 use Rattle.std.proofs.Common.{◌≡◌, ℕ, zero, suc, ◌+◌, ◌-◌, ◌<◌, ◌≤◌, true, false, ◌==◌, ℤ, List, [], ◌∷◌, ◌++◌, length, codes, Option, Some, refl, sym, ap, ◌∙◌, subst, inl, inr, append_assoc, length-append, arith}
 use Rattle.std.proofs.lemmas.Bool.Decides.{nat_tests}
-use Rattle.jsonpath_parser.specs.Depth.{is_quote}
 use Rattle.jsonpath_parser.specs.Grammar.{Between, IsSeveral, SpellsSelector, SpellsSelectors, SpellsMoreSelectors, SpellsSegment, SpellsSegments, SpellsLogical, SpellsArgument, SpellsTest}
-use Rattle.jsonpath_parser.specs.Lexical.{is_name_byte, IsBlank}
+use Rattle.jsonpath_parser.specs.Lexical.{is_name_byte, IsBlank, is_quote}
 use Rattle.jsonpath_parser.specs.inner.Reading.{Read, first, skip_blank}
 use Rattle.jsonpath_parser.specs.inner.ReadingGrammar.{is_int_first, push_segment, push_selector, selection_of, filter_of, numbered_at, shorthand_at, logical_at, selector_at, selectors_at, selection_at, descendant_at, segment_at, segments_at, all_segments_at}
 use Rattle.jsonpath_parser.specs.inner.ReadingStrings.{string_at}

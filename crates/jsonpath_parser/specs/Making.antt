@@ -5,7 +5,7 @@ use Rattle.jsonpath_parser.specs.Typing.{call_of, gives_value, takes}
 use Rattle.jsonpath_parser.specs.declared.errors.JsonPathError.{JsonPathError}
 use Rattle.jsonpath_parser.specs.declared.errors.JsonPathError.TheVariants.{InvalidJsonPath, OutOfMemory}
 
--- The refusals of a maker: `InvalidJsonPath` where there is nothing to make, or want of memory.
+-- The refusals of a maker: `InvalidJsonPath` where there is nothing to make, or `OutOfMemory`.
 abbrev pub IsMakersRefusal : Bool → JsonPathError → Type 0
 IsMakersRefusal nothing (InvalidJsonPath text) = nothing ≡ true
 IsMakersRefusal nothing OutOfMemory = ⊤

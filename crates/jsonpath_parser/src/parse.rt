@@ -105,15 +105,15 @@ fn read_within(alloc: Global, text: &str, depth: usize) -> Parsed<JpQuery>
 ///
 /// The time is linear in the length of the text. Only a text that is refused is read twice.
 pub fn parse_json_path(alloc: Global, text: &str) -> Parsed<JpQuery>
-    ensures derived { IfOk result (λ q. Derives 128 text.now (query_view q)) }
+    ensures derived { IfOk result (λ q. Derives MAX_NESTING_DEPTH text.now (query_view q)) }
 
     // Every tree that the text derives is the one answered, unless memory ran out.
-    ensures only { (t : Query) → Derives 128 text.now t → Answers result t }
+    ensures only { (t : Query) → Derives MAX_NESTING_DEPTH text.now t → Answers result t }
 
     // At Ok no other tree is spelled, whatever the values of its number literals.
     ensures one_tree { (t : Query) → Spells IsAny t text.now → IfOk result (λ q. query_view q ≡ t) }
-    ensures refused { IfErr result (IsRefusal 128 text.now) }
-    ensures too_deep { 128 < spec.depth text.now → result ≡ Err (JsonPathError.MaxNestingDepthExceeded 128) }
+    ensures refused { IfErr result (IsRefusal MAX_NESTING_DEPTH text.now) }
+    ensures too_deep { MAX_NESTING_DEPTH < spec.depth text.now → result ≡ Err (JsonPathError.MaxNestingDepthExceeded MAX_NESTING_DEPTH) }
 {
     parse_json_path_within(alloc, text, MAX_NESTING_DEPTH)
 }

@@ -3,7 +3,7 @@
 ghost use Rattle.std.specs.Prelude.{◌≡◌, ◌≢◌, suc, ◌<◌, ◌≤◌, [], true, length, slice_index, IfOk, IfSome, if◌then◌else◌, string_bytes, IfErr};
 ghost use Rattle.std.specs.Char.{digit_value};
 ghost use Rattle.std.specs.List.{prefix_len};
-ghost use Rattle.jsonpath_parser.specs.Depth.{is_quote};
+ghost use Rattle.jsonpath_parser.specs.Lexical.{is_quote};
 ghost use Rattle.jsonpath_parser.specs.inner.Reading.{Reads, split_while};
 ghost use Rattle.jsonpath_parser.specs.inner.ReadingStrings as spec;
 ghost use Rattle.jsonpath_parser.specs.Strings as strings;

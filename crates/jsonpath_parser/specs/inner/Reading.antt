@@ -3,9 +3,10 @@ use Rattle.std.specs.Prelude.{◌≡◌, ℕ, Bool, ◌&&◌, ◌||◌, ◌==◌
 use Rattle.std.specs.Borrow.{Bor}
 use Rattle.std.specs.List.{prefix_len}
 use Rattle.std.specs.Str.Parse.{digits_value}
+use Rattle.std.specs.Char.{is_ascii_digit}
 use Rattle.jsonpath_parser.specs.declared.stop.Stop.{Stop}
 use Rattle.jsonpath_parser.specs.declared.stop.Stop.TheVariants.{Memory}
-use Rattle.jsonpath_parser.specs.Lexical.{is_blank, is_digit, is_name_first, is_name_byte}
+use Rattle.jsonpath_parser.specs.Lexical.{is_blank, is_name_first, is_name_byte}
 use Rattle.jsonpath_parser.specs.declared.depth.Place.{Place as CodePlace}
 use Rattle.jsonpath_parser.specs.declared.depth.Place.TheVariants.{Outside, Inside, Escaped}
 use Rattle.jsonpath_parser.specs.Depth.{Place, outside, inside, escaped}
@@ -48,7 +49,7 @@ is_magnitude digits = (nat_le 1 (length digits) && (not (first digits == 48) || 
 -- such digits at the front
 unfoldable pub magnitude_at : List ℕ → Read ℕ
 magnitude_at text =
-    let p = split_while is_digit text in
+    let p = split_while is_ascii_digit text in
     if is_magnitude p.0 then Some (digits_value 10 p.0, p.1) else None
 
 -- the same, perhaps behind `-`, but not `-0`

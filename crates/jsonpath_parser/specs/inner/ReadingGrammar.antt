@@ -2,8 +2,8 @@
 --
 -- An argument of a call is the widest production: a literal, a query or a call alone, or a logical expression. So it is read once, and what stands in its place makes of it what it wants.
 use Rattle.std.specs.Prelude.{ℕ, zero, suc, Bool, true, false, ◌&&◌, ◌||◌, ◌==◌, ℤ, pos, unwrap_or, if◌then◌else◌, List, [], ◌∷◌, length, drop, slice_index, codes, bytes_eq, Option, Some, None}
-use Rattle.jsonpath_parser.specs.Depth.{is_quote}
-use Rattle.jsonpath_parser.specs.Lexical.{is_digit, is_function_first, is_function_byte}
+use Rattle.std.specs.Char.{is_ascii_digit}
+use Rattle.jsonpath_parser.specs.Lexical.{is_function_first, is_function_byte, is_quote}
 use Rattle.jsonpath_parser.specs.inner.Reading.{Read, ◌>>=◌, split_while, skip_blank, first, after_byte, int_at, name_at}
 use Rattle.jsonpath_parser.specs.inner.ReadingNumbers.{number_at}
 use Rattle.jsonpath_parser.specs.inner.ReadingStrings.{string_at}
@@ -44,15 +44,15 @@ selection_of (selector s no_selectors) = one s
 selection_of ss = several ss
 
 -- a segment of one name or one index as a step
-abbrev pub step_of : Segment → Option SingularStep
-step_of (one (name n)) = Some (name_step n)
-step_of (one (index i)) = Some (index_step i)
-step_of _ = None
+abbrev pub step_of_segment : Segment → Option SingularStep
+step_of_segment (one (name n)) = Some (name_step n)
+step_of_segment (one (index i)) = Some (index_step i)
+step_of_segment _ = None
 
 -- the segments as steps, where each is one name or one index
 abbrev pub steps_of : Segments → Option (List SingularStep)
 steps_of no_segments = Some []
-steps_of (segment g gs) = step_of g >>= (λ s. steps_of gs >>= (λ ss. Some (s ∷ ss)))
+steps_of (segment g gs) = step_of_segment g >>= (λ s. steps_of gs >>= (λ ss. Some (s ∷ ss)))
 
 -- what an argument is as a side of a comparison
 abbrev pub comparable_of : Argument → Option Comparable
@@ -77,7 +77,7 @@ negated_of _ = None
 
 -- whether an int begins with this byte
 abbrev pub is_int_first : ℕ → Bool
-is_int_first b = is_digit b || b == 45
+is_int_first b = is_ascii_digit b || b == 45
 
 -- a bound, and the blanks behind it
 unfoldable pub end_at : List ℕ → Read (Option ℤ)

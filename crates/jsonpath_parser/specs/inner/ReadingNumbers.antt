@@ -1,15 +1,15 @@
 -- What the functions that read a number literal compute. Only contracts inside the crate cite it; the laws of proofs/ join it to the grammar, so a user need not believe it.
 use Rattle.std.specs.Prelude.{◌≡◌, ◌≢◌, ℕ, ◌+◌, ◌*◌, ◌/◌, ◌%◌, ◌^◌, ◌<◌, Bool, true, false, ◌==◌, nat_lt, nat_le, ℤ, pos, neg_ℤ, if◌then◌else◌, Option, Some, None, List, [], ◌++◌, length, take, drop, unwrap_or}
 use Rattle.std.specs.Str.Parse.{digits_value}
+use Rattle.std.specs.Char.{is_ascii_digit}
 use Rattle.jsonpath_parser.specs.declared.number.Exponent.{Exponent as CodeExponent}
 use Rattle.jsonpath_parser.specs.declared.number.Mantissa.{Mantissa}
-use Rattle.jsonpath_parser.specs.Lexical.{is_digit}
 use Rattle.jsonpath_parser.specs.Numbers.{Exponent, raised, lowered, is_exponent_mark, up, down}
 use Rattle.jsonpath_parser.specs.inner.Reading.{Read, ◌>>=◌, split_while, first}
 
 -- the digits at the front, where there is one
 unfoldable pub digits_at : List ℕ → Read (List ℕ)
-digits_at text = if is_digit (first text) then Some (split_while is_digit text) else None
+digits_at text = if is_ascii_digit (first text) then Some (split_while is_ascii_digit text) else None
 
 -- whether `-` stands at the front
 unfoldable pub sign_at : List ℕ → Bool × List ℕ

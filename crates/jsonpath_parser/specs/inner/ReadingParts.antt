@@ -63,13 +63,13 @@ atom_of (atom a) = Some a
 abbrev pub atom_in : Argument → Option Atom
 atom_in x = filter_of x >>= atom_of
 
-abbrev pub comparison_of : Atom → Option Comparison
-comparison_of (Atom.group negated f) = None
-comparison_of (Atom.test negated t) = None
-comparison_of (comparison c) = Some c
+abbrev pub comparison_of_atom : Atom → Option Comparison
+comparison_of_atom (Atom.group negated f) = None
+comparison_of_atom (Atom.test negated t) = None
+comparison_of_atom (comparison c) = Some c
 
 abbrev pub comparison_in : Argument → Option Comparison
-comparison_in x = atom_in x >>= comparison_of
+comparison_in x = atom_in x >>= comparison_of_atom
 
 abbrev pub slice_in : Selector → Option (Option ℤ × Option ℤ × Option ℤ)
 slice_in (Selector.name n) = None
@@ -119,11 +119,11 @@ module _ (numbers : Numbers) (text : List ℕ) where
 -- ---- refusals
 
 -- The refusal at a cursor, where reading stopped; `again` is what it is read as with any number literals. The place is at most the text's length.
-abbrev pub IsPartsRefusal : {T : Type 0} → Cursor → Stop → Result (T × Bor (List ℕ)) Stop → JsonPathError → Type 0
-IsPartsRefusal c stop again (InvalidNumber said) = (stop ≡ Memory → ⊥) × IsValuelessIn (rest_of c) (string_bytes said) × IsOkAnd again (λ p. p.1.now ≡ [])
-IsPartsRefusal c stop again (PestError place) = (place ≤ length (text_of c)) × (stop ≡ Memory → ⊥) × MatchResult again (λ p. p.1.now ≡ [] → ⊥) (λ e. e ≡ Memory → ⊥)
-IsPartsRefusal c stop again OutOfMemory = ⊤
-IsPartsRefusal c stop again _ = ⊥
+abbrev pub IsCursorRefusal : {T : Type 0} → Cursor → Stop → Result (T × Bor (List ℕ)) Stop → JsonPathError → Type 0
+IsCursorRefusal c stop again (InvalidNumber said) = (stop ≡ Memory → ⊥) × IsValuelessIn (rest_of c) (string_bytes said) × IsOkAnd again (λ p. p.1.now ≡ [])
+IsCursorRefusal c stop again (PestError place) = (place ≤ length (text_of c)) × (stop ≡ Memory → ⊥) × MatchResult again (λ p. p.1.now ≡ [] → ⊥) (λ e. e ≡ Memory → ⊥)
+IsCursorRefusal c stop again OutOfMemory = ⊤
+IsCursorRefusal c stop again _ = ⊥
 
 -- ---- one reading of a kind of tree: what is read, how it is turned into a tree of the kind, and whether that is well-typed
 
@@ -140,6 +140,6 @@ module _ {X T : Type 0} (reads : Numbers → Result (X × Bor (List ℕ)) Stop �
   -- what a cursor's function answers, by what reading answers
   pub record IsAnswer (old new : Cursor) (result : Result T JsonPathError) : Type 0 where
     pub tree : IfOk result (λ t. Takes Valued (Ok (t, new.rest)))
-    pub refusal : IfErr result (λ e. (stop : Stop) × Takes Valued (Err stop) × ((again : _) × Takes Any again × IsPartsRefusal old stop again e))
+    pub refusal : IfErr result (λ e. (stop : Stop) × Takes Valued (Err stop) × ((again : _) × Takes Any again × IsCursorRefusal old stop again e))
     pub kept : OnErr result (new ≡ old)
     pub same : text_of new ≡ text_of old

@@ -2,7 +2,7 @@
 use Rattle.std.specs.Prelude.{ℕ, zero, suc, ◌&&◌, ◌==◌, if◌then◌else◌, List, [], ◌∷◌, ◌++◌, length, drop, slice_index, Option, Some, None}
 use Rattle.std.specs.Char.{encode_utf8}
 use Rattle.std.specs.Str.Parse.{digits_value}
-use Rattle.jsonpath_parser.specs.Depth.{is_quote}
+use Rattle.jsonpath_parser.specs.Lexical.{is_quote}
 use Rattle.jsonpath_parser.specs.inner.Reading.{Read, ◌>>=◌, first}
 use Rattle.jsonpath_parser.specs.Strings.{is_plain, escaped, is_hex_digit, is_high_surrogate, is_low_surrogate, pair_code}
 

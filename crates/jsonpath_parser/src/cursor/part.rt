@@ -1,6 +1,6 @@
 //! How a part of a query is read at a cursor, and what is refused there.
 ghost use Rattle.std.specs.Prelude.{◌≡◌};
-ghost use Rattle.jsonpath_parser.specs.inner.ReadingParts.{IsPartsRefusal, Takes, StaysInText, IsAnswer};
+ghost use Rattle.jsonpath_parser.specs.inner.ReadingParts.{IsCursorRefusal, Takes, StaysInText, IsAnswer};
 ghost use Rattle.jsonpath_parser.specs.declared.grammar.literals.Numbers.TheVariants.{Valued};
 
 use super::Cursor;
@@ -17,7 +17,7 @@ pub fn refusal<T: Drop>(
     stop: Stop,
     again: Result<(T, &str), Stop>,
 ) -> JsonPathError
-    ensures { IsPartsRefusal cursor.now stop again.entry result }
+    ensures { IsCursorRefusal cursor.now stop again.entry result }
 {
     let Stop::Syntax(left) = stop else {
         return JsonPathError::OutOfMemory;

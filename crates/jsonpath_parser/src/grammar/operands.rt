@@ -70,7 +70,7 @@ pub fn operand(alloc: Global, numbers: Numbers, s: &str) -> Result<(FnArg, &str)
 
 /// A segment of one name or one index as a step of a singular query.
 fn step(segment: Segment) -> Option<SingularQuerySegment>
-    ensures { option_map step_view result ≡ spec.step_of (segment_view segment) }
+    ensures { option_map step_view result ≡ spec.step_of_segment (segment_view segment) }
 {
     match segment {
         Segment::Selector(Selector::Name(name)) => Some(SingularQuerySegment::Name(name)),
