@@ -1,12 +1,11 @@
 -- Literals, queries and calls that are spelled are read, where the text after them cannot continue them.
 use Rattle.std.proofs.Common.{◌≡◌, ℕ, zero, suc, ◌+◌, ◌-◌, ◌<◌, ◌≤◌, true, false, ◌==◌, ℤ, List, [], ◌∷◌, ◌++◌, length, codes, Option, Some, refl, sym, ap, ◌∙◌, inl, inr, append_assoc, append-nil, length-append, arith}
 use Rattle.std.proofs.lemmas.Bool.Decides.{nat_tests}
-use Rattle.jsonpath_parser.specs.Depth.{is_quote}
 use Rattle.jsonpath_parser.specs.Grammar.{SpellsSingularStep, SpellsSingularSteps, SpellsCalled, SpellsLiteral, SpellsSegment, SpellsSegments, SpellsComparable, SpellsTest, SpellsCall, SpellsArgument, SpellsArguments, SpellsMoreArguments}
-use Rattle.jsonpath_parser.specs.Lexical.{is_function_first, IsBlank, IsFunctionName}
-use Rattle.jsonpath_parser.specs.Reading.{Read, first, skip_blank}
-use Rattle.jsonpath_parser.specs.ReadingGrammar.{is_int_first, push_argument, steps_of, comparable_of, word_at, word_literal, all_segments_at, arguments_at, all_arguments_at, called_at, word_operand_at, operand_at}
-use Rattle.jsonpath_parser.specs.ReadingStrings.{string_at}
+use Rattle.jsonpath_parser.specs.Lexical.{is_function_first, IsBlank, IsFunctionName, is_quote}
+use Rattle.jsonpath_parser.specs.inner.Reading.{Read, first, skip_blank}
+use Rattle.jsonpath_parser.specs.inner.ReadingGrammar.{is_int_first, push_argument, steps_of, comparable_of, word_at, word_literal, all_segments_at, arguments_at, all_arguments_at, called_at, word_operand_at, operand_at}
+use Rattle.jsonpath_parser.specs.inner.ReadingStrings.{string_at}
 use Rattle.jsonpath_parser.specs.Syntax.{Literal, number, string, bool, null, SingularStep, name_step, index_step, current, root, name, index, Segment, one, Segments, no_segments, segment, Comparable, literal, function, singular, Test, relative, absolute, call, Call, custom_call, length_call, value_call, count_call, search_call, match_call, Argument, literal_argument, test_argument, Arguments, no_arguments, argument}
 use Rattle.jsonpath_parser.specs.Typing.{call_of}
 use Rattle.jsonpath_parser.proofs.Fronts.{skip_over}

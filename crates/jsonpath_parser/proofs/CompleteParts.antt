@@ -4,10 +4,11 @@ use Rattle.std.proofs.lemmas.Bool.Decides.{nat_tests}
 use Rattle.std.proofs.lemmas.Int.{ints}
 use Rattle.std.specs.List.{prefix_len}
 use Rattle.std.specs.Str.Parse.{digits_value}
+use Rattle.std.specs.Char.{is_ascii_digit}
 use Rattle.jsonpath_parser.specs.Grammar.{SpellsPositive, SpellsInt, IsInRange, SpellsShorthand}
-use Rattle.jsonpath_parser.specs.Lexical.{is_blank, is_digit, is_name_first, is_name_byte, is_function_byte, IsRun, IsBlank, IsName}
-use Rattle.jsonpath_parser.specs.Reading.{first, skip_blank, split_while, is_magnitude, magnitude_at, int_at, name_at}
-use Rattle.jsonpath_parser.specs.ReadingGrammar.{is_int_first, shorthand_at, starts_segment, is_operator_first}
+use Rattle.jsonpath_parser.specs.Lexical.{is_blank, is_name_first, is_name_byte, is_function_byte, IsRun, IsBlank, IsName}
+use Rattle.jsonpath_parser.specs.inner.Reading.{first, skip_blank, split_while, is_magnitude, magnitude_at, int_at, name_at}
+use Rattle.jsonpath_parser.specs.inner.ReadingGrammar.{is_int_first, shorthand_at, starts_segment, is_operator_first}
 use Rattle.jsonpath_parser.specs.Syntax.{Selector, name, wildcard, index, slice, filter}
 use Rattle.jsonpath_parser.proofs.Fronts.{run_over, skip_over, back, front}
 use Rattle.jsonpath_parser.proofs.NumberComplete.{continues_number}
@@ -51,7 +52,7 @@ pub record Stops (b : ℕ) : Type 0 where
   pub no_name : is_name_byte b ≡ false
   pub no_function : is_function_byte b ≡ false
   pub no_number : continues_number b ≡ false
-  pub no_digit : is_digit b ≡ false
+  pub no_digit : is_ascii_digit b ≡ false
   pub no_call : (b == 40) ≡ false
 
 blank_stops : (b : ℕ) → is_blank b ≡ true → Stops b
@@ -140,11 +141,11 @@ front_other p (d ∷ b) rest h other stop = other d h.0
 -- ---- whole numbers
 
 -- digits in range, up to a byte that is none
-magnitude_over : (n : ℕ) (a more : List ℕ) → IsRun is_digit a → is_magnitude a ≡ true → n ≡ digits_value 10 a → is_digit (first more) ≡ false → magnitude_at (a ++ more) ≡ Some (n, more)
+magnitude_over : (n : ℕ) (a more : List ℕ) → IsRun is_ascii_digit a → is_magnitude a ≡ true → n ≡ digits_value 10 a → is_ascii_digit (first more) ≡ false → magnitude_at (a ++ more) ≡ Some (n, more)
 unfolding magnitude_at
 magnitude_over n a more run h value stop =
-    let parts = sym (run_over is_digit a more run stop refl) in
-    rw (front is_digit (a ++ more) a more parts, back is_digit (a ++ more) a more parts, h, value) refl
+    let parts = sym (run_over is_ascii_digit a more run stop refl) in
+    rw (front is_ascii_digit (a ++ more) a more parts, back is_ascii_digit (a ++ more) a more parts, h, value) refl
 
 -- a number in range has its digits in range
 positive_magnitude : (n : ℕ) (a : List ℕ) → SpellsPositive n a → n ≤ 9007199254740991 → is_magnitude a ≡ true
@@ -169,7 +170,7 @@ int_start (pos (suc n)) (d ∷ s) more h = rw (h.0.0) refl
 int_start (negsuc n) a more h = let (digits, its, e) = h in rw e refl
 
 -- a number in range, up to a byte that is no digit
-pub int_over : (i : ℤ) (a more : List ℕ) → SpellsInt i a → IsInRange i → is_digit (first more) ≡ false → int_at (a ++ more) ≡ Some (i, more)
+pub int_over : (i : ℤ) (a more : List ℕ) → SpellsInt i a → IsInRange i → is_ascii_digit (first more) ≡ false → int_at (a ++ more) ≡ Some (i, more)
 int_over (pos zero) a more h range stop = rw h (int_plain (48 ∷ more) 0 more refl (magnitude_over 0 (48 ∷ []) more (refl, tt) refl refl stop))
 int_over (pos (suc n)) [] more h range stop = absurd (omega (arith, h.1))
 int_over (pos (suc n)) (d ∷ s) more h range stop =

@@ -3,12 +3,11 @@
 -- That arguments of shorter texts are read is assumed: the law of arguments closes the circle.
 use Rattle.std.proofs.Common.{◌≡◌, ℕ, zero, suc, ◌+◌, ◌-◌, ◌<◌, ◌≤◌, true, false, ◌==◌, ℤ, List, [], ◌∷◌, ◌++◌, length, codes, Option, Some, refl, sym, ap, ◌∙◌, subst, inl, inr, append_assoc, length-append, arith}
 use Rattle.std.proofs.lemmas.Bool.Decides.{nat_tests}
-use Rattle.jsonpath_parser.specs.Depth.{is_quote}
 use Rattle.jsonpath_parser.specs.Grammar.{Between, IsSeveral, SpellsSelector, SpellsSelectors, SpellsMoreSelectors, SpellsSegment, SpellsSegments, SpellsLogical, SpellsArgument, SpellsTest}
-use Rattle.jsonpath_parser.specs.Lexical.{is_name_byte, IsBlank}
-use Rattle.jsonpath_parser.specs.Reading.{Read, first, skip_blank}
-use Rattle.jsonpath_parser.specs.ReadingGrammar.{is_int_first, push_segment, push_selector, selection_of, filter_of, numbered_at, shorthand_at, logical_at, selector_at, selectors_at, selection_at, descendant_at, segment_at, segments_at, all_segments_at}
-use Rattle.jsonpath_parser.specs.ReadingStrings.{string_at}
+use Rattle.jsonpath_parser.specs.Lexical.{is_name_byte, IsBlank, is_quote}
+use Rattle.jsonpath_parser.specs.inner.Reading.{Read, first, skip_blank}
+use Rattle.jsonpath_parser.specs.inner.ReadingGrammar.{is_int_first, push_segment, push_selector, selection_of, filter_of, numbered_at, shorthand_at, logical_at, selector_at, selectors_at, selection_at, descendant_at, segment_at, segments_at, all_segments_at}
+use Rattle.jsonpath_parser.specs.inner.ReadingStrings.{string_at}
 use Rattle.jsonpath_parser.specs.Syntax.{Selector, name, wildcard, index, slice, filter, Selectors, no_selectors, selector, Segment, one, several, descendant, Segments, no_segments, segment, Filter, or, and, atom, group, test, comparison, Argument, test_argument, filter_argument}
 use Rattle.jsonpath_parser.proofs.Fronts.{skip_over}
 use Rattle.jsonpath_parser.proofs.Joins.{join_segments, segments_push, segments_none, join_selectors, selectors_push, selectors_push_end}

@@ -1,13 +1,13 @@
 -- An index or a slice that is spelled is read.
 --
 -- A slice without its second `:` takes the blanks behind it along, so what is left is the text after it up to blanks.
+use Rattle.std.specs.Char.{is_ascii_digit}
 use Rattle.std.proofs.Common.{◌≡◌, ℕ, Bool, true, false, ◌||◌, ◌==◌, ℤ, List, [], ◌∷◌, ◌++◌, Option, Some, None, refl, ap, ◌∙◌, inl, inr, append_assoc, arith}
 use Rattle.std.proofs.lemmas.Bool.Decides.{nat_tests}
-use Rattle.jsonpath_parser.specs.Depth.{is_quote}
 use Rattle.jsonpath_parser.specs.Grammar.{SpellsIndex, SpellsBound, SpellsStep, SpellsSlice}
-use Rattle.jsonpath_parser.specs.Lexical.{is_blank, is_digit, IsBlank}
-use Rattle.jsonpath_parser.specs.Reading.{first, skip_blank, int_at}
-use Rattle.jsonpath_parser.specs.ReadingGrammar.{is_int_first, end_at, step_at, slice_at, numbered_at}
+use Rattle.jsonpath_parser.specs.Lexical.{is_blank, IsBlank, is_quote}
+use Rattle.jsonpath_parser.specs.inner.Reading.{first, skip_blank, int_at}
+use Rattle.jsonpath_parser.specs.inner.ReadingGrammar.{is_int_first, end_at, step_at, slice_at, numbered_at}
 use Rattle.jsonpath_parser.specs.Syntax.{Selector, index, slice}
 use Rattle.jsonpath_parser.proofs.Fronts.{skip_over}
 use Rattle.jsonpath_parser.proofs.CompleteParts.{ends_logical, EndsLogical, logical_stops, skip_more, skip_again, front_other, int_start, int_over}
@@ -28,7 +28,7 @@ int_other b h = (grind (arith, nat_tests), grind (arith, nat_tests))
 logical_other : (b : ℕ) → ends_logical b ≡ true → (is_int_first b ≡ false) × ((b == 58) ≡ false)
 logical_other b h = (grind (arith, nat_tests), grind (arith, nat_tests))
 
-pub blank_digit : (c : ℕ) → is_blank c ≡ true → is_digit c ≡ false
+pub blank_digit : (c : ℕ) → is_blank c ≡ true → is_ascii_digit c ≡ false
 blank_digit c h = grind (arith, nat_tests)
 
 -- three pieces, or four, and a rest
@@ -37,7 +37,7 @@ regroup a b c d = simp append_assoc
 
 -- what follows a bound: no digit, and behind blanks no int
 abbrev pub EndsBound : List ℕ → Type 0
-EndsBound next = (is_digit (first next) ≡ false) × (is_int_first (first (skip_blank next)) ≡ false)
+EndsBound next = (is_ascii_digit (first next) ≡ false) × (is_int_first (first (skip_blank next)) ≡ false)
 
 -- ---- the end and the step
 
@@ -56,7 +56,7 @@ end_over (Some i) b c next hb hc stop =
     let (x, y, hx, hy, e) = hc in
     let text : c ++ next ≡ x ++ (y ++ next) = rw e (append_assoc x y next) in
     let start = int_start i x (y ++ next) hx.0 in
-    let read = int_over i x (y ++ next) hx.0 hx.1 (front_other is_digit y next hy blank_digit stop.0) in
+    let read = int_over i x (y ++ next) hx.0 hx.1 (front_other is_ascii_digit y next hy blank_digit stop.0) in
     rw (text, skip_over b (x ++ (y ++ next)) hb (int_other (first (x ++ (y ++ next))) start).0) (end_some (x ++ (y ++ next)) (y ++ next) i start read ∙ ap (λ r. Some (Some i, r)) (skip_more y next hy))
 
 step_some : (text rest : List ℕ) (i : ℤ) → is_int_first (first (skip_blank text)) ≡ true → int_at (skip_blank text) ≡ Some (i, rest) → step_at text ≡ Some (Some i, rest)
@@ -68,7 +68,7 @@ unfolding step_at
 step_none text start = rw start refl
 
 -- a step, behind its `:`
-pub step_over : (i : ℤ) (b a more : List ℕ) → IsBlank b → SpellsIndex i a → is_digit (first more) ≡ false → step_at (b ++ (a ++ more)) ≡ Some (Some i, more)
+pub step_over : (i : ℤ) (b a more : List ℕ) → IsBlank b → SpellsIndex i a → is_ascii_digit (first more) ≡ false → step_at (b ++ (a ++ more)) ≡ Some (Some i, more)
 step_over i b a more hb ha stop =
     let start = int_start i a more ha.0 in
     let skipped = skip_over b (a ++ more) hb (int_other (first (a ++ more)) start).0 in
@@ -151,7 +151,7 @@ complete_slice (Some i) end step a more h stop =
     let behind : List ℕ = b ++ (c ++ (d ++ more)) in
     let text : a ++ more ≡ x ++ (y ++ 58 ∷ behind) = rw e (pieces s b c d more ∙ rw es (append_assoc x y (58 ∷ behind))) in
     let start = int_start i x (y ++ 58 ∷ behind) hx.0 in
-    let number = int_over i x (y ++ 58 ∷ behind) hx.0 hx.1 (front_other is_digit y (58 ∷ behind) hy blank_digit refl) in
+    let number = int_over i x (y ++ 58 ∷ behind) hx.0 hx.1 (front_other is_ascii_digit y (58 ∷ behind) hy blank_digit refl) in
     (rest, rw text (numbered_slice (x ++ (y ++ 58 ∷ behind)) behind (y ++ 58 ∷ behind) i (int_other (first (x ++ (y ++ 58 ∷ behind))) start).1 number (skip_over y (58 ∷ behind) hy refl) ∙ read), left)
 
 -- how an index and a slice begin

@@ -3,7 +3,7 @@ use Rattle.std.proofs.Common.{◌≡◌, ℕ, suc, Bool, true, false, List, [], 
 use Rattle.std.proofs.lemmas.Grind.{common_steps}
 use Rattle.std.specs.List.{prefix_len}
 use Rattle.jsonpath_parser.specs.Lexical.{IsRun, IsBlank, is_blank}
-use Rattle.jsonpath_parser.specs.Reading.{split_while, skip_blank, first}
+use Rattle.jsonpath_parser.specs.inner.Reading.{split_while, skip_blank, first}
 
 -- the longest front is a run, and the text is it and the rest
 pub run_holds : (p : ℕ → Bool) (text : List ℕ) → IsRun p (take (prefix_len p text) text) × (text ≡ take (prefix_len p text) text ++ drop (prefix_len p text) text)

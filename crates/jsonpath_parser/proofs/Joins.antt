@@ -1,6 +1,6 @@
 -- Parts behind parts: what a reader finds after what it found before.
 use Rattle.std.proofs.Common.{◌≡◌, refl, ap}
-use Rattle.jsonpath_parser.specs.ReadingGrammar.{push_segment, push_selector, push_filter, push_argument}
+use Rattle.jsonpath_parser.specs.inner.ReadingGrammar.{push_segment, push_selector, push_filter, push_argument}
 use Rattle.jsonpath_parser.specs.Syntax.{Selector, Selectors, no_selectors, selector, Segment, Segments, no_segments, segment, Filter, Filters, no_filters, filter_then, Argument, Arguments, no_arguments, argument}
 
 -- segments behind segments

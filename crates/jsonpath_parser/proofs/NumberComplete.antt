@@ -2,39 +2,40 @@
 use Rattle.std.proofs.Common.{◌≡◌, ℕ, ◌≤◌, Bool, true, false, ◌||◌, ◌==◌, ℤ, List, [], ◌∷◌, ◌++◌, length, Option, Some, refl, ap, ◌∙◌, inl, inr, append_assoc, arith}
 use Rattle.std.proofs.lemmas.Bool.Decides.{nat_tests}
 use Rattle.std.specs.Str.Parse.{digits_value}
-use Rattle.jsonpath_parser.specs.Lexical.{is_digit, IsRun}
+use Rattle.std.specs.Char.{is_ascii_digit}
+use Rattle.jsonpath_parser.specs.Lexical.{IsRun}
 use Rattle.jsonpath_parser.specs.Numbers.{Exponent, raised, lowered, is_exponent_mark, IsDigits, SpellsSign, IsWholePart, SpellsFraction, SpellsExponent, signed, SpellsNumber}
-use Rattle.jsonpath_parser.specs.Reading.{first, split_while}
-use Rattle.jsonpath_parser.specs.ReadingNumbers.{digits_at, sign_at, whole_part_at, fraction_at, signed_digits_at, exponent_at, value_of, number_at}
-use Rattle.jsonpath_parser.specs.ReadingGrammar.{is_int_first}
+use Rattle.jsonpath_parser.specs.inner.Reading.{first, split_while}
+use Rattle.jsonpath_parser.specs.inner.ReadingNumbers.{digits_at, sign_at, whole_part_at, fraction_at, signed_digits_at, exponent_at, value_of, number_at}
+use Rattle.jsonpath_parser.specs.inner.ReadingGrammar.{is_int_first}
 use Rattle.jsonpath_parser.proofs.Fronts.{run_over}
 use Rattle.jsonpath_parser.proofs.NumberValues.{one_value, sound_value}
 
 -- a byte that may continue a number literal: a digit, `.`, `e` or `E`
 abbrev pub continues_number : ℕ → Bool
-continues_number b = (is_digit b || b == 46) || is_exponent_mark b
+continues_number b = (is_ascii_digit b || b == 46) || is_exponent_mark b
 
 -- the text does not continue a number literal
 abbrev pub EndsNumber : List ℕ → Type 0
 EndsNumber more = continues_number (first more) ≡ false
 
 -- digits are the run at the front
-digits_read : (text : List ℕ) (parts : List ℕ × List ℕ) → is_digit (first text) ≡ true → split_while is_digit text ≡ parts → digits_at text ≡ Some parts
+digits_read : (text : List ℕ) (parts : List ℕ × List ℕ) → is_ascii_digit (first text) ≡ true → split_while is_ascii_digit text ≡ parts → digits_at text ≡ Some parts
 unfolding digits_at
 digits_read text parts h e = rw h (ap Some e)
 
 -- digits, up to a byte that is none
-digits_over : (digits more : List ℕ) → IsDigits digits → is_digit (first more) ≡ false → digits_at (digits ++ more) ≡ Some (digits, more)
+digits_over : (digits more : List ℕ) → IsDigits digits → is_ascii_digit (first more) ≡ false → digits_at (digits ++ more) ≡ Some (digits, more)
 digits_over [] more h stop = absurd (omega (arith, h.1))
-digits_over (d ∷ ds) more h stop = digits_read ((d ∷ ds) ++ more) (d ∷ ds, more) h.0.0 (run_over is_digit (d ∷ ds) more h.0 stop refl)
+digits_over (d ∷ ds) more h stop = digits_read ((d ∷ ds) ++ more) (d ∷ ds, more) h.0.0 (run_over is_ascii_digit (d ∷ ds) more h.0 stop refl)
 
 -- how digits begin
-digits_start : (digits more : List ℕ) → IsDigits digits → is_digit (first (digits ++ more)) ≡ true
+digits_start : (digits more : List ℕ) → IsDigits digits → is_ascii_digit (first (digits ++ more)) ≡ true
 digits_start [] more h = absurd (omega (arith, h.1))
 digits_start (d ∷ ds) more h = h.0.0
 
 -- digits behind the mark of an exponent
-signed_plain : (text digits more : List ℕ) → is_digit (first text) ≡ true → digits_at text ≡ Some (digits, more) → signed_digits_at text ≡ Some (raised (digits_value 10 digits), more)
+signed_plain : (text digits more : List ℕ) → is_ascii_digit (first text) ≡ true → digits_at text ≡ Some (digits, more) → signed_digits_at text ≡ Some (raised (digits_value 10 digits), more)
 unfolding signed_digits_at
 signed_plain text digits more start read =
     let minus : (first text == 45) ≡ false = grind (arith, nat_tests) in
@@ -59,7 +60,7 @@ unfolding exponent_at
 exponent_none more stop = rw stop refl
 
 -- no digit, no mark
-ends : (b : ℕ) → continues_number b ≡ false → (is_digit b ≡ false) × ((b == 46) ≡ false) × (is_exponent_mark b ≡ false)
+ends : (b : ℕ) → continues_number b ≡ false → (is_ascii_digit b ≡ false) × ((b == 46) ≡ false) × (is_exponent_mark b ≡ false)
 ends b h = (grind (arith, nat_tests), grind (arith, nat_tests), grind (arith, nat_tests))
 
 -- an exponent
@@ -80,13 +81,13 @@ exponent_over (lowered x) c more h stop =
     rw (e, value) (exponent_read mark (45 ∷ (digits ++ more)) more (lowered (digits_value 10 digits)) marked (signed_minus (digits ++ more) digits more read))
 
 -- an exponent, or the end, is neither a digit nor a point
-exponent_start : (x : Exponent) (c more : List ℕ) → SpellsExponent x c → EndsNumber more → (is_digit (first (c ++ more)) ≡ false) × ((first (c ++ more) == 46) ≡ false)
+exponent_start : (x : Exponent) (c more : List ℕ) → SpellsExponent x c → EndsNumber more → (is_ascii_digit (first (c ++ more)) ≡ false) × ((first (c ++ more) == 46) ≡ false)
 exponent_start (raised x) c more h stop = elim h [
   | inl none ↦ (let facts = ends (first more) stop in rw (none.0) (facts.0, facts.1))
   | inr some ↦ (let (mark, sign, digits, marked, signs, run, value, e) = some in rw e (marked_other mark marked))
 ]
   where
-    marked_other : (mark : ℕ) → is_exponent_mark mark ≡ true → (is_digit mark ≡ false) × ((mark == 46) ≡ false)
+    marked_other : (mark : ℕ) → is_exponent_mark mark ≡ true → (is_ascii_digit mark ≡ false) × ((mark == 46) ≡ false)
     marked_other mark marked = (grind (arith, nat_tests), grind (arith, nat_tests))
 exponent_start (lowered x) c more h stop = let (mark, digits, marked, run, value, e) = h in rw e (grind (arith, nat_tests), grind (arith, nat_tests))
 
@@ -95,13 +96,13 @@ fraction_read : (text digits more : List ℕ) → digits_at text ≡ Some (digit
 unfolding fraction_at
 fraction_read text digits more read = rw read refl
 
-fraction_over : (digits b more : List ℕ) → SpellsFraction digits b → is_digit (first more) ≡ false → (first more == 46) ≡ false → fraction_at (b ++ more) ≡ (digits, more)
+fraction_over : (digits b more : List ℕ) → SpellsFraction digits b → is_ascii_digit (first more) ≡ false → (first more == 46) ≡ false → fraction_at (b ++ more) ≡ (digits, more)
 unfolding fraction_at
 fraction_over [] b more h stop other = rw (h, other) refl
 fraction_over (d ∷ ds) b more h stop other = rw (h.1) (fraction_read ((d ∷ ds) ++ more) (d ∷ ds) more (digits_over (d ∷ ds) more (h.0, omega arith) stop))
 
 -- it begins with no digit
-fraction_start : (digits b more : List ℕ) → SpellsFraction digits b → is_digit (first more) ≡ false → is_digit (first (b ++ more)) ≡ false
+fraction_start : (digits b more : List ℕ) → SpellsFraction digits b → is_ascii_digit (first more) ≡ false → is_ascii_digit (first (b ++ more)) ≡ false
 fraction_start [] b more h stop = rw h stop
 fraction_start (d ∷ ds) b more h stop = rw (h.1) refl
 
@@ -114,25 +115,25 @@ whole_zero : (more : List ℕ) → whole_part_at (48 ∷ more) ≡ Some (48 ∷ 
 unfolding whole_part_at
 whole_zero more = refl
 
-whole_over : (w more : List ℕ) → IsWholePart w → is_digit (first more) ≡ false → whole_part_at (w ++ more) ≡ Some (w, more)
+whole_over : (w more : List ℕ) → IsWholePart w → is_ascii_digit (first more) ≡ false → whole_part_at (w ++ more) ≡ Some (w, more)
 whole_over w more h stop = elim h [ inl lead ↦ rw lead (whole_zero more) | inr other ↦ from_digits w other stop ]
   where
-    from_digits : (w : List ℕ) → IsRun is_digit w × (49 ≤ first w) → is_digit (first more) ≡ false → whole_part_at (w ++ more) ≡ Some (w, more)
+    from_digits : (w : List ℕ) → IsRun is_ascii_digit w × (49 ≤ first w) → is_ascii_digit (first more) ≡ false → whole_part_at (w ++ more) ≡ Some (w, more)
     from_digits [] h stop = absurd (omega (arith, h.1))
     from_digits (d ∷ ds) h stop =
         let high : 49 ≤ d = h.1 in
         whole_plain ((d ∷ ds) ++ more) (d ∷ ds) more (grind (arith, nat_tests)) (digits_over (d ∷ ds) more (h.0, omega arith) stop)
 
 -- they begin with a digit
-whole_start : (w more : List ℕ) → IsWholePart w → is_digit (first (w ++ more)) ≡ true
+whole_start : (w more : List ℕ) → IsWholePart w → is_ascii_digit (first (w ++ more)) ≡ true
 whole_start w more h = elim h [ inl lead ↦ rw lead refl | inr other ↦ from_digits w other ]
   where
-    from_digits : (w : List ℕ) → IsRun is_digit w × (49 ≤ first w) → is_digit (first (w ++ more)) ≡ true
+    from_digits : (w : List ℕ) → IsRun is_ascii_digit w × (49 ≤ first w) → is_ascii_digit (first (w ++ more)) ≡ true
     from_digits [] h = absurd (omega (arith, h.1))
     from_digits (d ∷ ds) h = h.0.0
 
 -- a sign
-sign_over : (minus : Bool) (a more : List ℕ) → SpellsSign minus a → is_digit (first more) ≡ true → sign_at (a ++ more) ≡ (minus, more)
+sign_over : (minus : Bool) (a more : List ℕ) → SpellsSign minus a → is_ascii_digit (first more) ≡ true → sign_at (a ++ more) ≡ (minus, more)
 unfolding sign_at
 sign_over false a more h digit = let other : (first more == 45) ≡ false = grind (arith, nat_tests) in rw (h, other) refl
 sign_over true a more h digit = rw h refl
@@ -153,7 +154,7 @@ number_start v text more h =
     let later = h.fraction_text ++ (h.exponent_text ++ more) in
     rw (h.spelled, regroup h.sign_text h.whole h.fraction_text h.exponent_text more) (behind_sign h.minus h.sign_text (h.whole ++ later) h.sign_spelled (whole_start h.whole later h.is_whole_part))
   where
-    behind_sign : (minus : Bool) (a rest : List ℕ) → SpellsSign minus a → is_digit (first rest) ≡ true → is_int_first (first (a ++ rest)) ≡ true
+    behind_sign : (minus : Bool) (a rest : List ℕ) → SpellsSign minus a → is_ascii_digit (first rest) ≡ true → is_int_first (first (a ++ rest)) ≡ true
     behind_sign false a rest h digit = rw (h, digit) refl
     behind_sign true a rest h digit = rw h refl
 

@@ -4,10 +4,10 @@ use Rattle.std.proofs.lemmas.Bool.{cases_lt}
 use Rattle.std.proofs.lemmas.Bool.Decides.{nat_tests}
 use Rattle.std.proofs.lemmas.Nat.{pow-add}
 use Rattle.std.proofs.Math.Nat.{pow-suc, mul_assoc, one-le-pow, pow-le-pow_right, mul-le-mul_left, mul-le-mul_right, mul-div_cancel, one-mul}
-use Rattle.std.specs.Char.{digit_value}
+use Rattle.std.specs.Char.{digit_value, is_ascii_digit}
 use Rattle.std.specs.Str.Parse.{digits_value_after}
-use Rattle.jsonpath_parser.specs.Lexical.{is_digit, IsRun}
-use Rattle.jsonpath_parser.specs.ReadingNumbers.{IsUnheld}
+use Rattle.jsonpath_parser.specs.Lexical.{IsRun}
+use Rattle.jsonpath_parser.specs.inner.ReadingNumbers.{IsUnheld}
 
 pub positive : (k : ℕ) → 0 < 10 ^ k
 positive k = one-le-pow k 10 (lit< tt)
@@ -77,11 +77,11 @@ unheld_digit n d small none v zero fits e = none n 0 (omega (arith, e)) (omega a
 unheld_digit n d small none v (suc k) fits e = none v k fits (omega (arith, e, one_more_suc v k))
 
 -- a digit
-pub digit_small : (c : ℕ) → is_digit c ≡ true → (digit_value c < 10) × (48 ≤ c) × (c - 48 ≡ digit_value c)
+pub digit_small : (c : ℕ) → is_ascii_digit c ≡ true → (digit_value c < 10) × (48 ≤ c) × (c - 48 ≡ digit_value c)
 digit_small c h = (grind (arith, nat_tests), grind (arith, nat_tests), grind (arith, nat_tests))
 
 -- further digits hold no number that is too large
-pub unheld_after : (n : ℕ) (digits : List ℕ) → IsRun is_digit digits → IsUnheld n → IsUnheld (digits_value_after 10 n digits)
+pub unheld_after : (n : ℕ) (digits : List ℕ) → IsRun is_ascii_digit digits → IsUnheld n → IsUnheld (digits_value_after 10 n digits)
 unheld_after n [] run none = none
 unheld_after n (c ∷ cs) run none = unheld_after (n * 10 + digit_value c) cs run.1 (unheld_digit n (digit_value c) (digit_small c run.0).0 none)
 
@@ -96,14 +96,14 @@ unheld_scaled n number up down none fits e = elim (cases_lt up down) [
 ]
 
 -- the next digit of a run
-pub next_digit : (digits : List ℕ) (i : ℕ) → i < length digits → IsRun is_digit (drop i digits) → (is_digit (get_or digits i 0) ≡ true) × IsRun is_digit (drop (i + 1) digits)
+pub next_digit : (digits : List ℕ) (i : ℕ) → i < length digits → IsRun is_ascii_digit (drop i digits) → (is_ascii_digit (get_or digits i 0) ≡ true) × IsRun is_ascii_digit (drop (i + 1) digits)
 next_digit digits i within run = let parts = rw (drop-cons digits i 0) at run in rw add-one parts
 
 pub next_value : (n : ℕ) (digits : List ℕ) (i : ℕ) → i < length digits → digits_value_after 10 n (drop i digits) ≡ digits_value_after 10 (n * 10 + digit_value (get_or digits i 0)) (drop (i + 1) digits)
 next_value n digits i within = rw (add-one, drop-cons digits i 0) refl
 
 -- a digit that does not fit
-pub unheld_turn : (start n d : ℕ) (digits : List ℕ) (i : ℕ) → i < length digits → IsRun is_digit (drop i digits) → d ≡ digit_value (get_or digits i 0) → d ≢ 0 → 2 ^ 64 ≤ n * 10 + d
+pub unheld_turn : (start n d : ℕ) (digits : List ℕ) (i : ℕ) → i < length digits → IsRun is_ascii_digit (drop i digits) → d ≡ digit_value (get_or digits i 0) → d ≢ 0 → 2 ^ 64 ≤ n * 10 + d
     → digits_value_after 10 n (drop i digits) ≡ digits_value_after 10 start digits → IsUnheld (digits_value_after 10 start digits)
 unheld_turn start n d digits i within run is some over same =
     let parts = next_digit digits i within run in

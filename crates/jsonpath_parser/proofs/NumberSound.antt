@@ -4,10 +4,11 @@ use Rattle.std.proofs.lemmas.Bool.Decides.{nat_tests}
 use Rattle.std.proofs.lemmas.Option.{cond_some}
 use Rattle.std.specs.List.{prefix_len}
 use Rattle.std.specs.Str.Parse.{digits_value}
-use Rattle.jsonpath_parser.specs.Lexical.{is_digit, IsRun}
+use Rattle.std.specs.Char.{is_ascii_digit}
+use Rattle.jsonpath_parser.specs.Lexical.{IsRun}
 use Rattle.jsonpath_parser.specs.Numbers.{Exponent, raised, lowered, is_exponent_mark, IsDigits, SpellsSign, IsWholePart, SpellsFraction, SpellsExponent, signed, IsValue, SpellsNumber}
-use Rattle.jsonpath_parser.specs.Reading.{first, split_while}
-use Rattle.jsonpath_parser.specs.ReadingNumbers.{digits_at, sign_at, whole_part_at, fraction_at, signed_digits_at, exponent_at, value_of, number_at}
+use Rattle.jsonpath_parser.specs.inner.Reading.{first, split_while}
+use Rattle.jsonpath_parser.specs.inner.ReadingNumbers.{digits_at, sign_at, whole_part_at, fraction_at, signed_digits_at, exponent_at, value_of, number_at}
 use Rattle.jsonpath_parser.proofs.Fronts.{run_holds}
 use Rattle.jsonpath_parser.proofs.NumberValues.{sound_value}
 use Rattle.jsonpath_parser.proofs.SoundParts.{bind_ok, chosen, at_front}
@@ -24,21 +25,21 @@ digits_sound : (text digits rest : List ℕ) → digits_at text ≡ Some (digits
 unfolding digits_at
 digits_sound [] digits rest e = absurd (cc)
 digits_sound (b ∷ s) digits rest e =
-    let (start, parts) = cond_some (is_digit b) (split_while is_digit (b ∷ s)) (digits, rest) e in
-    let some : prefix_len is_digit (b ∷ s) ≡ suc (prefix_len is_digit s) = rw start (omega arith) in
-    let whole = run_holds is_digit (b ∷ s) in
-    let left : take (prefix_len is_digit (b ∷ s)) (b ∷ s) ≡ digits = ap (λ (q : List ℕ × List ℕ). q.0) parts in
-    let right : drop (prefix_len is_digit (b ∷ s)) (b ∷ s) ≡ rest = ap (λ (q : List ℕ × List ℕ). q.1) parts in
-    let same : b ∷ take (prefix_len is_digit s) s ≡ digits = ap (λ k. take k (b ∷ s)) (sym some) ∙ left in
-    let size : length (b ∷ take (prefix_len is_digit s) s) ≡ length digits = ap length same in
-    ((subst (λ v. IsRun is_digit v) left whole.0, omega arith), whole.1 ∙ ap (λ v. v ++ drop (prefix_len is_digit (b ∷ s)) (b ∷ s)) left ∙ ap (λ v. digits ++ v) right)
+    let (start, parts) = cond_some (is_ascii_digit b) (split_while is_ascii_digit (b ∷ s)) (digits, rest) e in
+    let some : prefix_len is_ascii_digit (b ∷ s) ≡ suc (prefix_len is_ascii_digit s) = rw start (omega arith) in
+    let whole = run_holds is_ascii_digit (b ∷ s) in
+    let left : take (prefix_len is_ascii_digit (b ∷ s)) (b ∷ s) ≡ digits = ap (λ (q : List ℕ × List ℕ). q.0) parts in
+    let right : drop (prefix_len is_ascii_digit (b ∷ s)) (b ∷ s) ≡ rest = ap (λ (q : List ℕ × List ℕ). q.1) parts in
+    let same : b ∷ take (prefix_len is_ascii_digit s) s ≡ digits = ap (λ k. take k (b ∷ s)) (sym some) ∙ left in
+    let size : length (b ∷ take (prefix_len is_ascii_digit s) s) ≡ length digits = ap length same in
+    ((subst (λ v. IsRun is_ascii_digit v) left whole.0, omega arith), whole.1 ∙ ap (λ v. v ++ drop (prefix_len is_ascii_digit (b ∷ s)) (b ∷ s)) left ∙ ap (λ v. digits ++ v) right)
 
 -- digits that do not begin with 0
 no_lead : (digits text rest : List ℕ) → IsDigits digits → text ≡ digits ++ rest → (first text == 48) ≡ false → 49 ≤ first digits
 no_lead [] text rest h e other = absurd (omega (arith, h.1))
 no_lead (d ∷ ds) text rest h e other =
     let front : first text ≡ d = ap first e in
-    let digit : is_digit d ≡ true = h.0.0 in
+    let digit : is_ascii_digit d ≡ true = h.0.0 in
     grind (arith, nat_tests)
 
 -- the digits before the point

@@ -9,14 +9,15 @@ use Rattle.std.proofs.lemmas.Str.Parse.{parse_digits}
 use Rattle.std.proofs.Math.Nat.{mul-mod_left, mul-div_cancel, mod-add-div'}
 use Rattle.std.proofs.Math.IntN.{pos-*ℤ-pos, negsuc-*ℤ-pos}
 use Rattle.std.specs.Str.Parse.{digits_value, ParsesUnsigned}
-use Rattle.jsonpath_parser.specs.Lexical.{is_digit, IsRun}
+use Rattle.std.specs.Char.{is_ascii_digit}
+use Rattle.jsonpath_parser.specs.Lexical.{IsRun}
 use Rattle.jsonpath_parser.specs.Numbers.{Exponent, up, down, signed, IsWhole, IsLong, IsValue}
-use Rattle.jsonpath_parser.specs.ReadingNumbers.{long_of, value_of, IsUnheld}
+use Rattle.jsonpath_parser.specs.inner.ReadingNumbers.{long_of, value_of, IsUnheld}
 use Rattle.jsonpath_parser.proofs.Ints.{numeral}
 use Rattle.jsonpath_parser.proofs.NumberPowers.{cancel, positive, unheld_scaled}
 
 -- digits that `parse` refuses are too large
-pub parse_past : {E : Type 0} (digits : List ℕ) (r : Result ℕ E) (e : E) → IsRun is_digit digits → ParsesUnsigned 64 10 digits r → r ≡ Err e → (length digits == 0) ≡ false → 2 ^ 64 ≤ digits_value 10 digits
+pub parse_past : {E : Type 0} (digits : List ℕ) (r : Result ℕ E) (e : E) → IsRun is_ascii_digit digits → ParsesUnsigned 64 10 digits r → r ≡ Err e → (length digits == 0) ≡ false → 2 ^ 64 ≤ digits_value 10 digits
 parse_past digits r e run h is some =
     let refused = rw is at (parse_digits numeral 64 digits r h run) in
     elim (cases_lt (digits_value 10 digits) (2 ^ 64)) [

@@ -3,9 +3,9 @@ use Rattle.std.proofs.Common.{◌≡◌, ℕ, suc, ◌<◌, ◌≤◌, ◌==◌,
 use Rattle.std.proofs.lemmas.Option.{cond_some}
 use Rattle.jsonpath_parser.specs.Grammar.{Spells, SpellsArgument, SpellsSegments, SpellsSegment, SpellsSelector, SpellsSelectors, SpellsLogical, SpellsConjunction, SpellsOperand, SpellsBasic, SpellsComparison, SpellsComparable, SpellsLiteral, SpellsTest, SpellsCall, SpellsShorthand, Between}
 use Rattle.jsonpath_parser.specs.Parts.{Spelling, SpellsRelative, SpellsChild, SpellsSliceParts, SpellsSteps, SpellsSingular, always}
-use Rattle.jsonpath_parser.specs.Reading.{Read, first, skip_blank}
-use Rattle.jsonpath_parser.specs.ReadingGrammar.{number_reading, is_int_first, filter_of, comparable_of, steps_of, numbered_at, shorthand_at, selection_at, descendant_at, argument_at}
-use Rattle.jsonpath_parser.specs.ReadingParts.{taken_at, inner_at, operand_in, basic_in, conjunction_in, logical_in, segments_in, segment_in, selector_in, child_in, literal_in, test_in, call_in, relative_in, query_in, singular_of, singular_in, atom_of, atom_in, comparison_of, comparison_in, slice_in}
+use Rattle.jsonpath_parser.specs.inner.Reading.{Read, first, skip_blank}
+use Rattle.jsonpath_parser.specs.inner.ReadingGrammar.{number_reading, is_int_first, filter_of, comparable_of, steps_of, numbered_at, shorthand_at, selection_at, descendant_at, argument_at}
+use Rattle.jsonpath_parser.specs.inner.ReadingParts.{taken_at, inner_at, operand_in, basic_in, conjunction_in, logical_in, segments_in, segment_in, selector_in, child_in, literal_in, test_in, call_in, relative_in, query_in, singular_of, singular_in, atom_of, atom_in, comparison_of_atom, comparison_in, slice_in}
 use Rattle.jsonpath_parser.specs.Syntax.{Literal, SingularStep, SingularQuery, Selector, name, wildcard, index, slice, filter, Segment, one, several, descendant, Segments, Filter, or, and, atom, Atom, group, test, comparison, Comparison, Comparable, literal, function, singular, Test, relative, absolute, call, Call, Argument, literal_argument, test_argument, filter_argument, Query}
 use Rattle.jsonpath_parser.specs.Typing.{is_typed, is_typed_segment, is_typed_selector, is_typed_filter, is_typed_atom, is_typed_comparison, is_typed_comparable, is_typed_truth, is_typed_call}
 use Rattle.jsonpath_parser.specs.declared.grammar.literals.Numbers.{Numbers}
@@ -213,7 +213,7 @@ atom_made x = rw (filter_back (atom x)) refl
 pub atom_law : Law SpellsBasic is_typed_atom (λ numbers text. taken_at atom_in is_typed_atom (basic_in numbers text))
 atom_law = taken_law SpellsBasicArgument SpellsBasic atom_in is_typed_atom basic_in basic_front atom_is (λ numbers x text h. (as_argument (atom x), basic_back numbers x text h, atom_made x)) (basic_wider IsValued IsAny any_value)
 
-comparison_side : (numbers : Numbers) (x : Atom) (c : Comparison) (a : List ℕ) → SpellsBasic (as_read numbers) x a → comparison_of x ≡ Some c → SpellsComparison (as_read numbers) c a
+comparison_side : (numbers : Numbers) (x : Atom) (c : Comparison) (a : List ℕ) → SpellsBasic (as_read numbers) x a → comparison_of_atom x ≡ Some c → SpellsComparison (as_read numbers) c a
 comparison_side numbers (group negated f) c a h e = absurd (cc)
 comparison_side numbers (test negated t) c a h e = absurd (cc)
 comparison_side numbers (comparison d) c a h e = same_tree SpellsComparison numbers d c a h e

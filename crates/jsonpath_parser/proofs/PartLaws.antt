@@ -5,14 +5,14 @@ use Rattle.std.proofs.lemmas.Str.{IsCharBoundary-from_drop}
 use Rattle.std.specs.Borrow.{Bor}
 use Rattle.std.specs.Str.{IsUtf8, IsCharBoundary}
 use Rattle.jsonpath_parser.specs.Parts.{text_of, rest_of, Spelling, IsPartRefusal, ReadsPart}
-use Rattle.jsonpath_parser.specs.Reading.{Read, Gives, Reads}
-use Rattle.jsonpath_parser.specs.ReadingParts.{IsPartsRefusal, taken_at, Takes, StaysInText, IsAnswer}
+use Rattle.jsonpath_parser.specs.inner.Reading.{Read, Gives, Reads}
+use Rattle.jsonpath_parser.specs.inner.ReadingParts.{IsCursorRefusal, taken_at, Takes, StaysInText, IsAnswer}
 use Rattle.jsonpath_parser.specs.Values.{IsValued, IsAny}
 use Rattle.jsonpath_parser.specs.declared.errors.JsonPathError.{JsonPathError}
 use Rattle.jsonpath_parser.specs.declared.errors.JsonPathError.TheVariants as error
 use Rattle.jsonpath_parser.specs.declared.grammar.literals.Numbers.{Numbers}
 use Rattle.jsonpath_parser.specs.declared.grammar.literals.Numbers.TheVariants.{Valued, Any}
-use Rattle.jsonpath_parser.specs.declared.parts.Cursor.{Cursor}
+use Rattle.jsonpath_parser.specs.declared.cursor.Cursor.{Cursor}
 use Rattle.jsonpath_parser.specs.declared.stop.Stop.{Stop}
 use Rattle.jsonpath_parser.specs.declared.stop.Stop.TheVariants.{Memory}
 
@@ -93,7 +93,7 @@ any_read spells typed view reading law text (Err stop) e all = absurd all
 -- a refusal is one of the text's
 pub part_refused : {T V : Type 0} {spells : Spelling V} {typed : V → Bool} {view : T → V} {reading : Numbers → List ℕ → Read V} → Law spells typed reading
     → (c : Cursor) (stop : Stop) (again : Result (T × Bor (List ℕ)) Stop) (e : JsonPathError) → ((stop ≡ Memory → ⊥) → reading Valued (rest_of c) ≡ None)
-    → Reads view again (reading Any (rest_of c)) → IsPartsRefusal c stop again e → ReadsPart spells typed view c c (Err e)
+    → Reads view again (reading Any (rest_of c)) → IsCursorRefusal c stop again e → ReadsPart spells typed view c c (Err e)
 part_refused {T} {V} {spells} {typed} {view} {reading} law c stop again e none any is = record {
   read = tt;
   whole = λ v h k. only e is v h k;
@@ -102,13 +102,13 @@ part_refused {T} {V} {spells} {typed} {view} {reading} law c stop again e none a
   same = refl;
 }
   where
-    only : (e : JsonPathError) → IsPartsRefusal c stop again e → (v : V) → spells IsValued v (rest_of c) → typed v ≡ true → e ≡ error.OutOfMemory
+    only : (e : JsonPathError) → IsCursorRefusal c stop again e → (v : V) → spells IsValued v (rest_of c) → typed v ≡ true → e ≡ error.OutOfMemory
     only error.OutOfMemory is v h k = refl
     only (error.PestError place) is v h k = absurd (whole_refused spells typed view reading law (rest_of c) stop none is.1 v h k)
     only (error.InvalidNumber literal) is v h k = absurd (whole_refused spells typed view reading law (rest_of c) stop none is.0 v h k)
     only _ is v h k = absurd is
 
-    refusals : (e : JsonPathError) → IsPartsRefusal c stop again e → IsPartRefusal spells typed c e
+    refusals : (e : JsonPathError) → IsCursorRefusal c stop again e → IsPartRefusal spells typed c e
     refusals error.OutOfMemory is = tt
     refusals (error.PestError place) is = (is.0, any_refused spells typed view reading law (rest_of c) again any is.2)
     refusals (error.InvalidNumber literal) is = (is.1, any_read spells typed view reading law (rest_of c) again any is.2)
@@ -192,7 +192,7 @@ module _ {X T : Type 0} {reads : Numbers → Result (X × Bor (List ℕ)) Stop �
   stays_behind c stays first h t rest k = stays.ends (Ok (t, rest)) (taken_from reads takes checks Valued first h (Ok (t, rest)) k)
 
   pub refused_answer : (c : Cursor) (first second : Result (X × Bor (List ℕ)) Stop) (stop : Stop) (again : Result (T × Bor (List ℕ)) Stop) (e : JsonPathError) → reads Valued first → reads Any second
-      → Takes (λ n r. r ≡ first) takes checks Valued (Err stop) → Takes (λ n r. r ≡ second) takes checks Valued again → IsPartsRefusal c stop again e → IsAnswer reads takes checks c c (Err e)
+      → Takes (λ n r. r ≡ first) takes checks Valued (Err stop) → Takes (λ n r. r ≡ second) takes checks Valued again → IsCursorRefusal c stop again e → IsAnswer reads takes checks c c (Err e)
   refused_answer c first second stop again e h k stopped read is = record {
     tree = tt;
     refusal = (stop, taken_from reads takes checks Valued first h (Err stop) stopped, (again, taken_from reads takes checks Any second k again read, is));

@@ -1,9 +1,10 @@
 -- A slice and a selector that the whole text is: also the blanks at its end are read.
+use Rattle.std.specs.Char.{is_ascii_digit}
 use Rattle.std.proofs.Common.{◌≡◌, ℕ, ◌<◌, ◌≤◌, true, ℤ, List, [], ◌∷◌, ◌++◌, length, Option, Some, None, refl, ap, ◌∙◌, inl, inr, append_assoc, append-nil, length-append, arith}
 use Rattle.jsonpath_parser.specs.Grammar.{SpellsBound, SpellsStep, SpellsSlice, SpellsSelector, SpellsArgument}
-use Rattle.jsonpath_parser.specs.Lexical.{is_digit, IsBlank}
-use Rattle.jsonpath_parser.specs.Reading.{Read, first, skip_blank}
-use Rattle.jsonpath_parser.specs.ReadingGrammar.{is_int_first, slice_at, numbered_at, selector_at}
+use Rattle.jsonpath_parser.specs.Lexical.{IsBlank}
+use Rattle.jsonpath_parser.specs.inner.Reading.{Read, first, skip_blank}
+use Rattle.jsonpath_parser.specs.inner.ReadingGrammar.{is_int_first, slice_at, numbered_at, selector_at}
 use Rattle.jsonpath_parser.specs.Syntax.{Selector, name, wildcard, index, slice, filter, Argument}
 use Rattle.jsonpath_parser.proofs.CompleteParts.{EndsLogical, front_other, int_start, int_over}
 use Rattle.jsonpath_parser.proofs.CompleteSegments.{complete_logical, selector_string, selector_numbered, selector_filter, selector_star}
@@ -36,7 +37,7 @@ slice_rest (Some i) end step a h =
     let behind : List ℕ = b ++ (c ++ (d ++ [])) in
     let text : a ++ [] ≡ x ++ (y ++ 58 ∷ behind) = rw e (pieces s b c d [] ∙ rw es (append_assoc x y (58 ∷ behind))) in
     let start = int_start i x (y ++ 58 ∷ behind) hx.0 in
-    let number = int_over i x (y ++ 58 ∷ behind) hx.0 hx.1 (front_other is_digit y (58 ∷ behind) hy blank_digit refl) in
+    let number = int_over i x (y ++ 58 ∷ behind) hx.0 hx.1 (front_other is_ascii_digit y (58 ∷ behind) hy blank_digit refl) in
     rw text (numbered_slice (x ++ (y ++ 58 ∷ behind)) behind (y ++ 58 ∷ behind) i (int_other (first (x ++ (y ++ 58 ∷ behind))) start).1 number (skip_over y (58 ∷ behind) hy refl) ∙ slice_end (Some i) end step b c d hb hc hd)
 
 -- a slice that the whole text is

@@ -7,7 +7,8 @@ use Rattle.std.proofs.lemmas.List.Sums.{prefix_len-le-length, prefix_len_passes,
 use Rattle.std.proofs.lemmas.Str.{IsCharBoundary-start, IsCharBoundary-end, IsCharBoundary-before_ascii, IsCharBoundary-after_ascii}
 use Rattle.std.specs.List.{prefix_len}
 use Rattle.std.specs.Str.{IsCharBoundary}
-use Rattle.jsonpath_parser.specs.Lexical.{is_blank, is_digit, is_name_byte, is_function_byte}
+use Rattle.std.specs.Char.{is_ascii_digit}
+use Rattle.jsonpath_parser.specs.Lexical.{is_blank, is_name_byte, is_function_byte}
 
 -- a byte that is not 0 was read inside the text
 pub within_from_byte : (xs : List ℕ) (i : ℕ) → 0 < get_or xs i 0 → i < length xs
@@ -40,8 +41,8 @@ pub name_boundary : (bs : List ℕ) → IsUtf8 bs → IsCharBoundary bs (prefix_
 name_boundary bs utf8 = wide_boundary is_name_byte bs (λ c e. grind (arith, nat_tests))
 
 -- and digits
-pub digit_boundary : (bs : List ℕ) → IsUtf8 bs → IsCharBoundary bs (prefix_len is_digit bs)
-digit_boundary bs utf8 = ascii_boundary is_digit bs utf8 (λ c e. grind (arith, nat_tests))
+pub digit_boundary : (bs : List ℕ) → IsUtf8 bs → IsCharBoundary bs (prefix_len is_ascii_digit bs)
+digit_boundary bs utf8 = ascii_boundary is_ascii_digit bs utf8 (λ c e. grind (arith, nat_tests))
 
 -- and the name of a function
 pub function_boundary : (bs : List ℕ) → IsUtf8 bs → IsCharBoundary bs (prefix_len is_function_byte bs)

@@ -3,12 +3,11 @@
 -- What an argument of a call reads is taken as a premise, so no law is mutual.
 use Rattle.std.proofs.Common.{◌≡◌, ℕ, zero, suc, ◌<◌, Bool, true, false, ◌==◌, bytes_eq, ℤ, List, [], ◌∷◌, ◌++◌, length, drop, codes, Option, Some, option_map, refl, sym, ap, ◌∙◌, subst, inl, inr, append_assoc, append-nil, arith}
 use Rattle.std.proofs.lemmas.Bool.{and_parts}
-use Rattle.jsonpath_parser.specs.Depth.{is_quote}
 use Rattle.jsonpath_parser.specs.Grammar.{Between, Behind, Then, IsNothing, IsNoBareTest, SpellsNot, SpellsCalled, SpellsLiteral, SpellsConjunction, SpellsOperand, SpellsMoreOr, SpellsMoreAnd, SpellsComparable, SpellsTest, SpellsCall, SpellsArgument, SpellsArguments, SpellsMoreArguments}
-use Rattle.jsonpath_parser.specs.Lexical.{IsBlank, IsFunctionName}
-use Rattle.jsonpath_parser.specs.Reading.{Read, first, after_byte, skip_blank}
-use Rattle.jsonpath_parser.specs.ReadingGrammar.{push_filter, push_argument, steps_of, comparable_of, filter_of, negated_of, is_int_first, word_at, word_literal, is_operator_first, operator_at, is_twice, logical_at, all_segments_at, arguments_at, all_arguments_at, called_at, word_operand_at, operand_at, group_at, negated_at, compared_at, plain_at, basic_at, ands_at, conjunction_at, ors_at, disjunction_at}
-use Rattle.jsonpath_parser.specs.ReadingStrings.{string_at}
+use Rattle.jsonpath_parser.specs.Lexical.{IsBlank, IsFunctionName, is_quote}
+use Rattle.jsonpath_parser.specs.inner.Reading.{Read, first, after_byte, skip_blank}
+use Rattle.jsonpath_parser.specs.inner.ReadingGrammar.{push_filter, push_argument, steps_of, comparable_of, filter_of, negated_of, is_int_first, word_at, word_literal, is_operator_first, operator_at, is_twice, logical_at, all_segments_at, arguments_at, all_arguments_at, called_at, word_operand_at, operand_at, group_at, negated_at, compared_at, plain_at, basic_at, ands_at, conjunction_at, ors_at, disjunction_at}
+use Rattle.jsonpath_parser.specs.inner.ReadingStrings.{string_at}
 use Rattle.jsonpath_parser.specs.Syntax.{number, string, current, root, Filter, or, and, atom, Filters, no_filters, filter_then, group, test, comparison, compare, Comparable, literal, function, singular, relative, absolute, call, Call, custom_call, length_call, value_call, count_call, search_call, match_call, Argument, literal_argument, test_argument, filter_argument, Arguments, no_arguments, argument}
 use Rattle.jsonpath_parser.specs.Typing.{one_argument, two_arguments, call_of, is_table_name}
 use Rattle.jsonpath_parser.proofs.Fronts.{skip_split}

@@ -5,13 +5,13 @@ use Rattle.std.proofs.lemmas.Bool.{cases_eq}
 use Rattle.std.proofs.lemmas.Int.{ints}
 use Rattle.std.proofs.lemmas.Option.{cond_some}
 use Rattle.std.proofs.lemmas.Slice.Eq.{bytes_eq-Decides}
-use Rattle.std.specs.Char.{digit_value}
+use Rattle.std.specs.Char.{digit_value, is_ascii_digit}
 use Rattle.std.specs.List.{prefix_len}
 use Rattle.std.specs.Str.Parse.{digits_value, digits_value_after}
 use Rattle.jsonpath_parser.specs.Grammar.{SpellsInt, IsInRange, SpellsIndex, SpellsBound, SpellsStep, SpellsShorthand, SpellsOperator, SpellsLiteral, SpellsSelector}
-use Rattle.jsonpath_parser.specs.Lexical.{is_digit, is_name_first, is_name_byte, is_function_first, is_function_byte, IsRun, IsName, IsFunctionName}
-use Rattle.jsonpath_parser.specs.Reading.{first, after_byte, skip_blank, split_while, is_magnitude, magnitude_at, int_at, name_at}
-use Rattle.jsonpath_parser.specs.ReadingGrammar.{is_int_first, end_at, step_at, slice_at, numbered_at, shorthand_at, word_at, word_literal, operator_at}
+use Rattle.jsonpath_parser.specs.Lexical.{is_name_first, is_name_byte, is_function_first, is_function_byte, IsRun, IsName, IsFunctionName}
+use Rattle.jsonpath_parser.specs.inner.Reading.{first, after_byte, skip_blank, split_while, is_magnitude, magnitude_at, int_at, name_at}
+use Rattle.jsonpath_parser.specs.inner.ReadingGrammar.{is_int_first, end_at, step_at, slice_at, numbered_at, shorthand_at, word_at, word_literal, operator_at}
 use Rattle.jsonpath_parser.specs.Syntax.{Literal, bool, null, Operator, equal, not_equal, greater, greater_or_equal, less, less_or_equal, Selector, name, wildcard, index, slice}
 use Rattle.jsonpath_parser.proofs.Fronts.{run_holds, skip_split}
 use Rattle.jsonpath_parser.proofs.Ints.{magnitude_tells}
@@ -86,16 +86,16 @@ digits_value_after-ge m [] = le_refl m
 digits_value_after-ge m (c ∷ s) = omega (arith, digits_value_after-ge (m * 10 + digit_value c) s)
 
 -- a digit other than 0
-some_digit : (d : ℕ) → is_digit d ≡ true → (d ≡ 48 → ⊥) → (49 ≤ d) × (1 ≤ digit_value d)
+some_digit : (d : ℕ) → is_ascii_digit d ≡ true → (d ≡ 48 → ⊥) → (49 ≤ d) × (1 ≤ digit_value d)
 some_digit d h other = (grind (arith, nat_tests), grind (arith, nat_tests))
 
 -- digits of a number above 0
-some_pos : (n : ℕ) (a : List ℕ) → IsRun is_digit a → 49 ≤ first a → n ≡ digits_value 10 a → 0 < digits_value 10 a → SpellsInt (pos n) a
+some_pos : (n : ℕ) (a : List ℕ) → IsRun is_ascii_digit a → 49 ≤ first a → n ≡ digits_value 10 a → 0 < digits_value 10 a → SpellsInt (pos n) a
 some_pos zero a run high value some = absurd (omega arith)
 some_pos (suc n) a run high value some = (run, high, value)
 
 -- digits of a number from 0 on
-int_pos : (n : ℕ) (a : List ℕ) → IsRun is_digit a → is_magnitude a ≡ true → n ≡ digits_value 10 a → SpellsInt (pos n) a
+int_pos : (n : ℕ) (a : List ℕ) → IsRun is_ascii_digit a → is_magnitude a ≡ true → n ≡ digits_value 10 a → SpellsInt (pos n) a
 int_pos n [] run h value = absurd (omega (arith, (magnitude_tells [] h).0))
 int_pos n (d ∷ s) run h value = elim (cases_eq d 48) [
   | inl lead ↦ (let short = (magnitude_tells (d ∷ s) h).2 lead in alone n d s lead (omega arith) value)
@@ -110,11 +110,11 @@ int_pos n (d ∷ s) run h value = elim (cases_eq d 48) [
 magnitude_sound : (text rest : List ℕ) (n : ℕ) → magnitude_at text ≡ Some (n, rest) → (a : List ℕ) × SpellsInt (pos n) a × (n ≤ 9007199254740991) × (text ≡ a ++ rest)
 unfolding magnitude_at
 magnitude_sound text rest n e =
-    let digits : List ℕ = take (prefix_len is_digit text) text in
-    let (test, parts) = cond_some (is_magnitude digits) (digits_value 10 digits, drop (prefix_len is_digit text) text) (n, rest) e in
-    let run = run_holds is_digit text in
+    let digits : List ℕ = take (prefix_len is_ascii_digit text) text in
+    let (test, parts) = cond_some (is_magnitude digits) (digits_value 10 digits, drop (prefix_len is_ascii_digit text) text) (n, rest) e in
+    let run = run_holds is_ascii_digit text in
     let value : digits_value 10 digits ≡ n = ap (λ (q : ℕ × List ℕ). q.0) parts in
-    let after : drop (prefix_len is_digit text) text ≡ rest = ap (λ (q : ℕ × List ℕ). q.1) parts in
+    let after : drop (prefix_len is_ascii_digit text) text ≡ rest = ap (λ (q : ℕ × List ℕ). q.1) parts in
     let facts = magnitude_tells digits test in
     (digits, int_pos n digits run.0 test (sym value), omega (arith, facts.1), run.1 ∙ ap (λ v. digits ++ v) after)
 

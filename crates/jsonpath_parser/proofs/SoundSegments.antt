@@ -2,12 +2,11 @@
 --
 -- What an argument of a call reads is taken as a premise, so no law is mutual.
 use Rattle.std.proofs.Common.{◌≡◌, ℕ, zero, suc, false, ◌==◌, ℤ, List, [], ◌∷◌, ◌++◌, length, drop, slice_index, codes, Option, Some, refl, sym, ap, ◌∙◌, subst, ◌⊎◌, inl, inr, append_assoc, append-nil, arith}
-use Rattle.jsonpath_parser.specs.Depth.{is_quote}
 use Rattle.jsonpath_parser.specs.Grammar.{Between, IsSeveral, SpellsSelector, SpellsSelectors, SpellsMoreSelectors, SpellsShorthand, SpellsSegment, SpellsSegments, SpellsLogical, SpellsArgument, SpellsSingularStep, SpellsSingularSteps}
-use Rattle.jsonpath_parser.specs.Lexical.{IsBlank}
-use Rattle.jsonpath_parser.specs.Reading.{Read, first, after_byte, skip_blank}
-use Rattle.jsonpath_parser.specs.ReadingGrammar.{push_segment, push_selector, selection_of, step_of, steps_of, filter_of, shorthand_at, starts_segment, logical_at, selector_at, selectors_at, selection_at, descendant_at, segment_at, segments_at, all_segments_at}
-use Rattle.jsonpath_parser.specs.ReadingStrings.{string_at}
+use Rattle.jsonpath_parser.specs.Lexical.{IsBlank, is_quote}
+use Rattle.jsonpath_parser.specs.inner.Reading.{Read, first, after_byte, skip_blank}
+use Rattle.jsonpath_parser.specs.inner.ReadingGrammar.{push_segment, push_selector, selection_of, step_of_segment, steps_of, filter_of, shorthand_at, starts_segment, logical_at, selector_at, selectors_at, selection_at, descendant_at, segment_at, segments_at, all_segments_at}
+use Rattle.jsonpath_parser.specs.inner.ReadingStrings.{string_at}
 use Rattle.jsonpath_parser.specs.Syntax.{SingularStep, name_step, index_step, Selector, name, wildcard, index, slice, filter, Selectors, no_selectors, selector, Segment, one, several, descendant, Segments, no_segments, segment, Filter, atom, test, Argument, literal_argument, test_argument, filter_argument}
 use Rattle.jsonpath_parser.proofs.Fronts.{skip_split}
 use Rattle.jsonpath_parser.proofs.Joins.{join_segments, segments_push, segments_none, join_selectors, selectors_push, selectors_push_end}
@@ -52,7 +51,7 @@ module _ (Number : Option ℤ → List ℕ → Type 0) where
   selection_descendant (descendant g) a h = absurd h
 
   -- a segment that is a step
-  step_spelled : (g : Segment) (s : SingularStep) (a : List ℕ) → step_of g ≡ Some s → SpellsSegment Number g a → SpellsSingularStep s a
+  step_spelled : (g : Segment) (s : SingularStep) (a : List ℕ) → step_of_segment g ≡ Some s → SpellsSegment Number g a → SpellsSingularStep s a
   step_spelled (one (name n)) s a e h = let k : name_step n ≡ s = cc in subst (λ v. SpellsSingularStep v a) k (named h)
     where
       named : Between (codes "[") (SpellsSelector Number (name n)) (codes "]") a ⊎ ((b : List ℕ) × SpellsShorthand (name n) b × (a ≡ 46 ∷ b)) → SpellsSingularStep (name_step n) a
@@ -73,7 +72,7 @@ module _ (Number : Option ℤ → List ℕ → Type 0) where
   pub steps_spelled : (gs : Segments) (ss : List SingularStep) (a : List ℕ) → steps_of gs ≡ Some ss → SpellsSegments Number gs a → SpellsSingularSteps ss a
   steps_spelled no_segments ss a e h = let k : ◌≡◌ {A = List SingularStep} [] ss = cc in subst (λ v. SpellsSingularSteps v a) k h
   steps_spelled (segment g gs) ss a e h =
-      let (s, is, e1) = bind_ok _ (step_of g) ss e in
+      let (s, is, e1) = bind_ok _ (step_of_segment g) ss e in
       let (more, are, e2) = bind_ok _ (steps_of gs) ss e1 in
       let (b, x, c, hb, hx, hc, ea) = h in
       let k : s ∷ more ≡ ss = cc in

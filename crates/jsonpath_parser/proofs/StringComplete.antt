@@ -5,10 +5,9 @@ use Rattle.std.proofs.lemmas.Str.Ascii.{encode_ascii}
 use Rattle.std.specs.Char.{encode_utf8}
 use Rattle.std.specs.List.{concat}
 use Rattle.std.specs.Str.Parse.{digits_value}
-use Rattle.jsonpath_parser.specs.Depth.{is_quote}
-use Rattle.jsonpath_parser.specs.Lexical.{IsRun}
-use Rattle.jsonpath_parser.specs.Reading.{first}
-use Rattle.jsonpath_parser.specs.ReadingStrings.{code_value, low_at, unicode_at, escape_at, char_at, chars_at, string_at}
+use Rattle.jsonpath_parser.specs.Lexical.{IsRun, is_quote}
+use Rattle.jsonpath_parser.specs.inner.Reading.{first}
+use Rattle.jsonpath_parser.specs.inner.ReadingStrings.{code_value, low_at, unicode_at, escape_at, char_at, chars_at, string_at}
 use Rattle.jsonpath_parser.specs.Strings.{escaped, is_hex_digit, is_high_surrogate, is_low_surrogate, pair_code, SpellsChar, SpellsChars, SpellsString}
 use Rattle.jsonpath_parser.proofs.StringTurns.{char_plain, char_escape, chars_end, chars_more}
 

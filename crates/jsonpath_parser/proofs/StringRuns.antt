@@ -3,7 +3,7 @@ use Rattle.std.proofs.Common.{◌≡◌, ℕ, ◌<◌, true, false, List, arith}
 use Rattle.std.proofs.lemmas.Bool.Decides.{nat_tests}
 use Rattle.std.specs.List.{prefix_len}
 use Rattle.std.specs.Str.{IsCharBoundary}
-use Rattle.jsonpath_parser.specs.Depth.{is_quote}
+use Rattle.jsonpath_parser.specs.Lexical.{is_quote}
 use Rattle.jsonpath_parser.specs.Strings.{is_plain}
 use Rattle.jsonpath_parser.proofs.Runs.{wide_boundary}
 

@@ -7,10 +7,9 @@ use Rattle.std.proofs.lemmas.Str.Ascii.{encode_ascii}
 use Rattle.std.specs.Char.{encode_utf8}
 use Rattle.std.specs.List.{concat}
 use Rattle.std.specs.Str.Parse.{digits_value}
-use Rattle.jsonpath_parser.specs.Depth.{is_quote}
-use Rattle.jsonpath_parser.specs.Lexical.{IsRun}
-use Rattle.jsonpath_parser.specs.Reading.{first}
-use Rattle.jsonpath_parser.specs.ReadingStrings.{code_value, low_at, unicode_at, escape_at, char_at, chars_at, string_at}
+use Rattle.jsonpath_parser.specs.Lexical.{IsRun, is_quote}
+use Rattle.jsonpath_parser.specs.inner.Reading.{first}
+use Rattle.jsonpath_parser.specs.inner.ReadingStrings.{code_value, low_at, unicode_at, escape_at, char_at, chars_at, string_at}
 use Rattle.jsonpath_parser.specs.Strings.{is_plain, escaped, is_hex_digit, is_high_surrogate, is_low_surrogate, pair_code, SpellsCode, SpellsScalar, SpellsPair, SpellsChar, SpellsChars, SpellsString}
 
 -- four digits at the front

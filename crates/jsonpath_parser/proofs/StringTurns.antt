@@ -4,9 +4,9 @@ use Rattle.std.proofs.lemmas.Bool.{cases_Bool}
 use Rattle.std.proofs.lemmas.Bool.Decides.{nat_tests}
 use Rattle.std.specs.Char.{encode_utf8}
 use Rattle.std.specs.List.{prefix_len}
-use Rattle.jsonpath_parser.specs.Depth.{is_quote}
-use Rattle.jsonpath_parser.specs.Reading.{first, split_while}
-use Rattle.jsonpath_parser.specs.ReadingStrings.{escape_at, char_at, chars_at}
+use Rattle.jsonpath_parser.specs.Lexical.{is_quote}
+use Rattle.jsonpath_parser.specs.inner.Reading.{first, split_while}
+use Rattle.jsonpath_parser.specs.inner.ReadingStrings.{escape_at, char_at, chars_at}
 use Rattle.jsonpath_parser.specs.Strings.{is_plain}
 
 -- the loop has read what was found, and goes on at the rest

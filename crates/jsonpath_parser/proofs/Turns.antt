@@ -1,7 +1,7 @@
 -- The loops of the reading functions, a turn at a time.
 use Rattle.std.proofs.Common.{◌≡◌, ℕ, zero, suc, ◌-◌, ◌<◌, ℤ, true, false, ◌==◌, List, [], ◌∷◌, ◌++◌, length, drop, map, Vec, Global, Option, Some, None, Result, Ok, Err, IsErrAnd, refl, ap, ◌∙◌, arith}
-use Rattle.jsonpath_parser.specs.Reading.{Read, Gives, first, skip_blank}
-use Rattle.jsonpath_parser.specs.ReadingGrammar.{push_segment, push_selector, push_filter, push_argument, selection_of, filter_of, starts_segment, is_twice, selector_at, selectors_at, segment_at, segments_at, arguments_at, basic_at, ands_at, conjunction_at, ors_at, disjunction_at, argument_at}
+use Rattle.jsonpath_parser.specs.inner.Reading.{Read, Gives, first, skip_blank}
+use Rattle.jsonpath_parser.specs.inner.ReadingGrammar.{push_segment, push_selector, push_filter, push_argument, selection_of, filter_of, starts_segment, is_twice, selector_at, selectors_at, segment_at, segments_at, arguments_at, basic_at, ands_at, conjunction_at, ors_at, disjunction_at, argument_at}
 use Rattle.jsonpath_parser.specs.Syntax as tree
 use Rattle.jsonpath_parser.specs.Syntax.{Selector, Selectors, Segment, Segments, Filter, Filters, Argument, Arguments}
 use Rattle.jsonpath_parser.specs.View.{segment_view, segments_of, selector_view, selectors_of, selectors_view, filter_view, filters_of, argument_view, arguments_of}

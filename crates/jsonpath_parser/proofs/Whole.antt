@@ -3,8 +3,8 @@ use Rattle.std.proofs.Common.{◌≡◌, ℕ, ◌≤◌, Bool, true, false, is_s
 use Rattle.jsonpath_parser.specs.Depth.{depth}
 use Rattle.jsonpath_parser.specs.Derives.{Derives, SpellsLoosely, IsRefusal}
 use Rattle.jsonpath_parser.specs.Grammar.{Spells}
-use Rattle.jsonpath_parser.specs.ReadingGrammar.{whole_query, number_reading}
-use Rattle.jsonpath_parser.specs.ReadingQuery.{typed_query, IsReadRefusal}
+use Rattle.jsonpath_parser.specs.inner.ReadingGrammar.{whole_query, number_reading}
+use Rattle.jsonpath_parser.specs.inner.ReadingQuery.{typed_query, IsReadRefusal}
 use Rattle.jsonpath_parser.specs.Syntax.{Query}
 use Rattle.jsonpath_parser.specs.Typing.{Typed, is_typed}
 use Rattle.jsonpath_parser.specs.Values.{IsValued, IsAny}

@@ -1,9 +1,6 @@
 -- How deep brackets nest in a text (a limit for readers, RFC 9535, 4.1).
 use Rattle.std.specs.Prelude.{ℕ, ◌+◌, ◌-◌, max, List, [], ◌∷◌, Bool, ◌||◌, ◌==◌, if◌then◌else◌}
-
--- `'` or `"`
-abbrev pub is_quote : ℕ → Bool
-is_quote b = b == 39 || b == 34
+use Rattle.jsonpath_parser.specs.Lexical.{is_quote}
 
 -- `(` or `[`
 abbrev pub opens : ℕ → Bool

@@ -3,20 +3,21 @@
 -- `Number v text` is how a number literal of the value v is written; all else stands here.
 use Rattle.std.specs.Prelude.{◌≡◌, ◌⊎◌, ℕ, zero, suc, ◌≤◌, ◌≤ℤ◌, ℤ, pos, negsuc, Bool, true, false, Option, Some, None, List, [], ◌∷◌, ◌++◌, slice_index, codes}
 use Rattle.std.specs.Str.Parse.{digits_value}
-use Rattle.jsonpath_parser.specs.Lexical.{is_digit, IsRun, IsBlank, IsName, IsFunctionName}
+use Rattle.std.specs.Char.{is_ascii_digit}
+use Rattle.jsonpath_parser.specs.Lexical.{IsRun, IsBlank, IsName, IsFunctionName}
 use Rattle.jsonpath_parser.specs.Strings.{SpellsString}
 use Rattle.jsonpath_parser.specs.Typing.{is_table_name}
 use Rattle.jsonpath_parser.specs.Syntax.{Literal, number, string, bool, null, SingularStep, name_step, index_step, SingularQuery, current, root, Operator, equal, not_equal, greater, greater_or_equal, less, less_or_equal, Selector, name, wildcard, index, slice, filter, Selectors, no_selectors, selector, Segment, one, several, descendant, Segments, no_segments, segment, Filter, or, and, atom, Filters, no_filters, filter_then, Atom, group, test, comparison, Comparison, compare, Comparable, literal, function, singular, Test, relative, absolute, call, Call, custom_call, length_call, value_call, count_call, search_call, match_call, Argument, literal_argument, test_argument, filter_argument, Arguments, no_arguments, argument, Query}
 
 -- a digit from 1 to 9, then digits (2.3.3.1)
 abbrev pub SpellsPositive : ℕ → List ℕ → Type 0
-SpellsPositive n text = IsRun is_digit text × (49 ≤ slice_index text 0) × (n ≡ digits_value 10 text)
+SpellsPositive n text = IsRun is_ascii_digit text × (49 ≤ slice_index text 0) × (n ≡ digits_value 10 text)
 
 -- `0`, or a positive number, perhaps behind `-` (`negsuc n` is -(n + 1))
 abbrev pub SpellsInt : ℤ → List ℕ → Type 0
-SpellsInt (pos zero) text = text ≡ 48 ∷ []
+SpellsInt (pos zero) text = text ≡ codes "0"
 SpellsInt (pos (suc n)) text = SpellsPositive (suc n) text
-SpellsInt (negsuc n) text = (digits : List ℕ) × SpellsPositive (suc n) digits × (text ≡ 45 ∷ digits)
+SpellsInt (negsuc n) text = (digits : List ℕ) × SpellsPositive (suc n) digits × (text ≡ codes "-" ++ digits)
 
 -- from -(2^53 - 1) to 2^53 - 1 (2.1)
 abbrev pub IsInRange : ℤ → Type 0
@@ -33,17 +34,17 @@ SpellsBound (Some i) text = (a b : List ℕ) × SpellsIndex i a × IsBlank b × 
 
 -- the step of a slice, behind `:`; without a step the `:` may be left out
 abbrev pub SpellsStep : Option ℤ → List ℕ → Type 0
-SpellsStep None text = (text ≡ []) ⊎ (text ≡ 58 ∷ [])
-SpellsStep (Some i) text = (b a : List ℕ) × IsBlank b × SpellsIndex i a × (text ≡ 58 ∷ (b ++ a))
+SpellsStep None text = (text ≡ []) ⊎ (text ≡ codes ":")
+SpellsStep (Some i) text = (b a : List ℕ) × IsBlank b × SpellsIndex i a × (text ≡ codes ":" ++ (b ++ a))
 
 -- start, `:`, end and step
 abbrev pub SpellsSlice : Option ℤ → Option ℤ → Option ℤ → List ℕ → Type 0
-SpellsSlice start end step text = (a b c d : List ℕ) × SpellsBound start a × IsBlank b × SpellsBound end c × SpellsStep step d × (text ≡ a ++ (58 ∷ (b ++ (c ++ d))))
+SpellsSlice start end step text = (a b c d : List ℕ) × SpellsBound start a × IsBlank b × SpellsBound end c × SpellsStep step d × (text ≡ a ++ (codes ":" ++ (b ++ (c ++ d))))
 
 -- a shorthand name or `*`, behind a dot or two (2.5.1.1, 2.5.2.1)
 abbrev pub SpellsShorthand : Selector → List ℕ → Type 0
 SpellsShorthand (name n) text = IsName n × (text ≡ n)
-SpellsShorthand wildcard text = text ≡ 42 ∷ []
+SpellsShorthand wildcard text = text ≡ codes "*"
 SpellsShorthand _ text = ⊥
 
 -- a text between two others, with blanks inside them
@@ -69,7 +70,7 @@ SpellsOperator greater text = text ≡ codes ">"
 
 -- a step of a singular query (2.3.5.1); blanks may stand inside the brackets
 abbrev pub SpellsSingularStep : SingularStep → List ℕ → Type 0
-SpellsSingularStep (name_step n) text = (IsName n × (text ≡ 46 ∷ n)) ⊎ Between (codes "[") (SpellsString n) (codes "]") text
+SpellsSingularStep (name_step n) text = (IsName n × (text ≡ codes "." ++ n)) ⊎ Between (codes "[") (SpellsString n) (codes "]") text
 SpellsSingularStep (index_step i) text = Between (codes "[") (SpellsIndex i) (codes "]") text
 
 abbrev pub SpellsSingularSteps : List SingularStep → List ℕ → Type 0
@@ -77,12 +78,12 @@ SpellsSingularSteps [] text = text ≡ []
 SpellsSingularSteps (s ∷ ss) text = (b a c : List ℕ) × IsBlank b × SpellsSingularStep s a × SpellsSingularSteps ss c × (text ≡ b ++ (a ++ c))
 
 abbrev pub SpellsSingularQuery : SingularQuery → List ℕ → Type 0
-SpellsSingularQuery (current ss) text = (a : List ℕ) × SpellsSingularSteps ss a × (text ≡ 64 ∷ a)
-SpellsSingularQuery (root ss) text = (a : List ℕ) × SpellsSingularSteps ss a × (text ≡ 36 ∷ a)
+SpellsSingularQuery (current ss) text = (a : List ℕ) × SpellsSingularSteps ss a × (text ≡ codes "@" ++ a)
+SpellsSingularQuery (root ss) text = (a : List ℕ) × SpellsSingularSteps ss a × (text ≡ codes "$" ++ a)
 
 -- `!` and blanks, where it is negated
 abbrev pub SpellsNot : Bool → List ℕ → Type 0
-SpellsNot true text = (b : List ℕ) × IsBlank b × (text ≡ 33 ∷ b)
+SpellsNot true text = (b : List ℕ) × IsBlank b × (text ≡ codes "!" ++ b)
 SpellsNot false text = text ≡ []
 
 -- the name of a call and what stands in its parentheses (2.4)
@@ -124,10 +125,10 @@ module _ (Number : Option ℤ → List ℕ → Type 0) where
     -- 2.3
     pub SpellsSelector : Selector → List ℕ → Type 0
     SpellsSelector (name n) text = SpellsString n text
-    SpellsSelector wildcard text = text ≡ 42 ∷ []
+    SpellsSelector wildcard text = text ≡ codes "*"
     SpellsSelector (index i) text = SpellsIndex i text
     SpellsSelector (slice start end step) text = SpellsSlice start end step text
-    SpellsSelector (filter f) text = (b a : List ℕ) × IsBlank b × SpellsLogical f a × (text ≡ 63 ∷ (b ++ a))
+    SpellsSelector (filter f) text = (b a : List ℕ) × IsBlank b × SpellsLogical f a × (text ≡ codes "?" ++ (b ++ a))
 
     -- a selector, then others, each behind a comma
     pub SpellsSelectors : Selectors → List ℕ → Type 0
@@ -140,10 +141,10 @@ module _ (Number : Option ℤ → List ℕ → Type 0) where
 
     -- 2.5; `..` is followed by what a segment spells behind its dot, or by brackets
     pub SpellsSegment : Segment → List ℕ → Type 0
-    SpellsSegment (one s) text = Between (codes "[") (SpellsSelector s) (codes "]") text ⊎ ((a : List ℕ) × SpellsShorthand s a × (text ≡ 46 ∷ a))
+    SpellsSegment (one s) text = Between (codes "[") (SpellsSelector s) (codes "]") text ⊎ ((a : List ℕ) × SpellsShorthand s a × (text ≡ codes "." ++ a))
     SpellsSegment (several ss) text = IsSeveral ss × Between (codes "[") (SpellsSelectors ss) (codes "]") text
-    SpellsSegment (descendant (one s)) text = (a : List ℕ) × (Between (codes "[") (SpellsSelector s) (codes "]") a ⊎ SpellsShorthand s a) × (text ≡ 46 ∷ 46 ∷ a)
-    SpellsSegment (descendant (several ss)) text = (a : List ℕ) × IsSeveral ss × Between (codes "[") (SpellsSelectors ss) (codes "]") a × (text ≡ 46 ∷ 46 ∷ a)
+    SpellsSegment (descendant (one s)) text = (a : List ℕ) × (Between (codes "[") (SpellsSelector s) (codes "]") a ⊎ SpellsShorthand s a) × (text ≡ codes ".." ++ a)
+    SpellsSegment (descendant (several ss)) text = (a : List ℕ) × IsSeveral ss × Between (codes "[") (SpellsSelectors ss) (codes "]") a × (text ≡ codes ".." ++ a)
     SpellsSegment (descendant (descendant g)) text = ⊥
 
     -- each segment, perhaps after blanks
@@ -201,8 +202,8 @@ module _ (Number : Option ℤ → List ℕ → Type 0) where
     SpellsComparable (singular q) text = SpellsSingularQuery q text
 
     pub SpellsTest : Test → List ℕ → Type 0
-    SpellsTest (relative gs) text = (a : List ℕ) × SpellsSegments gs a × (text ≡ 64 ∷ a)
-    SpellsTest (absolute gs) text = (a : List ℕ) × SpellsSegments gs a × (text ≡ 36 ∷ a)
+    SpellsTest (relative gs) text = (a : List ℕ) × SpellsSegments gs a × (text ≡ codes "@" ++ a)
+    SpellsTest (absolute gs) text = (a : List ℕ) × SpellsSegments gs a × (text ≡ codes "$" ++ a)
     SpellsTest (call c) text = SpellsCall c text
 
     -- 2.4; the functions of the table of types have their own number of arguments, and each other name any
@@ -231,4 +232,4 @@ module _ (Number : Option ℤ → List ℕ → Type 0) where
 
   -- 2.1.1, 2.2.1
   abbrev pub Spells : Query → List ℕ → Type 0
-  Spells q text = (a : List ℕ) × SpellsSegments q a × (text ≡ 36 ∷ a)
+  Spells q text = (a : List ℕ) × SpellsSegments q a × (text ≡ codes "$" ++ a)

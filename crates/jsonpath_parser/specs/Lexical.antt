@@ -1,21 +1,23 @@
--- Bytes, blanks, names and whole numbers in a query text (RFC 9535, 2.1.1, 2.3.3.1 and 2.5.1.1).
+-- Bytes, blanks, quotes and names in a query text (RFC 9535, 2.1.1, 2.3.1.1, 2.4 and 2.5.1.1).
 --
 -- A text is the list of its bytes in UTF-8. Each delimiter of the grammar is a byte below 128, and every character from U+0080 on may stand in a name, so a name byte may be any byte from 128 on.
 use Rattle.std.specs.Prelude.{◌≡◌, ℕ, Bool, true, ◌&&◌, ◌||◌, ◌==◌, nat_le, List, [], ◌∷◌}
+use Rattle.std.specs.Char.{is_ascii_digit}
 
 -- U+0020, U+0009, U+000A or U+000D
 abbrev pub is_blank : ℕ → Bool
 is_blank b = ((b == 32 || b == 9) || b == 10) || b == 13
 
-abbrev pub is_digit : ℕ → Bool
-is_digit b = nat_le 48 b && nat_le b 57
+-- `'` or `"`
+abbrev pub is_quote : ℕ → Bool
+is_quote b = b == 39 || b == 34
 
 -- an ASCII letter, `_`, or a byte of a character from U+0080 on
 abbrev pub is_name_first : ℕ → Bool
 is_name_first b = ((nat_le 128 b || b == 95) || (nat_le 97 b && nat_le b 122)) || (nat_le 65 b && nat_le b 90)
 
 abbrev pub is_name_byte : ℕ → Bool
-is_name_byte b = is_name_first b || is_digit b
+is_name_byte b = is_name_first b || is_ascii_digit b
 
 -- each byte passes
 abbrev pub IsRun : (ℕ → Bool) → List ℕ → Type 0
@@ -37,7 +39,7 @@ is_function_first b = nat_le 97 b && nat_le b 122
 
 -- `a` to `z`, `_` or a digit
 abbrev pub is_function_byte : ℕ → Bool
-is_function_byte b = (is_function_first b || b == 95) || is_digit b
+is_function_byte b = (is_function_first b || b == 95) || is_ascii_digit b
 
 -- the name of a function (2.4)
 abbrev pub IsFunctionName : List ℕ → Type 0

@@ -13,9 +13,4 @@ pub mod Parts
 pub mod Depth
 pub mod Derives
 pub mod Making
-pub mod Reading
-pub mod ReadingStrings
-pub mod ReadingNumbers
-pub mod ReadingGrammar
-pub mod ReadingQuery
-pub mod ReadingParts
+pub mod inner

@@ -1,20 +1,15 @@
 -- What the makers of trees answer.
-use Rattle.std.specs.Prelude.{◌≡◌, ℕ, Bool, true, false, not, List, Option, Some, None, Result, MatchResult, ⊤, is_none, bytes_eq, codes, string_bytes, option_map, option_and_then, if◌then◌else◌}
+use Rattle.std.specs.Prelude.{◌≡◌, ℕ, Bool, true, false, not, List, Option, Some, None, Result, MatchResult, ⊤, is_none, bytes_eq, codes, option_map, option_and_then, if◌then◌else◌}
 use Rattle.jsonpath_parser.specs.Syntax.{Operator, equal, not_equal, greater, greater_or_equal, less, less_or_equal, Comparable, Comparison, compare, Test, relative, absolute, call, Call, Argument, literal_argument, test_argument, filter_argument, Arguments}
 use Rattle.jsonpath_parser.specs.Typing.{call_of, gives_value, takes}
 use Rattle.jsonpath_parser.specs.declared.errors.JsonPathError.{JsonPathError}
 use Rattle.jsonpath_parser.specs.declared.errors.JsonPathError.TheVariants.{InvalidJsonPath, OutOfMemory}
 
--- The refusals of a maker: `InvalidJsonPath` where there is nothing to make, or want of memory.
+-- The refusals of a maker: `InvalidJsonPath` where there is nothing to make, or `OutOfMemory`.
 abbrev pub IsMakersRefusal : Bool → JsonPathError → Type 0
 IsMakersRefusal nothing (InvalidJsonPath text) = nothing ≡ true
 IsMakersRefusal nothing OutOfMemory = ⊤
 IsMakersRefusal nothing _ = ⊥
-
--- the text of an `InvalidJsonPath`
-abbrev pub IsSaid : List ℕ → JsonPathError → Type 0
-IsSaid said (InvalidJsonPath text) = string_bytes text ≡ said
-IsSaid said _ = ⊤
 
 -- the answer is what is wanted, or a refusal
 abbrev pub Makes : {A B : Type 0} → (A → B) → Result A JsonPathError → Option B → Type 0

@@ -1,25 +1,26 @@
 -- Number literals and their exact values (RFC 9535, 2.3.5.1).
-use Rattle.std.specs.Prelude.{◌≡◌, ◌⊎◌, ℕ, ◌+◌, ◌^◌, ◌<◌, ◌≤◌, ℤ, pos, negsuc, neg_ℤ, ◌*ℤ◌, ◌≤ℤ◌, Bool, true, false, ◌||◌, ◌==◌, Option, Some, None, List, [], ◌∷◌, ◌++◌, length, slice_index}
+use Rattle.std.specs.Prelude.{◌≡◌, ◌⊎◌, ℕ, ◌+◌, ◌^◌, ◌<◌, ◌≤◌, ℤ, pos, negsuc, neg_ℤ, ◌*ℤ◌, ◌≤ℤ◌, Bool, true, false, ◌||◌, ◌==◌, Option, Some, None, List, [], ◌∷◌, ◌++◌, length, slice_index, codes}
 use Rattle.std.specs.Str.Parse.{digits_value}
-use Rattle.jsonpath_parser.specs.Lexical.{is_digit, IsRun}
+use Rattle.std.specs.Char.{is_ascii_digit}
+use Rattle.jsonpath_parser.specs.Lexical.{IsRun}
 
 -- digits, at least one
 abbrev pub IsDigits : List ℕ → Type 0
-IsDigits digits = IsRun is_digit digits × (0 < length digits)
+IsDigits digits = IsRun is_ascii_digit digits × (0 < length digits)
 
 -- nothing, or `-`
 abbrev pub SpellsSign : Bool → List ℕ → Type 0
 SpellsSign false text = text ≡ []
-SpellsSign true text = text ≡ 45 ∷ []
+SpellsSign true text = text ≡ codes "-"
 
 -- the digits before the point: `0`, or a digit from 1 to 9, then digits; with a sign before them, if there is one, they are an int or `-0`
 abbrev pub IsWholePart : List ℕ → Type 0
-IsWholePart digits = (digits ≡ 48 ∷ []) ⊎ (IsRun is_digit digits × (49 ≤ slice_index digits 0))
+IsWholePart digits = (digits ≡ codes "0") ⊎ (IsRun is_ascii_digit digits × (49 ≤ slice_index digits 0))
 
 -- the digits behind the point: nothing, or `.` and digits
 abbrev pub SpellsFraction : List ℕ → List ℕ → Type 0
 SpellsFraction [] text = text ≡ []
-SpellsFraction (d ∷ ds) text = IsRun is_digit (d ∷ ds) × (text ≡ 46 ∷ d ∷ ds)
+SpellsFraction (d ∷ ds) text = IsRun is_ascii_digit (d ∷ ds) × (text ≡ codes "." ++ d ∷ ds)
 
 -- an exponent, from 0 on, or the negative of such a number
 pub data Exponent : Type 0 where
@@ -34,9 +35,9 @@ is_exponent_mark b = b == 101 || b == 69
 abbrev pub SpellsExponent : Exponent → List ℕ → Type 0
 SpellsExponent (raised x) text =
     ((text ≡ []) × (x ≡ 0))
-    ⊎ ((mark : ℕ) × (sign digits : List ℕ) × (is_exponent_mark mark ≡ true) × ((sign ≡ []) ⊎ (sign ≡ 43 ∷ [])) × IsDigits digits × (x ≡ digits_value 10 digits) × (text ≡ mark ∷ (sign ++ digits)))
+    ⊎ ((mark : ℕ) × (sign digits : List ℕ) × (is_exponent_mark mark ≡ true) × ((sign ≡ []) ⊎ (sign ≡ codes "+")) × IsDigits digits × (x ≡ digits_value 10 digits) × (text ≡ mark ∷ (sign ++ digits)))
 SpellsExponent (lowered x) text =
-    (mark : ℕ) × (digits : List ℕ) × (is_exponent_mark mark ≡ true) × IsDigits digits × (x ≡ digits_value 10 digits) × (text ≡ mark ∷ 45 ∷ digits)
+    (mark : ℕ) × (digits : List ℕ) × (is_exponent_mark mark ≡ true) × IsDigits digits × (x ≡ digits_value 10 digits) × (text ≡ mark ∷ codes "-" ++ digits)
 
 -- the number with its sign
 abbrev pub signed : Bool → ℕ → ℤ

@@ -6,7 +6,7 @@ use Rattle.jsonpath_parser.specs.Valueless.{IsValuelessIn}
 use Rattle.jsonpath_parser.specs.Values.{IsValued, IsAny}
 use Rattle.jsonpath_parser.specs.declared.errors.JsonPathError.{JsonPathError}
 use Rattle.jsonpath_parser.specs.declared.errors.JsonPathError.TheVariants.{PestError, InvalidNumber, OutOfMemory}
-use Rattle.jsonpath_parser.specs.declared.parts.Cursor.{Cursor}
+use Rattle.jsonpath_parser.specs.declared.cursor.Cursor.{Cursor}
 
 -- the text of a cursor
 abbrev pub text_of : Cursor → List ℕ

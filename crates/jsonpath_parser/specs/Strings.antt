@@ -1,12 +1,11 @@
 -- Quoted strings: which texts spell a value (RFC 9535, 2.3.1).
 --
 -- A text and a value are lists of bytes in UTF-8. A character from U+0080 on has bytes from 128 on alone, so one that stands for itself does so byte by byte.
-use Rattle.std.specs.Prelude.{◌≡◌, ◌⊎◌, ℕ, ◌+◌, ◌-◌, ◌*◌, Bool, true, false, not, ◌&&◌, ◌||◌, ◌==◌, nat_le, nat_lt, if◌then◌else◌, List, [], ◌∷◌, ◌++◌, length, Option, Some, None}
+use Rattle.std.specs.Prelude.{◌≡◌, ◌⊎◌, ℕ, ◌+◌, ◌-◌, ◌*◌, Bool, true, false, not, ◌&&◌, ◌||◌, ◌==◌, nat_le, nat_lt, if◌then◌else◌, List, [], ◌∷◌, ◌++◌, length, codes, Option, Some, None}
 use Rattle.std.specs.Char.{is_digit, encode_utf8}
 use Rattle.std.specs.List.{concat}
 use Rattle.std.specs.Str.Parse.{digits_value}
-use Rattle.jsonpath_parser.specs.Depth.{is_quote}
-use Rattle.jsonpath_parser.specs.Lexical.{IsRun}
+use Rattle.jsonpath_parser.specs.Lexical.{IsRun, is_quote}
 
 -- what stands for itself between quotes q: from U+0020 on, neither the quote nor a backslash
 abbrev pub is_plain : ℕ → ℕ → Bool
@@ -45,11 +44,11 @@ SpellsPlain q c text = (b : ℕ) × (is_plain q b ≡ true) × (c ≡ b ∷ []) 
 
 -- a character behind a backslash
 abbrev pub SpellsEscaped : ℕ → List ℕ → List ℕ → Type 0
-SpellsEscaped q c text = (b u : ℕ) × (escaped q b ≡ Some u) × (c ≡ u ∷ []) × (text ≡ 92 ∷ b ∷ [])
+SpellsEscaped q c text = (b u : ℕ) × (escaped q b ≡ Some u) × (c ≡ u ∷ []) × (text ≡ codes "\\" ++ b ∷ [])
 
 -- `\u` and the code in four hex digits
 abbrev pub SpellsCode : ℕ → List ℕ → Type 0
-SpellsCode u text = (digits : List ℕ) × (length digits ≡ 4) × IsRun is_hex_digit digits × (u ≡ digits_value 16 digits) × (text ≡ 92 ∷ 117 ∷ digits)
+SpellsCode u text = (digits : List ℕ) × (length digits ≡ 4) × IsRun is_hex_digit digits × (u ≡ digits_value 16 digits) × (text ≡ codes "\\u" ++ digits)
 
 -- a character by its code
 abbrev pub SpellsScalar : List ℕ → List ℕ → Type 0

@@ -1,17 +1,17 @@
 //! The reading functions: from a text to a tree and the text after it (RFC 9535, 2.1 to 2.5). Each reads its text
 //! once, from the left, and never goes back over what it has read, so the time is linear in the text.
 ghost use Rattle.std.specs.Prelude.{◌≡◌, ℕ, ◌≤◌, length};
-ghost use Rattle.jsonpath_parser.specs.Reading.{Gives, Reads};
-ghost use Rattle.jsonpath_parser.specs.ReadingGrammar as spec;
-ghost use Rattle.jsonpath_parser.specs.ReadingGrammar.{number_reading};
+ghost use Rattle.jsonpath_parser.specs.inner.Reading.{Gives, Reads};
+ghost use Rattle.jsonpath_parser.specs.inner.ReadingGrammar as spec;
+ghost use Rattle.jsonpath_parser.specs.inner.ReadingGrammar.{number_reading};
 ghost use Rattle.jsonpath_parser.specs.View.{query_view};
 
 mod calls;
 mod filters;
 mod int;
-pub mod kinds;
 mod literals;
 mod operands;
+pub mod productions;
 mod segments;
 mod selectors;
 mod slices;
@@ -25,7 +25,7 @@ use crate::text::{first, skip};
 use std::alloc::Global;
 
 /// `$` and segments (2.1.1, 2.2.1).
-#[tactic(auto, unfolding(crate::specs::ReadingGrammar::query_at))]
+#[tactic(auto, unfolding(crate::specs::inner::ReadingGrammar::query_at))]
 fn query(alloc: Global, numbers: Numbers, s: &str) -> Result<(JpQuery, &str), Stop>
     ensures value { (n : ℕ) → length s.now ≤ n → Reads query_view result (spec.query_at (number_reading numbers) n s.now) }
 {
@@ -37,7 +37,7 @@ fn query(alloc: Global, numbers: Numbers, s: &str) -> Result<(JpQuery, &str), St
 }
 
 /// The query that the whole text is.
-#[tactic(auto, unfolding(crate::specs::ReadingGrammar::whole_query))]
+#[tactic(auto, unfolding(crate::specs::inner::ReadingGrammar::whole_query))]
 pub fn whole_query(alloc: Global, numbers: Numbers, s: &str) -> Result<JpQuery, Stop>
     ensures { Gives query_view result (spec.whole_query (number_reading numbers) s.now) }
 {

@@ -2,11 +2,12 @@
 ghost use Rattle.std.specs.Prelude.{◌≡◌, ◌≢◌, ℕ, ◌+◌, ◌*◌, ◌%◌, ◌^◌, ◌<◌, ◌≤◌, ◌++◌, length, min, slice_index, take, drop, IfOk, IfErr, IfSome, IfNone};
 ghost use Rattle.std.specs.Option.{option_map};
 ghost use Rattle.std.specs.Str.Parse.{digits_value, digits_value_after};
-ghost use Rattle.jsonpath_parser.specs.Lexical.{is_digit, IsRun};
+ghost use Rattle.std.specs.Char.{is_ascii_digit};
+ghost use Rattle.jsonpath_parser.specs.Lexical.{IsRun};
 ghost use Rattle.jsonpath_parser.specs.Numbers.{up, down};
-ghost use Rattle.jsonpath_parser.specs.Reading.{Reads};
-ghost use Rattle.jsonpath_parser.specs.ReadingNumbers.{exponent_view, number_of, IsTrimmed, IsUnheld};
-ghost use Rattle.jsonpath_parser.specs.ReadingNumbers as spec;
+ghost use Rattle.jsonpath_parser.specs.inner.Reading.{Reads};
+ghost use Rattle.jsonpath_parser.specs.inner.ReadingNumbers.{exponent_view, number_of, IsTrimmed, IsUnheld};
+ghost use Rattle.jsonpath_parser.specs.inner.ReadingNumbers as spec;
 
 use crate::stop::Stop;
 use crate::text::{digit_run, first, skip};
@@ -32,7 +33,7 @@ struct Mantissa {
 /// # Errors
 ///
 /// `Stop::Syntax` where no number literal stands at the front.
-#[tactic(auto, unfolding(crate::specs::ReadingNumbers::number_at))]
+#[tactic(auto, unfolding(crate::specs::inner::ReadingNumbers::number_at))]
 pub fn number(s: &str) -> Result<(Option<i64>, &str), Stop>
     ensures value { Reads (λ v. v) result (spec.number_at s.now) }
     ensures shorter { IfOk result (λ p. length p.1.now < length s.now) }
@@ -48,7 +49,7 @@ pub fn number(s: &str) -> Result<(Option<i64>, &str), Stop>
 }
 
 /// Whether `-` stands at the front, and what follows it.
-#[tactic(auto, unfolding(crate::specs::ReadingNumbers::sign_at))]
+#[tactic(auto, unfolding(crate::specs::inner::ReadingNumbers::sign_at))]
 fn sign(s: &str) -> (bool, &str)
     ensures value { (result.0, result.1.now) ≡ spec.sign_at s.now }
     ensures within { length result.1.now ≤ length s.now }
@@ -73,10 +74,10 @@ fn split_first(s: &str) -> (&str, &str)
 }
 
 /// The digits at the front, where there is one, and what follows them.
-#[tactic(auto, unfolding(crate::specs::ReadingNumbers::digits_at))]
+#[tactic(auto, unfolding(crate::specs::inner::ReadingNumbers::digits_at))]
 fn digits(s: &str) -> Option<(&str, &str)>
     ensures value { option_map (λ p. (p.0.now, p.1.now)) result ≡ spec.digits_at s.now }
-    ensures run { IfSome result (λ p. IsRun is_digit p.0.now) }
+    ensures run { IfSome result (λ p. IsRun is_ascii_digit p.0.now) }
     ensures parts { IfSome result (λ p. length p.0.now + length p.1.now ≡ length s.now) }
     ensures some { IfSome result (λ p. 0 < length p.0.now) }
 {
@@ -87,10 +88,10 @@ fn digits(s: &str) -> Option<(&str, &str)>
 }
 
 /// `0`, or digits that do not begin with 0, and what follows them.
-#[tactic(auto, unfolding(crate::specs::ReadingNumbers::whole_part_at))]
+#[tactic(auto, unfolding(crate::specs::inner::ReadingNumbers::whole_part_at))]
 fn whole_part(s: &str) -> Option<(&str, &str)>
     ensures value { option_map (λ p. (p.0.now, p.1.now)) result ≡ spec.whole_part_at s.now }
-    ensures run { IfSome result (λ p. IsRun is_digit p.0.now) }
+    ensures run { IfSome result (λ p. IsRun is_ascii_digit p.0.now) }
     ensures parts { IfSome result (λ p. length p.0.now + length p.1.now ≡ length s.now) }
     ensures some { IfSome result (λ p. 0 < length p.0.now) }
 {
@@ -101,10 +102,10 @@ fn whole_part(s: &str) -> Option<(&str, &str)>
 }
 
 /// The digits behind a point, and what follows them. Without a point, or without digits behind it, there are none.
-#[tactic(auto, unfolding(crate::specs::ReadingNumbers::fraction_at))]
+#[tactic(auto, unfolding(crate::specs::inner::ReadingNumbers::fraction_at))]
 fn fraction_part(s: &str) -> (&str, &str)
     ensures value { (result.0.now, result.1.now) ≡ spec.fraction_at s.now }
-    ensures run { IsRun is_digit result.0.now }
+    ensures run { IsRun is_ascii_digit result.0.now }
     ensures parts { length result.0.now + length result.1.now ≤ length s.now }
 {
     if first(s) != b'.' {
@@ -117,10 +118,10 @@ fn fraction_part(s: &str) -> (&str, &str)
 }
 
 /// What may follow the mark of an exponent: perhaps a sign, and digits.
-#[tactic(auto, unfolding(crate::specs::ReadingNumbers::signed_digits_at))]
+#[tactic(auto, unfolding(crate::specs::inner::ReadingNumbers::signed_digits_at))]
 fn signed_digits(s: &str) -> Option<(Exponent<'_>, &str)>
     ensures value { option_map (λ p. (exponent_view p.0, p.1.now)) result ≡ spec.signed_digits_at s.now }
-    ensures run { IfSome result (λ p. IsRun is_digit p.0.digits.now) }
+    ensures run { IfSome result (λ p. IsRun is_ascii_digit p.0.digits.now) }
     ensures within { IfSome result (λ p. length p.1.now ≤ length s.now) }
 {
     let lowers = first(s) == b'-';
@@ -134,10 +135,10 @@ fn signed_digits(s: &str) -> Option<(Exponent<'_>, &str)>
 }
 
 /// The exponent at the front, and what follows it. It is 0 where none stands there.
-#[tactic(auto, unfolding(crate::specs::ReadingNumbers::exponent_at))]
+#[tactic(auto, unfolding(crate::specs::inner::ReadingNumbers::exponent_at))]
 fn exponent_part(s: &str) -> (Exponent<'_>, &str)
     ensures value { (exponent_view result.0, result.1.now) ≡ spec.exponent_at s.now }
-    ensures run { IsRun is_digit result.0.digits.now }
+    ensures run { IsRun is_ascii_digit result.0.digits.now }
     ensures within { length result.1.now ≤ length s.now }
 {
     let none = Exponent {
@@ -155,9 +156,9 @@ fn exponent_part(s: &str) -> (Exponent<'_>, &str)
 
 /// The value of a literal's parts.
 fn value(minus: bool, whole: &str, fraction: &str, exponent: Exponent<'_>) -> Option<i64>
-    requires whole_run { IsRun is_digit whole.now }
-    requires fraction_run { IsRun is_digit fraction.now }
-    requires exponent_run { IsRun is_digit exponent.digits.now }
+    requires whole_run { IsRun is_ascii_digit whole.now }
+    requires fraction_run { IsRun is_ascii_digit fraction.now }
+    requires exponent_run { IsRun is_ascii_digit exponent.digits.now }
     requires room { length whole.now + length fraction.now < 2 ^ 63 }
     ensures { result ≡ spec.value_of minus (digits_value 10 (whole.now ++ fraction.now)) (length fraction.now) (exponent_view exponent.entry) }
 {
@@ -171,7 +172,7 @@ fn value(minus: bool, whole: &str, fraction: &str, exponent: Exponent<'_>) -> Op
 }
 
 /// The number with its sign.
-#[tactic(auto, unfolding(crate::specs::ReadingNumbers::long_of))]
+#[tactic(auto, unfolding(crate::specs::inner::ReadingNumbers::long_of))]
 fn long(minus: bool, size: u64) -> Option<i64>
     ensures { result ≡ spec.long_of minus size }
 {
@@ -182,7 +183,7 @@ fn long(minus: bool, size: u64) -> Option<i64>
 /// The number with the digits of a text behind it, where its own digits have 64 bits.
 fn with_digits(start: Mantissa, digits: &str) -> Option<Mantissa>
     requires trimmed { IsTrimmed start }
-    requires run { IsRun is_digit digits.now }
+    requires run { IsRun is_ascii_digit digits.now }
     requires room { start.zeros + length digits.now < 2 ^ 63 }
     ensures some { IfSome result (λ m. number_of m ≡ digits_value_after 10 (number_of start) digits.now) }
     ensures trimmed { IfSome result IsTrimmed }
@@ -237,7 +238,7 @@ fn padded(number: u64, zeros: u64) -> Option<u64>
 
 /// The number that the digits write, or the greatest of 64 bits.
 fn saturated(digits: &str) -> u64
-    requires { IsRun is_digit digits.now }
+    requires { IsRun is_ascii_digit digits.now }
     ensures { result ≡ min (digits_value 10 digits.now) 18446744073709551615 }
 {
     match digits.parse::<u64>() {
@@ -249,7 +250,7 @@ fn saturated(digits: &str) -> u64
 /// The number times ten to (exponent - point), where that is a whole number of 64 bits.
 fn scaled(mantissa: Mantissa, point: u64, exponent: Exponent<'_>) -> Option<u64>
     requires trimmed { IsTrimmed mantissa }
-    requires run { IsRun is_digit exponent.digits.now }
+    requires run { IsRun is_ascii_digit exponent.digits.now }
     requires zeros { mantissa.zeros < 2 ^ 63 }
     requires point { point < 2 ^ 63 }
     ensures some { IfSome result (λ n. n * 10 ^ (point + down (exponent_view exponent.entry)) ≡ number_of mantissa * 10 ^ up (exponent_view exponent.entry)) }

@@ -2,11 +2,11 @@
 ghost use Rattle.std.specs.Prelude.{◌≡◌, ◌-◌, ◌<◌, ◌≤◌, length, drop, Some, IfOk, IfErr};
 ghost use Rattle.std.specs.Str.{IsCharBoundary};
 ghost use Rattle.jsonpath_parser.specs.Depth as spec;
-ghost use Rattle.jsonpath_parser.specs.Reading.{Gives};
+ghost use Rattle.jsonpath_parser.specs.inner.Reading.{Gives};
 ghost use Rattle.jsonpath_parser.specs.Derives.{Derives, Answers, IsRefusal};
 ghost use Rattle.jsonpath_parser.specs.Grammar.{Spells};
-ghost use Rattle.jsonpath_parser.specs.ReadingQuery as reading;
-ghost use Rattle.jsonpath_parser.specs.ReadingQuery.{IsTextRefusal, IsReadRefusal};
+ghost use Rattle.jsonpath_parser.specs.inner.ReadingQuery as reading;
+ghost use Rattle.jsonpath_parser.specs.inner.ReadingQuery.{IsTextRefusal, IsReadRefusal};
 ghost use Rattle.jsonpath_parser.specs.Syntax.{Query};
 ghost use Rattle.jsonpath_parser.specs.Valueless.{IsValuelessIn};
 ghost use Rattle.jsonpath_parser.specs.Values.{IsAny};
@@ -26,7 +26,7 @@ use std::alloc::Global;
 pub const MAX_NESTING_DEPTH: usize = 128;
 
 /// The query that the whole text is, where it is well-typed.
-#[tactic(auto, unfolding(crate::specs::ReadingQuery::typed_query))]
+#[tactic(auto, unfolding(crate::specs::inner::ReadingQuery::typed_query))]
 fn typed_query(alloc: Global, numbers: Numbers, text: &str) -> Result<JpQuery, Stop>
     ensures { Gives query_view result (reading.typed_query numbers text.now) }
 {
@@ -38,7 +38,7 @@ fn typed_query(alloc: Global, numbers: Numbers, text: &str) -> Result<JpQuery, S
 }
 
 /// The number literal without a value at the front, or no text where none stands there.
-#[tactic(auto, using(crate::proofs::ValuelessLaws::number_boundary), unfolding(crate::specs::ReadingQuery::valueless_at))]
+#[tactic(auto, using(crate::proofs::ValuelessLaws::number_boundary), unfolding(crate::specs::inner::ReadingQuery::valueless_at))]
 fn valueless(s: &str) -> &str
     ensures { result.now ≡ reading.valueless_at s.now }
 {
@@ -105,15 +105,15 @@ fn read_within(alloc: Global, text: &str, depth: usize) -> Parsed<JpQuery>
 ///
 /// The time is linear in the length of the text. Only a text that is refused is read twice.
 pub fn parse_json_path(alloc: Global, text: &str) -> Parsed<JpQuery>
-    ensures derived { IfOk result (λ q. Derives 128 text.now (query_view q)) }
+    ensures derived { IfOk result (λ q. Derives MAX_NESTING_DEPTH text.now (query_view q)) }
 
     // Every tree that the text derives is the one answered, unless memory ran out.
-    ensures only { (t : Query) → Derives 128 text.now t → Answers result t }
+    ensures only { (t : Query) → Derives MAX_NESTING_DEPTH text.now t → Answers result t }
 
     // At Ok no other tree is spelled, whatever the values of its number literals.
     ensures one_tree { (t : Query) → Spells IsAny t text.now → IfOk result (λ q. query_view q ≡ t) }
-    ensures refused { IfErr result (IsRefusal 128 text.now) }
-    ensures too_deep { 128 < spec.depth text.now → result ≡ Err (JsonPathError.MaxNestingDepthExceeded 128) }
+    ensures refused { IfErr result (IsRefusal MAX_NESTING_DEPTH text.now) }
+    ensures too_deep { MAX_NESTING_DEPTH < spec.depth text.now → result ≡ Err (JsonPathError.MaxNestingDepthExceeded MAX_NESTING_DEPTH) }
 {
     parse_json_path_within(alloc, text, MAX_NESTING_DEPTH)
 }

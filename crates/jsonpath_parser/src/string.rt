@@ -3,9 +3,9 @@
 ghost use Rattle.std.specs.Prelude.{◌≡◌, ◌≢◌, suc, ◌<◌, ◌≤◌, [], true, length, slice_index, IfOk, IfSome, if◌then◌else◌, string_bytes, IfErr};
 ghost use Rattle.std.specs.Char.{digit_value};
 ghost use Rattle.std.specs.List.{prefix_len};
-ghost use Rattle.jsonpath_parser.specs.Depth.{is_quote};
-ghost use Rattle.jsonpath_parser.specs.Reading.{Reads, split_while};
-ghost use Rattle.jsonpath_parser.specs.ReadingStrings as spec;
+ghost use Rattle.jsonpath_parser.specs.Lexical.{is_quote};
+ghost use Rattle.jsonpath_parser.specs.inner.Reading.{Reads, split_while};
+ghost use Rattle.jsonpath_parser.specs.inner.ReadingStrings as spec;
 ghost use Rattle.jsonpath_parser.specs.Strings as strings;
 
 use crate::stop::Stop;
@@ -15,7 +15,7 @@ use std::alloc::Global;
 /// The value of the string at the front, without its quotes and with its escapes read, and the text after it (2.3.1).
 /// It takes time in the length of the string. Where no string stands at the front it answers `Stop::Syntax`, where a
 /// growth is refused `Stop::Memory`.
-#[tactic(auto, unfolding(crate::specs::ReadingStrings::string_at))]
+#[tactic(auto, unfolding(crate::specs::inner::ReadingStrings::string_at))]
 pub fn string(alloc: Global, s: &str) -> Result<(String, &str), Stop>
     ensures value { Reads string_bytes result (spec.string_at s.now) }
     ensures shorter { IfOk result (λ p. length p.1.now < length s.now) }
@@ -76,7 +76,7 @@ fn plain_run(quote: u8, s: &str) -> (&str, &str)
 }
 
 /// What stands behind a backslash: its character, and the text after it (2.3.1).
-#[tactic(auto, unfolding(crate::specs::ReadingStrings::escape_at))]
+#[tactic(auto, unfolding(crate::specs::inner::ReadingStrings::escape_at))]
 fn escape(quote: u8, s: &str) -> Result<(char, &str), Stop>
     requires { is_quote quote ≡ true }
     ensures value { Reads (λ c. c) result (spec.escape_at quote s.now) }
@@ -111,7 +111,7 @@ fn escaped(quote: u8, byte: u8) -> Option<u8>
 }
 
 /// What stands behind `\u`: a code that is no surrogate, or a high surrogate with a low one after it.
-#[tactic(auto, unfolding(crate::specs::ReadingStrings::unicode_at))]
+#[tactic(auto, unfolding(crate::specs::inner::ReadingStrings::unicode_at))]
 fn unicode(s: &str) -> Result<(char, &str), Stop>
     ensures value { Reads (λ c. c) result (spec.unicode_at s.now) }
     ensures shorter { IfOk result (λ p. length p.1.now < length s.now) }
@@ -131,7 +131,7 @@ fn unicode(s: &str) -> Result<(char, &str), Stop>
 }
 
 /// The low surrogate that follows a high one, and the character of both.
-#[tactic(auto, unfolding(crate::specs::ReadingStrings::low_at))]
+#[tactic(auto, unfolding(crate::specs::inner::ReadingStrings::low_at))]
 fn low(high: u32, s: &str) -> Result<(char, &str), Stop>
     requires { strings.is_high_surrogate high ≡ true }
     ensures value { Reads (λ c. c) result (spec.low_at high s.now) }
@@ -169,7 +169,7 @@ fn is_low_surrogate(code: u32) -> bool
 }
 
 /// The code that four hex digits at the front spell.
-#[tactic(auto, unfolding(crate::specs::ReadingStrings::code_value))]
+#[tactic(auto, unfolding(crate::specs::inner::ReadingStrings::code_value))]
 fn code(s: &str) -> Option<u32>
     ensures value { result ≡ spec.code_value s.now }
     ensures small { IfSome result (λ u. u < 65536) }

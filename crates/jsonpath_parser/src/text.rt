@@ -1,9 +1,10 @@
 //! Steps over a text that allocate nothing. A text is seen as its bytes; each delimiter of the grammar is ASCII.
 ghost use Rattle.std.specs.Prelude.{◌≡◌, ◌-◌, ◌<◌, ◌≤◌, length, drop, slice_index};
 ghost use Rattle.std.specs.List.{prefix_len};
+ghost use Rattle.std.specs.Char.{is_ascii_digit};
 ghost use Rattle.jsonpath_parser.specs.Lexical as spec;
-ghost use Rattle.jsonpath_parser.specs.Reading.{split_while};
-ghost use Rattle.jsonpath_parser.specs.Reading as reading;
+ghost use Rattle.jsonpath_parser.specs.inner.Reading.{split_while};
+ghost use Rattle.jsonpath_parser.specs.inner.Reading as reading;
 
 /// The byte at `index`, or 0 past the end.
 #[inline]
@@ -88,7 +89,7 @@ fn name_len(bytes: &[u8]) -> usize
 }
 
 fn digit_len(bytes: &[u8]) -> usize
-    ensures len { result ≡ prefix_len spec.is_digit bytes.now }
+    ensures len { result ≡ prefix_len is_ascii_digit bytes.now }
     ensures within { result ≤ length bytes.now }
 {
     bytes.iter().take_while(|b| b.is_ascii_digit()).count()
@@ -102,7 +103,7 @@ fn function_len(bytes: &[u8]) -> usize
 }
 
 /// After the blanks.
-#[tactic(auto, using(crate::proofs::Runs::blank_boundary), unfolding(crate::specs::Reading::skip_blank))]
+#[tactic(auto, using(crate::proofs::Runs::blank_boundary), unfolding(crate::specs::inner::Reading::skip_blank))]
 pub fn skip_blank(s: &str) -> &str
     ensures rest { result.now ≡ reading.skip_blank s.now }
     ensures within { length result.now ≤ length s.now }
@@ -122,7 +123,7 @@ pub fn name_run(s: &str) -> (&str, &str)
 /// The longest front of digits, and the rest.
 #[tactic(auto, using(crate::proofs::Runs::digit_boundary))]
 pub fn digit_run(s: &str) -> (&str, &str)
-    ensures parts { (result.0.now, result.1.now) ≡ split_while spec.is_digit s.now }
+    ensures parts { (result.0.now, result.1.now) ≡ split_while is_ascii_digit s.now }
     ensures within { length result.1.now ≤ length s.now }
 {
     s.split_at(digit_len(s.as_bytes()))

@@ -1,8 +1,8 @@
 //! Calls of functions (RFC 9535, 2.4).
 ghost use Rattle.std.specs.Prelude.{◌≡◌, ℕ, ◌<◌, ◌≤◌, length, IfOk};
-ghost use Rattle.jsonpath_parser.specs.Reading.{Reads};
-ghost use Rattle.jsonpath_parser.specs.ReadingGrammar as spec;
-ghost use Rattle.jsonpath_parser.specs.ReadingGrammar.{number_reading};
+ghost use Rattle.jsonpath_parser.specs.inner.Reading.{Reads};
+ghost use Rattle.jsonpath_parser.specs.inner.ReadingGrammar as spec;
+ghost use Rattle.jsonpath_parser.specs.inner.ReadingGrammar.{number_reading};
 ghost use Rattle.jsonpath_parser.specs.Syntax.{no_arguments};
 ghost use Rattle.jsonpath_parser.specs.View.{call_view, arguments_view};
 
@@ -16,7 +16,7 @@ use std::alloc::Global;
 
 /// Arguments with commas between them.
 #[cycle(reading)]
-#[tactic(auto, unfolding(crate::specs::ReadingGrammar::arguments_at))]
+#[tactic(auto, unfolding(crate::specs::inner::ReadingGrammar::arguments_at))]
 fn some_arguments(alloc: Global, numbers: Numbers, s: &str) -> Result<(Vec<FnArg>, &str), Stop>
     ensures value { (n k : ℕ) → length s.now < n → length s.now < k → Reads arguments_view result (spec.arguments_at (number_reading numbers) (spec.argument_at (number_reading numbers) n) k no_arguments s.now) }
     ensures shorter { IfOk result (λ p. length p.1.now < length s.now) }
@@ -36,7 +36,7 @@ fn some_arguments(alloc: Global, numbers: Numbers, s: &str) -> Result<(Vec<FnArg
 
 /// Arguments, perhaps none, up to `)`.
 #[cycle(reading)]
-#[tactic(auto, unfolding(crate::specs::ReadingGrammar::all_arguments_at))]
+#[tactic(auto, unfolding(crate::specs::inner::ReadingGrammar::all_arguments_at))]
 fn arguments(alloc: Global, numbers: Numbers, s: &str) -> Result<(Vec<FnArg>, &str), Stop>
     ensures value { (n : ℕ) → length s.now < n → Reads arguments_view result (spec.all_arguments_at (number_reading numbers) (spec.argument_at (number_reading numbers) n) s.now) }
     ensures within { IfOk result (λ p. length p.1.now ≤ length s.now) }
@@ -49,7 +49,7 @@ fn arguments(alloc: Global, numbers: Numbers, s: &str) -> Result<(Vec<FnArg>, &s
 
 /// The call of the function of this name, behind its `(`.
 #[cycle(reading)]
-#[tactic(auto, unfolding(crate::specs::ReadingGrammar::called_at))]
+#[tactic(auto, unfolding(crate::specs::inner::ReadingGrammar::called_at))]
 pub fn called<'s>(
     alloc: Global,
     numbers: Numbers,

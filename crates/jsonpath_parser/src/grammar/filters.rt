@@ -1,8 +1,8 @@
 //! Logical expressions, and the arguments of calls, which are the widest production (RFC 9535, 2.3.5.1 and 2.4).
 ghost use Rattle.std.specs.Prelude.{◌≡◌, ℕ, ◌<◌, ◌≤◌, length, IfOk};
-ghost use Rattle.jsonpath_parser.specs.Reading.{Reads};
-ghost use Rattle.jsonpath_parser.specs.ReadingGrammar as spec;
-ghost use Rattle.jsonpath_parser.specs.ReadingGrammar.{number_reading};
+ghost use Rattle.jsonpath_parser.specs.inner.Reading.{Reads};
+ghost use Rattle.jsonpath_parser.specs.inner.ReadingGrammar as spec;
+ghost use Rattle.jsonpath_parser.specs.inner.ReadingGrammar.{number_reading};
 ghost use Rattle.jsonpath_parser.specs.Syntax.{filter_then, no_filters};
 ghost use Rattle.jsonpath_parser.specs.View.{argument_view, filter_view, filters_view};
 
@@ -16,7 +16,7 @@ use std::alloc::Global;
 
 /// A group in parentheses.
 #[cycle(reading)]
-#[tactic(auto, unfolding(crate::specs::ReadingGrammar::group_at))]
+#[tactic(auto, unfolding(crate::specs::inner::ReadingGrammar::group_at))]
 fn group(alloc: Global, numbers: Numbers, not: bool, s: &str) -> Result<(FnArg, &str), Stop>
     ensures value { (n : ℕ) → length s.now ≤ n → Reads argument_view result (spec.group_at (number_reading numbers) (spec.argument_at (number_reading numbers) n) not s.now) }
     ensures shorter { IfOk result (λ p. length p.1.now < length s.now) }
@@ -36,7 +36,7 @@ fn group(alloc: Global, numbers: Numbers, not: bool, s: &str) -> Result<(FnArg, 
 
 /// A group or a test, behind `!`.
 #[cycle(reading)]
-#[tactic(auto, unfolding(crate::specs::ReadingGrammar::negated_at))]
+#[tactic(auto, unfolding(crate::specs::inner::ReadingGrammar::negated_at))]
 fn negated(alloc: Global, numbers: Numbers, s: &str) -> Result<(FnArg, &str), Stop>
     ensures value { (n : ℕ) → length s.now ≤ n → Reads argument_view result (spec.negated_at (number_reading numbers) (spec.argument_at (number_reading numbers) n) s.now) }
     ensures shorter { IfOk result (λ p. length p.1.now < length s.now) }
@@ -50,7 +50,7 @@ fn negated(alloc: Global, numbers: Numbers, s: &str) -> Result<(FnArg, &str), St
 
 /// A comparison, from its operator on.
 #[cycle(reading)]
-#[tactic(auto, unfolding(crate::specs::ReadingGrammar::compared_at))]
+#[tactic(auto, unfolding(crate::specs::inner::ReadingGrammar::compared_at))]
 fn compared(alloc: Global, numbers: Numbers, left: FnArg, s: &str) -> Result<(FnArg, &str), Stop>
     ensures value { (n : ℕ) → length s.now ≤ n → Reads argument_view result (spec.compared_at (number_reading numbers) (spec.argument_at (number_reading numbers) n) (argument_view left) s.now) }
     ensures shorter { IfOk result (λ p. length p.1.now < length s.now) }
@@ -65,7 +65,7 @@ fn compared(alloc: Global, numbers: Numbers, left: FnArg, s: &str) -> Result<(Fn
 
 /// An operand alone, or a comparison.
 #[cycle(reading)]
-#[tactic(auto, unfolding(crate::specs::ReadingGrammar::plain_at))]
+#[tactic(auto, unfolding(crate::specs::inner::ReadingGrammar::plain_at))]
 fn plain(alloc: Global, numbers: Numbers, s: &str) -> Result<(FnArg, &str), Stop>
     ensures value { (n : ℕ) → length s.now ≤ n → Reads argument_view result (spec.plain_at (number_reading numbers) (spec.argument_at (number_reading numbers) n) s.now) }
     ensures shorter { IfOk result (λ p. length p.1.now < length s.now) }
@@ -80,7 +80,7 @@ fn plain(alloc: Global, numbers: Numbers, s: &str) -> Result<(FnArg, &str), Stop
 
 /// An operand of `&&`, or a literal.
 #[cycle(reading)]
-#[tactic(auto, unfolding(crate::specs::ReadingGrammar::basic_at))]
+#[tactic(auto, unfolding(crate::specs::inner::ReadingGrammar::basic_at))]
 pub fn basic(alloc: Global, numbers: Numbers, s: &str) -> Result<(FnArg, &str), Stop>
     ensures value { (n : ℕ) → length s.now ≤ n → Reads argument_view result (spec.basic_at (number_reading numbers) (spec.argument_at (number_reading numbers) n) s.now) }
     ensures shorter { IfOk result (λ p. length p.1.now < length s.now) }
@@ -94,7 +94,7 @@ pub fn basic(alloc: Global, numbers: Numbers, s: &str) -> Result<(FnArg, &str), 
 
 /// The operands of `&&` from the first one on.
 #[cycle(reading)]
-#[tactic(auto, unfolding(crate::specs::ReadingGrammar::ands_at))]
+#[tactic(auto, unfolding(crate::specs::inner::ReadingGrammar::ands_at))]
 fn ands(
     alloc: Global,
     numbers: Numbers,
@@ -120,7 +120,7 @@ fn ands(
 
 /// An operand of `||`, or a literal.
 #[cycle(reading)]
-#[tactic(auto, unfolding(crate::specs::ReadingGrammar::conjunction_at))]
+#[tactic(auto, unfolding(crate::specs::inner::ReadingGrammar::conjunction_at))]
 pub fn conjunction(alloc: Global, numbers: Numbers, s: &str) -> Result<(FnArg, &str), Stop>
     ensures value { (n : ℕ) → length s.now ≤ n → Reads argument_view result (spec.conjunction_at (number_reading numbers) (spec.argument_at (number_reading numbers) n) s.now) }
     ensures shorter { IfOk result (λ p. length p.1.now < length s.now) }
@@ -135,7 +135,7 @@ pub fn conjunction(alloc: Global, numbers: Numbers, s: &str) -> Result<(FnArg, &
 
 /// The operands of `||` from the first one on.
 #[cycle(reading)]
-#[tactic(auto, unfolding(crate::specs::ReadingGrammar::ors_at))]
+#[tactic(auto, unfolding(crate::specs::inner::ReadingGrammar::ors_at))]
 fn ors(
     alloc: Global,
     numbers: Numbers,
@@ -161,7 +161,7 @@ fn ors(
 
 /// An argument of a call: a literal, a query or a call alone, or a logical expression.
 #[cycle(reading)]
-#[tactic(auto, unfolding(crate::specs::ReadingGrammar::disjunction_at))]
+#[tactic(auto, unfolding(crate::specs::inner::ReadingGrammar::disjunction_at))]
 pub fn argument(alloc: Global, numbers: Numbers, s: &str) -> Result<(FnArg, &str), Stop>
     ensures value { (n : ℕ) → length s.now ≤ n → Reads argument_view result (spec.disjunction_at (number_reading numbers) (spec.argument_at (number_reading numbers) n) s.now) }
     ensures shorter { IfOk result (λ p. length p.1.now < length s.now) }
@@ -176,7 +176,7 @@ pub fn argument(alloc: Global, numbers: Numbers, s: &str) -> Result<(FnArg, &str
 
 /// A logical expression (2.3.5.1).
 #[cycle(reading)]
-#[tactic(auto, unfolding(crate::specs::ReadingGrammar::logical_at, crate::specs::ReadingGrammar::argument_at))]
+#[tactic(auto, unfolding(crate::specs::inner::ReadingGrammar::logical_at, crate::specs::inner::ReadingGrammar::argument_at))]
 pub fn logical(alloc: Global, numbers: Numbers, s: &str) -> Result<(Filter, &str), Stop>
     ensures value { (n : ℕ) → length s.now < n → Reads filter_view result (spec.logical_at (number_reading numbers) (spec.argument_at (number_reading numbers) n) s.now) }
     ensures shorter { IfOk result (λ p. length p.1.now < length s.now) }

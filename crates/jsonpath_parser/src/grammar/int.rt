@@ -1,7 +1,7 @@
 //! Whole numbers, as indexes are written (RFC 9535, 2.1 and 2.3.3.1).
 ghost use Rattle.std.specs.Prelude.{◌≡◌, ◌≢◌, ◌<◌, ◌≤◌, length, IfOk, IfErr};
-ghost use Rattle.jsonpath_parser.specs.Reading.{Reads};
-ghost use Rattle.jsonpath_parser.specs.Reading as spec;
+ghost use Rattle.jsonpath_parser.specs.inner.Reading.{Reads};
+ghost use Rattle.jsonpath_parser.specs.inner.Reading as spec;
 
 use crate::stop::Stop;
 use crate::text::{digit_run, first, skip};
@@ -10,7 +10,7 @@ use crate::text::{digit_run, first, skip};
 const MAX_INT: u64 = 9007199254740991;
 
 /// `0`, or digits that do not begin with 0, of a value up to `MAX_INT`.
-#[tactic(auto, unfolding(crate::specs::Reading::magnitude_at))]
+#[tactic(auto, unfolding(crate::specs::inner::Reading::magnitude_at))]
 fn magnitude(s: &str) -> Result<(u64, &str), Stop>
     ensures value { Reads (λ n. n) result (spec.magnitude_at s.now) }
     ensures shorter { IfOk result (λ p. length p.1.now < length s.now) }
@@ -31,7 +31,7 @@ fn magnitude(s: &str) -> Result<(u64, &str), Stop>
 }
 
 /// A whole number from -(2^53 - 1) to 2^53 - 1. Neither `-0` nor a leading 0 is one.
-#[tactic(auto, unfolding(crate::specs::Reading::int_at))]
+#[tactic(auto, unfolding(crate::specs::inner::Reading::int_at))]
 pub fn int(s: &str) -> Result<(i64, &str), Stop>
     ensures value { Reads (λ n. n) result (spec.int_at s.now) }
     ensures shorter { IfOk result (λ p. length p.1.now < length s.now) }

@@ -1,7 +1,7 @@
 //! Number literals in a query text (RFC 9535, 2.3.5.1).
 ghost use Rattle.std.specs.Prelude.{◌<◌, ◌≢◌, length, IfOk, Some, IfErr};
-ghost use Rattle.jsonpath_parser.specs.Reading.{Reads};
-ghost use Rattle.jsonpath_parser.specs.ReadingGrammar.{number_reading};
+ghost use Rattle.jsonpath_parser.specs.inner.Reading.{Reads};
+ghost use Rattle.jsonpath_parser.specs.inner.ReadingGrammar.{number_reading};
 
 use crate::number::number;
 use crate::stop::Stop;
@@ -16,7 +16,7 @@ pub enum Numbers {
 }
 
 /// A number literal.
-#[tactic(auto, unfolding(crate::specs::ReadingGrammar::number_reading))]
+#[tactic(auto, unfolding(crate::specs::inner::ReadingGrammar::number_reading))]
 pub fn number_literal(numbers: Numbers, s: &str) -> Result<(i64, &str), Stop>
     ensures value { Reads (λ n. Some n) result (number_reading numbers s.now) }
     ensures shorter { IfOk result (λ p. length p.1.now < length s.now) }

@@ -1,8 +1,8 @@
 //! What stands on a side of a comparison, or alone (RFC 9535, 2.3.5.1).
 ghost use Rattle.std.specs.Prelude.{◌≡◌, ◌≢◌, ℕ, ◌<◌, ◌≤◌, length, IfOk, map, option_map, IfErr};
-ghost use Rattle.jsonpath_parser.specs.Reading.{Gives, Reads};
-ghost use Rattle.jsonpath_parser.specs.ReadingGrammar as spec;
-ghost use Rattle.jsonpath_parser.specs.ReadingGrammar.{number_reading};
+ghost use Rattle.jsonpath_parser.specs.inner.Reading.{Gives, Reads};
+ghost use Rattle.jsonpath_parser.specs.inner.ReadingGrammar as spec;
+ghost use Rattle.jsonpath_parser.specs.inner.ReadingGrammar.{number_reading};
 ghost use Rattle.jsonpath_parser.specs.View.{argument_view, comparable_view, filter_view, segment_view, segments_view, step_view};
 
 use super::calls::called;
@@ -21,7 +21,7 @@ use std::alloc::Global;
 
 /// A call, or a literal that is a word.
 #[cycle(reading)]
-#[tactic(auto, unfolding(crate::specs::ReadingGrammar::word_operand_at))]
+#[tactic(auto, unfolding(crate::specs::inner::ReadingGrammar::word_operand_at))]
 fn word_operand(alloc: Global, numbers: Numbers, s: &str) -> Result<(FnArg, &str), Stop>
     ensures value { (n : ℕ) → length s.now ≤ n → Reads argument_view result (spec.word_operand_at (number_reading numbers) (spec.argument_at (number_reading numbers) n) s.now) }
     ensures shorter { IfOk result (λ p. length p.1.now < length s.now) }
@@ -40,7 +40,7 @@ fn word_operand(alloc: Global, numbers: Numbers, s: &str) -> Result<(FnArg, &str
 
 /// A literal, a query or a call.
 #[cycle(reading)]
-#[tactic(auto, unfolding(crate::specs::ReadingGrammar::operand_at))]
+#[tactic(auto, unfolding(crate::specs::inner::ReadingGrammar::operand_at))]
 pub fn operand(alloc: Global, numbers: Numbers, s: &str) -> Result<(FnArg, &str), Stop>
     ensures value { (n : ℕ) → length s.now ≤ n → Reads argument_view result (spec.operand_at (number_reading numbers) (spec.argument_at (number_reading numbers) n) s.now) }
     ensures shorter { IfOk result (λ p. length p.1.now < length s.now) }
@@ -70,7 +70,7 @@ pub fn operand(alloc: Global, numbers: Numbers, s: &str) -> Result<(FnArg, &str)
 
 /// A segment of one name or one index as a step of a singular query.
 fn step(segment: Segment) -> Option<SingularQuerySegment>
-    ensures { option_map step_view result ≡ spec.step_of (segment_view segment) }
+    ensures { option_map step_view result ≡ spec.step_of_segment (segment_view segment) }
 {
     match segment {
         Segment::Selector(Selector::Name(name)) => Some(SingularQuerySegment::Name(name)),

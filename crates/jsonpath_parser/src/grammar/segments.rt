@@ -1,8 +1,8 @@
 //! Segments (RFC 9535, 2.5).
 ghost use Rattle.std.specs.Prelude.{◌≡◌, ℕ, ◌<◌, ◌≤◌, length, IfOk};
-ghost use Rattle.jsonpath_parser.specs.Reading.{Reads};
-ghost use Rattle.jsonpath_parser.specs.ReadingGrammar as spec;
-ghost use Rattle.jsonpath_parser.specs.ReadingGrammar.{number_reading};
+ghost use Rattle.jsonpath_parser.specs.inner.Reading.{Reads};
+ghost use Rattle.jsonpath_parser.specs.inner.ReadingGrammar as spec;
+ghost use Rattle.jsonpath_parser.specs.inner.ReadingGrammar.{number_reading};
 ghost use Rattle.jsonpath_parser.specs.View.{segment_view, segments_view};
 
 use super::literals::Numbers;
@@ -15,7 +15,7 @@ use std::alloc::Global;
 
 /// What stands behind `..` (2.5.2.1).
 #[cycle(reading)]
-#[tactic(auto, unfolding(crate::specs::ReadingGrammar::descendant_at))]
+#[tactic(auto, unfolding(crate::specs::inner::ReadingGrammar::descendant_at))]
 fn descendant(alloc: Global, numbers: Numbers, s: &str) -> Result<(Segment, &str), Stop>
     ensures value { (n : ℕ) → length s.now ≤ n → Reads segment_view result (spec.descendant_at (number_reading numbers) (spec.argument_at (number_reading numbers) n) s.now) }
     ensures within { IfOk result (λ p. length p.1.now ≤ length s.now) }
@@ -31,7 +31,7 @@ fn descendant(alloc: Global, numbers: Numbers, s: &str) -> Result<(Segment, &str
 
 /// A segment (2.5).
 #[cycle(reading)]
-#[tactic(auto, unfolding(crate::specs::ReadingGrammar::segment_at))]
+#[tactic(auto, unfolding(crate::specs::inner::ReadingGrammar::segment_at))]
 pub fn segment(alloc: Global, numbers: Numbers, s: &str) -> Result<(Segment, &str), Stop>
     ensures value { (n : ℕ) → length s.now ≤ n → Reads segment_view result (spec.segment_at (number_reading numbers) (spec.argument_at (number_reading numbers) n) s.now) }
     ensures shorter { IfOk result (λ p. length p.1.now < length s.now) }
@@ -54,7 +54,7 @@ fn starts_segment(s: &str) -> bool
 
 /// Segments, each perhaps after blanks. Blanks that no segment follows are not read.
 #[cycle(reading)]
-#[tactic(auto, unfolding(crate::specs::ReadingGrammar::all_segments_at, crate::specs::ReadingGrammar::segments_at))]
+#[tactic(auto, unfolding(crate::specs::inner::ReadingGrammar::all_segments_at, crate::specs::inner::ReadingGrammar::segments_at))]
 pub fn segments(alloc: Global, numbers: Numbers, s: &str) -> Result<(Vec<Segment>, &str), Stop>
     ensures value { (n : ℕ) → length s.now ≤ n → Reads segments_view result (spec.all_segments_at (number_reading numbers) (spec.argument_at (number_reading numbers) n) s.now) }
     ensures within { IfOk result (λ p. length p.1.now ≤ length s.now) }

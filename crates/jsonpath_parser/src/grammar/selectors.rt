@@ -1,8 +1,8 @@
 //! Selectors, and selectors between brackets (RFC 9535, 2.3 and 2.5.1).
 ghost use Rattle.std.specs.Prelude.{◌≡◌, ℕ, ◌<◌, ◌≤◌, length, IfOk};
-ghost use Rattle.jsonpath_parser.specs.Reading.{Reads};
-ghost use Rattle.jsonpath_parser.specs.ReadingGrammar as spec;
-ghost use Rattle.jsonpath_parser.specs.ReadingGrammar.{number_reading};
+ghost use Rattle.jsonpath_parser.specs.inner.Reading.{Reads};
+ghost use Rattle.jsonpath_parser.specs.inner.ReadingGrammar as spec;
+ghost use Rattle.jsonpath_parser.specs.inner.ReadingGrammar.{number_reading};
 ghost use Rattle.jsonpath_parser.specs.Syntax.{no_selectors};
 ghost use Rattle.jsonpath_parser.specs.View.{selector_view, selectors_view, segment_view};
 
@@ -17,7 +17,7 @@ use std::alloc::Global;
 
 /// A selector (2.3).
 #[cycle(reading)]
-#[tactic(auto, unfolding(crate::specs::ReadingGrammar::selector_at))]
+#[tactic(auto, unfolding(crate::specs::inner::ReadingGrammar::selector_at))]
 pub fn selector(alloc: Global, numbers: Numbers, s: &str) -> Result<(Selector, &str), Stop>
     ensures value { (n : ℕ) → length s.now ≤ n → Reads selector_view result (spec.selector_at (number_reading numbers) (spec.argument_at (number_reading numbers) n) s.now) }
     ensures shorter { IfOk result (λ p. length p.1.now < length s.now) }
@@ -38,7 +38,7 @@ pub fn selector(alloc: Global, numbers: Numbers, s: &str) -> Result<(Selector, &
 
 /// Selectors with commas between them.
 #[cycle(reading)]
-#[tactic(auto, unfolding(crate::specs::ReadingGrammar::selectors_at))]
+#[tactic(auto, unfolding(crate::specs::inner::ReadingGrammar::selectors_at))]
 fn selectors(alloc: Global, numbers: Numbers, s: &str) -> Result<(Vec<Selector>, &str), Stop>
     ensures value { (n k : ℕ) → length s.now ≤ n → length s.now < k → Reads selectors_view result (spec.selectors_at (number_reading numbers) (spec.argument_at (number_reading numbers) n) k no_selectors s.now) }
     ensures shorter { IfOk result (λ p. length p.1.now < length s.now) }
@@ -72,7 +72,7 @@ fn selection_of(mut selectors: Vec<Selector>) -> Segment
 
 /// Selectors between brackets (2.5.1).
 #[cycle(reading)]
-#[tactic(auto, unfolding(crate::specs::ReadingGrammar::selection_at))]
+#[tactic(auto, unfolding(crate::specs::inner::ReadingGrammar::selection_at))]
 pub fn selection(alloc: Global, numbers: Numbers, s: &str) -> Result<(Segment, &str), Stop>
     ensures value { (n : ℕ) → length s.now ≤ n → Reads segment_view result (spec.selection_at (number_reading numbers) (spec.argument_at (number_reading numbers) n) s.now) }
     ensures shorter { IfOk result (λ p. length p.1.now < length s.now) }

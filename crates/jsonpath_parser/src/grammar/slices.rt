@@ -1,7 +1,7 @@
 //! Indexes and slices (RFC 9535, 2.3.3 and 2.3.4).
 ghost use Rattle.std.specs.Prelude.{◌≡◌, ◌≢◌, ◌<◌, ◌≤◌, length, IfOk, IfErr};
-ghost use Rattle.jsonpath_parser.specs.Reading.{Reads};
-ghost use Rattle.jsonpath_parser.specs.ReadingGrammar as spec;
+ghost use Rattle.jsonpath_parser.specs.inner.Reading.{Reads};
+ghost use Rattle.jsonpath_parser.specs.inner.ReadingGrammar as spec;
 ghost use Rattle.jsonpath_parser.specs.View.{selector_view};
 
 use super::int::int;
@@ -18,7 +18,7 @@ pub fn is_int_first(byte: u8) -> bool
 }
 
 /// The end of a slice and the blanks behind it, where it stands.
-#[tactic(auto, unfolding(crate::specs::ReadingGrammar::end_at))]
+#[tactic(auto, unfolding(crate::specs::inner::ReadingGrammar::end_at))]
 fn end(s: &str) -> Result<(Option<i64>, &str), Stop>
     ensures value { Reads (λ n. n) result (spec.end_at s.now) }
     ensures within { IfOk result (λ p. length p.1.now ≤ length s.now) }
@@ -32,7 +32,7 @@ fn end(s: &str) -> Result<(Option<i64>, &str), Stop>
 }
 
 /// The step of a slice, behind its `:`. Blanks that no int follows are not read.
-#[tactic(auto, unfolding(crate::specs::ReadingGrammar::step_at))]
+#[tactic(auto, unfolding(crate::specs::inner::ReadingGrammar::step_at))]
 fn step(s: &str) -> Result<(Option<i64>, &str), Stop>
     ensures value { Reads (λ n. n) result (spec.step_at s.now) }
     ensures within { IfOk result (λ p. length p.1.now ≤ length s.now) }
@@ -47,7 +47,7 @@ fn step(s: &str) -> Result<(Option<i64>, &str), Stop>
 }
 
 /// The end and the step of a slice, behind its first `:`.
-#[tactic(auto, unfolding(crate::specs::ReadingGrammar::slice_at))]
+#[tactic(auto, unfolding(crate::specs::inner::ReadingGrammar::slice_at))]
 fn slice(start: Option<i64>, s: &str) -> Result<(Selector, &str), Stop>
     ensures value { Reads selector_view result (spec.slice_at start s.now) }
     ensures within { IfOk result (λ p. length p.1.now ≤ length s.now) }
@@ -62,7 +62,7 @@ fn slice(start: Option<i64>, s: &str) -> Result<(Selector, &str), Stop>
 }
 
 /// An index or a slice.
-#[tactic(auto, unfolding(crate::specs::ReadingGrammar::numbered_at))]
+#[tactic(auto, unfolding(crate::specs::inner::ReadingGrammar::numbered_at))]
 pub fn numbered(s: &str) -> Result<(Selector, &str), Stop>
     ensures value { Reads selector_view result (spec.numbered_at s.now) }
     ensures shorter { IfOk result (λ p. length p.1.now < length s.now) }

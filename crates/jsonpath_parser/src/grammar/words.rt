@@ -1,19 +1,17 @@
 //! Names, words and operators (RFC 9535, 2.3.5.1, 2.4 and 2.5.1.1).
 ghost use Rattle.std.specs.Prelude.{◌≡◌, ◌≢◌, ◌<◌, ◌≤◌, length, IfOk, option_map, string_bytes, IfErr};
-ghost use Rattle.jsonpath_parser.specs.Reading.{Reads};
-ghost use Rattle.jsonpath_parser.specs.Reading as reading;
-ghost use Rattle.jsonpath_parser.specs.ReadingGrammar as spec;
-ghost use Rattle.jsonpath_parser.specs.ReadingGrammar.{operator_view};
-ghost use Rattle.jsonpath_parser.specs.View.{selector_view, literal_view};
+ghost use Rattle.jsonpath_parser.specs.inner.Reading.{Reads};
+ghost use Rattle.jsonpath_parser.specs.inner.Reading as reading;
+ghost use Rattle.jsonpath_parser.specs.inner.ReadingGrammar as spec;
+ghost use Rattle.jsonpath_parser.specs.View.{selector_view, literal_view, operator_view};
 
-use crate::model::operator::Operator;
-use crate::model::{Literal, Selector};
+use crate::model::{Literal, Operator, Selector};
 use crate::stop::Stop;
 use crate::text::{byte_at, first, function_run, is_function_first, is_name_first, name_run, skip};
 use std::alloc::Global;
 
 /// A shorthand name (2.5.1.1).
-#[tactic(auto, unfolding(crate::specs::Reading::name_at))]
+#[tactic(auto, unfolding(crate::specs::inner::Reading::name_at))]
 fn name(alloc: Global, s: &str) -> Result<(String, &str), Stop>
     ensures value { Reads string_bytes result (reading.name_at s.now) }
     ensures within { IfOk result (λ p. length p.1.now ≤ length s.now) }
@@ -26,7 +24,7 @@ fn name(alloc: Global, s: &str) -> Result<(String, &str), Stop>
 }
 
 /// `*` or a shorthand name, behind a dot (2.5.1.1).
-#[tactic(auto, unfolding(crate::specs::ReadingGrammar::shorthand_at))]
+#[tactic(auto, unfolding(crate::specs::inner::ReadingGrammar::shorthand_at))]
 pub fn shorthand(alloc: Global, s: &str) -> Result<(Selector, &str), Stop>
     ensures value { Reads selector_view result (spec.shorthand_at s.now) }
     ensures within { IfOk result (λ p. length p.1.now ≤ length s.now) }
@@ -39,7 +37,7 @@ pub fn shorthand(alloc: Global, s: &str) -> Result<(Selector, &str), Stop>
 }
 
 /// The name of a function, or a word (2.4).
-#[tactic(auto, unfolding(crate::specs::ReadingGrammar::word_at))]
+#[tactic(auto, unfolding(crate::specs::inner::ReadingGrammar::word_at))]
 pub fn word(s: &str) -> Result<(&str, &str), Stop>
     ensures value { Reads (λ w. w.now) result (spec.word_at s.now) }
     ensures shorter { IfOk result (λ p. length p.1.now < length s.now) }
@@ -72,7 +70,7 @@ pub fn is_operator_first(byte: u8) -> bool
 }
 
 /// An operator of a comparison.
-#[tactic(auto, unfolding(crate::specs::ReadingGrammar::operator_at))]
+#[tactic(auto, unfolding(crate::specs::inner::ReadingGrammar::operator_at))]
 pub fn read_operator(s: &str) -> Result<(Operator, &str), Stop>
     ensures value { Reads operator_view result (spec.operator_at s.now) }
     ensures shorter { IfOk result (λ p. length p.1.now < length s.now) }

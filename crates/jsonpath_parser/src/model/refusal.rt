@@ -1,6 +1,7 @@
 //! The refusal of what cannot be made.
 ghost use Rattle.std.specs.Prelude.{true, ◌++◌};
-ghost use Rattle.jsonpath_parser.specs.Making.{IsMakersRefusal, IsSaid};
+ghost use Rattle.jsonpath_parser.specs.Making.{IsMakersRefusal};
+ghost use Rattle.jsonpath_parser.specs.inner.Refusals.{IsSaid};
 
 use crate::errors::JsonPathError;
 use std::alloc::Global;

@@ -1,6 +1,6 @@
 use Rattle.std.proofs.Common.{◌≡◌, ◌≤◌, nat_lt, drop}
 use Rattle.jsonpath_parser.specs.Depth.{depth, depth_from}
-use Rattle.jsonpath_parser.specs.Reading.{place_view}
+use Rattle.jsonpath_parser.specs.inner.Reading.{place_view}
 use Rattle.jsonpath_parser.proofs.depth.exceeds.Given as goal
 
 abbrev pub invariant-loop-byte : goal.invariant-loop-byte

@@ -1,7 +1,7 @@
 use Rattle.std.proofs.Common.{◌≡◌, ◌==◌, ◌-◌, ◌≤◌, true, false, length, drop, le_refl, ◌∙◌, rules, arith}
 use Rattle.std.proofs.lemmas.Grind.{common_steps}
-use Rattle.jsonpath_parser.specs.Reading.{first, skip_blank}
-use Rattle.jsonpath_parser.specs.ReadingGrammar.{starts_segment, is_twice}
+use Rattle.jsonpath_parser.specs.inner.Reading.{first, skip_blank}
+use Rattle.jsonpath_parser.specs.inner.ReadingGrammar.{starts_segment, is_twice}
 use Rattle.jsonpath_parser.proofs.Turns.{segments_end, segments_none, segments_next, selectors_none, selectors_end, selectors_next, arguments_none, arguments_end, arguments_next, ands_end, ands_none, ands_other, ands_next, ors_end, ors_none, ors_other, ors_next, argument_turn, segments_push, selectors_push, filters_push, arguments_push, gives_err}
 use Rattle.jsonpath_parser.proofs.grammar.+reading.Goals as goal
 

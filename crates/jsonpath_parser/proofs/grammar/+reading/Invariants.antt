@@ -1,7 +1,7 @@
 use Rattle.std.proofs.Common.{◌≡◌, ℕ, ◌+◌, ◌*◌, ◌<◌, ◌≤◌, length}
 use denote.Text.{Utf8}
 use denote.Shadow.{shadow}
-use Rattle.jsonpath_parser.specs.ReadingGrammar.{number_reading, argument_at, selectors_at, segments_at, all_segments_at, arguments_at, ands_at, ors_at}
+use Rattle.jsonpath_parser.specs.inner.ReadingGrammar.{number_reading, argument_at, selectors_at, segments_at, all_segments_at, arguments_at, ands_at, ors_at}
 use Rattle.jsonpath_parser.specs.Syntax.{no_selectors, no_arguments, no_filters, filter_then}
 use Rattle.jsonpath_parser.specs.View.{segments_view, selectors_view, filter_view, filters_view, arguments_view}
 use Rattle.jsonpath_parser.proofs.grammar.+reading.Given as goal

@@ -1,7 +1,7 @@
 use Rattle.std.proofs.Common.{◌≡◌, ◌++◌, ◌*◌, ◌^◌, ap, sym, ◌∙◌, subst, length}
 use Rattle.std.specs.Str.Parse.{digits_value, digits_value_after}
 use Rattle.jsonpath_parser.specs.Numbers.{up}
-use Rattle.jsonpath_parser.specs.ReadingNumbers.{number_of, exponent_view, IsUnheld}
+use Rattle.jsonpath_parser.specs.inner.ReadingNumbers.{number_of, exponent_view, IsUnheld}
 use Rattle.jsonpath_parser.proofs.NumberPowers.{unheld_after, digits_value_after-append}
 use Rattle.jsonpath_parser.proofs.NumberValues.{value_unheld, value_none, value_some}
 use Rattle.jsonpath_parser.proofs.number.value.Goals as goal

@@ -1,5 +1,5 @@
 use Rattle.std.proofs.Common.{◌∙◌, subst}
-use Rattle.jsonpath_parser.specs.ReadingNumbers.{number_of, IsUnheld}
+use Rattle.jsonpath_parser.specs.inner.ReadingNumbers.{number_of, IsUnheld}
 use Rattle.std.specs.Str.Parse.{digits_value_after}
 use Rattle.jsonpath_parser.proofs.NumberPowers.{unheld_turn, next_digit, digit_small}
 use Rattle.jsonpath_parser.proofs.number.with_digits.Goals as goal

@@ -1,6 +1,6 @@
 use Rattle.std.proofs.Common.{◌≡◌, ◌++◌, map, reverse, vec_len}
 use Rattle.std.specs.Option.{option_map}
-use Rattle.jsonpath_parser.specs.ReadingGrammar.{steps_of}
+use Rattle.jsonpath_parser.specs.inner.ReadingGrammar.{steps_of}
 use Rattle.jsonpath_parser.specs.View.{segment_view, segments_of, segments_view, step_view}
 use Rattle.jsonpath_parser.proofs.grammar.operands.steps.Given as goal
 

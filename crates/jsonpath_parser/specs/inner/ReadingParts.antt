@@ -1,0 +1,145 @@
+-- What the parts of a query are read as, each by itself, and which refusal they get. The laws of proofs/ join it to the grammar, so a user need not believe it.
+use Rattle.std.specs.Prelude.{◌≡◌, ◌⊎◌, ℕ, suc, ◌≤◌, ◌==◌, Bool, true, false, if◌then◌else◌, ℤ, List, [], length, Option, Some, None, Result, Ok, Err, MatchResult, IsOkAnd, IfOk, IfErr, OnErr, ◌-◌, drop, string_bytes, ⊤}
+use Rattle.std.specs.Borrow.{Bor}
+use Rattle.jsonpath_parser.specs.Parts.{text_of, rest_of}
+use Rattle.jsonpath_parser.specs.inner.Reading.{Read, ◌>>=◌, first}
+use Rattle.jsonpath_parser.specs.inner.ReadingGrammar.{number_reading, comparable_of, filter_of, shorthand_at, selection_at, operand_at, basic_at, conjunction_at, all_segments_at, segment_at, selector_at, logical_at, argument_at}
+use Rattle.jsonpath_parser.specs.Syntax.{Literal, SingularQuery, Selector, slice, Segment, one, Segments, Filter, atom, Atom, comparison, Comparison, Comparable, literal, function, singular, Test, relative, absolute, call, Call, Argument, literal_argument, test_argument, filter_argument, Query}
+use Rattle.jsonpath_parser.specs.Valueless.{IsValuelessIn}
+use Rattle.jsonpath_parser.specs.declared.errors.JsonPathError.{JsonPathError}
+use Rattle.jsonpath_parser.specs.declared.errors.JsonPathError.TheVariants.{PestError, InvalidNumber, OutOfMemory}
+use Rattle.jsonpath_parser.specs.declared.grammar.literals.Numbers.{Numbers}
+use Rattle.jsonpath_parser.specs.declared.grammar.literals.Numbers.TheVariants.{Valued, Any}
+use Rattle.jsonpath_parser.specs.declared.cursor.Cursor.{Cursor}
+use Rattle.jsonpath_parser.specs.declared.stop.Stop.{Stop}
+use Rattle.jsonpath_parser.specs.declared.stop.Stop.TheVariants.{Memory}
+
+-- ---- what an operand, or a logical expression, is as another kind of tree
+
+abbrev pub literal_in : Argument → Option Literal
+literal_in (literal_argument l) = Some l
+literal_in (test_argument t) = None
+literal_in (filter_argument f) = None
+
+abbrev pub test_in : Argument → Option Test
+test_in (literal_argument l) = None
+test_in (test_argument t) = Some t
+test_in (filter_argument f) = None
+
+abbrev pub call_in : Argument → Option Call
+call_in (literal_argument l) = None
+call_in (test_argument (relative gs)) = None
+call_in (test_argument (absolute gs)) = None
+call_in (test_argument (call c)) = Some c
+call_in (filter_argument f) = None
+
+abbrev pub relative_in : Argument → Option Segments
+relative_in (literal_argument l) = None
+relative_in (test_argument (relative gs)) = Some gs
+relative_in (test_argument (absolute gs)) = None
+relative_in (test_argument (call c)) = None
+relative_in (filter_argument f) = None
+
+abbrev pub query_in : Argument → Option Query
+query_in (literal_argument l) = None
+query_in (test_argument (relative gs)) = None
+query_in (test_argument (absolute gs)) = Some gs
+query_in (test_argument (call c)) = None
+query_in (filter_argument f) = None
+
+abbrev pub singular_of : Comparable → Option SingularQuery
+singular_of (literal l) = None
+singular_of (function c) = None
+singular_of (singular q) = Some q
+
+abbrev pub singular_in : Argument → Option SingularQuery
+singular_in x = comparable_of x >>= singular_of
+
+abbrev pub atom_of : Filter → Option Atom
+atom_of (Filter.or fs) = None
+atom_of (Filter.and fs) = None
+atom_of (atom a) = Some a
+
+abbrev pub atom_in : Argument → Option Atom
+atom_in x = filter_of x >>= atom_of
+
+abbrev pub comparison_of_atom : Atom → Option Comparison
+comparison_of_atom (Atom.group negated f) = None
+comparison_of_atom (Atom.test negated t) = None
+comparison_of_atom (comparison c) = Some c
+
+abbrev pub comparison_in : Argument → Option Comparison
+comparison_in x = atom_in x >>= comparison_of_atom
+
+abbrev pub slice_in : Selector → Option (Option ℤ × Option ℤ × Option ℤ)
+slice_in (Selector.name n) = None
+slice_in Selector.wildcard = None
+slice_in (Selector.index i) = None
+slice_in (slice start end step) = Some (start, end, step)
+slice_in (Selector.filter f) = None
+
+-- ---- what is read at the front
+
+-- where it is such a tree, and well-typed
+unfoldable pub taken_at : {X V : Type 0} → (X → Option V) → (V → Bool) → Read X → Read V
+taken_at take typed r = r >>= (λ x. take x.0 >>= (λ v. if typed v then Some (v, x.1) else None))
+
+module _ (numbers : Numbers) (text : List ℕ) where
+  -- how an argument inside is read: no nesting is deeper than the text is long
+  abbrev pub inner_at : List ℕ → Read Argument
+  inner_at = argument_at (number_reading numbers) (length text)
+
+  abbrev pub operand_in : Read Argument
+  operand_in = operand_at (number_reading numbers) inner_at text
+
+  abbrev pub basic_in : Read Argument
+  basic_in = basic_at (number_reading numbers) inner_at text
+
+  abbrev pub conjunction_in : Read Argument
+  conjunction_in = conjunction_at (number_reading numbers) inner_at text
+
+  abbrev pub logical_in : Read Filter
+  logical_in = logical_at (number_reading numbers) (argument_at (number_reading numbers) (suc (length text))) text
+
+  abbrev pub segments_in : Read Segments
+  segments_in = all_segments_at (number_reading numbers) inner_at text
+
+  abbrev pub segment_in : Read Segment
+  segment_in = segment_at (number_reading numbers) inner_at text
+
+  abbrev pub selector_in : Read Selector
+  selector_in = selector_at (number_reading numbers) inner_at text
+
+  -- brackets, or what stands behind a dot
+  unfoldable pub child_in : Read Segment
+  child_in =
+      if first text == 91 then selection_at (number_reading numbers) inner_at text
+      else shorthand_at text >>= (λ s. Some (one s.0, s.1))
+
+-- ---- refusals
+
+-- The refusal at a cursor, where reading stopped; `again` is what it is read as with any number literals. The place is at most the text's length.
+abbrev pub IsCursorRefusal : {T : Type 0} → Cursor → Stop → Result (T × Bor (List ℕ)) Stop → JsonPathError → Type 0
+IsCursorRefusal c stop again (InvalidNumber said) = (stop ≡ Memory → ⊥) × IsValuelessIn (rest_of c) (string_bytes said) × IsOkAnd again (λ p. p.1.now ≡ [])
+IsCursorRefusal c stop again (PestError place) = (place ≤ length (text_of c)) × (stop ≡ Memory → ⊥) × MatchResult again (λ p. p.1.now ≡ [] → ⊥) (λ e. e ≡ Memory → ⊥)
+IsCursorRefusal c stop again OutOfMemory = ⊤
+IsCursorRefusal c stop again _ = ⊥
+
+-- ---- one reading of a kind of tree: what is read, how it is turned into a tree of the kind, and whether that is well-typed
+
+module _ {X T : Type 0} (reads : Numbers → Result (X × Bor (List ℕ)) Stop → Type 0) (takes : X → Result T Stop → Type 0) (checks : Bor T → Bool → Type 0) where
+  -- a tree of the kind and the text after it, or what stopped the reading
+  abbrev pub Takes : Numbers → Result (T × Bor (List ℕ)) Stop → Type 0
+  Takes numbers (Ok p) = (x : X) × reads numbers (Ok (x, p.1)) × takes x (Ok p.0) × ((t : Bor T) × checks t true × (t.now ≡ p.0))
+  Takes numbers (Err e) = reads numbers (Err e) ⊎ ((p : X × Bor (List ℕ)) × reads numbers (Ok p) × (takes p.0 (Err e) ⊎ ((t : Bor T) × checks t false × takes p.0 (Ok t.now) × (e ≡ Memory → ⊥))))
+
+  -- where a tree is read, the cursor's text ends in what stands after it
+  pub record StaysInText (c : Cursor) : Type 0 where
+    pub ends : (outcome : _) → Takes Valued outcome → IfOk outcome (λ p. drop (length (text_of c) - length p.1.now) (text_of c) ≡ p.1.now)
+
+  -- what a cursor's function answers, by what reading answers
+  pub record IsAnswer (old new : Cursor) (result : Result T JsonPathError) : Type 0 where
+    pub tree : IfOk result (λ t. Takes Valued (Ok (t, new.rest)))
+    pub refusal : IfErr result (λ e. (stop : Stop) × Takes Valued (Err stop) × ((again : _) × Takes Any again × IsCursorRefusal old stop again e))
+    pub kept : OnErr result (new ≡ old)
+    pub same : text_of new ≡ text_of old

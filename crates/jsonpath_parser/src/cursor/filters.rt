@@ -1,0 +1,128 @@
+//! The grammar functions for logical expressions and what stands in them (RFC 9535, 2.3.5.1 and 2.4).
+ghost use Rattle.jsonpath_parser.specs.Grammar.{SpellsLogical, SpellsConjunction, SpellsBasic, SpellsComparison, SpellsComparable, SpellsLiteral, SpellsTest, SpellsCall};
+ghost use Rattle.jsonpath_parser.specs.Parts.{ReadsPart, always};
+ghost use Rattle.jsonpath_parser.specs.Typing as typed;
+ghost use Rattle.jsonpath_parser.specs.View.{filter_view, atom_view, comparison_view, comparable_view, literal_view, test_view, call_view};
+
+use super::Cursor;
+use super::part::part;
+use crate::errors::Parsed;
+use crate::grammar::productions;
+use crate::model::{Comparable, Comparison, Filter, FilterAtom, Literal, Test, TestFunction};
+use crate::typing;
+use std::alloc::Global;
+
+/// Reads a logical expression (2.3.5.1). It answers `Or` of the operands of `||` where there are two or more, else what the
+/// one operand is.
+/// Its errors are those of [`Cursor`].
+pub fn logical_expr(alloc: Global, cursor: &mut Cursor<'_>) -> Parsed<Filter>
+    ensures { ReadsPart SpellsLogical typed.is_typed_filter filter_view cursor.old cursor.new result }
+{
+    part(
+        alloc,
+        cursor,
+        productions::logical,
+        productions::as_read,
+        typing::filter,
+    )
+}
+
+/// Reads an operand of `||` (2.3.5.1). It answers `And` of the operands of `&&` where there are two or more, else the one
+/// operand as an `Atom`.
+/// Its errors are those of [`Cursor`].
+pub fn logical_expr_and(alloc: Global, cursor: &mut Cursor<'_>) -> Parsed<Filter>
+    ensures { ReadsPart SpellsConjunction typed.is_typed_filter filter_view cursor.old cursor.new result }
+{
+    part(
+        alloc,
+        cursor,
+        productions::conjunction,
+        productions::filter,
+        typing::filter,
+    )
+}
+
+/// Reads an operand of `&&`: an expression in parentheses or a test, each perhaps behind `!`, or a comparison (2.3.5.1). It
+/// answers the operand.
+/// Its errors are those of [`Cursor`].
+pub fn filter_atom(alloc: Global, cursor: &mut Cursor<'_>) -> Parsed<FilterAtom>
+    ensures { ReadsPart SpellsBasic typed.is_typed_atom atom_view cursor.old cursor.new result }
+{
+    part(
+        alloc,
+        cursor,
+        productions::basic,
+        productions::atom_in,
+        typing::atom,
+    )
+}
+
+/// Reads a comparison of two values (2.3.5.1). It answers the comparison by its operator.
+/// Its errors are those of [`Cursor`].
+pub fn comp_expr(alloc: Global, cursor: &mut Cursor<'_>) -> Parsed<Comparison>
+    ensures { ReadsPart SpellsComparison typed.is_typed_comparison comparison_view cursor.old cursor.new result }
+{
+    part(
+        alloc,
+        cursor,
+        productions::basic,
+        productions::comparison_in,
+        typing::comparison,
+    )
+}
+
+/// Reads a side of a comparison: a literal, a singular query, or a call that gives a value (2.3.5.1). It answers the side.
+/// Its errors are those of [`Cursor`].
+pub fn comparable(alloc: Global, cursor: &mut Cursor<'_>) -> Parsed<Comparable>
+    ensures { ReadsPart SpellsComparable typed.is_typed_comparable comparable_view cursor.old cursor.new result }
+{
+    part(
+        alloc,
+        cursor,
+        productions::operand,
+        |operand, left| productions::comparable(alloc, operand, left),
+        typing::comparable,
+    )
+}
+
+/// Reads a literal: a number, a string, `true`, `false` or `null` (2.3.5.1). It answers its value.
+/// Its errors are those of [`Cursor`].
+pub fn literal(alloc: Global, cursor: &mut Cursor<'_>) -> Parsed<Literal>
+    ensures { ReadsPart SpellsLiteral always literal_view cursor.old cursor.new result }
+{
+    part(
+        alloc,
+        cursor,
+        productions::operand,
+        productions::literal_in,
+        productions::has_no_call,
+    )
+}
+
+/// Reads a test: a query from `@` or from `$`, or a call that gives a truth (2.3.5.1). It answers the test.
+/// Its errors are those of [`Cursor`].
+pub fn test(alloc: Global, cursor: &mut Cursor<'_>) -> Parsed<Test>
+    ensures { ReadsPart SpellsTest typed.is_typed_truth test_view cursor.old cursor.new result }
+{
+    part(
+        alloc,
+        cursor,
+        productions::operand,
+        productions::test_in,
+        typing::truth,
+    )
+}
+
+/// Reads a call of a function that takes its arguments (2.4). It answers the call.
+/// Its errors are those of [`Cursor`].
+pub fn function_expr(alloc: Global, cursor: &mut Cursor<'_>) -> Parsed<TestFunction>
+    ensures { ReadsPart SpellsCall typed.is_typed_call call_view cursor.old cursor.new result }
+{
+    part(
+        alloc,
+        cursor,
+        productions::operand,
+        productions::call_in,
+        typing::call,
+    )
+}

@@ -1,0 +1,151 @@
+//! The productions that a part of a query may be: what is read, and how that is turned into the tree (RFC 9535, 2.1 to 2.5).
+ghost use Rattle.std.specs.Prelude.{◌≡◌, true, Ok};
+ghost use Rattle.jsonpath_parser.specs.inner.Reading.{Gives, Reads};
+ghost use Rattle.jsonpath_parser.specs.inner.ReadingGrammar.{numbered_at};
+ghost use Rattle.jsonpath_parser.specs.inner.ReadingParts as spec;
+ghost use Rattle.jsonpath_parser.specs.View.{literal_view, singular_view, argument_view, atom_view, call_view, comparison_view, query_view, segment_view, segments_view, selector_view, test_view};
+
+pub use super::filters::{basic, conjunction, logical};
+use super::literals::Numbers;
+pub use super::operands::{comparable, filter, operand, steps};
+pub use super::segments::{segment, segments};
+use super::selectors::selection;
+pub use super::selectors::selector;
+use super::slices;
+use super::words::shorthand;
+use crate::model::{
+    Comparison, Filter, FilterAtom, FnArg, JpQuery, Literal, Segment, Selector, SingularQuery,
+    Test, TestFunction,
+};
+use crate::stop::Stop;
+use crate::text::first;
+use std::alloc::Global;
+
+/// What may stand behind `..`.
+#[tactic(auto, unfolding(crate::specs::inner::ReadingParts::child_in))]
+pub fn child(alloc: Global, numbers: Numbers, s: &str) -> Result<(Segment, &str), Stop>
+    ensures { Reads segment_view result (spec.child_in numbers s.now) }
+{
+    if first(s) == b'[' {
+        return selection(alloc, numbers, s);
+    }
+    let (selector, rest) = shorthand(alloc, s)?;
+    Ok((Segment::Selector(selector), rest))
+}
+
+/// An index or a slice.
+pub fn numbered(_: Global, _: Numbers, s: &str) -> Result<(Selector, &str), Stop>
+    ensures { Reads selector_view result (numbered_at s.now) }
+{
+    slices::numbered(s)
+}
+
+/// The tree as it was read.
+pub fn as_read<T>(tree: T, _left: usize) -> Result<T, Stop>
+    ensures { result ≡ Ok tree }
+{
+    Ok(tree)
+}
+
+/// No call stands in the tree.
+pub fn has_no_call<T>(_tree: &T) -> bool
+    ensures { result ≡ true }
+{
+    true
+}
+
+/// The literal that the operand is; `left` bytes follow it, here and below.
+pub fn literal_in(operand: FnArg, left: usize) -> Result<Literal, Stop>
+    ensures { Gives literal_view result (spec.literal_in (argument_view operand)) }
+{
+    match operand {
+        FnArg::Literal(literal) => Ok(literal),
+        FnArg::Test(_) | FnArg::Filter(_) => Err(Stop::Syntax(left)),
+    }
+}
+
+/// The query or the call that the operand is.
+pub fn test_in(operand: FnArg, left: usize) -> Result<Test, Stop>
+    ensures { Gives test_view result (spec.test_in (argument_view operand)) }
+{
+    match operand {
+        FnArg::Test(test) => Ok(Box::into_inner(test)),
+        FnArg::Literal(_) | FnArg::Filter(_) => Err(Stop::Syntax(left)),
+    }
+}
+
+/// The call that the operand is.
+pub fn call_in(operand: FnArg, left: usize) -> Result<TestFunction, Stop>
+    ensures { Gives call_view result (spec.call_in (argument_view operand)) }
+{
+    match test_in(operand, left)? {
+        Test::Function(call) => Ok(Box::into_inner(call)),
+        Test::RelQuery(_) | Test::AbsQuery(_) => Err(Stop::Syntax(left)),
+    }
+}
+
+/// The segments behind `@`, where the operand is such a query.
+pub fn relative_in(operand: FnArg, left: usize) -> Result<Vec<Segment>, Stop>
+    ensures { Gives segments_view result (spec.relative_in (argument_view operand)) }
+{
+    match test_in(operand, left)? {
+        Test::RelQuery(segments) => Ok(segments),
+        Test::AbsQuery(_) | Test::Function(_) => Err(Stop::Syntax(left)),
+    }
+}
+
+/// The query from the root that the operand is.
+pub fn query_in(operand: FnArg, left: usize) -> Result<JpQuery, Stop>
+    ensures { Gives query_view result (spec.query_in (argument_view operand)) }
+{
+    match test_in(operand, left)? {
+        Test::AbsQuery(query) => Ok(query),
+        Test::RelQuery(_) | Test::Function(_) => Err(Stop::Syntax(left)),
+    }
+}
+
+/// The singular query that the operand is.
+pub fn singular_in(alloc: Global, operand: FnArg, left: usize) -> Result<SingularQuery, Stop>
+    ensures { Gives singular_view result (spec.singular_in (argument_view operand)) }
+{
+    match test_in(operand, left)? {
+        Test::RelQuery(segments) => Ok(SingularQuery::Current(steps(alloc, segments, left)?)),
+        Test::AbsQuery(query) => Ok(SingularQuery::Root(steps(alloc, query.segments, left)?)),
+        Test::Function(_) => Err(Stop::Syntax(left)),
+    }
+}
+
+/// The operand of `&&` that the argument is.
+pub fn atom_in(argument: FnArg, left: usize) -> Result<FilterAtom, Stop>
+    ensures { Gives atom_view result (spec.atom_in (argument_view argument)) }
+{
+    match filter(argument, left)? {
+        Filter::Atom(atom) => Ok(atom),
+        Filter::Or(_) | Filter::And(_) => Err(Stop::Syntax(left)),
+    }
+}
+
+/// The comparison that the argument is.
+pub fn comparison_in(argument: FnArg, left: usize) -> Result<Comparison, Stop>
+    ensures { Gives comparison_view result (spec.comparison_in (argument_view argument)) }
+{
+    match atom_in(argument, left)? {
+        FilterAtom::Comparison(comparison) => Ok(Box::into_inner(comparison)),
+        FilterAtom::Filter { .. } | FilterAtom::Test { .. } => Err(Stop::Syntax(left)),
+    }
+}
+
+/// The start, the end and the step, where the selector is a slice.
+pub fn slice_in(
+    selector: Selector,
+    left: usize,
+) -> Result<(Option<i64>, Option<i64>, Option<i64>), Stop>
+    ensures { Gives (λ p. p) result (spec.slice_in (selector_view selector)) }
+{
+    match selector {
+        Selector::Slice(start, end, step) => Ok((start, end, step)),
+        Selector::Name(_) | Selector::Wildcard | Selector::Index(_) | Selector::Filter(_) => {
+            Err(Stop::Syntax(left))
+        }
+    }
+}
