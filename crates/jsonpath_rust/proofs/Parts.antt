@@ -9,8 +9,8 @@ use Rattle.jsonpath_rust.specs.Functions.{only_value}
 use Rattle.jsonpath_rust.specs.Meaning.{turned}
 use Rattle.jsonpath_rust.specs.Sinks.{Seen, values, nothing, give, only_in, values_whole, ValuesAreWhole}
 use Rattle.jsonpath_rust.specs.Keeping.{IsReady, answers_of, AreRight, document}
-use Rattle.jsonpath_rust.specs.declared.query.kept.Kept.{Kept}
-use Rattle.jsonpath_rust.specs.declared.query.kept.Task.{Task}
+use Rattle.jsonpath_rust.specs.declared.query.cache.Kept.{Kept}
+use Rattle.jsonpath_rust.specs.declared.query.walk.Task.{Task}
 use Rattle.jsonpath_rust.proofs.Sinks.{only_all, only_whole, give-values, trues}
 use Rattle.std.proofs.lemmas.List.{at_drop_all}
 

@@ -8,11 +8,11 @@ use Rattle.jsonpath_rust.specs.Document.{Document, document_of}
 use Rattle.jsonpath_rust.specs.Meaning.{nodelist}
 use Rattle.jsonpath_rust.specs.Patterns.{segments_patterns}
 use Rattle.jsonpath_rust.specs.Sinks.{Seen, any, seen, start, give}
-use Rattle.jsonpath_rust.specs.declared.query.kept.Kept.{Kept}
-use Rattle.jsonpath_rust.specs.declared.query.kept.KeptAnswer.{KeptAnswer}
-use Rattle.jsonpath_rust.specs.declared.query.kept.Task.{Task}
-use Rattle.jsonpath_rust.specs.declared.query.kept.Gathered.{Gathered}
-use Rattle.jsonpath_rust.specs.declared.query.kept.Gathered.TheVariants as given
+use Rattle.jsonpath_rust.specs.declared.query.cache.Kept.{Kept}
+use Rattle.jsonpath_rust.specs.declared.query.cache.KeptAnswer.{KeptAnswer}
+use Rattle.jsonpath_rust.specs.declared.query.walk.Task.{Task}
+use Rattle.jsonpath_rust.specs.declared.query.cache.Gathered.{Gathered}
+use Rattle.jsonpath_rust.specs.declared.query.cache.Gathered.TheVariants as given
 
 abbrev pub answers_of : {A : Type 0} → Kept A → List (KeptAnswer A)
 answers_of kept = kept.answers.items

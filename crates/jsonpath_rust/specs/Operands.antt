@@ -5,12 +5,12 @@ use Rattle.jsonpath_base.specs.Tree as tree
 use Rattle.jsonpath_base.specs.Tree.{Tree}
 use Rattle.jsonpath_rust.specs.Args.{arg_value}
 use Rattle.jsonpath_rust.specs.declared.query.queryable.Arg.{Arg}
-use Rattle.jsonpath_rust.specs.declared.query.operand.Scalar.{Scalar}
-use Rattle.jsonpath_rust.specs.declared.query.operand.Scalar.TheVariants as scalar
-use Rattle.jsonpath_rust.specs.declared.query.operand.Operand.{Operand}
-use Rattle.jsonpath_rust.specs.declared.query.operand.Operand.TheVariants as operand
-use Rattle.jsonpath_rust.specs.declared.query.operand.Sign.{Sign}
-use Rattle.jsonpath_rust.specs.declared.query.operand.Sign.TheVariants as sign
+use Rattle.jsonpath_rust.specs.declared.query.value.Scalar.{Scalar}
+use Rattle.jsonpath_rust.specs.declared.query.value.Scalar.TheVariants as scalar
+use Rattle.jsonpath_rust.specs.declared.query.value.Operand.{Operand}
+use Rattle.jsonpath_rust.specs.declared.query.value.Operand.TheVariants as operand
+use Rattle.jsonpath_rust.specs.declared.query.comparison.Sign.{Sign}
+use Rattle.jsonpath_rust.specs.declared.query.comparison.Sign.TheVariants as sign
 
 abbrev pub scalar_tree : Scalar → Tree
 scalar_tree scalar.Null = tree.null

@@ -9,14 +9,16 @@ ghost use Rattle.jsonpath_rust.specs.Meaning.{selected};
 ghost use Rattle.jsonpath_rust.specs.Patterns.{IsStop, IsQueryRefusal};
 ghost use Rattle.jsonpath_rust.specs.Answer.{Along, IsNodeAt, IsValueAt, HasOnlyPath, ListsNodes, ListsValues, ListsPaths, shown, paths_of};
 
-mod call;
-mod filter_test;
-mod kept;
-mod literals;
-mod operand;
+mod cache;
+mod comparison;
+mod filter;
+mod function;
+mod patterns;
 pub mod queryable;
 mod singular;
 mod sink;
+mod subquery;
+mod value;
 mod walk;
 mod way;
 

@@ -12,6 +12,7 @@ use jsonpath_parser::errors::JsonPathError;
 use std::alloc::Global;
 use std::fmt::Debug;
 
+pub(crate) mod children;
 pub mod value;
 
 /// An argument of a custom function: a value of its own, as a literal has, or one that stands in the document.

@@ -11,15 +11,6 @@ use crate::query::way::Way;
 use crate::query::{Queried, QueryPath, QueryRef};
 use std::alloc::Global;
 
-/// One step down, lent by the query or by the document.
-#[derive(Clone, Copy, Debug)]
-pub enum StepRef<'s> {
-    /// To the member of this name.
-    Name(&'s str),
-    /// To this element, counted from 0.
-    Index(usize),
-}
-
 /// The only node of a list, if it has one alone.
 #[derive(Clone, Copy)]
 pub enum Only<'a, T> {

@@ -1,16 +1,12 @@
 //! The evaluator: a walk that meets the nodes of a query depth-first, in the order of its nodelist (RFC 9535, 2.1.2).
 //!
 //! The way to the value at hand stands on a stack of borrowed steps, so nothing is kept for a node that is only passed.
-ghost use Rattle.std.specs.Prelude.{◌≡◌, ◌≤◌, ◌<◌, [], ◌∷◌, ◌++◌, map, None, option_to_list, IsTrue, IfOk, IfErr, IfSome, OnOk};
+ghost use Rattle.std.specs.Prelude.{◌≡◌, ◌≤◌, ◌<◌, [], ◌∷◌, ◌++◌, map, IsTrue, IfOk, IfErr, OnOk};
 ghost use Rattle.std.specs.List.{flat_map};
-ghost use Rattle.jsonpath_parser.specs.Location.{Location};
-ghost use Rattle.jsonpath_parser.specs.Location as location;
 ghost use Rattle.jsonpath_parser.specs.View.{selector_view, segment_view, query_view};
-ghost use Rattle.jsonpath_base.specs.Tree.{as_list, as_members};
 ghost use Rattle.jsonpath_rust.specs.Document.{document_of};
-ghost use Rattle.jsonpath_rust.specs.Node.{Node, below, children};
-ghost use Rattle.jsonpath_rust.specs.Meaning as meaning;
-ghost use Rattle.jsonpath_rust.specs.Meaning.{picks, all_pick, replaced, indexed, sliced, element, nodelist};
+ghost use Rattle.jsonpath_rust.specs.Node.{below, children};
+ghost use Rattle.jsonpath_rust.specs.Meaning.{picks, all_pick, replaced, sliced, nodelist};
 ghost use Rattle.jsonpath_rust.specs.Weight.{size};
 ghost use Rattle.jsonpath_rust.specs.Patterns.{IsStop, segments_patterns, segment_patterns, selectors_patterns, selector_patterns};
 ghost use Rattle.jsonpath_rust.specs.Sinks.{Gives, seen};
@@ -18,16 +14,25 @@ ghost use Rattle.jsonpath_rust.specs.Keeping.{IsReady, StandIn, document, asked}
 ghost use Rattle.jsonpath_rust.specs.Walking.{through, node_of, step_of, segments_in, selectors_in, acted, action_patterns, LeadTo};
 
 use crate::query::Queried;
-use crate::query::filter_test::filter_holds;
-use crate::query::kept::{Kept, Task};
-use crate::query::literals::{finders_of, patterns_of};
+use crate::query::cache::Kept;
+use crate::query::filter::filter_holds;
+use crate::query::patterns::{finders_of, patterns_of};
 use crate::query::queryable::Queryable;
-use crate::query::sink::{Sink, StepRef};
-use crate::query::way::Way;
+use crate::query::queryable::children::{element, is_leaf};
+use crate::query::sink::Sink;
+use crate::query::way::{StepRef, Way};
 use jsonpath_base::pattern::Finder;
 use jsonpath_base::slice::slice_places;
 use jsonpath_parser::model::{Filter, JpQuery, Segment, Selector};
 use std::alloc::Global;
+
+/// What is asked: a query, of a document.
+#[derive(Drop)]
+pub struct Task<'a, 's, T> {
+    pub alloc: Global,
+    pub query: &'s JpQuery,
+    pub root: &'a T,
+}
 
 /// What is done at a child.
 #[derive(Clone, Copy)]
@@ -409,43 +414,5 @@ fn act<'a: 's, 's, T: Queryable>(
                 Ok(false)
             }
         }
-    }
-}
-
-/// Whether the value is a text or a number, which has no children.
-#[inline(always)]
-fn is_leaf<T: Queryable>(at: &T) -> bool
-    requires { IsTrue (T.is_whole at.now) }
-    ensures list { IsTrue result → None ≡ as_list (T.tree at.now) }
-    ensures object { IsTrue result → None ≡ as_members (T.tree at.now) }
-{
-    at.as_str().is_some() || at.as_i64().is_some()
-}
-
-/// The element that an index means in a list, with its place from 0 (RFC 9535, 2.3.3).
-#[inline(always)]
-pub fn element<T: Queryable>(at: &T, index: i64) -> Option<(usize, &T)>
-    requires { IsTrue (T.is_whole at.now) }
-    ensures value { (l : Location) → map (λ p. below l (location.index p.0) (T.tree p.1.now)) (option_to_list result)
-        ≡ indexed index (record { location = l; tree = T.tree at.now }) }
-    ensures whole { IfSome result (λ p. IsTrue (T.is_whole p.1.now)) }
-    ensures smaller { IfSome result (λ p. size (T.tree p.1.now) < size (T.tree at.now)) }
-{
-    let items = at.as_array()?;
-    let place = element_of(index, items.len())?;
-    let child = items.get(place)?;
-    Some((place, child))
-}
-
-/// The place from 0 that an index means in a list of this length: a negative one counts from the end.
-#[inline(always)]
-fn element_of(index: i64, length: usize) -> Option<usize>
-    ensures { result ≡ meaning.element_of index length }
-{
-    if index < 0 {
-        length.checked_sub(index.unsigned_abs() as usize)
-    } else {
-        let place = index as usize;
-        if place < length { Some(place) } else { None }
     }
 }

@@ -36,65 +36,65 @@ abbrev pub «decreases-walk::at_child» : goal.«decreases-walk::at_child»
 abbrev pub «decreases-walk::act» : goal.«decreases-walk::act»
 «decreases-walk::act» g l = let tree = g.T.Queryable.tree in work (action_weight l.action + segments_weight (segments_in l.rest.now)) (size (tree l.task.now.root.now)) (3 * size (tree l.at.now) + 1)
 
-abbrev pub «decreases-filter_test::filter_holds» : goal.«decreases-filter_test::filter_holds»
-«decreases-filter_test::filter_holds» g l = let tree = g.T.Queryable.tree in work (filter_weight (filter_view l.filter.now)) (size (tree l.task.now.root.now)) (3 * size (tree l.at.now))
+abbrev pub «decreases-filter::filter_holds» : goal.«decreases-filter::filter_holds»
+«decreases-filter::filter_holds» g l = let tree = g.T.Queryable.tree in work (filter_weight (filter_view l.filter.now)) (size (tree l.task.now.root.now)) (3 * size (tree l.at.now))
 
-abbrev pub «decreases-filter_test::some_holds» : goal.«decreases-filter_test::some_holds»
-«decreases-filter_test::some_holds» g l = let tree = g.T.Queryable.tree in work (filters_weight (filters_in l.parts.now) + 1) (size (tree l.task.now.root.now)) (3 * size (tree l.at.now))
+abbrev pub «decreases-filter::some_holds» : goal.«decreases-filter::some_holds»
+«decreases-filter::some_holds» g l = let tree = g.T.Queryable.tree in work (filters_weight (filters_in l.parts.now) + 1) (size (tree l.task.now.root.now)) (3 * size (tree l.at.now))
 
-abbrev pub «decreases-filter_test::each_holds» : goal.«decreases-filter_test::each_holds»
-«decreases-filter_test::each_holds» g l = let tree = g.T.Queryable.tree in work (filters_weight (filters_in l.parts.now) + 1) (size (tree l.task.now.root.now)) (3 * size (tree l.at.now))
+abbrev pub «decreases-filter::each_holds» : goal.«decreases-filter::each_holds»
+«decreases-filter::each_holds» g l = let tree = g.T.Queryable.tree in work (filters_weight (filters_in l.parts.now) + 1) (size (tree l.task.now.root.now)) (3 * size (tree l.at.now))
 
-abbrev pub «decreases-filter_test::atom_holds» : goal.«decreases-filter_test::atom_holds»
-«decreases-filter_test::atom_holds» g l = let tree = g.T.Queryable.tree in work (atom_weight (atom_view l.atom.now)) (size (tree l.task.now.root.now)) (3 * size (tree l.at.now))
+abbrev pub «decreases-filter::atom_holds» : goal.«decreases-filter::atom_holds»
+«decreases-filter::atom_holds» g l = let tree = g.T.Queryable.tree in work (atom_weight (atom_view l.atom.now)) (size (tree l.task.now.root.now)) (3 * size (tree l.at.now))
 
-abbrev pub «decreases-filter_test::test_holds» : goal.«decreases-filter_test::test_holds»
-«decreases-filter_test::test_holds» g l = let tree = g.T.Queryable.tree in work (test_weight (test_view l.test.now)) (size (tree l.task.now.root.now)) (3 * size (tree l.at.now))
+abbrev pub «decreases-filter::test_holds» : goal.«decreases-filter::test_holds»
+«decreases-filter::test_holds» g l = let tree = g.T.Queryable.tree in work (test_weight (test_view l.test.now)) (size (tree l.task.now.root.now)) (3 * size (tree l.at.now))
 
-abbrev pub «decreases-filter_test::comparison_holds» : goal.«decreases-filter_test::comparison_holds»
-«decreases-filter_test::comparison_holds» g l = let tree = g.T.Queryable.tree in work (comparison_weight (comparison_view l.comparison.now)) (size (tree l.task.now.root.now)) (3 * size (tree l.at.now))
+abbrev pub «decreases-filter::comparison_holds» : goal.«decreases-filter::comparison_holds»
+«decreases-filter::comparison_holds» g l = let tree = g.T.Queryable.tree in work (comparison_weight (comparison_view l.comparison.now)) (size (tree l.task.now.root.now)) (3 * size (tree l.at.now))
 
-abbrev pub «decreases-filter_test::side» : goal.«decreases-filter_test::side»
-«decreases-filter_test::side» g l = let tree = g.T.Queryable.tree in work (comparable_weight (comparable_view l.comparable.now)) (size (tree l.task.now.root.now)) (3 * size (tree l.at.now))
+abbrev pub «decreases-filter::side» : goal.«decreases-filter::side»
+«decreases-filter::side» g l = let tree = g.T.Queryable.tree in work (comparable_weight (comparable_view l.comparable.now)) (size (tree l.task.now.root.now)) (3 * size (tree l.at.now))
 
-abbrev pub «decreases-call::answer» : goal.«decreases-call::answer»
-«decreases-call::answer» g l = let tree = g.T.Queryable.tree in work (call_weight (call_view l.function.now)) (size (tree l.task.now.root.now)) (3 * size (tree l.at.now))
+abbrev pub «decreases-function::answer» : goal.«decreases-function::answer»
+«decreases-function::answer» g l = let tree = g.T.Queryable.tree in work (call_weight (call_view l.function.now)) (size (tree l.task.now.root.now)) (3 * size (tree l.at.now))
 
-abbrev pub «decreases-call::count» : goal.«decreases-call::count»
-«decreases-call::count» g l = let tree = g.T.Queryable.tree in work (argument_weight (argument_view l.arg.now)) (size (tree l.task.now.root.now)) (3 * size (tree l.at.now) + 1)
+abbrev pub «decreases-function::count» : goal.«decreases-function::count»
+«decreases-function::count» g l = let tree = g.T.Queryable.tree in work (argument_weight (argument_view l.arg.now)) (size (tree l.task.now.root.now)) (3 * size (tree l.at.now) + 1)
 
-abbrev pub «decreases-call::only_value» : goal.«decreases-call::only_value»
-«decreases-call::only_value» g l = let tree = g.T.Queryable.tree in work (argument_weight (argument_view l.arg.now)) (size (tree l.task.now.root.now)) (3 * size (tree l.at.now) + 1)
+abbrev pub «decreases-function::only_value» : goal.«decreases-function::only_value»
+«decreases-function::only_value» g l = let tree = g.T.Queryable.tree in work (argument_weight (argument_view l.arg.now)) (size (tree l.task.now.root.now)) (3 * size (tree l.at.now) + 1)
 
-abbrev pub «decreases-call::found» : goal.«decreases-call::found»
-«decreases-call::found» g l = let tree = g.T.Queryable.tree in work (argument_weight (argument_view l.text.now) + argument_weight (argument_view l.pattern.now) + 1) (size (tree l.task.now.root.now)) (3 * size (tree l.at.now))
+abbrev pub «decreases-function::found» : goal.«decreases-function::found»
+«decreases-function::found» g l = let tree = g.T.Queryable.tree in work (argument_weight (argument_view l.text.now) + argument_weight (argument_view l.pattern.now) + 1) (size (tree l.task.now.root.now)) (3 * size (tree l.at.now))
 
-abbrev pub «decreases-call::custom» : goal.«decreases-call::custom»
-«decreases-call::custom» g l = let tree = g.T.Queryable.tree in work (arguments_weight (arguments_in l.args.now) + 1) (size (tree l.task.now.root.now)) (3 * size (tree l.at.now))
+abbrev pub «decreases-function::custom» : goal.«decreases-function::custom»
+«decreases-function::custom» g l = let tree = g.T.Queryable.tree in work (arguments_weight (arguments_in l.args.now) + 1) (size (tree l.task.now.root.now)) (3 * size (tree l.at.now))
 
-abbrev pub «decreases-call::push_argument» : goal.«decreases-call::push_argument»
-«decreases-call::push_argument» g l = let tree = g.T.Queryable.tree in work (argument_weight (argument_view l.arg.now)) (size (tree l.task.now.root.now)) (3 * size (tree l.at.now))
+abbrev pub «decreases-function::push_argument» : goal.«decreases-function::push_argument»
+«decreases-function::push_argument» g l = let tree = g.T.Queryable.tree in work (argument_weight (argument_view l.arg.now)) (size (tree l.task.now.root.now)) (3 * size (tree l.at.now))
 
-abbrev pub «decreases-call::push_test» : goal.«decreases-call::push_test»
-«decreases-call::push_test» g l = let tree = g.T.Queryable.tree in work (test_weight (test_view l.test.now)) (size (tree l.task.now.root.now)) (3 * size (tree l.at.now))
+abbrev pub «decreases-function::push_test» : goal.«decreases-function::push_test»
+«decreases-function::push_test» g l = let tree = g.T.Queryable.tree in work (test_weight (test_view l.test.now)) (size (tree l.task.now.root.now)) (3 * size (tree l.at.now))
 
-abbrev pub «decreases-call::argument_value» : goal.«decreases-call::argument_value»
-«decreases-call::argument_value» g l = let tree = g.T.Queryable.tree in work (argument_weight (argument_view l.arg.now)) (size (tree l.task.now.root.now)) (3 * size (tree l.at.now))
+abbrev pub «decreases-function::argument_value» : goal.«decreases-function::argument_value»
+«decreases-function::argument_value» g l = let tree = g.T.Queryable.tree in work (argument_weight (argument_view l.arg.now)) (size (tree l.task.now.root.now)) (3 * size (tree l.at.now))
 
-abbrev pub «decreases-call::test_value» : goal.«decreases-call::test_value»
-«decreases-call::test_value» g l = let tree = g.T.Queryable.tree in work (test_weight (test_view l.test.now)) (size (tree l.task.now.root.now)) (3 * size (tree l.at.now))
+abbrev pub «decreases-function::test_value» : goal.«decreases-function::test_value»
+«decreases-function::test_value» g l = let tree = g.T.Queryable.tree in work (test_weight (test_view l.test.now)) (size (tree l.task.now.root.now)) (3 * size (tree l.at.now))
 
-abbrev pub «decreases-call::argument_nodes» : goal.«decreases-call::argument_nodes»
-«decreases-call::argument_nodes» g l = let tree = g.T.Queryable.tree in work (argument_weight (argument_view l.arg.now)) (size (tree l.task.now.root.now)) (3 * size (tree l.at.now))
+abbrev pub «decreases-function::argument_nodes» : goal.«decreases-function::argument_nodes»
+«decreases-function::argument_nodes» g l = let tree = g.T.Queryable.tree in work (argument_weight (argument_view l.arg.now)) (size (tree l.task.now.root.now)) (3 * size (tree l.at.now))
 
-abbrev pub «decreases-call::test_nodes» : goal.«decreases-call::test_nodes»
-«decreases-call::test_nodes» g l = let tree = g.T.Queryable.tree in work (test_weight (test_view l.test.now)) (size (tree l.task.now.root.now)) (3 * size (tree l.at.now))
+abbrev pub «decreases-function::test_nodes» : goal.«decreases-function::test_nodes»
+«decreases-function::test_nodes» g l = let tree = g.T.Queryable.tree in work (test_weight (test_view l.test.now)) (size (tree l.task.now.root.now)) (3 * size (tree l.at.now))
 
-abbrev pub «decreases-call::gather» : goal.«decreases-call::gather»
-«decreases-call::gather» g l = let tree = g.T.Queryable.tree in work (segments_weight (segments_in l.segments.now) + 2) (size (tree l.task.now.root.now)) (3 * size (tree l.at.now))
+abbrev pub «decreases-subquery::gather» : goal.«decreases-subquery::gather»
+«decreases-subquery::gather» g l = let tree = g.T.Queryable.tree in work (segments_weight (segments_in l.segments.now) + 2) (size (tree l.task.now.root.now)) (3 * size (tree l.at.now))
 
-abbrev pub «decreases-call::absolute» : goal.«decreases-call::absolute»
-«decreases-call::absolute» g l = let tree = g.T.Queryable.tree in work (segments_weight (query_view l.query.now) + 3) (size (tree l.task.now.root.now)) (3 * size (tree l.task.now.root.now))
+abbrev pub «decreases-subquery::absolute» : goal.«decreases-subquery::absolute»
+«decreases-subquery::absolute» g l = let tree = g.T.Queryable.tree in work (segments_weight (query_view l.query.now) + 3) (size (tree l.task.now.root.now)) (3 * size (tree l.task.now.root.now))
 
 -- what was given, with what is left, is what all of them give
 abbrev pub «invariant-walk::pick_each-loop-selector» : goal.«invariant-walk::pick_each-loop-selector»
@@ -151,8 +151,8 @@ abbrev pub «invariant-walk::each_child-loop-member» : goal.«invariant-walk::e
     }
 
 -- the parts that are left decide
-abbrev pub «invariant-filter_test::some_holds-loop-part» : goal.«invariant-filter_test::some_holds-loop-part»
-«invariant-filter_test::some_holds-loop-part» g l =
+abbrev pub «invariant-filter::some_holds-loop-part» : goal.«invariant-filter::some_holds-loop-part»
+«invariant-filter::some_holds-loop-part» g l =
     let tree = g.T.Queryable.tree in
     let whole = g.T.Queryable.is_whole in
     let d = document tree g.T.Queryable.custom l.task in
@@ -164,8 +164,8 @@ abbrev pub «invariant-filter_test::some_holds-loop-part» : goal.«invariant-fi
     }
 
 -- the parts that are left decide
-abbrev pub «invariant-filter_test::each_holds-loop-part» : goal.«invariant-filter_test::each_holds-loop-part»
-«invariant-filter_test::each_holds-loop-part» g l =
+abbrev pub «invariant-filter::each_holds-loop-part» : goal.«invariant-filter::each_holds-loop-part»
+«invariant-filter::each_holds-loop-part» g l =
     let tree = g.T.Queryable.tree in
     let whole = g.T.Queryable.is_whole in
     let d = document tree g.T.Queryable.custom l.task in
@@ -177,8 +177,8 @@ abbrev pub «invariant-filter_test::each_holds-loop-part» : goal.«invariant-fi
     }
 
 -- the arguments so far, with those that are left
-abbrev pub «invariant-call::custom-loop-arg» : goal.«invariant-call::custom-loop-arg»
-«invariant-call::custom-loop-arg» g l =
+abbrev pub «invariant-function::custom-loop-arg» : goal.«invariant-function::custom-loop-arg»
+«invariant-function::custom-loop-arg» g l =
     let tree = g.T.Queryable.tree in
     let whole = g.T.Queryable.is_whole in
     let d = document tree g.T.Queryable.custom l.task in

@@ -19,7 +19,7 @@ use Rattle.jsonpath_rust.specs.Patterns.{segments_patterns, segment_patterns, se
 use Rattle.jsonpath_rust.specs.Walking.{action_patterns, segments_in, selectors_in, through, node_of, step_of, acted}
 use Rattle.jsonpath_rust.specs.Sinks.{seen, give}
 use Rattle.jsonpath_rust.specs.Keeping.{document}
-use Rattle.jsonpath_rust.specs.declared.query.sink.StepRef.TheVariants.{Name, Index}
+use Rattle.jsonpath_rust.specs.declared.query.way.StepRef.TheVariants.{Name, Index}
 use Rattle.jsonpath_rust.proofs.Sinks.{gives_none, gives_as, gives_stop, result_as, result_then, true_false}
 use Rattle.jsonpath_rust.proofs.Walks.{down, down_tree, turn_next, turn_stop, turn_end, selector_turns, element_turns, member_turns, place_next, place_stop, below_more, flat_map-alone, flat_map-filter}
 use Rattle.jsonpath_rust.proofs.Leaves.{replaced-none}

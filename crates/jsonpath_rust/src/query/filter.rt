@@ -9,12 +9,15 @@ ghost use Rattle.jsonpath_rust.specs.Keeping.{IsReady, StandIn, document, asked}
 ghost use Rattle.jsonpath_rust.specs.Walking.{node_of, filters_in, LeadTo};
 
 use crate::query::Queried;
-use crate::query::call::{absolute, answer, gather};
-use crate::query::kept::{Kept, Task};
-use crate::query::operand::{Operand, compares, scalar_of, sides};
+use crate::query::cache::Kept;
+use crate::query::comparison::{compares, sides};
+use crate::query::function::answer;
 use crate::query::queryable::Queryable;
 use crate::query::singular::singular_value;
 use crate::query::sink::Kind;
+use crate::query::subquery::{absolute, gather};
+use crate::query::value::{Operand, scalar_of};
+use crate::query::walk::Task;
 use crate::query::way::Way;
 use jsonpath_parser::model::{Comparable, Comparison, Filter, FilterAtom, Test};
 

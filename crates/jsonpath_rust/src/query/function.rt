@@ -1,25 +1,26 @@
-//! What functions answer (RFC 9535, 2.4), and what queries inside filters give.
-ghost use Rattle.std.specs.Prelude.{◌≡◌, ◌≤◌, ◌<◌, ◌∷◌, ◌++◌, Bool, Some, length, string_bytes, IsTrue, IfOk, IfErr, OnOk};
-ghost use Rattle.jsonpath_parser.specs.View.{call_view, argument_view, test_view, query_view};
+//! Functions and their arguments (RFC 9535, 2.4).
+ghost use Rattle.std.specs.Prelude.{◌≡◌, ◌≤◌, ◌∷◌, ◌++◌, Some, string_bytes, IsTrue, IfOk, IfErr, OnOk};
+ghost use Rattle.jsonpath_parser.specs.View.{call_view, argument_view, test_view};
 ghost use Rattle.jsonpath_base.specs.Tree.{truth};
 ghost use Rattle.jsonpath_rust.specs.Functions.{is_found, count_of, only_value};
-ghost use Rattle.jsonpath_rust.specs.Meaning.{answer, argument_value, test_value, argument_nodes, test_nodes, argument_trees, test_trees, all_trees, nodelist};
+ghost use Rattle.jsonpath_rust.specs.Meaning.{answer, argument_value, test_value, argument_nodes, test_nodes, argument_trees, test_trees, all_trees};
 ghost use Rattle.jsonpath_rust.specs.Operands.{operand_tree, operand_is_whole, trees_of, AreWhole};
-ghost use Rattle.jsonpath_rust.specs.Sinks.{seen, start, give};
+ghost use Rattle.jsonpath_rust.specs.Sinks.{start, give};
 ghost use Rattle.jsonpath_rust.specs.Weight.{size};
-ghost use Rattle.jsonpath_rust.specs.Patterns.{IsStop, segments_patterns, call_patterns, argument_patterns, arguments_patterns, test_patterns};
-ghost use Rattle.jsonpath_rust.specs.Keeping.{IsReady, StandIn, document, asked, answers_of, seen_at, gathered, IsGathered};
-ghost use Rattle.jsonpath_rust.specs.Walking.{node_of, segments_in, arguments_in, through, LeadTo};
+ghost use Rattle.jsonpath_rust.specs.Patterns.{IsStop, call_patterns, argument_patterns, arguments_patterns, test_patterns};
+ghost use Rattle.jsonpath_rust.specs.Keeping.{IsReady, StandIn, document, asked, gathered, IsGathered};
+ghost use Rattle.jsonpath_rust.specs.Walking.{node_of, arguments_in, LeadTo};
 
 use crate::query::Queried;
-use crate::query::filter_test::filter_holds;
-use crate::query::kept::{Gathered, Kept, Task};
-use crate::query::operand::{Operand, Scalar, count_scalar, push_scalar, push_values, scalar_of};
+use crate::query::cache::{Gathered, Kept};
+use crate::query::filter::filter_holds;
 use crate::query::queryable::{Arg, Queryable};
 use crate::query::sink::{Kind, Sink};
-use crate::query::walk::walk;
+use crate::query::subquery::{absolute, gather};
+use crate::query::value::{Operand, Scalar, count_scalar, push_scalar, push_values, scalar_of};
+use crate::query::walk::Task;
 use crate::query::way::Way;
-use jsonpath_parser::model::{FnArg, JpQuery, Segment, Test, TestFunction};
+use jsonpath_parser::model::{FnArg, Test, TestFunction};
 
 /// What a function answers at a value, to which this way leads.
 #[cycle(walk)]
@@ -345,52 +346,4 @@ fn test_nodes<'a: 's, 's, T: Queryable>(
         Test::AbsQuery(query) => Ok(Gathered::Kept(absolute(task, query, kind, kept)?)),
         Test::Function(_) => Ok(Gathered::Own(Sink::start(task.alloc, kind))),
     }
-}
-
-/// What the nodes of these segments, from a value on, give to a sink.
-#[cycle(walk)]
-pub fn gather<'a: 's, 's, T: Queryable>(
-    task: &Task<'a, 's, T>,
-    segments: &'s [Segment],
-    kind: Kind,
-    at: &'a T,
-    way: &mut Way<'s>,
-    kept: &mut Kept<'a, 's, T>,
-) -> Queried<Sink<'a, T>>
-    requires whole { IsTrue (T.is_whole at.now) }
-    requires within { size (T.tree at.now) ≤ size (T.tree task.now.root.now) }
-    requires here { LeadTo T.tree way.old.steps.items task.now.root.now at.now }
-    requires part { StandIn (asked task.now) (segments_patterns (segments_in segments.now)) }
-    requires ready { IsReady T.tree T.is_whole T.custom task.now kept.old }
-    ensures given { IfOk result (λ s. seen T.tree T.is_whole s ≡ give (start kind) (through (segments_in segments.now) (document T.tree T.custom task.now) (node_of T.tree way.old.steps.items at.now))) }
-    ensures same { OnOk result (way.new.steps.items ≡ way.old.steps.items) }
-    ensures keeps { OnOk result (IsReady T.tree T.is_whole T.custom task.now kept.new) }
-    ensures refused { IfErr result (IsStop (asked task.now) (document T.tree T.custom task.now)) }
-{
-    let mut sink = Sink::start(task.alloc, kind);
-    let _goes_on = walk(task, segments, at, way, kept, &mut sink)?;
-    Ok(sink)
-}
-
-/// Where the answer of a query from the root is kept. It is found when it is first needed.
-#[cycle(walk)]
-pub fn absolute<'a: 's, 's, T: Queryable>(
-    task: &Task<'a, 's, T>,
-    query: &'s JpQuery,
-    kind: Kind,
-    kept: &mut Kept<'a, 's, T>,
-) -> Queried<usize>
-    requires part { StandIn (asked task.now) (segments_patterns (query_view query.now)) }
-    requires ready { IsReady T.tree T.is_whole T.custom task.now kept.old }
-    ensures within { IfOk result (λ i. i < length (answers_of kept.new)) }
-    ensures right { IfOk result (λ i. seen_at T.tree T.is_whole (answers_of kept.new) i ≡ give (start kind) (nodelist (query_view query.now) (document T.tree T.custom task.now))) }
-    ensures keeps { OnOk result (IsReady T.tree T.is_whole T.custom task.now kept.new) }
-    ensures refused { IfErr result (IsStop (asked task.now) (document T.tree T.custom task.now)) }
-{
-    if let Some(place) = kept.find(query, kind) {
-        return Ok(place);
-    }
-    let mut way = Way::new(task.alloc);
-    let answer = gather(task, &query.segments, kind, task.root, &mut way, kept)?;
-    Ok(kept.keep(query, kind, answer)?)
 }

@@ -3,7 +3,7 @@ use Rattle.std.proofs.lemmas.Int.{to_z-of_z}
 use Rattle.std.proofs.lemmas.List.{length-map}
 use Rattle.jsonpath_rust.specs.Meaning.{element_of}
 use Rattle.jsonpath_rust.proofs.Trees.{indexed_some, element_size}
-use Rattle.jsonpath_rust.proofs.query.walk.element.Goals as goal
+use Rattle.jsonpath_rust.proofs.query.queryable.children.element.Goals as goal
 
 pub returns-clause-value : goal.returns-clause-value
 returns-clause-value g c l =

@@ -2,7 +2,7 @@
 ghost use Rattle.std.specs.Prelude.{◌≡◌, ◌<◌, length, IsTrue, IfOk, IfErr, IfSome, OnOk};
 ghost use Rattle.jsonpath_parser.specs.View.{query_view};
 ghost use Rattle.jsonpath_parser.specs.declared.errors.JsonPathError.TheVariants.{OutOfMemory};
-ghost use Rattle.jsonpath_base.specs.Pattern.{found, pattern_sought, IsRefusal};
+ghost use Rattle.jsonpath_base.specs.Pattern.{found};
 ghost use Rattle.jsonpath_rust.specs.Document.{Document};
 ghost use Rattle.jsonpath_rust.specs.Meaning.{nodelist};
 ghost use Rattle.jsonpath_rust.specs.Functions.{is_found};
@@ -12,20 +12,12 @@ ghost use Rattle.jsonpath_rust.specs.Sinks.{seen, start, give};
 ghost use Rattle.jsonpath_rust.specs.Keeping.{seen_at, AreRight, answers_of, gathered, IsGathered};
 
 use crate::query::Queried;
-use crate::query::operand::Operand;
 use crate::query::queryable::Queryable;
 use crate::query::sink::{Kind, Sink};
+use crate::query::value::Operand;
 use jsonpath_base::pattern::{Finder, Pattern, found_again};
 use jsonpath_parser::model::JpQuery;
 use std::alloc::{AllocError, Global};
-
-/// What is asked: a query, of a document.
-#[derive(Drop)]
-pub struct Task<'a, 's, T> {
-    pub alloc: Global,
-    pub query: &'s JpQuery,
-    pub root: &'a T,
-}
 
 /// The answer of a query from the root.
 #[derive(Drop)]
