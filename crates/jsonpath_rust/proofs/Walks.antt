@@ -10,7 +10,7 @@ use Rattle.jsonpath_rust.specs.Document.{Document}
 use Rattle.jsonpath_rust.specs.Node.{Node, below, element_nodes, member_nodes, children_at, subtree, subtree_at}
 use Rattle.jsonpath_rust.specs.Meaning.{picks, all_pick}
 use Rattle.jsonpath_rust.specs.Walking.{selectors_in}
-use Rattle.jsonpath_rust.specs.Sinks.{Seen, give, Gives}
+use Rattle.jsonpath_rust.specs.Sinks.{Seen, give, Took}
 use Rattle.jsonpath_rust.specs.Weight.{work}
 use Rattle.jsonpath_rust.proofs.Sinks.{give-append, give-full}
 use Rattle.jsonpath_rust.proofs.Trees.{subtree-children}
@@ -25,13 +25,13 @@ turn : {X : Type 0} (G : ℕ → List X → List Node) (g : ℕ → X → List N
 turn G g t xs i x h e = ap (G i) (drop-cons xs i x h) ∙ t.more i (get_or xs i x) (drop (suc i) xs) ∙ ap (λ y. g i y ++ G (suc i) (drop (suc i) xs)) (sym e) ∙ ap (λ j. g i x ++ G j (drop j xs)) (sym (add-one i))
 
 -- the turn at x goes on
-pub turn_next : {X : Type 0} (G : ℕ → List X → List Node) (g : ℕ → X → List Node) → Turns G g → (xs : List X) (i : ℕ) (x : X) (s m w : Seen) (b : Bool) → i < length xs → x ≡ get_or xs i x → Gives s (g i x) m b → give s (G i (drop i xs)) ≡ w → give m (G (i + 1) (drop (i + 1) xs)) ≡ w
+pub turn_next : {X : Type 0} (G : ℕ → List X → List Node) (g : ℕ → X → List Node) → Turns G g → (xs : List X) (i : ℕ) (x : X) (s m w : Seen) (b : Bool) → i < length xs → x ≡ get_or xs i x → Took s (g i x) m b → give s (G i (drop i xs)) ≡ w → give m (G (i + 1) (drop (i + 1) xs)) ≡ w
 turn_next G g t xs i x s m w b h e k v =
     let rest = G (i + 1) (drop (i + 1) xs) in
     ap (λ q. give q rest) k.given ∙ sym (give-append s (g i x) rest) ∙ ap (give s) (sym (turn G g t xs i x h e)) ∙ v
 
 -- the turn at x ends the loop: the rest makes no difference
-pub turn_stop : {X : Type 0} (G : ℕ → List X → List Node) (g : ℕ → X → List Node) → Turns G g → (xs : List X) (i : ℕ) (x : X) (s m w : Seen) (b : Bool) → i < length xs → x ≡ get_or xs i x → Gives s (g i x) m b → b ≡ false → give s (G i (drop i xs)) ≡ w → m ≡ w
+pub turn_stop : {X : Type 0} (G : ℕ → List X → List Node) (g : ℕ → X → List Node) → Turns G g → (xs : List X) (i : ℕ) (x : X) (s m w : Seen) (b : Bool) → i < length xs → x ≡ get_or xs i x → Took s (g i x) m b → b ≡ false → give s (G i (drop i xs)) ≡ w → m ≡ w
 turn_stop G g t xs i x s m w b h e k f v = sym (give-full m (G (i + 1) (drop (i + 1) xs)) (k.stopped f)) ∙ turn_next G g t xs i x s m w b h e k v
 
 -- nothing is left
@@ -69,11 +69,11 @@ pub member_turns : {M : Type 0} (pair : M → List ℕ × Tree) (l : Location) (
 member_turns pair l rest act = record { none = λ k. refl; more = λ k m ms. flat_map-append rest (act (below l (name (pair m).0) (pair m).1)) (flat_map act (member_nodes l (map pair ms))) }
 
 -- one place of a slice: it goes on, or ends the loop
-pub place_next : (rest : Node → List Node) (at : ℕ → List Node) (old new : List ℕ) (i : ℕ) (s m w : Seen) (b : Bool) → old ≡ i ∷ new → Gives s (flat_map rest (at i)) m b → give s (flat_map rest (flat_map at old)) ≡ w → give m (flat_map rest (flat_map at new)) ≡ w
+pub place_next : (rest : Node → List Node) (at : ℕ → List Node) (old new : List ℕ) (i : ℕ) (s m w : Seen) (b : Bool) → old ≡ i ∷ new → Took s (flat_map rest (at i)) m b → give s (flat_map rest (flat_map at old)) ≡ w → give m (flat_map rest (flat_map at new)) ≡ w
 place_next rest at old new i s m w b e k v =
     ap (λ q. give q (flat_map rest (flat_map at new))) k.given ∙ sym (give-append s (flat_map rest (at i)) (flat_map rest (flat_map at new))) ∙ ap (give s) (sym (flat_map-append rest (at i) (flat_map at new))) ∙ ap (λ is. give s (flat_map rest (flat_map at is))) (sym e) ∙ v
 
-pub place_stop : (rest : Node → List Node) (at : ℕ → List Node) (old new : List ℕ) (i : ℕ) (s m w : Seen) (b : Bool) → old ≡ i ∷ new → Gives s (flat_map rest (at i)) m b → b ≡ false → give s (flat_map rest (flat_map at old)) ≡ w → m ≡ w
+pub place_stop : (rest : Node → List Node) (at : ℕ → List Node) (old new : List ℕ) (i : ℕ) (s m w : Seen) (b : Bool) → old ≡ i ∷ new → Took s (flat_map rest (at i)) m b → b ≡ false → give s (flat_map rest (flat_map at old)) ≡ w → m ≡ w
 place_stop rest at old new i s m w b e k f v = sym (give-full m (flat_map rest (flat_map at new)) (k.stopped f)) ∙ place_next rest at old new i s m w b e k v
 
 -- at a node, and then at what is below each child

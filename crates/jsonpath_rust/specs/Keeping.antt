@@ -8,48 +8,48 @@ use Rattle.jsonpath_rust.specs.Document.{Document, document_of}
 use Rattle.jsonpath_rust.specs.Meaning.{nodelist}
 use Rattle.jsonpath_rust.specs.Patterns.{segments_patterns}
 use Rattle.jsonpath_rust.specs.Sinks.{Seen, any, seen, start, give}
-use Rattle.jsonpath_rust.specs.declared.query.cache.Kept.{Kept}
-use Rattle.jsonpath_rust.specs.declared.query.cache.KeptAnswer.{KeptAnswer}
+use Rattle.jsonpath_rust.specs.declared.query.cache.Cache.{Cache}
+use Rattle.jsonpath_rust.specs.declared.query.cache.CachedNodelist.{CachedNodelist}
 use Rattle.jsonpath_rust.specs.declared.query.walk.Task.{Task}
 use Rattle.jsonpath_rust.specs.declared.query.cache.Gathered.{Gathered}
 use Rattle.jsonpath_rust.specs.declared.query.cache.Gathered.TheVariants as given
 
-abbrev pub answers_of : {A : Type 0} → Kept A → List (KeptAnswer A)
-answers_of kept = kept.answers.items
+abbrev pub nodelists_of : {A : Type 0} → Cache A → List (CachedNodelist A)
+nodelists_of cache = cache.nodelists.items
 
--- the answer at a place of the list
-abbrev pub seen_at : {A : Type 0} → (A → Tree) → (A → Bool) → List (KeptAnswer A) → ℕ → Seen
-seen_at tree whole answers i = get_or (map (λ a. seen tree whole a.answer) answers) i (any false)
+-- the nodelist at an index
+abbrev pub seen_at : {A : Type 0} → (A → Tree) → (A → Bool) → List (CachedNodelist A) → ℕ → Seen
+seen_at tree whole cached i = get_or (map (λ c. seen tree whole c.nodes) cached) i (any false)
 
--- what is kept for a query is what it gives
-pub record IsRight {A : Type 0} (tree : A → Tree) (whole : A → Bool) (doc : Document) (kept : KeptAnswer A) : Type 0 where
-  pub right : seen tree whole kept.answer ≡ give (start kept.kind) (nodelist (query_view kept.query.now) doc)
+-- what is kept for a query is what its nodelist gives
+pub record IsRight {A : Type 0} (tree : A → Tree) (whole : A → Bool) (doc : Document) (cached : CachedNodelist A) : Type 0 where
+  pub right : seen tree whole cached.nodes ≡ give (start cached.wanted) (nodelist (query_view cached.query.now) doc)
 
-abbrev pub AreRight : {A : Type 0} → (A → Tree) → (A → Bool) → Document → List (KeptAnswer A) → Type 0
-AreRight tree whole doc answers = All (IsRight tree whole doc) answers
+abbrev pub AreRight : {A : Type 0} → (A → Tree) → (A → Bool) → Document → List (CachedNodelist A) → Type 0
+AreRight tree whole doc cached = All (IsRight tree whole doc) cached
 
 -- what is asked, seen as the meaning has it
 abbrev pub document : {A : Type 0} → (A → Tree) → (List ℕ → List Tree → Tree) → Task A → Document
 document tree custom task = document_of tree custom task.root.now
 
-abbrev pub asked : {A : Type 0} → Task A → Query
-asked task = query_view task.query.now
+abbrev pub query_of : {A : Type 0} → Task A → Query
+query_of task = query_view task.query.now
 
 -- each of these patterns stands in the query
 pub record StandIn (q : Query) (patterns : List (Bool × Argument)) : Type 0 where
   pub all : (p : Bool × Argument) → Contains patterns p → Contains (segments_patterns q) p
 
 -- the root is whole, and what is kept is right
-pub record IsReady {A : Type 0} (tree : A → Tree) (whole : A → Bool) (custom : List ℕ → List Tree → Tree) (task : Task A) (kept : Kept A) : Type 0 where
+pub record IsReady {A : Type 0} (tree : A → Tree) (whole : A → Bool) (custom : List ℕ → List Tree → Tree) (task : Task A) (cache : Cache A) : Type 0 where
   pub root : IsTrue (whole task.root.now)
-  pub answers : AreRight tree whole (document tree custom task) (answers_of kept)
+  pub nodelists : AreRight tree whole (document tree custom task) (nodelists_of cache)
 
 -- what the nodes of a query gave
-abbrev pub gathered : {A : Type 0} → (A → Tree) → (A → Bool) → Kept A → Gathered A → Seen
-gathered tree whole kept (given.Own s) = seen tree whole s
-gathered tree whole kept (given.Kept i) = seen_at tree whole (answers_of kept) i
+abbrev pub gathered : {A : Type 0} → (A → Tree) → (A → Bool) → Cache A → Gathered A → Seen
+gathered tree whole cache (given.Own s) = seen tree whole s
+gathered tree whole cache (given.Cached i) = seen_at tree whole (nodelists_of cache) i
 
--- it has a place among what is kept, if it is kept
-abbrev pub IsGathered : {A : Type 0} → Kept A → Gathered A → Type 0
-IsGathered kept (given.Own s) = Unit {0}
-IsGathered kept (given.Kept i) = i < length (answers_of kept)
+-- its index is one of the cache, if it has one
+abbrev pub IsGathered : {A : Type 0} → Cache A → Gathered A → Type 0
+IsGathered cache (given.Own s) = Unit {0}
+IsGathered cache (given.Cached i) = i < length (nodelists_of cache)

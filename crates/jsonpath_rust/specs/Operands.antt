@@ -1,10 +1,12 @@
 -- What the two sides of a comparison and the arguments of calls are inside the evaluator, for its contracts alone.
-use Rattle.std.specs.Prelude.{List, map, Bool, true, Option, Some, None, IsTrue, All}
+use Rattle.std.specs.Prelude.{List, map, Bool, true, false, Option, Some, None, IsTrue, All}
 use Rattle.jsonpath_parser.specs.Syntax.{Operator, equal, not_equal, greater, greater_or_equal, less, less_or_equal}
 use Rattle.jsonpath_base.specs.Tree as tree
 use Rattle.jsonpath_base.specs.Tree.{Tree}
 use Rattle.jsonpath_rust.specs.Args.{arg_value}
 use Rattle.jsonpath_rust.specs.declared.query.queryable.Arg.{Arg}
+use Rattle.jsonpath_rust.specs.declared.query.patterns.Extent.{Extent}
+use Rattle.jsonpath_rust.specs.declared.query.patterns.Extent.TheVariants.{Entire, Substring}
 use Rattle.jsonpath_rust.specs.declared.query.value.Scalar.{Scalar}
 use Rattle.jsonpath_rust.specs.declared.query.value.Scalar.TheVariants as scalar
 use Rattle.jsonpath_rust.specs.declared.query.value.Operand.{Operand}
@@ -38,6 +40,11 @@ operator_of sign.Gt = greater
 operator_of sign.Gte = greater_or_equal
 operator_of sign.Lt = less
 operator_of sign.Lte = less_or_equal
+
+-- whether a pattern has to match the entire text
+abbrev pub is_entire : Extent → Bool
+is_entire Entire = true
+is_entire Substring = false
 
 -- the arguments of a custom function
 abbrev pub trees_of : {A : Type 0} → (A → Tree) → List (Arg A) → List Tree

@@ -73,7 +73,7 @@ impl<'a, T: Queryable> From<(&'a T, QueryPath)> for QueryRef<'a, T> {
 /// - those of `parse_json_path`, where the text is no query.
 /// - `InvalidJsonPath` where a pattern that the query asks of a node of the document, by `match` or `search`, can be read
 ///   by `regex` and is too large to be built.
-/// - `OutOfMemory` where a growth was refused.
+/// - `OutOfMemory` where memory ran out.
 pub fn js_path<'a, T: Queryable>(
     alloc: Global,
     path: &str,

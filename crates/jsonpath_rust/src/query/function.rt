@@ -4,18 +4,19 @@ ghost use Rattle.jsonpath_parser.specs.View.{call_view, argument_view, test_view
 ghost use Rattle.jsonpath_base.specs.Tree.{truth};
 ghost use Rattle.jsonpath_rust.specs.Functions.{is_found, count_of, only_value};
 ghost use Rattle.jsonpath_rust.specs.Meaning.{answer, argument_value, test_value, argument_nodes, test_nodes, argument_trees, test_trees, all_trees};
-ghost use Rattle.jsonpath_rust.specs.Operands.{operand_tree, operand_is_whole, trees_of, AreWhole};
+ghost use Rattle.jsonpath_rust.specs.Operands.{operand_tree, operand_is_whole, trees_of, AreWhole, is_entire};
 ghost use Rattle.jsonpath_rust.specs.Sinks.{start, give};
 ghost use Rattle.jsonpath_rust.specs.Weight.{size};
 ghost use Rattle.jsonpath_rust.specs.Patterns.{IsStop, call_patterns, argument_patterns, arguments_patterns, test_patterns};
-ghost use Rattle.jsonpath_rust.specs.Keeping.{IsReady, StandIn, document, asked, gathered, IsGathered};
+ghost use Rattle.jsonpath_rust.specs.Keeping.{IsReady, StandIn, document, query_of, gathered, IsGathered};
 ghost use Rattle.jsonpath_rust.specs.Walking.{node_of, arguments_in, LeadTo};
 
 use crate::query::Queried;
-use crate::query::cache::{Gathered, Kept};
+use crate::query::cache::{Cache, Gathered};
 use crate::query::filter::filter_holds;
+use crate::query::patterns::Extent;
 use crate::query::queryable::{Arg, Queryable};
-use crate::query::sink::{Kind, Sink};
+use crate::query::sink::{Sink, Wanted};
 use crate::query::subquery::{absolute, gather};
 use crate::query::value::{Operand, Scalar, count_scalar, push_scalar, push_values, scalar_of};
 use crate::query::walk::Task;
@@ -29,26 +30,42 @@ pub fn answer<'a: 's, 's, T: Queryable>(
     function: &'s TestFunction,
     at: &'a T,
     way: &mut Way<'s>,
-    kept: &mut Kept<'a, 's, T>,
+    cache: &mut Cache<'a, 's, T>,
 ) -> Queried<Operand<'a, 's, T>>
     requires whole { IsTrue (T.is_whole at.now) }
     requires within { size (T.tree at.now) ≤ size (T.tree task.now.root.now) }
     requires here { LeadTo T.tree way.old.steps.items task.now.root.now at.now }
-    requires part { StandIn (asked task.now) (call_patterns (call_view function.now)) }
-    requires ready { IsReady T.tree T.is_whole T.custom task.now kept.old }
+    requires part { StandIn (query_of task.now) (call_patterns (call_view function.now)) }
+    requires ready { IsReady T.tree T.is_whole T.custom task.now cache.old }
     ensures value { IfOk result (λ o. operand_tree T.tree o ≡ answer (call_view function.now) (document T.tree T.custom task.now) (node_of T.tree way.old.steps.items at.now)) }
     ensures whole { IfOk result (λ o. IsTrue (operand_is_whole T.is_whole o)) }
     ensures same { OnOk result (way.new.steps.items ≡ way.old.steps.items) }
-    ensures keeps { OnOk result (IsReady T.tree T.is_whole T.custom task.now kept.new) }
-    ensures refused { IfErr result (IsStop (asked task.now) (document T.tree T.custom task.now)) }
+    ensures keeps { OnOk result (IsReady T.tree T.is_whole T.custom task.now cache.new) }
+    ensures refused { IfErr result (IsStop (query_of task.now) (document T.tree T.custom task.now)) }
 {
     match function {
-        TestFunction::Custom(name, args) => custom(task, name, args, at, way, kept),
-        TestFunction::Length(arg) => argument_value(task, arg, at, way, kept)?.length(task.alloc),
-        TestFunction::Value(arg) => only_value(task, arg, at, way, kept),
-        TestFunction::Count(arg) => count(task, arg, at, way, kept),
-        TestFunction::Search(text, pattern) => found(task, text, pattern, false, at, way, kept),
-        TestFunction::Match(text, pattern) => found(task, text, pattern, true, at, way, kept),
+        TestFunction::Custom(name, args) => custom(task, name, args, at, way, cache),
+        TestFunction::Length(arg) => argument_value(task, arg, at, way, cache)?.length(task.alloc),
+        TestFunction::Value(arg) => only_value(task, arg, at, way, cache),
+        TestFunction::Count(arg) => count(task, arg, at, way, cache),
+        TestFunction::Search(text, pattern) => match_or_search(
+            task,
+            text,
+            pattern,
+            Extent::Substring,
+            at,
+            way,
+            cache,
+        ),
+        TestFunction::Match(text, pattern) => match_or_search(
+            task,
+            text,
+            pattern,
+            Extent::Entire,
+            at,
+            way,
+            cache,
+        ),
     }
 }
 
@@ -59,21 +76,21 @@ fn count<'a: 's, 's, T: Queryable>(
     arg: &'s FnArg,
     at: &'a T,
     way: &mut Way<'s>,
-    kept: &mut Kept<'a, 's, T>,
+    cache: &mut Cache<'a, 's, T>,
 ) -> Queried<Operand<'a, 's, T>>
     requires whole { IsTrue (T.is_whole at.now) }
     requires within { size (T.tree at.now) ≤ size (T.tree task.now.root.now) }
     requires here { LeadTo T.tree way.old.steps.items task.now.root.now at.now }
-    requires part { StandIn (asked task.now) (argument_patterns (argument_view arg.now)) }
-    requires ready { IsReady T.tree T.is_whole T.custom task.now kept.old }
+    requires part { StandIn (query_of task.now) (argument_patterns (argument_view arg.now)) }
+    requires ready { IsReady T.tree T.is_whole T.custom task.now cache.old }
     ensures value { IfOk result (λ o. operand_tree T.tree o ≡ count_of (argument_nodes (argument_view arg.now) (document T.tree T.custom task.now) (node_of T.tree way.old.steps.items at.now))) }
     ensures whole { IfOk result (λ o. IsTrue (operand_is_whole T.is_whole o)) }
     ensures same { OnOk result (way.new.steps.items ≡ way.old.steps.items) }
-    ensures keeps { OnOk result (IsReady T.tree T.is_whole T.custom task.now kept.new) }
-    ensures refused { IfErr result (IsStop (asked task.now) (document T.tree T.custom task.now)) }
+    ensures keeps { OnOk result (IsReady T.tree T.is_whole T.custom task.now cache.new) }
+    ensures refused { IfErr result (IsStop (query_of task.now) (document T.tree T.custom task.now)) }
 {
-    let nodes = argument_nodes(task, arg, Kind::Count, at, way, kept)?;
-    Ok(Operand::Plain(count_scalar(kept.given(&nodes).counted())))
+    let nodes = argument_nodes(task, arg, Wanted::Count, at, way, cache)?;
+    Ok(Operand::Plain(count_scalar(cache.given(&nodes).counted())))
 }
 
 /// The value of the only node of an argument (RFC 9535, 2.4.8).
@@ -83,49 +100,49 @@ fn only_value<'a: 's, 's, T: Queryable>(
     arg: &'s FnArg,
     at: &'a T,
     way: &mut Way<'s>,
-    kept: &mut Kept<'a, 's, T>,
+    cache: &mut Cache<'a, 's, T>,
 ) -> Queried<Operand<'a, 's, T>>
     requires whole { IsTrue (T.is_whole at.now) }
     requires within { size (T.tree at.now) ≤ size (T.tree task.now.root.now) }
     requires here { LeadTo T.tree way.old.steps.items task.now.root.now at.now }
-    requires part { StandIn (asked task.now) (argument_patterns (argument_view arg.now)) }
-    requires ready { IsReady T.tree T.is_whole T.custom task.now kept.old }
+    requires part { StandIn (query_of task.now) (argument_patterns (argument_view arg.now)) }
+    requires ready { IsReady T.tree T.is_whole T.custom task.now cache.old }
     ensures value { IfOk result (λ o. operand_tree T.tree o ≡ only_value (argument_nodes (argument_view arg.now) (document T.tree T.custom task.now) (node_of T.tree way.old.steps.items at.now))) }
     ensures whole { IfOk result (λ o. IsTrue (operand_is_whole T.is_whole o)) }
     ensures same { OnOk result (way.new.steps.items ≡ way.old.steps.items) }
-    ensures keeps { OnOk result (IsReady T.tree T.is_whole T.custom task.now kept.new) }
-    ensures refused { IfErr result (IsStop (asked task.now) (document T.tree T.custom task.now)) }
+    ensures keeps { OnOk result (IsReady T.tree T.is_whole T.custom task.now cache.new) }
+    ensures refused { IfErr result (IsStop (query_of task.now) (document T.tree T.custom task.now)) }
 {
-    let nodes = argument_nodes(task, arg, Kind::Only, at, way, kept)?;
-    Ok(Operand::lent(kept.given(&nodes).only()))
+    let nodes = argument_nodes(task, arg, Wanted::Only, at, way, cache)?;
+    Ok(Operand::lent(cache.given(&nodes).only()))
 }
 
-/// What `match` answers where `whole`, and else `search` (RFC 9535, 2.4.6 and 2.4.7).
+/// What `match` answers of the entire text, or `search` of its substrings (RFC 9535, 2.4.6 and 2.4.7).
 #[cycle(walk)]
-fn found<'a: 's, 's, T: Queryable>(
+fn match_or_search<'a: 's, 's, T: Queryable>(
     task: &Task<'a, 's, T>,
     text: &'s FnArg,
     pattern: &'s FnArg,
-    whole: bool,
+    extent: Extent,
     at: &'a T,
     way: &mut Way<'s>,
-    kept: &mut Kept<'a, 's, T>,
+    cache: &mut Cache<'a, 's, T>,
 ) -> Queried<Operand<'a, 's, T>>
     requires whole { IsTrue (T.is_whole at.now) }
     requires within { size (T.tree at.now) ≤ size (T.tree task.now.root.now) }
     requires here { LeadTo T.tree way.old.steps.items task.now.root.now at.now }
-    requires part { StandIn (asked task.now) ((whole, argument_view pattern.now) ∷ (argument_patterns (argument_view text.now) ++ argument_patterns (argument_view pattern.now))) }
-    requires ready { IsReady T.tree T.is_whole T.custom task.now kept.old }
-    ensures value { IfOk result (λ o. operand_tree T.tree o ≡ Some (truth (is_found whole (argument_value (argument_view text.now) (document T.tree T.custom task.now) (node_of T.tree way.old.steps.items at.now)) (argument_value (argument_view pattern.now) (document T.tree T.custom task.now) (node_of T.tree way.old.steps.items at.now))))) }
+    requires part { StandIn (query_of task.now) ((is_entire extent, argument_view pattern.now) ∷ (argument_patterns (argument_view text.now) ++ argument_patterns (argument_view pattern.now))) }
+    requires ready { IsReady T.tree T.is_whole T.custom task.now cache.old }
+    ensures value { IfOk result (λ o. operand_tree T.tree o ≡ Some (truth (is_found (is_entire extent) (argument_value (argument_view text.now) (document T.tree T.custom task.now) (node_of T.tree way.old.steps.items at.now)) (argument_value (argument_view pattern.now) (document T.tree T.custom task.now) (node_of T.tree way.old.steps.items at.now))))) }
     ensures whole { IfOk result (λ o. IsTrue (operand_is_whole T.is_whole o)) }
     ensures same { OnOk result (way.new.steps.items ≡ way.old.steps.items) }
-    ensures keeps { OnOk result (IsReady T.tree T.is_whole T.custom task.now kept.new) }
-    ensures refused { IfErr result (IsStop (asked task.now) (document T.tree T.custom task.now)) }
+    ensures keeps { OnOk result (IsReady T.tree T.is_whole T.custom task.now cache.new) }
+    ensures refused { IfErr result (IsStop (query_of task.now) (document T.tree T.custom task.now)) }
 {
     let is_literal = matches!(pattern, FnArg::Literal(_));
-    let text = argument_value(task, text, at, way, kept)?;
-    let pattern = argument_value(task, pattern, at, way, kept)?;
-    let found = kept.is_found(task.alloc, &text, &pattern, whole, is_literal)?;
+    let text = argument_value(task, text, at, way, cache)?;
+    let pattern = argument_value(task, pattern, at, way, cache)?;
+    let found = cache.is_found(task.alloc, &text, &pattern, extent, is_literal)?;
     Ok(Operand::Plain(Scalar::Truth(found)))
 }
 
@@ -137,22 +154,22 @@ fn custom<'a: 's, 's, T: Queryable>(
     args: &'s [FnArg],
     at: &'a T,
     way: &mut Way<'s>,
-    kept: &mut Kept<'a, 's, T>,
+    cache: &mut Cache<'a, 's, T>,
 ) -> Queried<Operand<'a, 's, T>>
     requires whole { IsTrue (T.is_whole at.now) }
     requires within { size (T.tree at.now) ≤ size (T.tree task.now.root.now) }
     requires here { LeadTo T.tree way.old.steps.items task.now.root.now at.now }
-    requires part { StandIn (asked task.now) (arguments_patterns (arguments_in args.now)) }
-    requires ready { IsReady T.tree T.is_whole T.custom task.now kept.old }
+    requires part { StandIn (query_of task.now) (arguments_patterns (arguments_in args.now)) }
+    requires ready { IsReady T.tree T.is_whole T.custom task.now cache.old }
     ensures value { IfOk result (λ o. operand_tree T.tree o ≡ Some (T.custom (string_bytes name.now) (all_trees (arguments_in args.now) (document T.tree T.custom task.now) (node_of T.tree way.old.steps.items at.now)))) }
     ensures whole { IfOk result (λ o. IsTrue (operand_is_whole T.is_whole o)) }
     ensures same { OnOk result (way.new.steps.items ≡ way.old.steps.items) }
-    ensures keeps { OnOk result (IsReady T.tree T.is_whole T.custom task.now kept.new) }
-    ensures refused { IfErr result (IsStop (asked task.now) (document T.tree T.custom task.now)) }
+    ensures keeps { OnOk result (IsReady T.tree T.is_whole T.custom task.now cache.new) }
+    ensures refused { IfErr result (IsStop (query_of task.now) (document T.tree T.custom task.now)) }
 {
     let mut values = Vec::new(task.alloc);
     for arg in args {
-        push_argument(task, arg, &mut values, at, way, kept)?;
+        push_argument(task, arg, &mut values, at, way, cache)?;
     }
     Ok(Operand::Made(T::extension_custom(task.alloc, name, &values)?))
 }
@@ -165,25 +182,25 @@ fn push_argument<'a: 's, 's, T: Queryable>(
     values: &mut Vec<Arg<'a, T>>,
     at: &'a T,
     way: &mut Way<'s>,
-    kept: &mut Kept<'a, 's, T>,
+    cache: &mut Cache<'a, 's, T>,
 ) -> Queried<()>
     requires whole { IsTrue (T.is_whole at.now) }
     requires within { size (T.tree at.now) ≤ size (T.tree task.now.root.now) }
     requires here { LeadTo T.tree way.old.steps.items task.now.root.now at.now }
-    requires part { StandIn (asked task.now) (argument_patterns (argument_view arg.now)) }
-    requires ready { IsReady T.tree T.is_whole T.custom task.now kept.old }
+    requires part { StandIn (query_of task.now) (argument_patterns (argument_view arg.now)) }
+    requires ready { IsReady T.tree T.is_whole T.custom task.now cache.old }
     requires others { AreWhole T.is_whole values.old.items }
     ensures value { OnOk result (trees_of T.tree values.new.items ≡ trees_of T.tree values.old.items ++ argument_trees (argument_view arg.now) (document T.tree T.custom task.now) (node_of T.tree way.old.steps.items at.now)) }
     ensures whole { OnOk result (AreWhole T.is_whole values.new.items) }
     ensures same { OnOk result (way.new.steps.items ≡ way.old.steps.items) }
-    ensures keeps { OnOk result (IsReady T.tree T.is_whole T.custom task.now kept.new) }
-    ensures refused { IfErr result (IsStop (asked task.now) (document T.tree T.custom task.now)) }
+    ensures keeps { OnOk result (IsReady T.tree T.is_whole T.custom task.now cache.new) }
+    ensures refused { IfErr result (IsStop (query_of task.now) (document T.tree T.custom task.now)) }
 {
     match arg {
         FnArg::Literal(literal) => push_scalar(task.alloc, scalar_of(literal), values),
-        FnArg::Test(test) => push_test(task, test, values, at, way, kept),
+        FnArg::Test(test) => push_test(task, test, values, at, way, cache),
         FnArg::Filter(filter) => {
-            let truth = filter_holds(task, filter, at, way, kept)?;
+            let truth = filter_holds(task, filter, at, way, cache)?;
             push_scalar(task.alloc, Scalar::Truth(truth), values)
         }
     }
@@ -197,30 +214,30 @@ fn push_test<'a: 's, 's, T: Queryable>(
     values: &mut Vec<Arg<'a, T>>,
     at: &'a T,
     way: &mut Way<'s>,
-    kept: &mut Kept<'a, 's, T>,
+    cache: &mut Cache<'a, 's, T>,
 ) -> Queried<()>
     requires whole { IsTrue (T.is_whole at.now) }
     requires within { size (T.tree at.now) ≤ size (T.tree task.now.root.now) }
     requires here { LeadTo T.tree way.old.steps.items task.now.root.now at.now }
-    requires part { StandIn (asked task.now) (test_patterns (test_view test.now)) }
-    requires ready { IsReady T.tree T.is_whole T.custom task.now kept.old }
+    requires part { StandIn (query_of task.now) (test_patterns (test_view test.now)) }
+    requires ready { IsReady T.tree T.is_whole T.custom task.now cache.old }
     requires others { AreWhole T.is_whole values.old.items }
     ensures value { OnOk result (trees_of T.tree values.new.items ≡ trees_of T.tree values.old.items ++ test_trees (test_view test.now) (document T.tree T.custom task.now) (node_of T.tree way.old.steps.items at.now)) }
     ensures whole { OnOk result (AreWhole T.is_whole values.new.items) }
     ensures same { OnOk result (way.new.steps.items ≡ way.old.steps.items) }
-    ensures keeps { OnOk result (IsReady T.tree T.is_whole T.custom task.now kept.new) }
-    ensures refused { IfErr result (IsStop (asked task.now) (document T.tree T.custom task.now)) }
+    ensures keeps { OnOk result (IsReady T.tree T.is_whole T.custom task.now cache.new) }
+    ensures refused { IfErr result (IsStop (query_of task.now) (document T.tree T.custom task.now)) }
 {
     match test {
         Test::RelQuery(segments) => {
-            let nodes = gather(task, segments, Kind::Values, at, way, kept)?;
+            let nodes = gather(task, segments, Wanted::Values, at, way, cache)?;
             push_values(&nodes, values)
         }
         Test::AbsQuery(query) => {
-            let place = absolute(task, query, Kind::Values, kept)?;
-            push_values(kept.answer(place), values)
+            let index = absolute(task, query, Wanted::Values, cache)?;
+            push_values(cache.nodelist(index), values)
         }
-        Test::Function(function) => answer(task, function, at, way, kept)?.push_to(
+        Test::Function(function) => answer(task, function, at, way, cache)?.push_to(
             task.alloc, values,
         ),
     }
@@ -233,24 +250,24 @@ fn argument_value<'a: 's, 's, T: Queryable>(
     arg: &'s FnArg,
     at: &'a T,
     way: &mut Way<'s>,
-    kept: &mut Kept<'a, 's, T>,
+    cache: &mut Cache<'a, 's, T>,
 ) -> Queried<Operand<'a, 's, T>>
     requires whole { IsTrue (T.is_whole at.now) }
     requires within { size (T.tree at.now) ≤ size (T.tree task.now.root.now) }
     requires here { LeadTo T.tree way.old.steps.items task.now.root.now at.now }
-    requires part { StandIn (asked task.now) (argument_patterns (argument_view arg.now)) }
-    requires ready { IsReady T.tree T.is_whole T.custom task.now kept.old }
+    requires part { StandIn (query_of task.now) (argument_patterns (argument_view arg.now)) }
+    requires ready { IsReady T.tree T.is_whole T.custom task.now cache.old }
     ensures value { IfOk result (λ o. operand_tree T.tree o ≡ argument_value (argument_view arg.now) (document T.tree T.custom task.now) (node_of T.tree way.old.steps.items at.now)) }
     ensures whole { IfOk result (λ o. IsTrue (operand_is_whole T.is_whole o)) }
     ensures same { OnOk result (way.new.steps.items ≡ way.old.steps.items) }
-    ensures keeps { OnOk result (IsReady T.tree T.is_whole T.custom task.now kept.new) }
-    ensures refused { IfErr result (IsStop (asked task.now) (document T.tree T.custom task.now)) }
+    ensures keeps { OnOk result (IsReady T.tree T.is_whole T.custom task.now cache.new) }
+    ensures refused { IfErr result (IsStop (query_of task.now) (document T.tree T.custom task.now)) }
 {
     match arg {
         FnArg::Literal(literal) => Ok(Operand::Plain(scalar_of(literal))),
-        FnArg::Test(test) => test_value(task, test, at, way, kept),
+        FnArg::Test(test) => test_value(task, test, at, way, cache),
         FnArg::Filter(filter) => Ok(Operand::Plain(Scalar::Truth(filter_holds(
-            task, filter, at, way, kept,
+            task, filter, at, way, cache,
         )?))),
     }
 }
@@ -262,33 +279,33 @@ fn test_value<'a: 's, 's, T: Queryable>(
     test: &'s Test,
     at: &'a T,
     way: &mut Way<'s>,
-    kept: &mut Kept<'a, 's, T>,
+    cache: &mut Cache<'a, 's, T>,
 ) -> Queried<Operand<'a, 's, T>>
     requires whole { IsTrue (T.is_whole at.now) }
     requires within { size (T.tree at.now) ≤ size (T.tree task.now.root.now) }
     requires here { LeadTo T.tree way.old.steps.items task.now.root.now at.now }
-    requires part { StandIn (asked task.now) (test_patterns (test_view test.now)) }
-    requires ready { IsReady T.tree T.is_whole T.custom task.now kept.old }
+    requires part { StandIn (query_of task.now) (test_patterns (test_view test.now)) }
+    requires ready { IsReady T.tree T.is_whole T.custom task.now cache.old }
     ensures value { IfOk result (λ o. operand_tree T.tree o ≡ test_value (test_view test.now) (document T.tree T.custom task.now) (node_of T.tree way.old.steps.items at.now)) }
     ensures whole { IfOk result (λ o. IsTrue (operand_is_whole T.is_whole o)) }
     ensures same { OnOk result (way.new.steps.items ≡ way.old.steps.items) }
-    ensures keeps { OnOk result (IsReady T.tree T.is_whole T.custom task.now kept.new) }
-    ensures refused { IfErr result (IsStop (asked task.now) (document T.tree T.custom task.now)) }
+    ensures keeps { OnOk result (IsReady T.tree T.is_whole T.custom task.now cache.new) }
+    ensures refused { IfErr result (IsStop (query_of task.now) (document T.tree T.custom task.now)) }
 {
     match test {
         Test::RelQuery(segments) => Ok(Operand::lent(gather(
             task,
             segments,
-            Kind::Only,
+            Wanted::Only,
             at,
             way,
-            kept,
+            cache,
         )?.only())),
         Test::AbsQuery(query) => {
-            let place = absolute(task, query, Kind::Only, kept)?;
-            Ok(Operand::lent(kept.answer(place).only()))
+            let index = absolute(task, query, Wanted::Only, cache)?;
+            Ok(Operand::lent(cache.nodelist(index).only()))
         }
-        Test::Function(function) => answer(task, function, at, way, kept),
+        Test::Function(function) => answer(task, function, at, way, cache),
     }
 }
 
@@ -297,26 +314,26 @@ fn test_value<'a: 's, 's, T: Queryable>(
 fn argument_nodes<'a: 's, 's, T: Queryable>(
     task: &Task<'a, 's, T>,
     arg: &'s FnArg,
-    kind: Kind,
+    wanted: Wanted,
     at: &'a T,
     way: &mut Way<'s>,
-    kept: &mut Kept<'a, 's, T>,
+    cache: &mut Cache<'a, 's, T>,
 ) -> Queried<Gathered<'a, T>>
     requires whole { IsTrue (T.is_whole at.now) }
     requires within { size (T.tree at.now) ≤ size (T.tree task.now.root.now) }
     requires here { LeadTo T.tree way.old.steps.items task.now.root.now at.now }
-    requires part { StandIn (asked task.now) (argument_patterns (argument_view arg.now)) }
-    requires ready { IsReady T.tree T.is_whole T.custom task.now kept.old }
-    ensures given { IfOk result (λ g. gathered T.tree T.is_whole kept.new g ≡ give (start kind) (argument_nodes (argument_view arg.now) (document T.tree T.custom task.now) (node_of T.tree way.old.steps.items at.now))) }
-    ensures within { IfOk result (λ g. IsGathered kept.new g) }
+    requires part { StandIn (query_of task.now) (argument_patterns (argument_view arg.now)) }
+    requires ready { IsReady T.tree T.is_whole T.custom task.now cache.old }
+    ensures given { IfOk result (λ g. gathered T.tree T.is_whole cache.new g ≡ give (start wanted) (argument_nodes (argument_view arg.now) (document T.tree T.custom task.now) (node_of T.tree way.old.steps.items at.now))) }
+    ensures within { IfOk result (λ g. IsGathered cache.new g) }
     ensures same { OnOk result (way.new.steps.items ≡ way.old.steps.items) }
-    ensures keeps { OnOk result (IsReady T.tree T.is_whole T.custom task.now kept.new) }
-    ensures refused { IfErr result (IsStop (asked task.now) (document T.tree T.custom task.now)) }
+    ensures keeps { OnOk result (IsReady T.tree T.is_whole T.custom task.now cache.new) }
+    ensures refused { IfErr result (IsStop (query_of task.now) (document T.tree T.custom task.now)) }
 {
     match arg {
-        FnArg::Test(test) => test_nodes(task, test, kind, at, way, kept),
-        FnArg::Literal(_) => Ok(Gathered::Own(Sink::start(task.alloc, kind))),
-        FnArg::Filter(_) => Ok(Gathered::Own(Sink::start(task.alloc, kind))),
+        FnArg::Test(test) => test_nodes(task, test, wanted, at, way, cache),
+        FnArg::Literal(_) => Ok(Gathered::Own(Sink::start(task.alloc, wanted))),
+        FnArg::Filter(_) => Ok(Gathered::Own(Sink::start(task.alloc, wanted))),
     }
 }
 
@@ -325,25 +342,27 @@ fn argument_nodes<'a: 's, 's, T: Queryable>(
 fn test_nodes<'a: 's, 's, T: Queryable>(
     task: &Task<'a, 's, T>,
     test: &'s Test,
-    kind: Kind,
+    wanted: Wanted,
     at: &'a T,
     way: &mut Way<'s>,
-    kept: &mut Kept<'a, 's, T>,
+    cache: &mut Cache<'a, 's, T>,
 ) -> Queried<Gathered<'a, T>>
     requires whole { IsTrue (T.is_whole at.now) }
     requires within { size (T.tree at.now) ≤ size (T.tree task.now.root.now) }
     requires here { LeadTo T.tree way.old.steps.items task.now.root.now at.now }
-    requires part { StandIn (asked task.now) (test_patterns (test_view test.now)) }
-    requires ready { IsReady T.tree T.is_whole T.custom task.now kept.old }
-    ensures given { IfOk result (λ g. gathered T.tree T.is_whole kept.new g ≡ give (start kind) (test_nodes (test_view test.now) (document T.tree T.custom task.now) (node_of T.tree way.old.steps.items at.now))) }
-    ensures within { IfOk result (λ g. IsGathered kept.new g) }
+    requires part { StandIn (query_of task.now) (test_patterns (test_view test.now)) }
+    requires ready { IsReady T.tree T.is_whole T.custom task.now cache.old }
+    ensures given { IfOk result (λ g. gathered T.tree T.is_whole cache.new g ≡ give (start wanted) (test_nodes (test_view test.now) (document T.tree T.custom task.now) (node_of T.tree way.old.steps.items at.now))) }
+    ensures within { IfOk result (λ g. IsGathered cache.new g) }
     ensures same { OnOk result (way.new.steps.items ≡ way.old.steps.items) }
-    ensures keeps { OnOk result (IsReady T.tree T.is_whole T.custom task.now kept.new) }
-    ensures refused { IfErr result (IsStop (asked task.now) (document T.tree T.custom task.now)) }
+    ensures keeps { OnOk result (IsReady T.tree T.is_whole T.custom task.now cache.new) }
+    ensures refused { IfErr result (IsStop (query_of task.now) (document T.tree T.custom task.now)) }
 {
     match test {
-        Test::RelQuery(segments) => Ok(Gathered::Own(gather(task, segments, kind, at, way, kept)?)),
-        Test::AbsQuery(query) => Ok(Gathered::Kept(absolute(task, query, kind, kept)?)),
-        Test::Function(_) => Ok(Gathered::Own(Sink::start(task.alloc, kind))),
+        Test::RelQuery(segments) => Ok(Gathered::Own(gather(
+            task, segments, wanted, at, way, cache,
+        )?)),
+        Test::AbsQuery(query) => Ok(Gathered::Cached(absolute(task, query, wanted, cache)?)),
+        Test::Function(_) => Ok(Gathered::Own(Sink::start(task.alloc, wanted))),
     }
 }

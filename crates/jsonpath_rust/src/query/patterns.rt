@@ -1,5 +1,8 @@
 //! The patterns that stand in a query (RFC 9535, 2.4.6 and 2.4.7): read before its walk, so that none is read twice. One
 //! that cannot be built is left out: it is refused where it is asked.
+ghost use Rattle.std.specs.Prelude.{◌≡◌};
+ghost use Rattle.jsonpath_rust.specs.Operands.{is_entire};
+
 use jsonpath_base::pattern::{Finder, Pattern};
 use jsonpath_parser::errors::JsonPathError;
 use jsonpath_parser::model::{
@@ -7,6 +10,28 @@ use jsonpath_parser::model::{
     TestFunction,
 };
 use std::alloc::{AllocError, Global};
+
+/// What of a text a pattern has to match.
+#[derive(Clone, Copy)]
+pub enum Extent {
+    /// The entire text, as `match` asks.
+    Entire,
+    /// Some substring, as `search` asks.
+    Substring,
+}
+
+impl Extent {
+    /// Whether it is the entire text.
+    #[inline(always)]
+    pub fn is_entire(self) -> bool
+        ensures { result ≡ is_entire self }
+    {
+        match self {
+            Extent::Entire => true,
+            Extent::Substring => false,
+        }
+    }
+}
 
 /// The patterns of a query in the order in which they stand there.
 pub fn patterns_of(alloc: Global, query: &JpQuery) -> Result<Vec<Pattern>, AllocError> {
@@ -132,20 +157,20 @@ impl Reader {
             TestFunction::Value(arg) | TestFunction::Count(arg) => self.argument(arg),
             TestFunction::Search(text, pattern) => {
                 self.argument(text)?;
-                self.pattern(pattern, false)
+                self.pattern(pattern, Extent::Substring)
             }
             TestFunction::Match(text, pattern) => {
                 self.argument(text)?;
-                self.pattern(pattern, true)
+                self.pattern(pattern, Extent::Entire)
             }
         }
     }
 
-    /// The second argument of `match` where `whole`, and else of `search`.
+    /// The second argument of `match` or `search`.
     #[cycle(patterns)]
-    fn pattern(&mut self, arg: &FnArg, whole: bool) -> Result<(), AllocError> {
+    fn pattern(&mut self, arg: &FnArg, extent: Extent) -> Result<(), AllocError> {
         match arg {
-            FnArg::Literal(Literal::String(source)) => self.read(source, whole),
+            FnArg::Literal(Literal::String(source)) => self.read(source, extent),
             _ => self.argument(arg),
         }
     }
@@ -160,8 +185,8 @@ impl Reader {
     }
 
     /// Reads a pattern, and keeps it if it can be built.
-    fn read(&mut self, source: &str, whole: bool) -> Result<(), AllocError> {
-        match Pattern::new(self.alloc, source, whole) {
+    fn read(&mut self, source: &str, extent: Extent) -> Result<(), AllocError> {
+        match Pattern::new(self.alloc, source, extent.is_entire()) {
             Ok(pattern) => Ok(self.patterns.push(pattern)?),
             Err(JsonPathError::OutOfMemory) => Err(AllocError),
             Err(_) => Ok(()),

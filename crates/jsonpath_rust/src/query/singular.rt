@@ -51,7 +51,7 @@ fn stepped<'a, T: Queryable>(step: &SingularQuerySegment, at: &'a T) -> Option<&
     match step {
         SingularQuerySegment::Name(name) => at.get(name),
         SingularQuerySegment::Index(index) => match element(at, *index) {
-            Some((_place, child)) => Some(child),
+            Some((_position, child)) => Some(child),
             None => None,
         },
     }

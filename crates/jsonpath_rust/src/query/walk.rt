@@ -9,12 +9,12 @@ ghost use Rattle.jsonpath_rust.specs.Node.{below, children};
 ghost use Rattle.jsonpath_rust.specs.Meaning.{picks, all_pick, replaced, sliced, nodelist};
 ghost use Rattle.jsonpath_rust.specs.Weight.{size};
 ghost use Rattle.jsonpath_rust.specs.Patterns.{IsStop, segments_patterns, segment_patterns, selectors_patterns, selector_patterns};
-ghost use Rattle.jsonpath_rust.specs.Sinks.{Gives, seen};
-ghost use Rattle.jsonpath_rust.specs.Keeping.{IsReady, StandIn, document, asked};
+ghost use Rattle.jsonpath_rust.specs.Sinks.{Took, seen};
+ghost use Rattle.jsonpath_rust.specs.Keeping.{IsReady, StandIn, document, query_of};
 ghost use Rattle.jsonpath_rust.specs.Walking.{through, node_of, step_of, segments_in, selectors_in, acted, action_patterns, LeadTo};
 
 use crate::query::Queried;
-use crate::query::cache::Kept;
+use crate::query::cache::Cache;
 use crate::query::filter::filter_holds;
 use crate::query::patterns::{finders_of, patterns_of};
 use crate::query::queryable::Queryable;
@@ -45,7 +45,7 @@ pub enum Action<'s> {
     Below(&'s Segment),
 }
 
-/// Gives to the sink the nodes of a query on a document. The answer says whether to go on.
+/// Gives to the sink the nodes of a query on a document. The result says whether to go on.
 pub fn give_nodes<'a, T: Queryable>(
     alloc: Global,
     query: &JpQuery,
@@ -53,7 +53,7 @@ pub fn give_nodes<'a, T: Queryable>(
     sink: &mut Sink<'a, T>,
 ) -> Queried<bool>
     requires { IsTrue (T.is_whole root.now) }
-    ensures gave { IfOk result (λ b. Gives (seen T.tree T.is_whole sink.old) (nodelist (query_view query.now) (document_of T.tree T.custom root.now))
+    ensures gave { IfOk result (λ b. Took (seen T.tree T.is_whole sink.old) (nodelist (query_view query.now) (document_of T.tree T.custom root.now))
         (seen T.tree T.is_whole sink.new) b) }
     ensures refused { IfErr result (IsStop (query_view query.now) (document_of T.tree T.custom root.now)) }
 {
@@ -66,22 +66,22 @@ pub fn give_nodes<'a, T: Queryable>(
 fn give_from_root<'a: 's, 's, T: Queryable>(
     alloc: Global,
     query: &'s JpQuery,
-    literals: Vec<Finder<'s>>,
+    finders: Vec<Finder<'s>>,
     root: &'a T,
     sink: &mut Sink<'a, T>,
 ) -> Queried<bool>
     requires { IsTrue (T.is_whole root.now) }
-    ensures gave { IfOk result (λ b. Gives (seen T.tree T.is_whole sink.old) (nodelist (query_view query.now) (document_of T.tree T.custom root.now))
+    ensures gave { IfOk result (λ b. Took (seen T.tree T.is_whole sink.old) (nodelist (query_view query.now) (document_of T.tree T.custom root.now))
         (seen T.tree T.is_whole sink.new) b) }
     ensures refused { IfErr result (IsStop (query_view query.now) (document_of T.tree T.custom root.now)) }
 {
     let task = Task { alloc, query, root };
-    let mut kept = Kept::new(alloc, literals);
+    let mut cache = Cache::new(alloc, finders);
     let mut way = Way::new(alloc);
-    walk(&task, &query.segments, root, &mut way, &mut kept, sink)
+    walk(&task, &query.segments, root, &mut way, &mut cache, sink)
 }
 
-/// Gives to the sink what the segments select from a value on, to which this way leads. The answer says whether
+/// Gives to the sink what the segments select from a value on, to which this way leads. The result says whether
 /// to go on.
 #[cycle(walk)]
 pub fn walk<'a: 's, 's, T: Queryable>(
@@ -89,24 +89,24 @@ pub fn walk<'a: 's, 's, T: Queryable>(
     segments: &'s [Segment],
     at: &'a T,
     way: &mut Way<'s>,
-    kept: &mut Kept<'a, 's, T>,
+    cache: &mut Cache<'a, 's, T>,
     sink: &mut Sink<'a, T>,
 ) -> Queried<bool>
     requires whole { IsTrue (T.is_whole at.now) }
     requires within { size (T.tree at.now) ≤ size (T.tree task.now.root.now) }
     requires here { LeadTo T.tree way.old.steps.items task.now.root.now at.now }
-    requires part { StandIn (asked task.now) (segments_patterns (segments_in segments.now)) }
-    requires ready { IsReady T.tree T.is_whole T.custom task.now kept.old }
-    ensures gave { IfOk result (λ b. Gives (seen T.tree T.is_whole sink.old)
+    requires part { StandIn (query_of task.now) (segments_patterns (segments_in segments.now)) }
+    requires ready { IsReady T.tree T.is_whole T.custom task.now cache.old }
+    ensures gave { IfOk result (λ b. Took (seen T.tree T.is_whole sink.old)
         (through (segments_in segments.now) (document T.tree T.custom task.now) (node_of T.tree way.old.steps.items at.now))
         (seen T.tree T.is_whole sink.new) b) }
     ensures same { OnOk result (way.new.steps.items ≡ way.old.steps.items) }
-    ensures keeps { OnOk result (IsReady T.tree T.is_whole T.custom task.now kept.new) }
-    ensures refused { IfErr result (IsStop (asked task.now) (document T.tree T.custom task.now)) }
+    ensures keeps { OnOk result (IsReady T.tree T.is_whole T.custom task.now cache.new) }
+    ensures refused { IfErr result (IsStop (query_of task.now) (document T.tree T.custom task.now)) }
 {
     match segments.split_first() {
         None => sink.take(task.alloc, at, way),
-        Some((first, rest)) => pass(task, first, rest, at, way, kept, sink),
+        Some((first, rest)) => pass(task, first, rest, at, way, cache, sink),
     }
 }
 
@@ -119,26 +119,26 @@ fn pass<'a: 's, 's, T: Queryable>(
     rest: &'s [Segment],
     at: &'a T,
     way: &mut Way<'s>,
-    kept: &mut Kept<'a, 's, T>,
+    cache: &mut Cache<'a, 's, T>,
     sink: &mut Sink<'a, T>,
 ) -> Queried<bool>
     requires whole { IsTrue (T.is_whole at.now) }
     requires within { size (T.tree at.now) ≤ size (T.tree task.now.root.now) }
     requires here { LeadTo T.tree way.old.steps.items task.now.root.now at.now }
-    requires part { StandIn (asked task.now) (segment_patterns (segment_view first.now) ++ segments_patterns (segments_in rest.now)) }
-    requires ready { IsReady T.tree T.is_whole T.custom task.now kept.old }
-    ensures gave { IfOk result (λ b. Gives (seen T.tree T.is_whole sink.old)
+    requires part { StandIn (query_of task.now) (segment_patterns (segment_view first.now) ++ segments_patterns (segments_in rest.now)) }
+    requires ready { IsReady T.tree T.is_whole T.custom task.now cache.old }
+    ensures gave { IfOk result (λ b. Took (seen T.tree T.is_whole sink.old)
         (flat_map (through (segments_in rest.now) (document T.tree T.custom task.now))
         (replaced (segment_view first.now) (document T.tree T.custom task.now) (node_of T.tree way.old.steps.items at.now)))
         (seen T.tree T.is_whole sink.new) b) }
     ensures same { OnOk result (way.new.steps.items ≡ way.old.steps.items) }
-    ensures keeps { OnOk result (IsReady T.tree T.is_whole T.custom task.now kept.new) }
-    ensures refused { IfErr result (IsStop (asked task.now) (document T.tree T.custom task.now)) }
+    ensures keeps { OnOk result (IsReady T.tree T.is_whole T.custom task.now cache.new) }
+    ensures refused { IfErr result (IsStop (query_of task.now) (document T.tree T.custom task.now)) }
 {
     match first {
-        Segment::Selector(selector) => pick(task, selector, rest, at, way, kept, sink),
-        Segment::Selectors(selectors) => pick_each(task, selectors, rest, at, way, kept, sink),
-        Segment::Descendant(inner) => act(task, Action::Below(inner), rest, at, way, kept, sink),
+        Segment::Selector(selector) => pick(task, selector, rest, at, way, cache, sink),
+        Segment::Selectors(selectors) => pick_each(task, selectors, rest, at, way, cache, sink),
+        Segment::Descendant(inner) => act(task, Action::Below(inner), rest, at, way, cache, sink),
     }
 }
 
@@ -150,24 +150,24 @@ fn pick_each<'a: 's, 's, T: Queryable>(
     rest: &'s [Segment],
     at: &'a T,
     way: &mut Way<'s>,
-    kept: &mut Kept<'a, 's, T>,
+    cache: &mut Cache<'a, 's, T>,
     sink: &mut Sink<'a, T>,
 ) -> Queried<bool>
     requires whole { IsTrue (T.is_whole at.now) }
     requires within { size (T.tree at.now) ≤ size (T.tree task.now.root.now) }
     requires here { LeadTo T.tree way.old.steps.items task.now.root.now at.now }
-    requires part { StandIn (asked task.now) (selectors_patterns (selectors_in selectors.now) ++ segments_patterns (segments_in rest.now)) }
-    requires ready { IsReady T.tree T.is_whole T.custom task.now kept.old }
-    ensures gave { IfOk result (λ b. Gives (seen T.tree T.is_whole sink.old)
+    requires part { StandIn (query_of task.now) (selectors_patterns (selectors_in selectors.now) ++ segments_patterns (segments_in rest.now)) }
+    requires ready { IsReady T.tree T.is_whole T.custom task.now cache.old }
+    ensures gave { IfOk result (λ b. Took (seen T.tree T.is_whole sink.old)
         (flat_map (through (segments_in rest.now) (document T.tree T.custom task.now))
         (all_pick (selectors_in selectors.now) (document T.tree T.custom task.now) (node_of T.tree way.old.steps.items at.now)))
         (seen T.tree T.is_whole sink.new) b) }
     ensures same { OnOk result (way.new.steps.items ≡ way.old.steps.items) }
-    ensures keeps { OnOk result (IsReady T.tree T.is_whole T.custom task.now kept.new) }
-    ensures refused { IfErr result (IsStop (asked task.now) (document T.tree T.custom task.now)) }
+    ensures keeps { OnOk result (IsReady T.tree T.is_whole T.custom task.now cache.new) }
+    ensures refused { IfErr result (IsStop (query_of task.now) (document T.tree T.custom task.now)) }
 {
     for selector in selectors {
-        if !pick(task, selector, rest, at, way, kept, sink)? {
+        if !pick(task, selector, rest, at, way, cache, sink)? {
             return Ok(false);
         }
     }
@@ -183,21 +183,21 @@ fn pick<'a: 's, 's, T: Queryable>(
     rest: &'s [Segment],
     at: &'a T,
     way: &mut Way<'s>,
-    kept: &mut Kept<'a, 's, T>,
+    cache: &mut Cache<'a, 's, T>,
     sink: &mut Sink<'a, T>,
 ) -> Queried<bool>
     requires whole { IsTrue (T.is_whole at.now) }
     requires within { size (T.tree at.now) ≤ size (T.tree task.now.root.now) }
     requires here { LeadTo T.tree way.old.steps.items task.now.root.now at.now }
-    requires part { StandIn (asked task.now) (selector_patterns (selector_view selector.now) ++ segments_patterns (segments_in rest.now)) }
-    requires ready { IsReady T.tree T.is_whole T.custom task.now kept.old }
-    ensures gave { IfOk result (λ b. Gives (seen T.tree T.is_whole sink.old)
+    requires part { StandIn (query_of task.now) (selector_patterns (selector_view selector.now) ++ segments_patterns (segments_in rest.now)) }
+    requires ready { IsReady T.tree T.is_whole T.custom task.now cache.old }
+    ensures gave { IfOk result (λ b. Took (seen T.tree T.is_whole sink.old)
         (flat_map (through (segments_in rest.now) (document T.tree T.custom task.now))
         (picks (selector_view selector.now) (document T.tree T.custom task.now) (node_of T.tree way.old.steps.items at.now)))
         (seen T.tree T.is_whole sink.new) b) }
     ensures same { OnOk result (way.new.steps.items ≡ way.old.steps.items) }
-    ensures keeps { OnOk result (IsReady T.tree T.is_whole T.custom task.now kept.new) }
-    ensures refused { IfErr result (IsStop (asked task.now) (document T.tree T.custom task.now)) }
+    ensures keeps { OnOk result (IsReady T.tree T.is_whole T.custom task.now cache.new) }
+    ensures refused { IfErr result (IsStop (query_of task.now) (document T.tree T.custom task.now)) }
 {
     match selector {
         Selector::Name(name) => match at.get(name) {
@@ -208,29 +208,37 @@ fn pick<'a: 's, 's, T: Queryable>(
                 StepRef::Name(name),
                 child,
                 way,
-                kept,
+                cache,
                 sink,
             ),
             None => Ok(true),
         },
-        Selector::Wildcard => each_child(task, Action::All, rest, at, way, kept, sink),
+        Selector::Wildcard => each_child(task, Action::All, rest, at, way, cache, sink),
         Selector::Index(index) => match element(at, *index) {
-            Some((place, child)) => at_child(
+            Some((position, child)) => at_child(
                 task,
                 Action::All,
                 rest,
-                StepRef::Index(place),
+                StepRef::Index(position),
                 child,
                 way,
-                kept,
+                cache,
                 sink,
             ),
             None => Ok(true),
         },
         Selector::Slice(start, end, step) => pick_slice(
-            task, *start, *end, *step, rest, at, way, kept, sink,
+            task, *start, *end, *step, rest, at, way, cache, sink,
         ),
-        Selector::Filter(filter) => each_child(task, Action::If(filter), rest, at, way, kept, sink),
+        Selector::Filter(filter) => each_child(
+            task,
+            Action::If(filter),
+            rest,
+            at,
+            way,
+            cache,
+            sink,
+        ),
     }
 }
 
@@ -244,34 +252,34 @@ fn pick_slice<'a: 's, 's, T: Queryable>(
     rest: &'s [Segment],
     at: &'a T,
     way: &mut Way<'s>,
-    kept: &mut Kept<'a, 's, T>,
+    cache: &mut Cache<'a, 's, T>,
     sink: &mut Sink<'a, T>,
 ) -> Queried<bool>
     requires whole { IsTrue (T.is_whole at.now) }
     requires within { size (T.tree at.now) ≤ size (T.tree task.now.root.now) }
     requires here { LeadTo T.tree way.old.steps.items task.now.root.now at.now }
-    requires part { StandIn (asked task.now) (segments_patterns (segments_in rest.now)) }
-    requires ready { IsReady T.tree T.is_whole T.custom task.now kept.old }
-    ensures gave { IfOk result (λ b. Gives (seen T.tree T.is_whole sink.old)
+    requires part { StandIn (query_of task.now) (segments_patterns (segments_in rest.now)) }
+    requires ready { IsReady T.tree T.is_whole T.custom task.now cache.old }
+    ensures gave { IfOk result (λ b. Took (seen T.tree T.is_whole sink.old)
         (flat_map (through (segments_in rest.now) (document T.tree T.custom task.now))
         (sliced start end step (node_of T.tree way.old.steps.items at.now)))
         (seen T.tree T.is_whole sink.new) b) }
     ensures same { OnOk result (way.new.steps.items ≡ way.old.steps.items) }
-    ensures keeps { OnOk result (IsReady T.tree T.is_whole T.custom task.now kept.new) }
-    ensures refused { IfErr result (IsStop (asked task.now) (document T.tree T.custom task.now)) }
+    ensures keeps { OnOk result (IsReady T.tree T.is_whole T.custom task.now cache.new) }
+    ensures refused { IfErr result (IsStop (query_of task.now) (document T.tree T.custom task.now)) }
 {
     let Some(items) = at.as_array() else {
         return Ok(true);
     };
-    for place in slice_places(start, end, step, items.len()) {
+    for position in slice_places(start, end, step, items.len()) {
         if !at_child(
             task,
             Action::All,
             rest,
-            StepRef::Index(place),
-            &items[place],
+            StepRef::Index(position),
+            &items[position],
             way,
-            kept,
+            cache,
             sink,
         )? {
             return Ok(false);
@@ -288,21 +296,21 @@ fn each_child<'a: 's, 's, T: Queryable>(
     rest: &'s [Segment],
     at: &'a T,
     way: &mut Way<'s>,
-    kept: &mut Kept<'a, 's, T>,
+    cache: &mut Cache<'a, 's, T>,
     sink: &mut Sink<'a, T>,
 ) -> Queried<bool>
     requires whole { IsTrue (T.is_whole at.now) }
     requires within { size (T.tree at.now) ≤ size (T.tree task.now.root.now) }
     requires here { LeadTo T.tree way.old.steps.items task.now.root.now at.now }
-    requires part { StandIn (asked task.now) (action_patterns action ++ segments_patterns (segments_in rest.now)) }
-    requires ready { IsReady T.tree T.is_whole T.custom task.now kept.old }
-    ensures gave { IfOk result (λ b. Gives (seen T.tree T.is_whole sink.old)
+    requires part { StandIn (query_of task.now) (action_patterns action ++ segments_patterns (segments_in rest.now)) }
+    requires ready { IsReady T.tree T.is_whole T.custom task.now cache.old }
+    ensures gave { IfOk result (λ b. Took (seen T.tree T.is_whole sink.old)
         (flat_map (through (segments_in rest.now) (document T.tree T.custom task.now))
         (flat_map (acted action.entry (document T.tree T.custom task.now)) (children (node_of T.tree way.old.steps.items at.now))))
         (seen T.tree T.is_whole sink.new) b) }
     ensures same { OnOk result (way.new.steps.items ≡ way.old.steps.items) }
-    ensures keeps { OnOk result (IsReady T.tree T.is_whole T.custom task.now kept.new) }
-    ensures refused { IfErr result (IsStop (asked task.now) (document T.tree T.custom task.now)) }
+    ensures keeps { OnOk result (IsReady T.tree T.is_whole T.custom task.now cache.new) }
+    ensures refused { IfErr result (IsStop (query_of task.now) (document T.tree T.custom task.now)) }
 {
     if let Some(items) = at.as_array() {
         for (i, child) in items.iter().enumerate() {
@@ -313,7 +321,7 @@ fn each_child<'a: 's, 's, T: Queryable>(
                 StepRef::Index(i),
                 child,
                 way,
-                kept,
+                cache,
                 sink,
             )? {
                 return Ok(false);
@@ -328,7 +336,7 @@ fn each_child<'a: 's, 's, T: Queryable>(
                 StepRef::Name(member.0),
                 member.1,
                 way,
-                kept,
+                cache,
                 sink,
             )? {
                 return Ok(false);
@@ -348,24 +356,24 @@ fn at_child<'a: 's, 's, T: Queryable>(
     step: StepRef<'s>,
     child: &'a T,
     way: &mut Way<'s>,
-    kept: &mut Kept<'a, 's, T>,
+    cache: &mut Cache<'a, 's, T>,
     sink: &mut Sink<'a, T>,
 ) -> Queried<bool>
     requires whole { IsTrue (T.is_whole child.now) }
     requires within { size (T.tree child.now) ≤ size (T.tree task.now.root.now) }
     requires here { LeadTo T.tree (way.old.steps.items ++ step ∷ []) task.now.root.now child.now }
-    requires part { StandIn (asked task.now) (action_patterns action ++ segments_patterns (segments_in rest.now)) }
-    requires ready { IsReady T.tree T.is_whole T.custom task.now kept.old }
-    ensures gave { IfOk result (λ b. Gives (seen T.tree T.is_whole sink.old)
+    requires part { StandIn (query_of task.now) (action_patterns action ++ segments_patterns (segments_in rest.now)) }
+    requires ready { IsReady T.tree T.is_whole T.custom task.now cache.old }
+    ensures gave { IfOk result (λ b. Took (seen T.tree T.is_whole sink.old)
         (flat_map (through (segments_in rest.now) (document T.tree T.custom task.now))
         (acted action.entry (document T.tree T.custom task.now) (below (map step_of way.old.steps.items) (step_of step.entry) (T.tree child.now))))
         (seen T.tree T.is_whole sink.new) b) }
     ensures same { OnOk result (way.new.steps.items ≡ way.old.steps.items) }
-    ensures keeps { OnOk result (IsReady T.tree T.is_whole T.custom task.now kept.new) }
-    ensures refused { IfErr result (IsStop (asked task.now) (document T.tree T.custom task.now)) }
+    ensures keeps { OnOk result (IsReady T.tree T.is_whole T.custom task.now cache.new) }
+    ensures refused { IfErr result (IsStop (query_of task.now) (document T.tree T.custom task.now)) }
 {
     way.push(step)?;
-    let goes_on = act(task, action, rest, child, way, kept, sink)?;
+    let goes_on = act(task, action, rest, child, way, cache, sink)?;
     way.pop();
     Ok(goes_on)
 }
@@ -379,27 +387,27 @@ fn act<'a: 's, 's, T: Queryable>(
     rest: &'s [Segment],
     at: &'a T,
     way: &mut Way<'s>,
-    kept: &mut Kept<'a, 's, T>,
+    cache: &mut Cache<'a, 's, T>,
     sink: &mut Sink<'a, T>,
 ) -> Queried<bool>
     requires whole { IsTrue (T.is_whole at.now) }
     requires within { size (T.tree at.now) ≤ size (T.tree task.now.root.now) }
     requires here { LeadTo T.tree way.old.steps.items task.now.root.now at.now }
-    requires part { StandIn (asked task.now) (action_patterns action ++ segments_patterns (segments_in rest.now)) }
-    requires ready { IsReady T.tree T.is_whole T.custom task.now kept.old }
-    ensures gave { IfOk result (λ b. Gives (seen T.tree T.is_whole sink.old)
+    requires part { StandIn (query_of task.now) (action_patterns action ++ segments_patterns (segments_in rest.now)) }
+    requires ready { IsReady T.tree T.is_whole T.custom task.now cache.old }
+    ensures gave { IfOk result (λ b. Took (seen T.tree T.is_whole sink.old)
         (flat_map (through (segments_in rest.now) (document T.tree T.custom task.now))
         (acted action.entry (document T.tree T.custom task.now) (node_of T.tree way.old.steps.items at.now)))
         (seen T.tree T.is_whole sink.new) b) }
     ensures same { OnOk result (way.new.steps.items ≡ way.old.steps.items) }
-    ensures keeps { OnOk result (IsReady T.tree T.is_whole T.custom task.now kept.new) }
-    ensures refused { IfErr result (IsStop (asked task.now) (document T.tree T.custom task.now)) }
+    ensures keeps { OnOk result (IsReady T.tree T.is_whole T.custom task.now cache.new) }
+    ensures refused { IfErr result (IsStop (query_of task.now) (document T.tree T.custom task.now)) }
 {
     match action {
-        Action::All => walk(task, rest, at, way, kept, sink),
+        Action::All => walk(task, rest, at, way, cache, sink),
         Action::If(filter) => {
-            if filter_holds(task, filter, at, way, kept)? {
-                walk(task, rest, at, way, kept, sink)
+            if filter_holds(task, filter, at, way, cache)? {
+                walk(task, rest, at, way, cache, sink)
             } else {
                 Ok(true)
             }
@@ -408,8 +416,8 @@ fn act<'a: 's, 's, T: Queryable>(
             if is_leaf(at) {
                 return Ok(true);
             }
-            if pass(task, segment, rest, at, way, kept, sink)? {
-                each_child(task, action, rest, at, way, kept, sink)
+            if pass(task, segment, rest, at, way, cache, sink)? {
+                each_child(task, action, rest, at, way, cache, sink)
             } else {
                 Ok(false)
             }

@@ -154,8 +154,8 @@ pub «walk::pick_slice-index-requires» : goal.«walk::pick_slice-index-requires
 pub «walk::pick_slice-returns-then-not-branch-clause-gave» : goal.«walk::pick_slice-returns-then-not-branch-clause-gave»
 «walk::pick_slice-returns-then-not-branch-clause-gave» = walk.«walk::pick_slice-returns-then-not-branch-clause-gave»
 
-pub «walk::pick_slice-loop-place-preserved» : goal.«walk::pick_slice-loop-place-preserved»
-«walk::pick_slice-loop-place-preserved» = walk.«walk::pick_slice-loop-place-preserved»
+pub «walk::pick_slice-loop-position-preserved» : goal.«walk::pick_slice-loop-position-preserved»
+«walk::pick_slice-loop-position-preserved» = walk.«walk::pick_slice-loop-position-preserved»
 
 pub «walk::pick_slice-returns-clause-gave» : goal.«walk::pick_slice-returns-clause-gave»
 «walk::pick_slice-returns-clause-gave» = walk.«walk::pick_slice-returns-clause-gave»
@@ -226,11 +226,11 @@ pub «filter::test_holds-gather-requires» : goal.«filter::test_holds-gather-re
 pub «filter::test_holds-absolute-requires» : goal.«filter::test_holds-absolute-requires»
 «filter::test_holds-absolute-requires» = filter.«filter::test_holds-absolute-requires»
 
-pub «filter::test_holds-answer-requires-in-Function» : goal.«filter::test_holds-answer-requires-in-Function»
-«filter::test_holds-answer-requires-in-Function» = filter.«filter::test_holds-answer-requires-in-Function»
-
 pub «filter::test_holds-answer-requires» : goal.«filter::test_holds-answer-requires»
 «filter::test_holds-answer-requires» = filter.«filter::test_holds-answer-requires»
+
+pub «filter::test_holds-nodelist-requires» : goal.«filter::test_holds-nodelist-requires»
+«filter::test_holds-nodelist-requires» = filter.«filter::test_holds-nodelist-requires»
 
 pub «filter::test_holds-is_true-requires» : goal.«filter::test_holds-is_true-requires»
 «filter::test_holds-is_true-requires» = filter.«filter::test_holds-is_true-requires»
@@ -238,8 +238,8 @@ pub «filter::test_holds-is_true-requires» : goal.«filter::test_holds-is_true-
 pub «filter::test_holds-returns-in_ok-gather-in-RelQuery-clause-holds» : goal.«filter::test_holds-returns-in_ok-gather-in-RelQuery-clause-holds»
 «filter::test_holds-returns-in_ok-gather-in-RelQuery-clause-holds» = filter.«filter::test_holds-returns-in_ok-gather-in-RelQuery-clause-holds»
 
-pub «filter::test_holds-returns-in_ok-place-in-AbsQuery-clause-holds» : goal.«filter::test_holds-returns-in_ok-place-in-AbsQuery-clause-holds»
-«filter::test_holds-returns-in_ok-place-in-AbsQuery-clause-holds» = filter.«filter::test_holds-returns-in_ok-place-in-AbsQuery-clause-holds»
+pub «filter::test_holds-returns-in_ok-index-in-AbsQuery-clause-holds» : goal.«filter::test_holds-returns-in_ok-index-in-AbsQuery-clause-holds»
+«filter::test_holds-returns-in_ok-index-in-AbsQuery-clause-holds» = filter.«filter::test_holds-returns-in_ok-index-in-AbsQuery-clause-holds»
 
 pub «filter::test_holds-returns-in_ok-answer-in-Function-clause-holds» : goal.«filter::test_holds-returns-in_ok-answer-in-Function-clause-holds»
 «filter::test_holds-returns-in_ok-answer-in-Function-clause-holds» = filter.«filter::test_holds-returns-in_ok-answer-in-Function-clause-holds»
@@ -295,11 +295,11 @@ pub «function::answer-only_value-requires» : goal.«function::answer-only_valu
 pub «function::answer-count-requires» : goal.«function::answer-count-requires»
 «function::answer-count-requires» = function.«function::answer-count-requires»
 
-pub «function::answer-found-requires» : goal.«function::answer-found-requires»
-«function::answer-found-requires» = function.«function::answer-found-requires»
+pub «function::answer-match_or_search-requires» : goal.«function::answer-match_or_search-requires»
+«function::answer-match_or_search-requires» = function.«function::answer-match_or_search-requires»
 
-pub «function::answer-found-requires-in-Match» : goal.«function::answer-found-requires-in-Match»
-«function::answer-found-requires-in-Match» = function.«function::answer-found-requires-in-Match»
+pub «function::answer-match_or_search-requires-in-Match» : goal.«function::answer-match_or_search-requires-in-Match»
+«function::answer-match_or_search-requires-in-Match» = function.«function::answer-match_or_search-requires-in-Match»
 
 pub «function::answer-returns-in-Custom-clause-value» : goal.«function::answer-returns-in-Custom-clause-value»
 «function::answer-returns-in-Custom-clause-value» = function.«function::answer-returns-in-Custom-clause-value»
@@ -340,26 +340,26 @@ pub «function::only_value-lent-requires» : goal.«function::only_value-lent-re
 pub «function::only_value-returns-clause-value» : goal.«function::only_value-returns-clause-value»
 «function::only_value-returns-clause-value» = function.«function::only_value-returns-clause-value»
 
-pub «function::found-argument_value-requires» : goal.«function::found-argument_value-requires»
-«function::found-argument_value-requires» = function.«function::found-argument_value-requires»
+pub «function::match_or_search-argument_value-requires» : goal.«function::match_or_search-argument_value-requires»
+«function::match_or_search-argument_value-requires» = function.«function::match_or_search-argument_value-requires»
 
-pub «function::found-argument_value-requires-2» : goal.«function::found-argument_value-requires-2»
-«function::found-argument_value-requires-2» = function.«function::found-argument_value-requires-2»
+pub «function::match_or_search-argument_value-requires-2» : goal.«function::match_or_search-argument_value-requires-2»
+«function::match_or_search-argument_value-requires-2» = function.«function::match_or_search-argument_value-requires-2»
 
-pub «function::found-is_found-requires-clause-text» : goal.«function::found-is_found-requires-clause-text»
-«function::found-is_found-requires-clause-text» = function.«function::found-is_found-requires-clause-text»
+pub «function::match_or_search-is_found-requires-clause-text» : goal.«function::match_or_search-is_found-requires-clause-text»
+«function::match_or_search-is_found-requires-clause-text» = function.«function::match_or_search-is_found-requires-clause-text»
 
-pub «function::found-is_found-requires-clause-pattern» : goal.«function::found-is_found-requires-clause-pattern»
-«function::found-is_found-requires-clause-pattern» = function.«function::found-is_found-requires-clause-pattern»
+pub «function::match_or_search-is_found-requires-clause-pattern» : goal.«function::match_or_search-is_found-requires-clause-pattern»
+«function::match_or_search-is_found-requires-clause-pattern» = function.«function::match_or_search-is_found-requires-clause-pattern»
 
-pub «function::found-returns-clause-value» : goal.«function::found-returns-clause-value»
-«function::found-returns-clause-value» = function.«function::found-returns-clause-value»
+pub «function::match_or_search-returns-clause-value» : goal.«function::match_or_search-returns-clause-value»
+«function::match_or_search-returns-clause-value» = function.«function::match_or_search-returns-clause-value»
 
-pub «function::found-returns-clause-keeps» : goal.«function::found-returns-clause-keeps»
-«function::found-returns-clause-keeps» = function.«function::found-returns-clause-keeps»
+pub «function::match_or_search-returns-clause-keeps» : goal.«function::match_or_search-returns-clause-keeps»
+«function::match_or_search-returns-clause-keeps» = function.«function::match_or_search-returns-clause-keeps»
 
-pub «function::found-returns-in_err-found-clause-refused» : goal.«function::found-returns-in_err-found-clause-refused»
-«function::found-returns-in_err-found-clause-refused» = function.«function::found-returns-in_err-found-clause-refused»
+pub «function::match_or_search-returns-in_err-found-clause-refused» : goal.«function::match_or_search-returns-in_err-found-clause-refused»
+«function::match_or_search-returns-in_err-found-clause-refused» = function.«function::match_or_search-returns-in_err-found-clause-refused»
 
 pub «function::custom-push_argument-requires» : goal.«function::custom-push_argument-requires»
 «function::custom-push_argument-requires» = function.«function::custom-push_argument-requires»
@@ -400,11 +400,11 @@ pub «function::push_test-gather-requires» : goal.«function::push_test-gather-
 pub «function::push_test-absolute-requires» : goal.«function::push_test-absolute-requires»
 «function::push_test-absolute-requires» = function.«function::push_test-absolute-requires»
 
-pub «function::push_test-answer-requires-in-Function» : goal.«function::push_test-answer-requires-in-Function»
-«function::push_test-answer-requires-in-Function» = function.«function::push_test-answer-requires-in-Function»
-
 pub «function::push_test-answer-requires» : goal.«function::push_test-answer-requires»
 «function::push_test-answer-requires» = function.«function::push_test-answer-requires»
+
+pub «function::push_test-nodelist-requires» : goal.«function::push_test-nodelist-requires»
+«function::push_test-nodelist-requires» = function.«function::push_test-nodelist-requires»
 
 pub «function::push_test-push_values-requires-clause-nodes» : goal.«function::push_test-push_values-requires-clause-nodes»
 «function::push_test-push_values-requires-clause-nodes» = function.«function::push_test-push_values-requires-clause-nodes»
@@ -427,8 +427,8 @@ pub «function::push_test-push_to-requires-clause-own» : goal.«function::push_
 pub «function::push_test-returns-in_ok-nodes-in-RelQuery-clause-value» : goal.«function::push_test-returns-in_ok-nodes-in-RelQuery-clause-value»
 «function::push_test-returns-in_ok-nodes-in-RelQuery-clause-value» = function.«function::push_test-returns-in_ok-nodes-in-RelQuery-clause-value»
 
-pub «function::push_test-returns-in_ok-place-in-AbsQuery-clause-value» : goal.«function::push_test-returns-in_ok-place-in-AbsQuery-clause-value»
-«function::push_test-returns-in_ok-place-in-AbsQuery-clause-value» = function.«function::push_test-returns-in_ok-place-in-AbsQuery-clause-value»
+pub «function::push_test-returns-in_ok-index-in-AbsQuery-clause-value» : goal.«function::push_test-returns-in_ok-index-in-AbsQuery-clause-value»
+«function::push_test-returns-in_ok-index-in-AbsQuery-clause-value» = function.«function::push_test-returns-in_ok-index-in-AbsQuery-clause-value»
 
 pub «function::push_test-returns-in_ok-answer-in-Function-clause-value» : goal.«function::push_test-returns-in_ok-answer-in-Function-clause-value»
 «function::push_test-returns-in_ok-answer-in-Function-clause-value» = function.«function::push_test-returns-in_ok-answer-in-Function-clause-value»
@@ -454,11 +454,11 @@ pub «function::test_value-gather-requires» : goal.«function::test_value-gathe
 pub «function::test_value-absolute-requires» : goal.«function::test_value-absolute-requires»
 «function::test_value-absolute-requires» = function.«function::test_value-absolute-requires»
 
-pub «function::test_value-answer-requires-in-Function» : goal.«function::test_value-answer-requires-in-Function»
-«function::test_value-answer-requires-in-Function» = function.«function::test_value-answer-requires-in-Function»
-
 pub «function::test_value-answer-requires» : goal.«function::test_value-answer-requires»
 «function::test_value-answer-requires» = function.«function::test_value-answer-requires»
+
+pub «function::test_value-nodelist-requires» : goal.«function::test_value-nodelist-requires»
+«function::test_value-nodelist-requires» = function.«function::test_value-nodelist-requires»
 
 pub «function::test_value-lent-requires» : goal.«function::test_value-lent-requires»
 «function::test_value-lent-requires» = function.«function::test_value-lent-requires»
@@ -469,8 +469,8 @@ pub «function::test_value-lent-requires-in-AbsQuery» : goal.«function::test_v
 pub «function::test_value-returns-in_ok-gather-in-RelQuery-clause-value» : goal.«function::test_value-returns-in_ok-gather-in-RelQuery-clause-value»
 «function::test_value-returns-in_ok-gather-in-RelQuery-clause-value» = function.«function::test_value-returns-in_ok-gather-in-RelQuery-clause-value»
 
-pub «function::test_value-returns-in_ok-place-in-AbsQuery-clause-value» : goal.«function::test_value-returns-in_ok-place-in-AbsQuery-clause-value»
-«function::test_value-returns-in_ok-place-in-AbsQuery-clause-value» = function.«function::test_value-returns-in_ok-place-in-AbsQuery-clause-value»
+pub «function::test_value-returns-in_ok-index-in-AbsQuery-clause-value» : goal.«function::test_value-returns-in_ok-index-in-AbsQuery-clause-value»
+«function::test_value-returns-in_ok-index-in-AbsQuery-clause-value» = function.«function::test_value-returns-in_ok-index-in-AbsQuery-clause-value»
 
 pub «function::test_value-returns-in-Function-clause-value» : goal.«function::test_value-returns-in-Function-clause-value»
 «function::test_value-returns-in-Function-clause-value» = function.«function::test_value-returns-in-Function-clause-value»

@@ -66,8 +66,8 @@ abbrev pub «decreases-function::count» : goal.«decreases-function::count»
 abbrev pub «decreases-function::only_value» : goal.«decreases-function::only_value»
 «decreases-function::only_value» g l = let tree = g.T.Queryable.tree in work (argument_weight (argument_view l.arg.now)) (size (tree l.task.now.root.now)) (3 * size (tree l.at.now) + 1)
 
-abbrev pub «decreases-function::found» : goal.«decreases-function::found»
-«decreases-function::found» g l = let tree = g.T.Queryable.tree in work (argument_weight (argument_view l.text.now) + argument_weight (argument_view l.pattern.now) + 1) (size (tree l.task.now.root.now)) (3 * size (tree l.at.now))
+abbrev pub «decreases-function::match_or_search» : goal.«decreases-function::match_or_search»
+«decreases-function::match_or_search» g l = let tree = g.T.Queryable.tree in work (argument_weight (argument_view l.text.now) + argument_weight (argument_view l.pattern.now) + 1) (size (tree l.task.now.root.now)) (3 * size (tree l.at.now))
 
 abbrev pub «decreases-function::custom» : goal.«decreases-function::custom»
 «decreases-function::custom» g l = let tree = g.T.Queryable.tree in work (arguments_weight (arguments_in l.args.now) + 1) (size (tree l.task.now.root.now)) (3 * size (tree l.at.now))
@@ -106,12 +106,12 @@ abbrev pub «invariant-walk::pick_each-loop-selector» : goal.«invariant-walk::
     let rest = through (segments_in l.rest) d in
     record {
       same : l.way.steps.items ≡ l.initial.way.steps.items;
-      ready : IsReady tree whole g.T.Queryable.custom l.task l.kept;
+      ready : IsReady tree whole g.T.Queryable.custom l.task l.cache;
       given : give (seen tree whole l.sink) (flat_map rest (all_pick (selectors_in (drop l.selector-index l.selectors)) d n)) ≡ give (seen tree whole l.initial.sink) (flat_map rest (all_pick (selectors_in l.selectors) d n));
     }
 
-abbrev pub «invariant-walk::pick_slice-loop-place» : goal.«invariant-walk::pick_slice-loop-place»
-«invariant-walk::pick_slice-loop-place» g l =
+abbrev pub «invariant-walk::pick_slice-loop-position» : goal.«invariant-walk::pick_slice-loop-position»
+«invariant-walk::pick_slice-loop-position» g l =
     let tree = g.T.Queryable.tree in
     let whole = g.T.Queryable.is_whole in
     let d = document tree g.T.Queryable.custom l.task in
@@ -119,9 +119,9 @@ abbrev pub «invariant-walk::pick_slice-loop-place» : goal.«invariant-walk::pi
     let rest = through (segments_in l.rest) d in
     record {
       same : l.way.steps.items ≡ l.initial.way.steps.items;
-      ready : IsReady tree whole g.T.Queryable.custom l.task l.kept;
-      below : All (λ i. i < length l.items.items) (places_left l.place-iterator);
-      given : give (seen tree whole l.sink) (flat_map rest (flat_map (λ k. element k n) (places_left l.place-iterator))) ≡ give (seen tree whole l.initial.sink) (flat_map rest (flat_map (λ k. element k n) (slice_of l.fn.start l.fn.end l.fn.step (length l.items.items))));
+      ready : IsReady tree whole g.T.Queryable.custom l.task l.cache;
+      below : All (λ i. i < length l.items.items) (places_left l.position-iterator);
+      given : give (seen tree whole l.sink) (flat_map rest (flat_map (λ k. element k n) (places_left l.position-iterator))) ≡ give (seen tree whole l.initial.sink) (flat_map rest (flat_map (λ k. element k n) (slice_of l.fn.start l.fn.end l.fn.step (length l.items.items))));
     }
 
 abbrev pub «invariant-walk::each_child-loop-i» : goal.«invariant-walk::each_child-loop-i»
@@ -133,7 +133,7 @@ abbrev pub «invariant-walk::each_child-loop-i» : goal.«invariant-walk::each_c
     let rest = through (segments_in l.rest) d in
     record {
       same : l.way.steps.items ≡ l.initial.way.steps.items;
-      ready : IsReady tree whole g.T.Queryable.custom l.task l.kept;
+      ready : IsReady tree whole g.T.Queryable.custom l.task l.cache;
       given : give (seen tree whole l.sink) (flat_map rest (flat_map (acted l.action d) (element_nodes n.location l.i (map tree (drop l.i l.child-items))))) ≡ give (seen tree whole l.initial.sink) (flat_map rest (flat_map (acted l.action d) (children n)));
     }
 
@@ -146,7 +146,7 @@ abbrev pub «invariant-walk::each_child-loop-member» : goal.«invariant-walk::e
     let rest = through (segments_in l.rest) d in
     record {
       same : l.way.steps.items ≡ l.initial.way.steps.items;
-      ready : IsReady tree whole g.T.Queryable.custom l.task l.kept;
+      ready : IsReady tree whole g.T.Queryable.custom l.task l.cache;
       given : give (seen tree whole l.sink) (flat_map rest (flat_map (acted l.action d) (member_nodes n.location (map (λ m. (m.0.now, tree m.1.now)) (drop l.member-index l.member-items))))) ≡ give (seen tree whole l.initial.sink) (flat_map rest (flat_map (acted l.action d) (children n)));
     }
 
@@ -159,7 +159,7 @@ abbrev pub «invariant-filter::some_holds-loop-part» : goal.«invariant-filter:
     let n = node_of tree l.initial.way.steps.items l.at in
     record {
       same : l.way.steps.items ≡ l.initial.way.steps.items;
-      ready : IsReady tree whole g.T.Queryable.custom l.task l.kept;
+      ready : IsReady tree whole g.T.Queryable.custom l.task l.cache;
       holds : some_holds (filters_in (drop l.part-index l.parts)) d n ≡ some_holds (filters_in l.parts) d n;
     }
 
@@ -172,7 +172,7 @@ abbrev pub «invariant-filter::each_holds-loop-part» : goal.«invariant-filter:
     let n = node_of tree l.initial.way.steps.items l.at in
     record {
       same : l.way.steps.items ≡ l.initial.way.steps.items;
-      ready : IsReady tree whole g.T.Queryable.custom l.task l.kept;
+      ready : IsReady tree whole g.T.Queryable.custom l.task l.cache;
       holds : each_holds (filters_in (drop l.part-index l.parts)) d n ≡ each_holds (filters_in l.parts) d n;
     }
 
@@ -185,7 +185,7 @@ abbrev pub «invariant-function::custom-loop-arg» : goal.«invariant-function::
     let n = node_of tree l.initial.way.steps.items l.at in
     record {
       same : l.way.steps.items ≡ l.initial.way.steps.items;
-      ready : IsReady tree whole g.T.Queryable.custom l.task l.kept;
+      ready : IsReady tree whole g.T.Queryable.custom l.task l.cache;
       trees : trees_of tree l.values.items ++ all_trees (arguments_in (drop l.arg-index l.args)) d n ≡ all_trees (arguments_in l.args) d n;
       whole : AreWhole whole l.values.items;
     }

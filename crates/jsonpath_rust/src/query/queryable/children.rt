@@ -20,7 +20,7 @@ pub fn is_leaf<T: Queryable>(at: &T) -> bool
     at.as_str().is_some() || at.as_i64().is_some()
 }
 
-/// The element that an index means in a list, with its place from 0 (RFC 9535, 2.3.3).
+/// The element that an index means in a list, with its position, counted from 0 (RFC 9535, 2.3.3).
 #[inline(always)]
 pub fn element<T: Queryable>(at: &T, index: i64) -> Option<(usize, &T)>
     requires { IsTrue (T.is_whole at.now) }
@@ -30,12 +30,12 @@ pub fn element<T: Queryable>(at: &T, index: i64) -> Option<(usize, &T)>
     ensures smaller { IfSome result (λ p. size (T.tree p.1.now) < size (T.tree at.now)) }
 {
     let items = at.as_array()?;
-    let place = element_of(index, items.len())?;
-    let child = items.get(place)?;
-    Some((place, child))
+    let position = element_of(index, items.len())?;
+    let child = items.get(position)?;
+    Some((position, child))
 }
 
-/// The place from 0 that an index means in a list of this length: a negative one counts from the end.
+/// The position from 0 that an index means in a list of this length: a negative one counts from the end.
 #[inline(always)]
 fn element_of(index: i64, length: usize) -> Option<usize>
     ensures { result ≡ meaning.element_of index length }
@@ -43,7 +43,11 @@ fn element_of(index: i64, length: usize) -> Option<usize>
     if index < 0 {
         length.checked_sub(index.unsigned_abs() as usize)
     } else {
-        let place = index as usize;
-        if place < length { Some(place) } else { None }
+        let position = index as usize;
+        if position < length {
+            Some(position)
+        } else {
+            None
+        }
     }
 }

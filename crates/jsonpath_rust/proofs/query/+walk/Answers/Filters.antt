@@ -14,10 +14,10 @@ use Rattle.jsonpath_rust.specs.Meaning.{holds, some_holds, each_holds, atom_hold
 use Rattle.jsonpath_rust.specs.Weight.{segments_weight, filter_weight, filters_weight, atom_weight, test_weight, comparison_weight, comparable_weight, call_weight}
 use Rattle.jsonpath_rust.specs.Patterns.{segments_patterns, filter_patterns, filters_patterns, atom_patterns, test_patterns, comparison_patterns, comparable_patterns, call_patterns}
 use Rattle.jsonpath_rust.specs.Walking.{segments_in, filters_in, through, node_of}
-use Rattle.jsonpath_rust.specs.Sinks.{is_found}
+use Rattle.jsonpath_rust.specs.Sinks.{any_in}
 use Rattle.jsonpath_rust.specs.Keeping.{document}
 use Rattle.jsonpath_rust.specs.Operands.{operand_tree, operator_of}
-use Rattle.jsonpath_rust.proofs.Sinks.{found_any}
+use Rattle.jsonpath_rust.proofs.Sinks.{any_given}
 use Rattle.jsonpath_rust.proofs.Walks.{down}
 use Rattle.jsonpath_rust.proofs.NodesAt.{leads_as}
 use Rattle.jsonpath_rust.proofs.Patterns.{part_as, part_left, part_right, part_at}
@@ -189,13 +189,13 @@ pub «filter::test_holds-absolute-requires» : goal.«filter::test_holds-absolut
     let e = ap test_view c.in-AbsQuery.is ∙ test_view-AbsQuery c.in-AbsQuery.query in
     (down _ _ _ _ _ _ c.decreases (omega (arith, ap test_weight e)) (omega (arith, c.requires.within)), (within, (part_as test_patterns _ _ _ e c.requires.part, c.requires.ready)))
 
-pub «filter::test_holds-answer-requires-in-Function» : goal.«filter::test_holds-answer-requires-in-Function»
-«filter::test_holds-answer-requires-in-Function» g t c κs within =
+pub «filter::test_holds-answer-requires» : goal.«filter::test_holds-answer-requires»
+«filter::test_holds-answer-requires» g t c κs within =
     let e = ap test_view c.in-Function.is ∙ test_view-Function c.in-Function.function in
     (down _ _ _ _ _ _ c.decreases (omega (arith, ap test_weight e, ap (λ (x : TestFunction). call_weight (call_view x)) c.deref-in-Function.ensures)) (omega (arith, c.requires.within)), (within, (c.requires.whole, (c.requires.within, (c.requires.here, (part_as (λ (x : TestFunction). call_patterns (call_view x)) _ _ _ (sym c.deref-in-Function.ensures) (part_as test_patterns _ _ _ e c.requires.part), c.requires.ready))))))
 
-pub «filter::test_holds-answer-requires» : goal.«filter::test_holds-answer-requires»
-«filter::test_holds-answer-requires» g t c = c.in_ok-place-in-AbsQuery.ensures.within
+pub «filter::test_holds-nodelist-requires» : goal.«filter::test_holds-nodelist-requires»
+«filter::test_holds-nodelist-requires» g t c = c.in_ok-index-in-AbsQuery.ensures.within
 
 pub «filter::test_holds-is_true-requires» : goal.«filter::test_holds-is_true-requires»
 «filter::test_holds-is_true-requires» g t c = c.in_ok-answer-in-Function.ensures.whole
@@ -208,16 +208,16 @@ pub «filter::test_holds-returns-in_ok-gather-in-RelQuery-clause-holds» : goal.
     let n = node_of tree c.args.way.now.steps.items c.args.at.now in
     let e = ap test_view c.in-RelQuery.is ∙ test_view-RelQuery c.in-RelQuery.segments in
     let ns = ap (λ (gs : List Segment). through (segments_in gs) d n) c.deref.ensures.value ∙ through-applied (segments_in c.in-RelQuery.segments.items) d n in
-    c.has_any.ensures ∙ ap is_found c.in_ok-gather-in-RelQuery.ensures.given ∙ found_any _ ∙ ap has_node ns ∙ sym (ap (λ q. test_holds q d n) e)
+    c.has_any.ensures ∙ ap any_in c.in_ok-gather-in-RelQuery.ensures.given ∙ any_given _ ∙ ap has_node ns ∙ sym (ap (λ q. test_holds q d n) e)
 
-pub «filter::test_holds-returns-in_ok-place-in-AbsQuery-clause-holds» : goal.«filter::test_holds-returns-in_ok-place-in-AbsQuery-clause-holds»
-«filter::test_holds-returns-in_ok-place-in-AbsQuery-clause-holds» g t c =
+pub «filter::test_holds-returns-in_ok-index-in-AbsQuery-clause-holds» : goal.«filter::test_holds-returns-in_ok-index-in-AbsQuery-clause-holds»
+«filter::test_holds-returns-in_ok-index-in-AbsQuery-clause-holds» g t c =
     let tree = g.T.Queryable.tree in
     let custom = g.T.Queryable.custom in
     let d = document tree custom c.args.task.now in
     let n = node_of tree c.args.way.now.steps.items c.args.at.now in
     let e = ap test_view c.in-AbsQuery.is ∙ test_view-AbsQuery c.in-AbsQuery.query in
-    c.has_any-in-AbsQuery.ensures ∙ ap is_found (c.answer.ensures ∙ c.in_ok-place-in-AbsQuery.ensures.right) ∙ found_any _ ∙ sym (ap (λ q. test_holds q d n) e)
+    c.has_any-in-AbsQuery.ensures ∙ ap any_in (c.nodelist.ensures ∙ c.in_ok-index-in-AbsQuery.ensures.right) ∙ any_given _ ∙ sym (ap (λ q. test_holds q d n) e)
 
 pub «filter::test_holds-returns-in_ok-answer-in-Function-clause-holds» : goal.«filter::test_holds-returns-in_ok-answer-in-Function-clause-holds»
 «filter::test_holds-returns-in_ok-answer-in-Function-clause-holds» g t c =

@@ -15,9 +15,9 @@ use Rattle.jsonpath_rust.specs.Weight.{segments_weight, test_weight, call_weight
 use Rattle.jsonpath_rust.specs.Patterns.{IsStop, segments_patterns, test_patterns, call_patterns, argument_patterns, arguments_patterns}
 use Rattle.jsonpath_rust.specs.Walking.{segments_in, arguments_in, through, node_of}
 use Rattle.jsonpath_rust.specs.Sinks as sinks
-use Rattle.jsonpath_rust.specs.Sinks.{seen, start, give, is_found, values_in}
-use Rattle.jsonpath_rust.specs.Keeping.{asked, document, gathered}
-use Rattle.jsonpath_rust.specs.Operands.{operand_tree, trees_of, AreWhole}
+use Rattle.jsonpath_rust.specs.Sinks.{seen, start, give, values_in}
+use Rattle.jsonpath_rust.specs.Keeping.{query_of, document, gathered}
+use Rattle.jsonpath_rust.specs.Operands.{operand_tree, trees_of, AreWhole, is_entire}
 use Rattle.jsonpath_rust.specs.declared.query.way.StepRef.{StepRef}
 use Rattle.jsonpath_rust.proofs.Sinks.{counted_all, values_all}
 use Rattle.jsonpath_rust.proofs.Walks.{down, down_tree}
@@ -50,13 +50,13 @@ pub «function::answer-count-requires» : goal.«function::answer-count-requires
     let e = ap call_view c.in-Count.is ∙ call_view-Count c.in-Count.arg in
     (down _ _ _ _ _ _ c.decreases (omega (arith, ap call_weight e)) (omega (arith, c.requires.within)), (within, (c.requires.whole, (c.requires.within, (c.requires.here, (part_as call_patterns _ _ _ e c.requires.part, c.requires.ready))))))
 
-pub «function::answer-found-requires» : goal.«function::answer-found-requires»
-«function::answer-found-requires» g t c κs within =
+pub «function::answer-match_or_search-requires» : goal.«function::answer-match_or_search-requires»
+«function::answer-match_or_search-requires» g t c κs within =
     let e = ap call_view c.in-Search.is ∙ call_view-Search c.in-Search.text c.in-Search.pattern in
     (down _ _ _ _ _ _ c.decreases (omega (arith, ap call_weight e)) (omega (arith, c.requires.within)), (within, (c.requires.whole, (c.requires.within, (c.requires.here, (part_as call_patterns _ _ _ e c.requires.part, c.requires.ready))))))
 
-pub «function::answer-found-requires-in-Match» : goal.«function::answer-found-requires-in-Match»
-«function::answer-found-requires-in-Match» g t c κs within =
+pub «function::answer-match_or_search-requires-in-Match» : goal.«function::answer-match_or_search-requires-in-Match»
+«function::answer-match_or_search-requires-in-Match» g t c κs within =
     let e = ap call_view c.in-Match.is ∙ call_view-Match c.in-Match.text c.in-Match.pattern in
     (down _ _ _ _ _ _ c.decreases (omega (arith, ap call_weight e)) (omega (arith, c.requires.within)), (within, (c.requires.whole, (c.requires.within, (c.requires.here, (part_as call_patterns _ _ _ e c.requires.part, c.requires.ready))))))
 
@@ -103,7 +103,7 @@ pub «function::answer-returns-in-Search-clause-value» : goal.«function::answe
     let d = document tree custom c.args.task.now in
     let n = node_of tree c.args.way.now.steps.items c.args.at.now in
     let e = ap call_view c.in-Search.is ∙ call_view-Search c.in-Search.text c.in-Search.pattern in
-    ok_through _ (operand_tree tree) _ _ (sym (ap (λ f. answer f d n) e)) c.found.ensures.value
+    ok_through _ (operand_tree tree) _ _ (sym (ap (λ f. answer f d n) e)) c.match_or_search.ensures.value
 
 pub «function::answer-returns-in-Match-clause-value» : goal.«function::answer-returns-in-Match-clause-value»
 «function::answer-returns-in-Match-clause-value» g t c =
@@ -112,7 +112,7 @@ pub «function::answer-returns-in-Match-clause-value» : goal.«function::answer
     let d = document tree custom c.args.task.now in
     let n = node_of tree c.args.way.now.steps.items c.args.at.now in
     let e = ap call_view c.in-Match.is ∙ call_view-Match c.in-Match.text c.in-Match.pattern in
-    ok_through _ (operand_tree tree) _ _ (sym (ap (λ f. answer f d n) e)) c.found-in-Match.ensures.value
+    ok_through _ (operand_tree tree) _ _ (sym (ap (λ f. answer f d n) e)) c.match_or_search-in-Match.ensures.value
 
 pub «function::count-argument_nodes-requires» : goal.«function::count-argument_nodes-requires»
 «function::count-argument_nodes-requires» g t c κs within = (down_tree _ _ _ _ _ c.decreases (omega arith), (within, (c.requires.whole, (c.requires.within, (c.requires.here, (c.requires.part, c.requires.ready))))))
@@ -128,7 +128,7 @@ pub «function::only_value-given-requires» : goal.«function::only_value-given-
 
 pub «function::count-returns-clause-value» : goal.«function::count-returns-clause-value»
 «function::count-returns-clause-value» g t c =
-    ap (λ x. Some x) c.count_scalar.ensures ∙ ap (λ k. Some (functions.counted k)) (c.counted.ensures ∙ ap sinks.counted (c.given.ensures ∙ c.in_ok-nodes.ensures.given)) ∙ counted_all _
+    ap (λ x. Some x) c.count_scalar.ensures ∙ ap (λ k. Some (functions.counted k)) (c.counted.ensures ∙ ap sinks.count_in (c.given.ensures ∙ c.in_ok-nodes.ensures.given)) ∙ counted_all _
 
 pub «function::only_value-lent-requires» : goal.«function::only_value-lent-requires»
 «function::only_value-lent-requires» g t c =
@@ -148,43 +148,43 @@ pub «function::only_value-returns-clause-value» : goal.«function::only_value-
     let n = node_of tree c.args.way.now.steps.items c.args.at.now in
     c.lent.ensures.value ∙ only_is_tree tree whole c.only.result _ (argument_nodes (argument_view c.args.arg.now) d n) c.only.ensures (c.given.ensures ∙ c.in_ok-nodes.ensures.given)
 
-pub «function::found-argument_value-requires» : goal.«function::found-argument_value-requires»
-«function::found-argument_value-requires» g t c κs within = (down _ _ _ _ _ _ c.decreases (omega arith) (omega (arith, c.requires.within)), (within, (c.requires.whole, (c.requires.within, (c.requires.here, (part_left _ _ _ (part_rest _ _ _ c.requires.part), c.requires.ready))))))
+pub «function::match_or_search-argument_value-requires» : goal.«function::match_or_search-argument_value-requires»
+«function::match_or_search-argument_value-requires» g t c κs within = (down _ _ _ _ _ _ c.decreases (omega arith) (omega (arith, c.requires.within)), (within, (c.requires.whole, (c.requires.within, (c.requires.here, (part_left _ _ _ (part_rest _ _ _ c.requires.part), c.requires.ready))))))
 
-pub «function::found-argument_value-requires-2» : goal.«function::found-argument_value-requires-2»
-«function::found-argument_value-requires-2» g t c κs within = (down _ _ _ _ _ _ c.decreases (omega arith) (omega (arith, c.requires.within)), (within, (c.requires.whole, (c.requires.within, (leads_as _ _ _ _ c.in_ok-text.ensures.same c.requires.here, (part_right _ _ _ (part_rest _ _ _ c.requires.part), c.in_ok-text.ensures.keeps))))))
+pub «function::match_or_search-argument_value-requires-2» : goal.«function::match_or_search-argument_value-requires-2»
+«function::match_or_search-argument_value-requires-2» g t c κs within = (down _ _ _ _ _ _ c.decreases (omega arith) (omega (arith, c.requires.within)), (within, (c.requires.whole, (c.requires.within, (leads_as _ _ _ _ c.in_ok-text.ensures.same c.requires.here, (part_right _ _ _ (part_rest _ _ _ c.requires.part), c.in_ok-text.ensures.keeps))))))
 
-pub «function::found-is_found-requires-clause-text» : goal.«function::found-is_found-requires-clause-text»
-«function::found-is_found-requires-clause-text» g t c = c.in_ok-text.ensures.whole
+pub «function::match_or_search-is_found-requires-clause-text» : goal.«function::match_or_search-is_found-requires-clause-text»
+«function::match_or_search-is_found-requires-clause-text» g t c = c.in_ok-text.ensures.whole
 
-pub «function::found-is_found-requires-clause-pattern» : goal.«function::found-is_found-requires-clause-pattern»
-«function::found-is_found-requires-clause-pattern» g t c = c.in_ok-pattern.ensures.whole
+pub «function::match_or_search-is_found-requires-clause-pattern» : goal.«function::match_or_search-is_found-requires-clause-pattern»
+«function::match_or_search-is_found-requires-clause-pattern» g t c = c.in_ok-pattern.ensures.whole
 
-pub «function::found-returns-clause-value» : goal.«function::found-returns-clause-value»
-«function::found-returns-clause-value» g t c =
+pub «function::match_or_search-returns-clause-value» : goal.«function::match_or_search-returns-clause-value»
+«function::match_or_search-returns-clause-value» g t c =
     let tree = g.T.Queryable.tree in
     let custom = g.T.Queryable.custom in
     let d = document tree custom c.args.task.now in
     let n = node_of tree c.args.way.now.steps.items c.args.at.now in
     let pattern = c.in_ok-pattern.ensures.value ∙ ap (λ q. argument_value (argument_view c.args.pattern.now) d (node_of tree q c.args.at.now)) c.in_ok-text.ensures.same in
-    ap (λ b. Some (truth b)) (c.in_ok-found.ensures.value ∙ ap (λ o. functions.is_found c.args.whole o (operand_tree tree c.in_ok-pattern.pattern)) c.in_ok-text.ensures.value ∙ ap (functions.is_found c.args.whole (argument_value (argument_view c.args.text.now) d n)) pattern)
+    ap (λ b. Some (truth b)) (c.in_ok-found.ensures.value ∙ ap (λ o. functions.is_found (is_entire c.args.extent) o (operand_tree tree c.in_ok-pattern.pattern)) c.in_ok-text.ensures.value ∙ ap (functions.is_found (is_entire c.args.extent) (argument_value (argument_view c.args.text.now) d n)) pattern)
 
-pub «function::found-returns-clause-keeps» : goal.«function::found-returns-clause-keeps»
-«function::found-returns-clause-keeps» g t c =
+pub «function::match_or_search-returns-clause-keeps» : goal.«function::match_or_search-returns-clause-keeps»
+«function::match_or_search-returns-clause-keeps» g t c =
     let tree = g.T.Queryable.tree in
     let whole = g.T.Queryable.is_whole in
     let custom = g.T.Queryable.custom in
     ready_as tree whole custom c.args.task.now _ _ c.in_ok-found.ensures.keeps c.in_ok-pattern.ensures.keeps
 
-pub «function::found-returns-in_err-found-clause-refused» : goal.«function::found-returns-in_err-found-clause-refused»
-«function::found-returns-in_err-found-clause-refused» g t c =
+pub «function::match_or_search-returns-in_err-found-clause-refused» : goal.«function::match_or_search-returns-in_err-found-clause-refused»
+«function::match_or_search-returns-in_err-found-clause-refused» g t c =
     let tree = g.T.Queryable.tree in
     let custom = g.T.Queryable.custom in
     let d = document tree custom c.args.task.now in
     let n = node_of tree c.args.way.now.steps.items c.args.at.now in
     let pattern = c.in_ok-pattern.ensures.value ∙ ap (λ q. argument_value (argument_view c.args.pattern.now) d (node_of tree q c.args.at.now)) c.in_ok-text.ensures.same in
-    let why : IsStop (asked c.args.task.now) d c.in_err-found.field-0.0 = λ h. let k = c.in_err-found.ensures.refused h in (k.0, pattern_asked (asked c.args.task.now) d c.args.whole (argument_view c.args.pattern.now) _ n _ c.requires.part c.requires.here pattern k.1) in
-    passed_on c.from_residual-in_err-found.result _ (IsStop (asked c.args.task.now) d) c.from_residual-in_err-found.ensures.1 (λ y q. subst (IsStop (asked c.args.task.now) d) (sym q) why)
+    let why : IsStop (query_of c.args.task.now) d c.in_err-found.field-0.0 = λ h. let k = c.in_err-found.ensures.refused h in (k.0, pattern_asked (query_of c.args.task.now) d (is_entire c.args.extent) (argument_view c.args.pattern.now) _ n _ c.requires.part c.requires.here pattern k.1) in
+    passed_on c.from_residual-in_err-found.result _ (IsStop (query_of c.args.task.now) d) c.from_residual-in_err-found.ensures.1 (λ y q. subst (IsStop (query_of c.args.task.now) d) (sym q) why)
 
 pub «function::custom-push_argument-requires» : goal.«function::custom-push_argument-requires»
 «function::custom-push_argument-requires» g t c κs within =
@@ -282,13 +282,13 @@ pub «function::push_test-absolute-requires» : goal.«function::push_test-absol
     let e = ap test_view c.in-AbsQuery.is ∙ test_view-AbsQuery c.in-AbsQuery.query in
     (down _ _ _ _ _ _ c.decreases (omega (arith, ap test_weight e)) (omega (arith, c.requires.within)), (within, (part_as test_patterns _ _ _ e c.requires.part, c.requires.ready)))
 
-pub «function::push_test-answer-requires-in-Function» : goal.«function::push_test-answer-requires-in-Function»
-«function::push_test-answer-requires-in-Function» g t c κs within =
+pub «function::push_test-answer-requires» : goal.«function::push_test-answer-requires»
+«function::push_test-answer-requires» g t c κs within =
     let e = ap test_view c.in-Function.is ∙ test_view-Function c.in-Function.function in
     (down _ _ _ _ _ _ c.decreases (omega (arith, ap test_weight e, ap (λ (x : TestFunction). call_weight (call_view x)) c.deref-in-Function.ensures)) (omega (arith, c.requires.within)), (within, (c.requires.whole, (c.requires.within, (c.requires.here, (part_as (λ (x : TestFunction). call_patterns (call_view x)) _ _ _ (sym c.deref-in-Function.ensures) (part_as test_patterns _ _ _ e c.requires.part), c.requires.ready))))))
 
-pub «function::push_test-answer-requires» : goal.«function::push_test-answer-requires»
-«function::push_test-answer-requires» g t c = c.in_ok-place-in-AbsQuery.ensures.within
+pub «function::push_test-nodelist-requires» : goal.«function::push_test-nodelist-requires»
+«function::push_test-nodelist-requires» g t c = c.in_ok-index-in-AbsQuery.ensures.within
 
 pub «function::push_test-push_values-requires-clause-nodes» : goal.«function::push_test-push_values-requires-clause-nodes»
 «function::push_test-push_values-requires-clause-nodes» g t c =
@@ -312,7 +312,7 @@ pub «function::push_test-push_values-requires-in-AbsQuery-clause-nodes» : goal
     let tree = g.T.Queryable.tree in
     let custom = g.T.Queryable.custom in
     let d = document tree custom c.args.task.now in
-    values_are_whole _ (nodelist (query_view c.in-AbsQuery.query) d) (c.answer.ensures ∙ c.in_ok-place-in-AbsQuery.ensures.right)
+    values_are_whole _ (nodelist (query_view c.in-AbsQuery.query) d) (c.nodelist.ensures ∙ c.in_ok-index-in-AbsQuery.ensures.right)
 
 pub «function::push_test-push_to-requires-clause-own» : goal.«function::push_test-push_to-requires-clause-own»
 «function::push_test-push_to-requires-clause-own» g t c = c.in_ok-answer-in-Function.ensures.whole
@@ -328,15 +328,15 @@ pub «function::push_test-returns-in_ok-nodes-in-RelQuery-clause-value» : goal.
     let old = trees_of tree c.args.values.now.items in
     on_ok_as _ _ _ _ (ap (λ ts. old ++ ts) (ap values_in c.in_ok-nodes-in-RelQuery.ensures.given ∙ values_all _ ∙ ap (λ ms. map (λ m. m.tree) ms) ns) ∙ sym (ap (λ q. old ++ test_trees q d n) e)) c.push_values.ensures.value
 
-pub «function::push_test-returns-in_ok-place-in-AbsQuery-clause-value» : goal.«function::push_test-returns-in_ok-place-in-AbsQuery-clause-value»
-«function::push_test-returns-in_ok-place-in-AbsQuery-clause-value» g t c =
+pub «function::push_test-returns-in_ok-index-in-AbsQuery-clause-value» : goal.«function::push_test-returns-in_ok-index-in-AbsQuery-clause-value»
+«function::push_test-returns-in_ok-index-in-AbsQuery-clause-value» g t c =
     let tree = g.T.Queryable.tree in
     let custom = g.T.Queryable.custom in
     let d = document tree custom c.args.task.now in
     let n = node_of tree c.args.way.now.steps.items c.args.at.now in
     let e = ap test_view c.in-AbsQuery.is ∙ test_view-AbsQuery c.in-AbsQuery.query in
     let old = trees_of tree c.args.values.now.items in
-    on_ok_as _ _ _ _ (ap (λ ts. old ++ ts) (ap values_in (c.answer.ensures ∙ c.in_ok-place-in-AbsQuery.ensures.right) ∙ values_all _) ∙ sym (ap (λ q. old ++ test_trees q d n) e)) c.push_values-in-AbsQuery.ensures.value
+    on_ok_as _ _ _ _ (ap (λ ts. old ++ ts) (ap values_in (c.nodelist.ensures ∙ c.in_ok-index-in-AbsQuery.ensures.right) ∙ values_all _) ∙ sym (ap (λ q. old ++ test_trees q d n) e)) c.push_values-in-AbsQuery.ensures.value
 
 pub «function::push_test-returns-in_ok-answer-in-Function-clause-value» : goal.«function::push_test-returns-in_ok-answer-in-Function-clause-value»
 «function::push_test-returns-in_ok-answer-in-Function-clause-value» g t c =
@@ -395,13 +395,13 @@ pub «function::test_value-absolute-requires» : goal.«function::test_value-abs
     let e = ap test_view c.in-AbsQuery.is ∙ test_view-AbsQuery c.in-AbsQuery.query in
     (down _ _ _ _ _ _ c.decreases (omega (arith, ap test_weight e)) (omega (arith, c.requires.within)), (within, (part_as test_patterns _ _ _ e c.requires.part, c.requires.ready)))
 
-pub «function::test_value-answer-requires-in-Function» : goal.«function::test_value-answer-requires-in-Function»
-«function::test_value-answer-requires-in-Function» g t c κs within =
+pub «function::test_value-answer-requires» : goal.«function::test_value-answer-requires»
+«function::test_value-answer-requires» g t c κs within =
     let e = ap test_view c.in-Function.is ∙ test_view-Function c.in-Function.function in
     (down _ _ _ _ _ _ c.decreases (omega (arith, ap test_weight e, ap (λ (x : TestFunction). call_weight (call_view x)) c.deref-in-Function.ensures)) (omega (arith, c.requires.within)), (within, (c.requires.whole, (c.requires.within, (c.requires.here, (part_as (λ (x : TestFunction). call_patterns (call_view x)) _ _ _ (sym c.deref-in-Function.ensures) (part_as test_patterns _ _ _ e c.requires.part), c.requires.ready))))))
 
-pub «function::test_value-answer-requires» : goal.«function::test_value-answer-requires»
-«function::test_value-answer-requires» g t c = c.in_ok-place-in-AbsQuery.ensures.within
+pub «function::test_value-nodelist-requires» : goal.«function::test_value-nodelist-requires»
+«function::test_value-nodelist-requires» g t c = c.in_ok-index-in-AbsQuery.ensures.within
 
 pub «function::test_value-lent-requires» : goal.«function::test_value-lent-requires»
 «function::test_value-lent-requires» g t c =
@@ -418,7 +418,7 @@ pub «function::test_value-lent-requires-in-AbsQuery» : goal.«function::test_v
     let whole = g.T.Queryable.is_whole in
     let custom = g.T.Queryable.custom in
     let d = document tree custom c.args.task.now in
-    only_is_whole tree whole c.only-in-AbsQuery.result _ (nodelist (query_view c.in-AbsQuery.query) d) c.only-in-AbsQuery.ensures (c.answer.ensures ∙ c.in_ok-place-in-AbsQuery.ensures.right)
+    only_is_whole tree whole c.only-in-AbsQuery.result _ (nodelist (query_view c.in-AbsQuery.query) d) c.only-in-AbsQuery.ensures (c.nodelist.ensures ∙ c.in_ok-index-in-AbsQuery.ensures.right)
 
 pub «function::test_value-returns-in_ok-gather-in-RelQuery-clause-value» : goal.«function::test_value-returns-in_ok-gather-in-RelQuery-clause-value»
 «function::test_value-returns-in_ok-gather-in-RelQuery-clause-value» g t c =
@@ -431,15 +431,15 @@ pub «function::test_value-returns-in_ok-gather-in-RelQuery-clause-value» : goa
     let ns = ap (λ (gs : List Segment). through (segments_in gs) d n) c.deref.ensures.value ∙ through-applied (segments_in c.in-RelQuery.segments.items) d n in
     c.lent.ensures.value ∙ only_is_tree tree whole c.only.result _ (through (segments_in c.deref.result.now) d n) c.only.ensures c.in_ok-gather-in-RelQuery.ensures.given ∙ ap only_value ns ∙ sym (ap (λ q. test_value q d n) e)
 
-pub «function::test_value-returns-in_ok-place-in-AbsQuery-clause-value» : goal.«function::test_value-returns-in_ok-place-in-AbsQuery-clause-value»
-«function::test_value-returns-in_ok-place-in-AbsQuery-clause-value» g t c =
+pub «function::test_value-returns-in_ok-index-in-AbsQuery-clause-value» : goal.«function::test_value-returns-in_ok-index-in-AbsQuery-clause-value»
+«function::test_value-returns-in_ok-index-in-AbsQuery-clause-value» g t c =
     let tree = g.T.Queryable.tree in
     let whole = g.T.Queryable.is_whole in
     let custom = g.T.Queryable.custom in
     let d = document tree custom c.args.task.now in
     let n = node_of tree c.args.way.now.steps.items c.args.at.now in
     let e = ap test_view c.in-AbsQuery.is ∙ test_view-AbsQuery c.in-AbsQuery.query in
-    c.lent-in-AbsQuery.ensures.value ∙ only_is_tree tree whole c.only-in-AbsQuery.result _ (nodelist (query_view c.in-AbsQuery.query) d) c.only-in-AbsQuery.ensures (c.answer.ensures ∙ c.in_ok-place-in-AbsQuery.ensures.right) ∙ sym (ap (λ q. test_value q d n) e)
+    c.lent-in-AbsQuery.ensures.value ∙ only_is_tree tree whole c.only-in-AbsQuery.result _ (nodelist (query_view c.in-AbsQuery.query) d) c.only-in-AbsQuery.ensures (c.nodelist.ensures ∙ c.in_ok-index-in-AbsQuery.ensures.right) ∙ sym (ap (λ q. test_value q d n) e)
 
 pub «function::test_value-returns-in-Function-clause-value» : goal.«function::test_value-returns-in-Function-clause-value»
 «function::test_value-returns-in-Function-clause-value» g t c =
@@ -448,7 +448,7 @@ pub «function::test_value-returns-in-Function-clause-value» : goal.«function:
     let d = document tree custom c.args.task.now in
     let n = node_of tree c.args.way.now.steps.items c.args.at.now in
     let e = ap test_view c.in-Function.is ∙ test_view-Function c.in-Function.function in
-    ok_through _ (operand_tree tree) _ _ (ap (λ (f : TestFunction). answer (call_view f) d n) c.deref-in-Function.ensures ∙ sym (ap (λ q. test_value q d n) e)) c.answer-in-Function.ensures.value
+    ok_through _ (operand_tree tree) _ _ (ap (λ (f : TestFunction). answer (call_view f) d n) c.deref-in-Function.ensures ∙ sym (ap (λ q. test_value q d n) e)) c.answer.ensures.value
 
 pub «function::argument_nodes-test_nodes-requires» : goal.«function::argument_nodes-test_nodes-requires»
 «function::argument_nodes-test_nodes-requires» g t c κs within =
@@ -463,7 +463,7 @@ pub «function::argument_nodes-returns-in-Test-clause-given» : goal.«function:
     let d = document tree custom c.args.task.now in
     let n = node_of tree c.args.way.now.steps.items c.args.at.now in
     let e = ap argument_view c.in-Test.is ∙ argument_view-Test c.in-Test.test in
-    ok_through _ (gathered tree whole c.test_nodes.new.kept) _ _ (ap (give (start c.args.kind)) (ap (λ (q : Test). test_nodes (test_view q) d n) c.deref.ensures ∙ sym (ap (λ a. argument_nodes a d n) e))) c.test_nodes.ensures.given
+    ok_through _ (gathered tree whole c.test_nodes.new.cache) _ _ (ap (give (start c.args.wanted)) (ap (λ (q : Test). test_nodes (test_view q) d n) c.deref.ensures ∙ sym (ap (λ a. argument_nodes a d n) e))) c.test_nodes.ensures.given
 
 pub «function::argument_nodes-returns-in-Test-clause-within» : goal.«function::argument_nodes-returns-in-Test-clause-within»
 «function::argument_nodes-returns-in-Test-clause-within» g t c = c.test_nodes.ensures.within
@@ -475,7 +475,7 @@ pub «function::argument_nodes-returns-in-Literal-clause-given» : goal.«functi
     let d = document tree custom c.args.task.now in
     let n = node_of tree c.args.way.now.steps.items c.args.at.now in
     let e = ap argument_view c.in-Literal.is ∙ argument_view-Literal c.in-Literal.field-0 in
-    c.start.ensures ∙ sym (ap (λ a. give (start c.args.kind) (argument_nodes a d n)) e)
+    c.start.ensures ∙ sym (ap (λ a. give (start c.args.wanted) (argument_nodes a d n)) e)
 
 pub «function::argument_nodes-returns-in-Filter-clause-given» : goal.«function::argument_nodes-returns-in-Filter-clause-given»
 «function::argument_nodes-returns-in-Filter-clause-given» g t c =
@@ -484,7 +484,7 @@ pub «function::argument_nodes-returns-in-Filter-clause-given» : goal.«functio
     let d = document tree custom c.args.task.now in
     let n = node_of tree c.args.way.now.steps.items c.args.at.now in
     let e = ap argument_view c.in-Filter.is ∙ argument_view-Filter c.in-Filter.field-0 in
-    c.start-in-Filter.ensures ∙ sym (ap (λ a. give (start c.args.kind) (argument_nodes a d n)) e)
+    c.start-in-Filter.ensures ∙ sym (ap (λ a. give (start c.args.wanted) (argument_nodes a d n)) e)
 
 pub «function::test_nodes-gather-requires» : goal.«function::test_nodes-gather-requires»
 «function::test_nodes-gather-requires» g t c κs within =
@@ -504,7 +504,7 @@ pub «function::test_nodes-returns-in_ok-gather-in-RelQuery-clause-given» : goa
     let n = node_of tree c.args.way.now.steps.items c.args.at.now in
     let e = ap test_view c.in-RelQuery.is ∙ test_view-RelQuery c.in-RelQuery.segments in
     let ns = ap (λ (gs : List Segment). through (segments_in gs) d n) c.deref.ensures.value ∙ through-applied (segments_in c.in-RelQuery.segments.items) d n in
-    c.in_ok-gather-in-RelQuery.ensures.given ∙ ap (give (start c.args.kind)) (ns ∙ sym (ap (λ q. test_nodes q d n) e))
+    c.in_ok-gather-in-RelQuery.ensures.given ∙ ap (give (start c.args.wanted)) (ns ∙ sym (ap (λ q. test_nodes q d n) e))
 
 pub «function::test_nodes-returns-in_ok-absolute-in-AbsQuery-clause-given» : goal.«function::test_nodes-returns-in_ok-absolute-in-AbsQuery-clause-given»
 «function::test_nodes-returns-in_ok-absolute-in-AbsQuery-clause-given» g t c =
@@ -513,7 +513,7 @@ pub «function::test_nodes-returns-in_ok-absolute-in-AbsQuery-clause-given» : g
     let d = document tree custom c.args.task.now in
     let n = node_of tree c.args.way.now.steps.items c.args.at.now in
     let e = ap test_view c.in-AbsQuery.is ∙ test_view-AbsQuery c.in-AbsQuery.query in
-    c.in_ok-absolute-in-AbsQuery.ensures.right ∙ ap (give (start c.args.kind)) (sym (ap (λ q. test_nodes q d n) e))
+    c.in_ok-absolute-in-AbsQuery.ensures.right ∙ ap (give (start c.args.wanted)) (sym (ap (λ q. test_nodes q d n) e))
 
 pub «function::test_nodes-returns-in_ok-absolute-in-AbsQuery-clause-within» : goal.«function::test_nodes-returns-in_ok-absolute-in-AbsQuery-clause-within»
 «function::test_nodes-returns-in_ok-absolute-in-AbsQuery-clause-within» g t c = c.in_ok-absolute-in-AbsQuery.ensures.within
@@ -525,7 +525,7 @@ pub «function::test_nodes-returns-in-Function-clause-given» : goal.«function:
     let d = document tree custom c.args.task.now in
     let n = node_of tree c.args.way.now.steps.items c.args.at.now in
     let e = ap test_view c.in-Function.is ∙ test_view-Function c.in-Function.field-0 in
-    c.start.ensures ∙ sym (ap (λ q. give (start c.args.kind) (test_nodes q d n)) e)
+    c.start.ensures ∙ sym (ap (λ q. give (start c.args.wanted) (test_nodes q d n)) e)
 
 pub «subquery::gather-walk-requires» : goal.«subquery::gather-walk-requires»
 «subquery::gather-walk-requires» g t c κs within = (down _ _ _ _ _ _ c.decreases (omega arith) (omega (arith, c.requires.within)), (within, (c.requires.whole, (c.requires.within, (c.requires.here, (c.requires.part, c.requires.ready))))))
@@ -552,7 +552,7 @@ pub «subquery::absolute-returns-in-Some-clause-right» : goal.«subquery::absol
     let tree = g.T.Queryable.tree in
     let custom = g.T.Queryable.custom in
     let d = document tree custom c.args.task.now in
-    c.in-Some.ensures.right d c.requires.ready.answers
+    c.in-Some.ensures.right d c.requires.ready.nodelists
 
 pub «subquery::absolute-returns-clause-within» : goal.«subquery::absolute-returns-clause-within»
 «subquery::absolute-returns-clause-within» g t c = c.in_ok-keep.ensures.within
@@ -564,8 +564,8 @@ pub «subquery::absolute-returns-clause-right» : goal.«subquery::absolute-retu
     let d = document tree custom c.args.task.now in
     let at = λ (q : List StepRef) (gs : List Segment). through (segments_in gs) d (node_of tree q c.args.task.now.root.now) in
     let all = ap (λ q. at q c.deref.result.now) c.new-way.ensures ∙ ap (at []) c.deref.ensures.value ∙ nodelist-through (segments_in c.args.query.now.segments.items) d ∙ ap (λ q. nodelist q d) (sym (query_view-segments c.args.query.now)) in
-    let given = c.in_ok-answer.ensures.given ∙ ap (give (start c.args.kind)) all in
-    c.in_ok-keep.ensures.place ∙ given
+    let given = c.in_ok-nodes.ensures.given ∙ ap (give (start c.args.wanted)) all in
+    c.in_ok-keep.ensures.value ∙ given
 
 pub «subquery::absolute-returns-clause-keeps» : goal.«subquery::absolute-returns-clause-keeps»
 «subquery::absolute-returns-clause-keeps» g t c =
@@ -574,8 +574,8 @@ pub «subquery::absolute-returns-clause-keeps» : goal.«subquery::absolute-retu
     let d = document tree custom c.args.task.now in
     let at = λ (q : List StepRef) (gs : List Segment). through (segments_in gs) d (node_of tree q c.args.task.now.root.now) in
     let all = ap (λ q. at q c.deref.result.now) c.new-way.ensures ∙ ap (at []) c.deref.ensures.value ∙ nodelist-through (segments_in c.args.query.now.segments.items) d ∙ ap (λ q. nodelist q d) (sym (query_view-segments c.args.query.now)) in
-    let given = c.in_ok-answer.ensures.given ∙ ap (give (start c.args.kind)) all in
-    record { root = c.requires.ready.root; answers = c.in_ok-keep.ensures.right d given c.in_ok-answer.ensures.keeps.answers }
+    let given = c.in_ok-nodes.ensures.given ∙ ap (give (start c.args.wanted)) all in
+    record { root = c.requires.ready.root; nodelists = c.in_ok-keep.ensures.right d given c.in_ok-nodes.ensures.keeps.nodelists }
 
 pub «subquery::absolute-returns-in-Some-clause-keeps» : goal.«subquery::absolute-returns-in-Some-clause-keeps»
 «subquery::absolute-returns-in-Some-clause-keeps» g t c = c.requires.ready
