@@ -9,7 +9,7 @@ use Rattle.jsonpath_rust.specs.Document.{Document}
 use Rattle.jsonpath_rust.specs.Node.{Node}
 use Rattle.jsonpath_rust.specs.Meaning.{nodelist, selected}
 use Rattle.jsonpath_rust.specs.Answer.{Along, IsNodeAt, IsValueAt, HasOnlyPath}
-use Rattle.jsonpath_rust.specs.Sinks.{answer_of}
+use Rattle.jsonpath_rust.specs.inner.Sinks.{answer_of}
 use Rattle.jsonpath_rust.proofs.NodesAt.{Each, nodes_at}
 
 along_nodes : (doc : Document) (ns : List Node) → Each (λ n. at n.location doc.root ≡ Some n.tree) ns → Along (IsNodeAt doc) (map (λ n. n.location) ns) (map answer_of ns)

@@ -4,7 +4,7 @@ use Rattle.std.proofs.lemmas.List.{map-append, get_or-map, length-map}
 use Rattle.std.proofs.lemmas.List.Elements.{All-append, All-cons, All-nil, All-get_or}
 use Rattle.jsonpath_base.specs.Tree.{Tree}
 use Rattle.jsonpath_rust.specs.Args.{arg_value}
-use Rattle.jsonpath_rust.specs.Operands.{trees_of, AreWhole}
+use Rattle.jsonpath_rust.specs.inner.Operands.{trees_of, AreWhole}
 use Rattle.jsonpath_rust.specs.declared.query.queryable.Arg.{Arg}
 use Rattle.jsonpath_rust.specs.declared.query.queryable.Arg.TheVariants.{Borrowed}
 

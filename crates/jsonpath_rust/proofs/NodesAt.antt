@@ -13,10 +13,10 @@ use Rattle.jsonpath_base.specs.Tree.{Tree, null, truth, number, text, list, obje
 use Rattle.jsonpath_base.specs.Places.{child, item_at, at}
 use Rattle.jsonpath_base.specs.Slice.{slice_of}
 use Rattle.jsonpath_rust.specs.Document.{Document}
-use Rattle.jsonpath_rust.specs.Weight.{size, trees_size, members_size}
+use Rattle.jsonpath_rust.specs.inner.Size.{size, trees_size, members_size}
 use Rattle.jsonpath_rust.specs.Node.{Node, root_node, below, element_nodes, member_nodes, children_at, children, subtree, subtree_at}
 use Rattle.jsonpath_rust.specs.Meaning.{element, indexed, sliced, element_of, picks, all_pick, holds, replaced, all_applied, nodelist}
-use Rattle.jsonpath_rust.specs.Walking.{step_of}
+use Rattle.jsonpath_rust.specs.inner.Walking.{step_of}
 use Rattle.jsonpath_rust.specs.declared.query.way.StepRef.{StepRef}
 use Rattle.jsonpath_rust.specs.declared.query.way.StepRef.TheVariants.{Index}
 use Rattle.jsonpath_rust.proofs.Trees.{none_some, members_or, subtree-children}

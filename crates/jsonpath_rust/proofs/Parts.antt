@@ -7,8 +7,8 @@ use Rattle.jsonpath_base.specs.Tree.{Tree}
 use Rattle.jsonpath_rust.specs.Node.{Node}
 use Rattle.jsonpath_rust.specs.Functions.{only_value}
 use Rattle.jsonpath_rust.specs.Meaning.{turned}
-use Rattle.jsonpath_rust.specs.Sinks.{Seen, values, nothing, give, only_in, values_whole, ValuesAreWhole}
-use Rattle.jsonpath_rust.specs.Keeping.{IsReady, nodelists_of, AreRight, document}
+use Rattle.jsonpath_rust.specs.inner.Sinks.{Seen, values, nothing, give, only_in, values_whole, ValuesAreWhole}
+use Rattle.jsonpath_rust.specs.inner.Keeping.{IsReady, nodelists_of, AreRight, document}
 use Rattle.jsonpath_rust.specs.declared.query.cache.Cache.{Cache}
 use Rattle.jsonpath_rust.specs.declared.query.walk.Task.{Task}
 use Rattle.jsonpath_rust.proofs.Sinks.{only_all, only_whole, give-values, trues}

@@ -9,7 +9,7 @@ use Rattle.jsonpath_rust.specs.Document.{Document}
 use Rattle.jsonpath_rust.specs.Meaning.{argument_value}
 use Rattle.jsonpath_rust.specs.Node.{Node}
 use Rattle.jsonpath_rust.specs.Patterns.{segments_patterns, IsPattern, AsksPattern}
-use Rattle.jsonpath_rust.specs.Keeping.{StandIn}
+use Rattle.jsonpath_rust.specs.inner.Keeping.{StandIn}
 
 -- the same part in other words
 pub part_as : {X : Type 0} (f : X → List (Bool × Argument)) (q : Query) (x y : X) → x ≡ y → StandIn q (f x) → StandIn q (f y)

@@ -8,8 +8,8 @@ use Rattle.jsonpath_parser.specs.Normal.{normal}
 use Rattle.jsonpath_base.specs.Tree.{Tree, number}
 use Rattle.jsonpath_rust.specs.Node.{Node, has_node}
 use Rattle.jsonpath_rust.specs.Functions.{counted, count_of, only_value}
-use Rattle.jsonpath_rust.specs.Sinks as sinks
-use Rattle.jsonpath_rust.specs.Sinks.{Seen, nodes, paths, values, any, count, nothing, one, several, add, give, full, any_in, only_in, nodes_in, nodes_whole, paths_in, values_in, values_whole, answer_of, Took}
+use Rattle.jsonpath_rust.specs.inner.Sinks as sinks
+use Rattle.jsonpath_rust.specs.inner.Sinks.{Seen, nodes, paths, values, any, count, nothing, one, several, add, give, full, any_in, only_in, nodes_in, nodes_whole, paths_in, values_in, values_whole, answer_of, Took}
 
 pub give-append : (s : Seen) (xs ys : List Node) → give s (xs ++ ys) ≡ give (give s xs) ys
 give-append s [] ys = refl

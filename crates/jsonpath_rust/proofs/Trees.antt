@@ -14,7 +14,7 @@ use Rattle.jsonpath_rust.specs.Meaning.{indexed, element_of, stepped, element, s
 use Rattle.jsonpath_base.specs.Slice.{slice_of}
 use Rattle.std.proofs.lemmas.List.{length-map, append-nil}
 use Rattle.jsonpath_parser.specs.Syntax.{index_step}
-use Rattle.jsonpath_rust.specs.Weight.{size, trees_size, members_size}
+use Rattle.jsonpath_rust.specs.inner.Size.{size, trees_size, members_size}
 
 pub none_some : {A B : Type 0} (x : A) → Some x ≡ None → B
 none_some x h = absurd (false≢true (sym (ap is_some h)))

@@ -9,9 +9,9 @@ use Rattle.jsonpath_base.specs.Tree.{Tree}
 use Rattle.jsonpath_rust.specs.Document.{Document}
 use Rattle.jsonpath_rust.specs.Node.{Node, below, element_nodes, member_nodes, children_at, subtree, subtree_at}
 use Rattle.jsonpath_rust.specs.Meaning.{picks, all_pick}
-use Rattle.jsonpath_rust.specs.Walking.{selectors_in}
-use Rattle.jsonpath_rust.specs.Sinks.{Seen, give, Took}
-use Rattle.jsonpath_rust.specs.Weight.{work}
+use Rattle.jsonpath_rust.specs.inner.Walking.{selectors_in}
+use Rattle.jsonpath_rust.specs.inner.Sinks.{Seen, give, Took}
+use Rattle.jsonpath_rust.proofs.Weight.{work}
 use Rattle.jsonpath_rust.proofs.Sinks.{give-append, give-full}
 use Rattle.jsonpath_rust.proofs.Trees.{subtree-children}
 

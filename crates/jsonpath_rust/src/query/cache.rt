@@ -6,10 +6,10 @@ ghost use Rattle.jsonpath_base.specs.Pattern.{found};
 ghost use Rattle.jsonpath_rust.specs.Document.{Document};
 ghost use Rattle.jsonpath_rust.specs.Meaning.{nodelist};
 ghost use Rattle.jsonpath_rust.specs.Functions.{is_found};
-ghost use Rattle.jsonpath_rust.specs.Operands.{operand_tree, operand_is_whole, is_entire};
+ghost use Rattle.jsonpath_rust.specs.inner.Operands.{operand_tree, operand_is_whole, is_entire};
 ghost use Rattle.jsonpath_rust.specs.Patterns.{IsInvalid, IsPattern};
-ghost use Rattle.jsonpath_rust.specs.Sinks.{seen, start, give};
-ghost use Rattle.jsonpath_rust.specs.Keeping.{seen_at, AreRight, nodelists_of, gathered, IsGathered};
+ghost use Rattle.jsonpath_rust.specs.inner.Sinks.{seen, start, give};
+ghost use Rattle.jsonpath_rust.specs.inner.Keeping.{seen_at, AreRight, nodelists_of, gathered, IsGathered};
 
 use crate::query::Queried;
 use crate::query::patterns::Extent;

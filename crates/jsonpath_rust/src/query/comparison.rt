@@ -4,7 +4,7 @@ ghost use Rattle.jsonpath_parser.specs.Syntax.{compare};
 ghost use Rattle.jsonpath_parser.specs.View.{comparison_view, comparable_view};
 ghost use Rattle.jsonpath_base.specs.Same.{same};
 ghost use Rattle.jsonpath_rust.specs.Comparing.{are_equal, is_below, compares};
-ghost use Rattle.jsonpath_rust.specs.Operands.{scalar_tree, operand_tree, operand_is_whole, operator_of};
+ghost use Rattle.jsonpath_rust.specs.inner.Operands.{scalar_tree, operand_tree, operand_is_whole, operator_of};
 
 use crate::query::queryable::Queryable;
 use crate::query::value::{Operand, Scalar};

@@ -2,11 +2,11 @@
 ghost use Rattle.std.specs.Prelude.{◌≡◌, ◌≤◌, IsTrue, IfOk, IfErr, OnOk};
 ghost use Rattle.jsonpath_parser.specs.View.{filter_view, atom_view, comparison_view, comparable_view, test_view};
 ghost use Rattle.jsonpath_rust.specs.Meaning.{holds, some_holds, each_holds, atom_holds, comparison_holds, test_holds, value_of};
-ghost use Rattle.jsonpath_rust.specs.Operands.{operand_tree, operand_is_whole};
-ghost use Rattle.jsonpath_rust.specs.Weight.{size};
+ghost use Rattle.jsonpath_rust.specs.inner.Operands.{operand_tree, operand_is_whole};
+ghost use Rattle.jsonpath_rust.specs.inner.Size.{size};
 ghost use Rattle.jsonpath_rust.specs.Patterns.{IsStop, filter_patterns, filters_patterns, atom_patterns, comparison_patterns, comparable_patterns, test_patterns};
-ghost use Rattle.jsonpath_rust.specs.Keeping.{IsReady, StandIn, document, query_of};
-ghost use Rattle.jsonpath_rust.specs.Walking.{node_of, filters_in, LeadTo};
+ghost use Rattle.jsonpath_rust.specs.inner.Keeping.{IsReady, StandIn, document, query_of};
+ghost use Rattle.jsonpath_rust.specs.inner.Walking.{node_of, filters_in, LeadTo};
 
 use crate::query::Queried;
 use crate::query::cache::Cache;

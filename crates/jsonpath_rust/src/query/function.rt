@@ -4,12 +4,12 @@ ghost use Rattle.jsonpath_parser.specs.View.{call_view, argument_view, test_view
 ghost use Rattle.jsonpath_base.specs.Tree.{truth};
 ghost use Rattle.jsonpath_rust.specs.Functions.{is_found, count_of, only_value};
 ghost use Rattle.jsonpath_rust.specs.Meaning.{answer, argument_value, test_value, argument_nodes, test_nodes, argument_trees, test_trees, all_trees};
-ghost use Rattle.jsonpath_rust.specs.Operands.{operand_tree, operand_is_whole, trees_of, AreWhole, is_entire};
-ghost use Rattle.jsonpath_rust.specs.Sinks.{start, give};
-ghost use Rattle.jsonpath_rust.specs.Weight.{size};
+ghost use Rattle.jsonpath_rust.specs.inner.Operands.{operand_tree, operand_is_whole, trees_of, AreWhole, is_entire};
+ghost use Rattle.jsonpath_rust.specs.inner.Sinks.{start, give};
+ghost use Rattle.jsonpath_rust.specs.inner.Size.{size};
 ghost use Rattle.jsonpath_rust.specs.Patterns.{IsStop, call_patterns, argument_patterns, arguments_patterns, test_patterns};
-ghost use Rattle.jsonpath_rust.specs.Keeping.{IsReady, StandIn, document, query_of, gathered, IsGathered};
-ghost use Rattle.jsonpath_rust.specs.Walking.{node_of, arguments_in, LeadTo};
+ghost use Rattle.jsonpath_rust.specs.inner.Keeping.{IsReady, StandIn, document, query_of, gathered, IsGathered};
+ghost use Rattle.jsonpath_rust.specs.inner.Walking.{node_of, arguments_in, LeadTo};
 
 use crate::query::Queried;
 use crate::query::cache::{Cache, Gathered};

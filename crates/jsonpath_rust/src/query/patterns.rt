@@ -1,7 +1,7 @@
 //! The patterns that stand in a query (RFC 9535, 2.4.6 and 2.4.7): read before its walk, so that none is read twice. One
 //! that cannot be built is left out: it is refused where it is asked.
 ghost use Rattle.std.specs.Prelude.{◌≡◌};
-ghost use Rattle.jsonpath_rust.specs.Operands.{is_entire};
+ghost use Rattle.jsonpath_rust.specs.inner.Operands.{is_entire};
 
 use jsonpath_base::pattern::{Finder, Pattern};
 use jsonpath_parser::errors::JsonPathError;

@@ -3,8 +3,8 @@ ghost use Rattle.std.specs.Prelude.{◌≡◌, suc, min, ◌∷◌, [], map, opt
 ghost use Rattle.jsonpath_parser.specs.declared.errors.JsonPathError.TheVariants.{OutOfMemory};
 ghost use Rattle.jsonpath_rust.specs.Answer.{shown, paths_of};
 ghost use Rattle.jsonpath_rust.specs.Node.{Node};
-ghost use Rattle.jsonpath_rust.specs.Sinks.{Took, seen, seen_only, start, any_in, count_in, only_in, nodes_in, nodes_whole, values_in, values_whole, paths_in};
-ghost use Rattle.jsonpath_rust.specs.Walking.{node_of};
+ghost use Rattle.jsonpath_rust.specs.inner.Sinks.{Took, seen, seen_only, start, any_in, count_in, only_in, nodes_in, nodes_whole, values_in, values_whole, paths_in};
+ghost use Rattle.jsonpath_rust.specs.inner.Walking.{node_of};
 
 use crate::query::queryable::Queryable;
 use crate::query::way::Way;

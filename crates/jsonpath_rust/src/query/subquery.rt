@@ -2,11 +2,11 @@
 ghost use Rattle.std.specs.Prelude.{◌≡◌, ◌≤◌, ◌<◌, length, IsTrue, IfOk, IfErr, OnOk};
 ghost use Rattle.jsonpath_parser.specs.View.{query_view};
 ghost use Rattle.jsonpath_rust.specs.Meaning.{nodelist};
-ghost use Rattle.jsonpath_rust.specs.Sinks.{seen, start, give};
-ghost use Rattle.jsonpath_rust.specs.Weight.{size};
+ghost use Rattle.jsonpath_rust.specs.inner.Sinks.{seen, start, give};
+ghost use Rattle.jsonpath_rust.specs.inner.Size.{size};
 ghost use Rattle.jsonpath_rust.specs.Patterns.{IsStop, segments_patterns};
-ghost use Rattle.jsonpath_rust.specs.Keeping.{IsReady, StandIn, document, query_of, nodelists_of, seen_at};
-ghost use Rattle.jsonpath_rust.specs.Walking.{node_of, segments_in, through, LeadTo};
+ghost use Rattle.jsonpath_rust.specs.inner.Keeping.{IsReady, StandIn, document, query_of, nodelists_of, seen_at};
+ghost use Rattle.jsonpath_rust.specs.inner.Walking.{node_of, segments_in, through, LeadTo};
 
 use crate::query::Queried;
 use crate::query::cache::Cache;

@@ -5,8 +5,8 @@ ghost use Rattle.jsonpath_parser.specs.declared.errors.JsonPathError.TheVariants
 ghost use Rattle.jsonpath_base.specs.Tree.{as_text, as_int};
 ghost use Rattle.jsonpath_rust.specs.Functions.{length_of, counted, is_true};
 ghost use Rattle.jsonpath_rust.specs.Meaning.{literal_tree};
-ghost use Rattle.jsonpath_rust.specs.Sinks.{seen, values_in, ValuesAreWhole};
-ghost use Rattle.jsonpath_rust.specs.Operands.{scalar_tree, operand_tree, operand_is_whole, trees_of, AreWhole};
+ghost use Rattle.jsonpath_rust.specs.inner.Sinks.{seen, values_in, ValuesAreWhole};
+ghost use Rattle.jsonpath_rust.specs.inner.Operands.{scalar_tree, operand_tree, operand_is_whole, trees_of, AreWhole};
 
 use crate::query::Queried;
 use crate::query::queryable::{Arg, Queryable};

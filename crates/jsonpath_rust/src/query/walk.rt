@@ -7,11 +7,11 @@ ghost use Rattle.jsonpath_parser.specs.View.{selector_view, segment_view, query_
 ghost use Rattle.jsonpath_rust.specs.Document.{document_of};
 ghost use Rattle.jsonpath_rust.specs.Node.{below, children};
 ghost use Rattle.jsonpath_rust.specs.Meaning.{picks, all_pick, replaced, sliced, nodelist};
-ghost use Rattle.jsonpath_rust.specs.Weight.{size};
+ghost use Rattle.jsonpath_rust.specs.inner.Size.{size};
 ghost use Rattle.jsonpath_rust.specs.Patterns.{IsStop, segments_patterns, segment_patterns, selectors_patterns, selector_patterns};
-ghost use Rattle.jsonpath_rust.specs.Sinks.{Took, seen};
-ghost use Rattle.jsonpath_rust.specs.Keeping.{IsReady, StandIn, document, query_of};
-ghost use Rattle.jsonpath_rust.specs.Walking.{through, node_of, step_of, segments_in, selectors_in, acted, action_patterns, LeadTo};
+ghost use Rattle.jsonpath_rust.specs.inner.Sinks.{Took, seen};
+ghost use Rattle.jsonpath_rust.specs.inner.Keeping.{IsReady, StandIn, document, query_of};
+ghost use Rattle.jsonpath_rust.specs.inner.Walking.{through, node_of, step_of, segments_in, selectors_in, acted, action_patterns, LeadTo};
 
 use crate::query::Queried;
 use crate::query::cache::Cache;

@@ -2,8 +2,8 @@
 ghost use Rattle.std.specs.Prelude.{◌≡◌, List, [], ◌∷◌, ◌++◌, length, map, IfOk, IfErr, OnOk, OnErr, string_bytes};
 ghost use Rattle.jsonpath_parser.specs.Normal.{normal, step_text};
 ghost use Rattle.jsonpath_parser.specs.declared.errors.JsonPathError.TheVariants.{OutOfMemory};
-ghost use Rattle.jsonpath_rust.specs.Walking.{step_of};
-ghost use Rattle.jsonpath_rust.specs.Way.{spelled, IsSpelled};
+ghost use Rattle.jsonpath_rust.specs.inner.Walking.{step_of};
+ghost use Rattle.jsonpath_rust.specs.inner.Way.{spelled, IsSpelled};
 ghost use Rattle.jsonpath_rust.specs.declared.query.way.StepRef.{StepRef};
 
 use crate::query::{Queried, QueryPath};

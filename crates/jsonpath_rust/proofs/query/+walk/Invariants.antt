@@ -5,11 +5,12 @@ use Rattle.jsonpath_base.specs.Slice.{slice_of}
 use Rattle.jsonpath_base.specs.SliceSteps.{places_left}
 use Rattle.jsonpath_rust.specs.Node.{element_nodes, member_nodes, children}
 use Rattle.jsonpath_rust.specs.Meaning.{all_pick, element, some_holds, each_holds, all_trees}
-use Rattle.jsonpath_rust.specs.Walking.{segments_in, selectors_in, filters_in, arguments_in, through, node_of, acted}
-use Rattle.jsonpath_rust.specs.Sinks.{seen, give}
-use Rattle.jsonpath_rust.specs.Keeping.{IsReady, document}
-use Rattle.jsonpath_rust.specs.Operands.{trees_of, AreWhole}
-use Rattle.jsonpath_rust.specs.Weight.{size, work, action_weight, segments_weight, segment_weight, selectors_weight, selector_weight, filter_weight, filters_weight, atom_weight, test_weight, comparison_weight, comparable_weight, call_weight, argument_weight, arguments_weight}
+use Rattle.jsonpath_rust.specs.inner.Walking.{segments_in, selectors_in, filters_in, arguments_in, through, node_of, acted}
+use Rattle.jsonpath_rust.specs.inner.Sinks.{seen, give}
+use Rattle.jsonpath_rust.specs.inner.Keeping.{IsReady, document}
+use Rattle.jsonpath_rust.specs.inner.Operands.{trees_of, AreWhole}
+use Rattle.jsonpath_rust.specs.inner.Size.{size}
+use Rattle.jsonpath_rust.proofs.Weight.{work, action_weight, segments_weight, segment_weight, selectors_weight, selector_weight, filter_weight, filters_weight, atom_weight, test_weight, comparison_weight, comparable_weight, call_weight, argument_weight, arguments_weight}
 use Rattle.jsonpath_rust.proofs.query.+walk.Given as goal
 
 abbrev pub «decreases-walk::walk» : goal.«decreases-walk::walk»

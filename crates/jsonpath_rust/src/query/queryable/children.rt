@@ -6,7 +6,7 @@ ghost use Rattle.jsonpath_base.specs.Tree.{as_list, as_members};
 ghost use Rattle.jsonpath_rust.specs.Node.{below};
 ghost use Rattle.jsonpath_rust.specs.Meaning as meaning;
 ghost use Rattle.jsonpath_rust.specs.Meaning.{indexed};
-ghost use Rattle.jsonpath_rust.specs.Weight.{size};
+ghost use Rattle.jsonpath_rust.specs.inner.Size.{size};
 
 use crate::query::queryable::Queryable;
 

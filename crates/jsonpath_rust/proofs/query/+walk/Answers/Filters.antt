@@ -11,12 +11,12 @@ use Rattle.jsonpath_rust.specs.Comparing.{compares}
 use Rattle.jsonpath_rust.specs.Functions.{is_true}
 use Rattle.jsonpath_rust.specs.Node.{has_node}
 use Rattle.jsonpath_rust.specs.Meaning.{holds, some_holds, each_holds, atom_holds, comparison_holds, test_holds, value_of, answer, turned}
-use Rattle.jsonpath_rust.specs.Weight.{segments_weight, filter_weight, filters_weight, atom_weight, test_weight, comparison_weight, comparable_weight, call_weight}
+use Rattle.jsonpath_rust.proofs.Weight.{segments_weight, filter_weight, filters_weight, atom_weight, test_weight, comparison_weight, comparable_weight, call_weight}
 use Rattle.jsonpath_rust.specs.Patterns.{segments_patterns, filter_patterns, filters_patterns, atom_patterns, test_patterns, comparison_patterns, comparable_patterns, call_patterns}
-use Rattle.jsonpath_rust.specs.Walking.{segments_in, filters_in, through, node_of}
-use Rattle.jsonpath_rust.specs.Sinks.{any_in}
-use Rattle.jsonpath_rust.specs.Keeping.{document}
-use Rattle.jsonpath_rust.specs.Operands.{operand_tree, operator_of}
+use Rattle.jsonpath_rust.specs.inner.Walking.{segments_in, filters_in, through, node_of}
+use Rattle.jsonpath_rust.specs.inner.Sinks.{any_in}
+use Rattle.jsonpath_rust.specs.inner.Keeping.{document}
+use Rattle.jsonpath_rust.specs.inner.Operands.{operand_tree, operator_of}
 use Rattle.jsonpath_rust.proofs.Sinks.{any_given}
 use Rattle.jsonpath_rust.proofs.Walks.{down}
 use Rattle.jsonpath_rust.proofs.NodesAt.{leads_as}

@@ -11,13 +11,13 @@ use Rattle.jsonpath_base.specs.Tree.{truth}
 use Rattle.jsonpath_rust.specs.Functions as functions
 use Rattle.jsonpath_rust.specs.Functions.{length_of, only_value, is_true}
 use Rattle.jsonpath_rust.specs.Meaning.{nodelist, answer, argument_value, test_value, argument_nodes, test_nodes, argument_trees, test_trees, all_trees}
-use Rattle.jsonpath_rust.specs.Weight.{segments_weight, test_weight, call_weight, argument_weight, arguments_weight}
+use Rattle.jsonpath_rust.proofs.Weight.{segments_weight, test_weight, call_weight, argument_weight, arguments_weight}
 use Rattle.jsonpath_rust.specs.Patterns.{IsStop, segments_patterns, test_patterns, call_patterns, argument_patterns, arguments_patterns}
-use Rattle.jsonpath_rust.specs.Walking.{segments_in, arguments_in, through, node_of}
-use Rattle.jsonpath_rust.specs.Sinks as sinks
-use Rattle.jsonpath_rust.specs.Sinks.{seen, start, give, values_in}
-use Rattle.jsonpath_rust.specs.Keeping.{query_of, document, gathered}
-use Rattle.jsonpath_rust.specs.Operands.{operand_tree, trees_of, AreWhole, is_entire}
+use Rattle.jsonpath_rust.specs.inner.Walking.{segments_in, arguments_in, through, node_of}
+use Rattle.jsonpath_rust.specs.inner.Sinks as sinks
+use Rattle.jsonpath_rust.specs.inner.Sinks.{seen, start, give, values_in}
+use Rattle.jsonpath_rust.specs.inner.Keeping.{query_of, document, gathered}
+use Rattle.jsonpath_rust.specs.inner.Operands.{operand_tree, trees_of, AreWhole, is_entire}
 use Rattle.jsonpath_rust.specs.declared.query.way.StepRef.{StepRef}
 use Rattle.jsonpath_rust.proofs.Sinks.{counted_all, values_all}
 use Rattle.jsonpath_rust.proofs.Walks.{down, down_tree}

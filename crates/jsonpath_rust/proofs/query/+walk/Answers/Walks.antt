@@ -14,11 +14,11 @@ use Rattle.jsonpath_base.specs.Tree.{get}
 use Rattle.jsonpath_base.specs.Slice.{slice_of}
 use Rattle.jsonpath_rust.specs.Node.{below, children, subtree}
 use Rattle.jsonpath_rust.specs.Meaning.{picks, all_pick, replaced, indexed, element, holds}
-use Rattle.jsonpath_rust.specs.Weight.{action_weight, segment_weight, selectors_weight, selector_weight}
+use Rattle.jsonpath_rust.proofs.Weight.{action_weight, segment_weight, selectors_weight, selector_weight}
 use Rattle.jsonpath_rust.specs.Patterns.{segments_patterns, segment_patterns, selectors_patterns, selector_patterns}
-use Rattle.jsonpath_rust.specs.Walking.{action_patterns, segments_in, selectors_in, through, node_of, step_of, acted}
-use Rattle.jsonpath_rust.specs.Sinks.{seen, give}
-use Rattle.jsonpath_rust.specs.Keeping.{document}
+use Rattle.jsonpath_rust.specs.inner.Walking.{action_patterns, segments_in, selectors_in, through, node_of, step_of, acted}
+use Rattle.jsonpath_rust.specs.inner.Sinks.{seen, give}
+use Rattle.jsonpath_rust.specs.inner.Keeping.{document}
 use Rattle.jsonpath_rust.specs.declared.query.way.StepRef.TheVariants.{Name, Index}
 use Rattle.jsonpath_rust.proofs.Sinks.{took_none, took_as, took_stop, result_as, result_then, true_false}
 use Rattle.jsonpath_rust.proofs.Walks.{down, down_tree, turn_next, turn_stop, turn_end, selector_turns, element_turns, member_turns, place_next, place_stop, below_more, flat_map-alone, flat_map-filter}

@@ -1,5 +1,5 @@
 use Rattle.std.proofs.Common.{ap, IsTrue, All, map, subst, List, Bool, sym, ◌∙◌}
-use Rattle.jsonpath_rust.specs.Sinks.{seen, values_whole}
+use Rattle.jsonpath_rust.specs.inner.Sinks.{seen, values_whole}
 use Rattle.jsonpath_rust.proofs.Arguments.{values_next, values_whole_next}
 use Rattle.jsonpath_rust.proofs.query.value.push_values.Goals as goal
 

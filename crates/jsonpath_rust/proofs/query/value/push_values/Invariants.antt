@@ -1,5 +1,5 @@
 use Rattle.std.proofs.Common.{◌≡◌, ◌++◌, map, drop}
-use Rattle.jsonpath_rust.specs.Operands.{trees_of, AreWhole}
+use Rattle.jsonpath_rust.specs.inner.Operands.{trees_of, AreWhole}
 use Rattle.jsonpath_rust.proofs.query.value.push_values.Given as goal
 
 -- the arguments so far, with the values that are left

@@ -7,7 +7,7 @@ use Rattle.jsonpath_base.specs.Tree.{Tree}
 use Rattle.jsonpath_rust.specs.Document.{Document, document_of}
 use Rattle.jsonpath_rust.specs.Meaning.{nodelist}
 use Rattle.jsonpath_rust.specs.Patterns.{segments_patterns}
-use Rattle.jsonpath_rust.specs.Sinks.{Seen, any, seen, start, give}
+use Rattle.jsonpath_rust.specs.inner.Sinks.{Seen, any, seen, start, give}
 use Rattle.jsonpath_rust.specs.declared.query.cache.Cache.{Cache}
 use Rattle.jsonpath_rust.specs.declared.query.cache.CachedNodelist.{CachedNodelist}
 use Rattle.jsonpath_rust.specs.declared.query.walk.Task.{Task}
