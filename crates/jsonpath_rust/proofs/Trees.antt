@@ -65,11 +65,7 @@ indexed_some tree_of l t xs i k x is_list is_place h e =
     let here = sym (child_there tree_of t xs k x is_list h e) in
     let n : Node = record { location = l; tree = t } in
     ap (λ o. map (below l (index k)) (option_to_list o)) here
-    ∙ sym (◌∙◌ (ap (λ o. flat_map (λ j. map (below l (index j)) (option_to_list (child (index j) t))) (option_to_list (option_and_then (λ us. element_of i (length us)) o))) (sym is_list)) (ap (λ o. flat_map (λ j. map (below l (index j)) (option_to_list (child (index j) t))) (option_to_list o)) (sym is_place) ∙ one_more (map (below l (index k)) (option_to_list (child (index k) t)))))
-  where
-    one_more : (ns : List Node) → ns ++ [] ≡ ns
-    one_more [] = refl
-    one_more (m ∷ ms) = ap (λ z. m ∷ z) (one_more ms)
+    ∙ sym (◌∙◌ (ap (λ o. flat_map (λ j. map (below l (index j)) (option_to_list (child (index j) t))) (option_to_list (option_and_then (λ us. element_of i (length us)) o))) (sym is_list)) (ap (λ o. flat_map (λ j. map (below l (index j)) (option_to_list (child (index j) t))) (option_to_list o)) (sym is_place) ∙ append-nil (map (below l (index k)) (option_to_list (child (index k) t)))))
 
 -- ---- sizes
 

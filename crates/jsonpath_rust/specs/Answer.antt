@@ -1,5 +1,6 @@
 -- What a query answers.
-use Rattle.std.specs.Prelude.{◌≡◌, ℕ, List, [], ◌∷◌, map, Some, string_bytes, String}
+use Rattle.std.specs.Prelude.{◌≡◌, ℕ, List, map, Some, string_bytes, String}
+use Rattle.std.specs.List.{AllZip}
 use Rattle.jsonpath_parser.specs.Location.{Location}
 use Rattle.jsonpath_parser.specs.Normal.{IsNormal, IsOnlyPath}
 use Rattle.jsonpath_parser.specs.Syntax.{Query}
@@ -19,12 +20,6 @@ shown tree refs = map (λ r. (string_bytes r.path, tree r.val.now)) refs
 abbrev pub paths_of : List (String Global) → List (List ℕ)
 paths_of paths = map (λ p. string_bytes p) paths
 
--- the relation holds place by place, and both lists are of one length
-abbrev pub Along : {A B : Type 0} → (A → B → Type 0) → List A → List B → Type 0
-Along R [] [] = Unit {0}
-Along R (a ∷ xs) (b ∷ ys) = R a b × Along R xs ys
-Along R _ _ = ⊥
-
 -- the path is the Normalized Path of the location, and the tree is the one there
 abbrev pub IsNodeAt : Document → Location → List ℕ × Tree → Type 0
 IsNodeAt doc l shown = IsNormal l shown.0 × (at l doc.root ≡ Some shown.1)
@@ -41,18 +36,18 @@ IsValueAt doc l t = at l doc.root ≡ Some t
 pub record ListsNodes (limit : ℕ) (text : List ℕ) (doc : Document) (answer : List (List ℕ × Tree)) : Type 0 where
   pub query : Query
   pub derived : Derives limit text query
-  pub nodes : Along (IsNodeAt doc) (selected query doc) answer
-  pub only_path : Along HasOnlyPath (selected query doc) answer
+  pub nodes : AllZip (IsNodeAt doc) (selected query doc) answer
+  pub only_path : AllZip HasOnlyPath (selected query doc) answer
 
 -- The same of a list of the nodes' values.
 pub record ListsValues (limit : ℕ) (text : List ℕ) (doc : Document) (answer : List Tree) : Type 0 where
   pub query : Query
   pub derived : Derives limit text query
-  pub values : Along (IsValueAt doc) (selected query doc) answer
+  pub values : AllZip (IsValueAt doc) (selected query doc) answer
 
 -- The same of a list of the nodes' paths.
 pub record ListsPaths (limit : ℕ) (text : List ℕ) (doc : Document) (answer : List (List ℕ)) : Type 0 where
   pub query : Query
   pub derived : Derives limit text query
-  pub paths : Along IsNormal (selected query doc) answer
-  pub only_path : Along IsOnlyPath (selected query doc) answer
+  pub paths : AllZip IsNormal (selected query doc) answer
+  pub only_path : AllZip IsOnlyPath (selected query doc) answer

@@ -1,5 +1,6 @@
 //! Queries on a document.
 ghost use Rattle.std.specs.Prelude.{◌≡◌, map, All, IsTrue, IfOk, IfErr, MatchResult};
+ghost use Rattle.std.specs.List.{AllZip};
 ghost use Rattle.jsonpath_parser.specs.Derives.{Derives};
 ghost use Rattle.jsonpath_parser.specs.Syntax.{Query};
 ghost use Rattle.jsonpath_parser.specs.View.{query_view};
@@ -7,7 +8,7 @@ ghost use Rattle.jsonpath_parser.specs.Normal.{IsNormal, IsOnlyPath};
 ghost use Rattle.jsonpath_rust.specs.Document.{document_of};
 ghost use Rattle.jsonpath_rust.specs.Meaning.{selected};
 ghost use Rattle.jsonpath_rust.specs.Patterns.{IsStop, IsQueryRefusal};
-ghost use Rattle.jsonpath_rust.specs.Answer.{Along, IsNodeAt, IsValueAt, HasOnlyPath, ListsNodes, ListsValues, ListsPaths, shown, paths_of};
+ghost use Rattle.jsonpath_rust.specs.Answer.{IsNodeAt, IsValueAt, HasOnlyPath, ListsNodes, ListsValues, ListsPaths, shown, paths_of};
 
 mod cache;
 mod comparison;
@@ -84,7 +85,7 @@ pub fn js_path<'a, T: Queryable>(
 
     // Whatever query the text derives, its nodes are answered, unless memory ran out or a pattern was refused.
     ensures only { (q : Query) → Derives 128 path.now q → MatchResult result
-        (λ v. Along (IsNodeAt (document_of T.tree T.custom value.now)) (selected q (document_of T.tree T.custom value.now)) (shown T.tree v.items))
+        (λ v. AllZip (IsNodeAt (document_of T.tree T.custom value.now)) (selected q (document_of T.tree T.custom value.now)) (shown T.tree v.items))
         (IsStop q (document_of T.tree T.custom value.now)) }
     ensures whole { IfOk result (λ v. All (λ r. IsTrue (T.is_whole r.val.now)) v.items) }
     ensures refused { IfErr result (IsQueryRefusal 128 path.now (document_of T.tree T.custom value.now)) }
@@ -108,7 +109,7 @@ pub fn js_path_within<'a, T: Queryable>(
 
     // Whatever query the text derives, its nodes are answered, unless memory ran out or a pattern was refused.
     ensures only { (q : Query) → Derives depth path.now q → MatchResult result
-        (λ v. Along (IsNodeAt (document_of T.tree T.custom value.now)) (selected q (document_of T.tree T.custom value.now)) (shown T.tree v.items))
+        (λ v. AllZip (IsNodeAt (document_of T.tree T.custom value.now)) (selected q (document_of T.tree T.custom value.now)) (shown T.tree v.items))
         (IsStop q (document_of T.tree T.custom value.now)) }
     ensures whole { IfOk result (λ v. All (λ r. IsTrue (T.is_whole r.val.now)) v.items) }
     ensures refused { IfErr result (IsQueryRefusal depth path.now (document_of T.tree T.custom value.now)) }
@@ -131,7 +132,7 @@ pub fn js_path_vals<'a, T: Queryable>(
 
     // Whatever query the text derives, its nodes' values are answered, unless memory ran out or a pattern was refused.
     ensures only { (q : Query) → Derives 128 path.now q → MatchResult result
-        (λ v. Along (IsValueAt (document_of T.tree T.custom value.now)) (selected q (document_of T.tree T.custom value.now)) (map (λ x. T.tree x.now) v.items))
+        (λ v. AllZip (IsValueAt (document_of T.tree T.custom value.now)) (selected q (document_of T.tree T.custom value.now)) (map (λ x. T.tree x.now) v.items))
         (IsStop q (document_of T.tree T.custom value.now)) }
     ensures whole { IfOk result (λ v. All (λ x. IsTrue (T.is_whole x.now)) v.items) }
     ensures refused { IfErr result (IsQueryRefusal 128 path.now (document_of T.tree T.custom value.now)) }
@@ -149,7 +150,7 @@ pub fn js_path_path<T: Queryable>(alloc: Global, path: &str, value: &T) -> Queri
 
     // Whatever query the text derives, its nodes' paths are answered, unless memory ran out or a pattern was refused.
     ensures only { (q : Query) → Derives 128 path.now q → MatchResult result
-        (λ v. Along IsNormal (selected q (document_of T.tree T.custom value.now)) (paths_of v.items))
+        (λ v. AllZip IsNormal (selected q (document_of T.tree T.custom value.now)) (paths_of v.items))
         (IsStop q (document_of T.tree T.custom value.now)) }
     ensures refused { IfErr result (IsQueryRefusal 128 path.now (document_of T.tree T.custom value.now)) }
 {
@@ -163,9 +164,9 @@ pub fn js_path_path<T: Queryable>(alloc: Global, path: &str, value: &T) -> Queri
 /// does.
 fn process_paths<T: Queryable>(alloc: Global, query: &JpQuery, value: &T) -> Queried<Vec<QueryPath>>
     requires { IsTrue (T.is_whole value.now) }
-    ensures paths { IfOk result (λ v. Along IsNormal
+    ensures paths { IfOk result (λ v. AllZip IsNormal
         (selected (query_view query.now) (document_of T.tree T.custom value.now)) (paths_of v.items)) }
-    ensures only_path { IfOk result (λ v. Along IsOnlyPath
+    ensures only_path { IfOk result (λ v. AllZip IsOnlyPath
         (selected (query_view query.now) (document_of T.tree T.custom value.now)) (paths_of v.items)) }
     ensures refused { IfErr result (IsStop (query_view query.now) (document_of T.tree T.custom value.now)) }
 {
@@ -186,9 +187,9 @@ pub fn js_path_process<'a, T: Queryable>(
     value: &'a T,
 ) -> Queried<Vec<QueryRef<'a, T>>>
     requires { IsTrue (T.is_whole value.now) }
-    ensures nodes { IfOk result (λ v. Along (IsNodeAt (document_of T.tree T.custom value.now))
+    ensures nodes { IfOk result (λ v. AllZip (IsNodeAt (document_of T.tree T.custom value.now))
         (selected (query_view path.now) (document_of T.tree T.custom value.now)) (shown T.tree v.items)) }
-    ensures only_path { IfOk result (λ v. Along HasOnlyPath
+    ensures only_path { IfOk result (λ v. AllZip HasOnlyPath
         (selected (query_view path.now) (document_of T.tree T.custom value.now)) (shown T.tree v.items)) }
     ensures whole { IfOk result (λ v. All (λ r. IsTrue (T.is_whole r.val.now)) v.items) }
     ensures refused { IfErr result (IsStop (query_view path.now) (document_of T.tree T.custom value.now)) }
@@ -206,7 +207,7 @@ pub fn js_path_process_vals<'a, T: Queryable>(
     value: &'a T,
 ) -> Queried<Vec<&'a T>>
     requires { IsTrue (T.is_whole value.now) }
-    ensures values { IfOk result (λ v. Along (IsValueAt (document_of T.tree T.custom value.now))
+    ensures values { IfOk result (λ v. AllZip (IsValueAt (document_of T.tree T.custom value.now))
         (selected (query_view query.now) (document_of T.tree T.custom value.now)) (map (λ x. T.tree x.now) v.items)) }
     ensures whole { IfOk result (λ v. All (λ x. IsTrue (T.is_whole x.now)) v.items) }
     ensures refused { IfErr result (IsStop (query_view query.now) (document_of T.tree T.custom value.now)) }
