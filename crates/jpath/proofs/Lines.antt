@@ -14,7 +14,7 @@ pub node_lines-AllZip : (doc : Document) (ls : List Location) (ns : List (List �
 node_lines-AllZip doc [] [] h = refl
 node_lines-AllZip doc [] (n ∷ ns) h = absurd h
 node_lines-AllZip doc (l ∷ ls) [] h = absurd h
-node_lines-AllZip doc (l ∷ ls) (n ∷ ns) h = rw (h.0.0, h.0.1, node_lines-AllZip doc ls ns h.1)
+node_lines-AllZip doc (l ∷ ls) (n ∷ ns) h = rw (h.0.0.0, h.0.1, node_lines-AllZip doc ls ns h.1)
 
 -- so are those of their values alone
 pub value_lines-AllZip : (doc : Document) (ls : List Location) (ts : List Tree) → AllZip (IsValueAt doc) ls ts →
@@ -30,4 +30,4 @@ pub path_lines-AllZip : (doc : Document) (ls : List Location) (ns : List (List �
 path_lines-AllZip doc [] [] h = refl
 path_lines-AllZip doc [] (n ∷ ns) h = absurd h
 path_lines-AllZip doc (l ∷ ls) [] h = absurd h
-path_lines-AllZip doc (l ∷ ls) (n ∷ ns) h = rw (h.0.0, path_lines-AllZip doc ls ns h.1)
+path_lines-AllZip doc (l ∷ ls) (n ∷ ns) h = rw (h.0.0.0, path_lines-AllZip doc ls ns h.1)

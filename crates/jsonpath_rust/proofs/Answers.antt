@@ -3,23 +3,23 @@ use Rattle.std.proofs.Common.{◌≡◌, ℕ, List, [], ◌∷◌, map, Some, Is
 use Rattle.std.specs.List.{AllByRecursion, AllZip}
 use Rattle.jsonpath_parser.proofs.NormalLemmas.{only_path}
 use Rattle.jsonpath_parser.specs.Syntax.{Query}
-use Rattle.jsonpath_parser.specs.Normal.{normal, IsNormal, IsOnlyPath}
+use Rattle.jsonpath_parser.specs.Normal.{normal}
 use Rattle.jsonpath_base.specs.Tree.{Tree, has_distinct_names}
 use Rattle.jsonpath_base.specs.Places.{at}
 use Rattle.jsonpath_rust.specs.Document.{Document}
 use Rattle.jsonpath_rust.specs.Node.{Node}
 use Rattle.jsonpath_rust.specs.Meaning.{nodelist, selected}
-use Rattle.jsonpath_rust.specs.Answer.{IsNodeAt, IsValueAt, HasOnlyPath}
+use Rattle.jsonpath_rust.specs.Answer.{IsNodeAt, IsPathAt, IsValueAt}
 use Rattle.jsonpath_rust.specs.inner.Sinks.{answer_of}
 use Rattle.jsonpath_rust.proofs.NodesAt.{nodes_at}
 
 nodes_zipped : (doc : Document) (ns : List Node) → AllByRecursion (λ n. at n.location doc.root ≡ Some n.tree) ns → AllZip (IsNodeAt doc) (map (λ n. n.location) ns) (map answer_of ns)
 nodes_zipped doc [] h = tt
-nodes_zipped doc (n ∷ ns) h = ((refl, h.0), nodes_zipped doc ns h.1)
+nodes_zipped doc (n ∷ ns) h = (((refl, only_path n.location), h.0), nodes_zipped doc ns h.1)
 
-only_path_zipped : (ns : List Node) → AllZip HasOnlyPath (map (λ n. n.location) ns) (map answer_of ns)
-only_path_zipped [] = tt
-only_path_zipped (n ∷ ns) = (only_path n.location, only_path_zipped ns)
+paths_zipped : (doc : Document) (ns : List Node) → AllZip (IsPathAt doc) (map (λ n. n.location) ns) (map (λ n. normal n.location) ns)
+paths_zipped doc [] = tt
+paths_zipped doc (n ∷ ns) = ((refl, only_path n.location), paths_zipped doc ns)
 
 values_zipped : (doc : Document) (ns : List Node) → AllByRecursion (λ n. at n.location doc.root ≡ Some n.tree) ns → AllZip (IsValueAt doc) (map (λ n. n.location) ns) (map (λ n. n.tree) ns)
 values_zipped doc [] h = tt
@@ -29,23 +29,8 @@ values_zipped doc (n ∷ ns) h = (h.0, values_zipped doc ns h.1)
 pub nodes_answered : (q : Query) (doc : Document) (answer : List (List ℕ × Tree)) → IsTrue (has_distinct_names doc.root) → answer ≡ map answer_of (nodelist q doc) → AllZip (IsNodeAt doc) (selected q doc) answer
 nodes_answered q doc answer distinct e = subst (AllZip (IsNodeAt doc) (selected q doc)) (sym e) (nodes_zipped doc (nodelist q doc) (nodes_at q doc distinct))
 
-pub paths_answered : (q : Query) (doc : Document) (answer : List (List ℕ × Tree)) → answer ≡ map answer_of (nodelist q doc) → AllZip HasOnlyPath (selected q doc) answer
-paths_answered q doc answer e = subst (AllZip HasOnlyPath (selected q doc)) (sym e) (only_path_zipped (nodelist q doc))
+pub paths_answered : (q : Query) (doc : Document) (answer : List (List ℕ)) → answer ≡ map (λ n. normal n.location) (nodelist q doc) → AllZip (IsPathAt doc) (selected q doc) answer
+paths_answered q doc answer e = subst (AllZip (IsPathAt doc) (selected q doc)) (sym e) (paths_zipped doc (nodelist q doc))
 
 pub values_answered : (q : Query) (doc : Document) (answer : List Tree) → IsTrue (has_distinct_names doc.root) → answer ≡ map (λ n. n.tree) (nodelist q doc) → AllZip (IsValueAt doc) (selected q doc) answer
 values_answered q doc answer distinct e = subst (AllZip (IsValueAt doc) (selected q doc)) (sym e) (values_zipped doc (nodelist q doc) (nodes_at q doc distinct))
-
--- the paths alone
-normal_zipped : (ns : List Node) → AllZip IsNormal (map (λ n. n.location) ns) (map (λ n. normal n.location) ns)
-normal_zipped [] = tt
-normal_zipped (n ∷ ns) = (refl, normal_zipped ns)
-
-only_zipped : (ns : List Node) → AllZip IsOnlyPath (map (λ n. n.location) ns) (map (λ n. normal n.location) ns)
-only_zipped [] = tt
-only_zipped (n ∷ ns) = (only_path n.location, only_zipped ns)
-
-pub normal_answered : (q : Query) (doc : Document) (answer : List (List ℕ)) → answer ≡ map (λ n. normal n.location) (nodelist q doc) → AllZip IsNormal (selected q doc) answer
-normal_answered q doc answer e = subst (AllZip IsNormal (selected q doc)) (sym e) (normal_zipped (nodelist q doc))
-
-pub only_answered : (q : Query) (doc : Document) (answer : List (List ℕ)) → answer ≡ map (λ n. normal n.location) (nodelist q doc) → AllZip IsOnlyPath (selected q doc) answer
-only_answered q doc answer e = subst (AllZip IsOnlyPath (selected q doc)) (sym e) (only_zipped (nodelist q doc))

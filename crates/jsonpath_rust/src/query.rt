@@ -4,11 +4,10 @@ ghost use Rattle.std.specs.List.{AllZip};
 ghost use Rattle.jsonpath_parser.specs.Derives.{Derives};
 ghost use Rattle.jsonpath_parser.specs.Syntax.{Query};
 ghost use Rattle.jsonpath_parser.specs.View.{query_view};
-ghost use Rattle.jsonpath_parser.specs.Normal.{IsNormal, IsOnlyPath};
 ghost use Rattle.jsonpath_rust.specs.Document.{document_of};
 ghost use Rattle.jsonpath_rust.specs.Meaning.{selected};
 ghost use Rattle.jsonpath_rust.specs.Patterns.{IsStop, IsQueryRefusal};
-ghost use Rattle.jsonpath_rust.specs.Answer.{IsNodeAt, IsValueAt, HasOnlyPath, ListsNodes, ListsValues, ListsPaths, shown, paths_of};
+ghost use Rattle.jsonpath_rust.specs.Answer.{IsNodeAt, IsPathAt, IsValueAt, Lists, shown, paths_of};
 
 mod cache;
 mod comparison;
@@ -81,7 +80,7 @@ pub fn js_path<'a, T: Queryable>(
     value: &'a T,
 ) -> Queried<Vec<QueryRef<'a, T>>>
     requires { IsTrue (T.is_whole value.now) }
-    ensures answered { IfOk result (λ v. ListsNodes 128 path.now (document_of T.tree T.custom value.now) (shown T.tree v.items)) }
+    ensures answered { IfOk result (λ v. Lists IsNodeAt 128 path.now (document_of T.tree T.custom value.now) (shown T.tree v.items)) }
 
     // Whatever query the text derives, its nodes are answered, unless memory ran out or a pattern was refused.
     ensures only { (q : Query) → Derives 128 path.now q → MatchResult result
@@ -105,7 +104,7 @@ pub fn js_path_within<'a, T: Queryable>(
     value: &'a T,
 ) -> Queried<Vec<QueryRef<'a, T>>>
     requires { IsTrue (T.is_whole value.now) }
-    ensures answered { IfOk result (λ v. ListsNodes depth path.now (document_of T.tree T.custom value.now) (shown T.tree v.items)) }
+    ensures answered { IfOk result (λ v. Lists IsNodeAt depth path.now (document_of T.tree T.custom value.now) (shown T.tree v.items)) }
 
     // Whatever query the text derives, its nodes are answered, unless memory ran out or a pattern was refused.
     ensures only { (q : Query) → Derives depth path.now q → MatchResult result
@@ -128,7 +127,7 @@ pub fn js_path_vals<'a, T: Queryable>(
     value: &'a T,
 ) -> Queried<Vec<&'a T>>
     requires { IsTrue (T.is_whole value.now) }
-    ensures answered { IfOk result (λ v. ListsValues 128 path.now (document_of T.tree T.custom value.now) (map (λ x. T.tree x.now) v.items)) }
+    ensures answered { IfOk result (λ v. Lists IsValueAt 128 path.now (document_of T.tree T.custom value.now) (map (λ x. T.tree x.now) v.items)) }
 
     // Whatever query the text derives, its nodes' values are answered, unless memory ran out or a pattern was refused.
     ensures only { (q : Query) → Derives 128 path.now q → MatchResult result
@@ -146,11 +145,11 @@ pub fn js_path_vals<'a, T: Queryable>(
 /// The Normalized Paths of the nodes that a query text selects in a document, in order. It refuses as [`js_path`] does.
 pub fn js_path_path<T: Queryable>(alloc: Global, path: &str, value: &T) -> Queried<Vec<QueryPath>>
     requires { IsTrue (T.is_whole value.now) }
-    ensures answered { IfOk result (λ v. ListsPaths 128 path.now (document_of T.tree T.custom value.now) (paths_of v.items)) }
+    ensures answered { IfOk result (λ v. Lists IsPathAt 128 path.now (document_of T.tree T.custom value.now) (paths_of v.items)) }
 
     // Whatever query the text derives, its nodes' paths are answered, unless memory ran out or a pattern was refused.
     ensures only { (q : Query) → Derives 128 path.now q → MatchResult result
-        (λ v. AllZip IsNormal (selected q (document_of T.tree T.custom value.now)) (paths_of v.items))
+        (λ v. AllZip (IsPathAt (document_of T.tree T.custom value.now)) (selected q (document_of T.tree T.custom value.now)) (paths_of v.items))
         (IsStop q (document_of T.tree T.custom value.now)) }
     ensures refused { IfErr result (IsQueryRefusal 128 path.now (document_of T.tree T.custom value.now)) }
 {
@@ -164,9 +163,7 @@ pub fn js_path_path<T: Queryable>(alloc: Global, path: &str, value: &T) -> Queri
 /// does.
 fn process_paths<T: Queryable>(alloc: Global, query: &JpQuery, value: &T) -> Queried<Vec<QueryPath>>
     requires { IsTrue (T.is_whole value.now) }
-    ensures paths { IfOk result (λ v. AllZip IsNormal
-        (selected (query_view query.now) (document_of T.tree T.custom value.now)) (paths_of v.items)) }
-    ensures only_path { IfOk result (λ v. AllZip IsOnlyPath
+    ensures paths { IfOk result (λ v. AllZip (IsPathAt (document_of T.tree T.custom value.now))
         (selected (query_view query.now) (document_of T.tree T.custom value.now)) (paths_of v.items)) }
     ensures refused { IfErr result (IsStop (query_view query.now) (document_of T.tree T.custom value.now)) }
 {
@@ -188,8 +185,6 @@ pub fn js_path_process<'a, T: Queryable>(
 ) -> Queried<Vec<QueryRef<'a, T>>>
     requires { IsTrue (T.is_whole value.now) }
     ensures nodes { IfOk result (λ v. AllZip (IsNodeAt (document_of T.tree T.custom value.now))
-        (selected (query_view path.now) (document_of T.tree T.custom value.now)) (shown T.tree v.items)) }
-    ensures only_path { IfOk result (λ v. AllZip HasOnlyPath
         (selected (query_view path.now) (document_of T.tree T.custom value.now)) (shown T.tree v.items)) }
     ensures whole { IfOk result (λ v. All (λ r. IsTrue (T.is_whole r.val.now)) v.items) }
     ensures refused { IfErr result (IsStop (query_view path.now) (document_of T.tree T.custom value.now)) }
