@@ -1,5 +1,5 @@
 -- Every node of a nodelist is in the document: the value at its location is its tree.
-use Rattle.std.proofs.Common.{◌≡◌, ℕ, zero, suc, ◌+◌, ◌<◌, ℤ, List, [], ◌∷◌, ◌++◌, map, cond, length, get_or, refl, sym, ◌∙◌, ap, arith, Bool, true, false, not, ◌&&◌, ◌||◌, ◌≤◌, filter, subst, Option, Some, None, option_and_then, option_to_list, IsTrue}
+use Rattle.std.proofs.Common.{◌≡◌, ℕ, zero, suc, ◌+◌, ◌<◌, ℤ, List, [], ◌∷◌, ◌++◌, map, cond, length, get_or, refl, sym, ◌∙◌, ap, arith, Bool, true, false, not, ◌||◌, ◌≤◌, filter, subst, Option, Some, None, option_and_then, option_to_list, IsTrue}
 use Rattle.std.proofs.lemmas.Bool.{false≢true, and_parts}
 use Rattle.std.proofs.lemmas.List.{map-append}
 use Rattle.std.proofs.lemmas.Slice.Eq.{bytes_eq-Decides}
@@ -19,7 +19,7 @@ use Rattle.jsonpath_rust.specs.Meaning.{element, indexed, sliced, element_of, pi
 use Rattle.jsonpath_rust.specs.inner.Walking.{step_of}
 use Rattle.jsonpath_rust.specs.declared.query.way.StepRef.{StepRef}
 use Rattle.jsonpath_rust.specs.declared.query.way.StepRef.TheVariants.{Index}
-use Rattle.jsonpath_rust.proofs.Trees.{none_some, members_or, subtree-children}
+use Rattle.jsonpath_rust.proofs.Trees.{subtree-children}
 
 -- ---- what holds of each element
 
@@ -60,7 +60,7 @@ distinct_as t u e h =
     ap has_distinct_names (sym same) ∙ h
 
 item-distinct : (i : ℕ) (ts : Trees) (u : Tree) → item_at i ts ≡ Some u → IsTrue (trees_distinct ts) → IsTrue (has_distinct_names u)
-item-distinct i no_trees u e h = none_some u (sym e)
+item-distinct i no_trees u e h = cc
 item-distinct zero (base.tree t ts) u e h = distinct_as t u e (and_parts (has_distinct_names t) (trees_distinct ts) h).0
 item-distinct (suc i) (base.tree t ts) u e h = item-distinct i ts u e (and_parts (has_distinct_names t) (trees_distinct ts) h).1
 
@@ -69,23 +69,23 @@ found-distinct true t u rest k e h = distinct_as t u e h
 found-distinct false t u rest k e h = k e
 
 find-distinct : (k : List ℕ) (ms : Members) (u : Tree) → find k (pairs ms) ≡ Some u → IsTrue (members_distinct ms) → IsTrue (has_distinct_names u)
-find-distinct k no_members u e h = none_some u (sym e)
+find-distinct k no_members u e h = cc
 find-distinct k (base.member n t ms) u e h = found-distinct (bytes_eq k n) t u (find k (pairs ms)) (λ r. find-distinct k ms u r (and_parts (has_distinct_names t) (members_distinct ms) h).1) e (and_parts (has_distinct_names t) (members_distinct ms) h).0
 
 -- a child of a tree with distinct names has distinct names
 child-distinct : (s : Step) (t u : Tree) → child s t ≡ Some u → IsTrue (has_distinct_names t) → IsTrue (has_distinct_names u)
 child-distinct (name k) (object ms) u e h = find-distinct k ms u e (and_parts (are_distinct (map (λ m. m.0) (pairs ms))) (members_distinct ms) h).1
-child-distinct (name k) (list ts) u e h = none_some u (sym e)
-child-distinct (name k) null u e h = none_some u (sym e)
-child-distinct (name k) (truth b) u e h = none_some u (sym e)
-child-distinct (name k) (number n) u e h = none_some u (sym e)
-child-distinct (name k) (text s) u e h = none_some u (sym e)
+child-distinct (name k) (list ts) u e h = cc
+child-distinct (name k) null u e h = cc
+child-distinct (name k) (truth b) u e h = cc
+child-distinct (name k) (number n) u e h = cc
+child-distinct (name k) (text s) u e h = cc
 child-distinct (index i) (list ts) u e h = item-distinct i ts u e h
-child-distinct (index i) (object ms) u e h = none_some u (sym e)
-child-distinct (index i) null u e h = none_some u (sym e)
-child-distinct (index i) (truth b) u e h = none_some u (sym e)
-child-distinct (index i) (number n) u e h = none_some u (sym e)
-child-distinct (index i) (text s) u e h = none_some u (sym e)
+child-distinct (index i) (object ms) u e h = cc
+child-distinct (index i) null u e h = cc
+child-distinct (index i) (truth b) u e h = cc
+child-distinct (index i) (number n) u e h = cc
+child-distinct (index i) (text s) u e h = cc
 
 not_or : (a b : Bool) → IsTrue (not (a || b)) → (a ≡ false) × IsTrue (not b)
 not_or true b h = absurd (false≢true h)
@@ -253,12 +253,13 @@ each_at P f (y ∷ ys) (suc i) x h lt e = each_at P f ys i x h.1 (omega (arith, 
 members-found : (t : Tree) (ms : List (List ℕ × Tree)) → IsTrue (has_distinct_names t) → Some ms ≡ as_members t → AllByRecursion (λ m. get m.0 t ≡ Some m.1) ms
 members-found (object us) ms h e =
     let P : List (List ℕ × Tree) → Type 0 = AllByRecursion (λ m. find m.0 (pairs us) ≡ Some m.1) in
-    subst P (sym (ap members_or e)) (pairs-found (pairs us) (and_parts (are_distinct (map (λ m. m.0) (pairs us))) (members_distinct us) h).0)
-members-found (list us) ms h e = none_some ms e
-members-found null ms h e = none_some ms e
-members-found (truth b) ms h e = none_some ms e
-members-found (number n) ms h e = none_some ms e
-members-found (text s) ms h e = none_some ms e
+    let same : pairs us ≡ ms = cc in
+    subst P same (pairs-found (pairs us) (and_parts (are_distinct (map (λ m. m.0) (pairs us))) (members_distinct us) h).0)
+members-found (list us) ms h e = cc
+members-found null ms h e = cc
+members-found (truth b) ms h e = cc
+members-found (number n) ms h e = cc
+members-found (text s) ms h e = cc
 
 -- each pair of the list of members is found by its name
 pub member_there : {M : Type 0} (pair : M → List ℕ × Tree) (t : Tree) (xs : List M) (i : ℕ) (x : M) → IsTrue (has_distinct_names t) → Some (map pair xs) ≡ as_members t → i < length xs → x ≡ get_or xs i x → get (pair x).0 t ≡ Some (pair x).1

@@ -1,4 +1,4 @@
--- What is answered of the walk. The answers stand in three files, by the file of the code that they are about.
+-- What is answered of the walk. The answers stand in three files, by the file of the code that they are about; those of subqueries stand with the functions.
 use Rattle.jsonpath_rust.proofs.query.+walk.Answers.Walks as walk
 use Rattle.jsonpath_rust.proofs.query.+walk.Answers.Filters as filter
 use Rattle.jsonpath_rust.proofs.query.+walk.Answers.Functions as function

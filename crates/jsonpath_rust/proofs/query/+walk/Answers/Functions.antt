@@ -1,4 +1,4 @@
--- The answers of the calls of functions.
+-- The answers of functions and of subqueries.
 use Rattle.std.proofs.Common.{map, List, [], ◌∷◌, ◌++◌, append-nil, arith, Some, option_to_list, sym, ◌∙◌, ap, refl, subst, string_bytes}
 use Rattle.std.proofs.lemmas.List.Elements.{All-nil}
 use Rattle.jsonpath_parser.specs.View.{test_view, call_view, argument_view, query_view}
@@ -9,13 +9,13 @@ use Rattle.jsonpath_parser.specs.declared.model.FnArg.{FnArg}
 use Rattle.jsonpath_parser.proofs.ViewEquations.{argument_view-Literal, argument_view-Test, argument_view-Filter, test_view-RelQuery, test_view-AbsQuery, test_view-Function, call_view-Custom, call_view-Length, call_view-Value, call_view-Count, call_view-Search, call_view-Match, query_view-segments}
 use Rattle.jsonpath_base.specs.Tree.{truth}
 use Rattle.jsonpath_rust.specs.Functions as functions
-use Rattle.jsonpath_rust.specs.Functions.{length_of, only_value, is_true}
+use Rattle.jsonpath_rust.specs.Functions.{length_of, only_value}
 use Rattle.jsonpath_rust.specs.Meaning.{nodelist, answer, argument_value, test_value, argument_nodes, test_nodes, argument_trees, test_trees, all_trees}
 use Rattle.jsonpath_rust.proofs.Weight.{segments_weight, test_weight, call_weight, argument_weight, arguments_weight}
 use Rattle.jsonpath_rust.specs.Patterns.{IsStop, segments_patterns, test_patterns, call_patterns, argument_patterns, arguments_patterns}
 use Rattle.jsonpath_rust.specs.inner.Walking.{segments_in, arguments_in, through, node_of}
 use Rattle.jsonpath_rust.specs.inner.Sinks as sinks
-use Rattle.jsonpath_rust.specs.inner.Sinks.{seen, start, give, values_in}
+use Rattle.jsonpath_rust.specs.inner.Sinks.{start, give, values_in}
 use Rattle.jsonpath_rust.specs.inner.Keeping.{query_of, document, gathered}
 use Rattle.jsonpath_rust.specs.inner.Operands.{operand_tree, trees_of, AreWhole, is_entire}
 use Rattle.jsonpath_rust.specs.declared.query.way.StepRef.{StepRef}
