@@ -104,7 +104,7 @@ impl<'a, 's, T: Queryable> Cache<'a, 's, T> {
         &self.nodelists[index].nodes
     }
 
-    /// What was given.
+    /// The sink that the nodes were given to.
     #[inline(always)]
     pub fn given<'k>(&'k self, nodes: &'k Gathered<'a, T>) -> &'k Sink<'a, T>
         requires { IsGathered self.now nodes.now }

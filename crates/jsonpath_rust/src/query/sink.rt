@@ -179,7 +179,7 @@ impl<'a, T: Queryable> Sink<'a, T> {
     }
 }
 
-/// The next count.
+/// The count and one, up to [`GREATEST_COUNT`].
 #[inline(always)]
 fn one_more(count: usize) -> usize
     ensures { result ≡ min (suc count) 9223372036854775807 }

@@ -70,7 +70,7 @@ impl<'a, 's, T: Queryable> Operand<'a, 's, T> {
         }
     }
 
-    /// The text.
+    /// The text, where it is one.
     #[inline(always)]
     pub fn as_text(&self) -> Option<&str>
         requires { IsTrue (operand_is_whole T.is_whole self.now) }
@@ -84,7 +84,7 @@ impl<'a, 's, T: Queryable> Operand<'a, 's, T> {
         }
     }
 
-    /// The number.
+    /// The number, where it is one.
     #[inline(always)]
     pub fn as_number(&self) -> Option<i64>
         requires { IsTrue (operand_is_whole T.is_whole self.now) }

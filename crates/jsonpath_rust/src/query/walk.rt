@@ -378,7 +378,7 @@ fn at_child<'a: 's, 's, T: Queryable>(
     Ok(goes_on)
 }
 
-/// The action here.
+/// Does the action at this value, and gives the rest from each node that it makes of it.
 #[cycle(walk)]
 #[inline(always)]
 fn act<'a: 's, 's, T: Queryable>(
