@@ -7,7 +7,7 @@ use Rattle.std.specs.List.{AllByRecursion}
 use Rattle.jsonpath_parser.specs.Normal.{normal}
 use Rattle.jsonpath_base.specs.Tree.{Tree, number}
 use Rattle.jsonpath_rust.specs.Node.{Node, has_node}
-use Rattle.jsonpath_rust.specs.Functions.{counted, count_of, only_value}
+use Rattle.jsonpath_rust.specs.Functions.{count_value, count_of, only_value}
 use Rattle.jsonpath_rust.specs.inner.Sinks as sinks
 use Rattle.jsonpath_rust.specs.inner.Sinks.{Seen, nodes, paths, values, any, count, nothing, one, several, add, give, full, any_in, only_in, nodes_in, nodes_whole, paths_in, values_in, values_whole, answer_of, Took}
 
@@ -67,8 +67,8 @@ give-count k (n ∷ ns) h = give-count (min (suc k) 9223372036854775807) ns (ome
 twice : (n : ℕ) → min (min (0 + n) 9223372036854775807) 9223372036854775807 ≡ min n 9223372036854775807
 twice n = omega arith
 
-pub counted_all : (ns : List Node) → Some (counted (sinks.count_in (give (count 0) ns))) ≡ count_of ns
-counted_all ns = ap (λ s. Some (counted (sinks.count_in s))) (give-count 0 ns (omega arith)) ∙ ap (λ k. Some (number (pos k))) (twice (length ns))
+pub counted_all : (ns : List Node) → Some (count_value (sinks.count_in (give (count 0) ns))) ≡ count_of ns
+counted_all ns = ap (λ s. Some (count_value (sinks.count_in s))) (give-count 0 ns (omega arith)) ∙ ap (λ k. Some (number (pos k))) (twice (length ns))
 
 -- the tree of the only node, which is whole
 pub only_all : (ns : List Node) → option_map (λ p. p.1) (only_in (give nothing ns)) ≡ only_value ns

@@ -33,13 +33,13 @@ operand_is_whole w (operand.Lent v) = w v.now
 operand_is_whole w (operand.Made v) = w v
 operand_is_whole w (operand.Plain s) = true
 
-abbrev pub operator_of : Sign → Operator
-operator_of sign.Eq = equal
-operator_of sign.Ne = not_equal
-operator_of sign.Gt = greater
-operator_of sign.Gte = greater_or_equal
-operator_of sign.Lt = less
-operator_of sign.Lte = less_or_equal
+abbrev pub sign_operator : Sign → Operator
+sign_operator sign.Eq = equal
+sign_operator sign.Ne = not_equal
+sign_operator sign.Gt = greater
+sign_operator sign.Gte = greater_or_equal
+sign_operator sign.Lt = less
+sign_operator sign.Lte = less_or_equal
 
 -- whether a pattern has to match the entire text
 abbrev pub is_entire : Extent → Bool
@@ -47,8 +47,8 @@ is_entire Entire = true
 is_entire Substring = false
 
 -- the arguments of a custom function
-abbrev pub trees_of : {A : Type 0} → (A → Tree) → List (Arg A) → List Tree
-trees_of t args = map (λ a. t (arg_value a)) args
+abbrev pub arg_trees : {A : Type 0} → (A → Tree) → List (Arg A) → List Tree
+arg_trees t args = map (λ a. t (arg_value a)) args
 
 abbrev pub AreWhole : {A : Type 0} → (A → Bool) → List (Arg A) → Type 0
 AreWhole w args = All (λ a. IsTrue (w (arg_value a))) args

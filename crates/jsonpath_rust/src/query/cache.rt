@@ -5,7 +5,7 @@ ghost use Rattle.jsonpath_parser.specs.declared.errors.JsonPathError.TheVariants
 ghost use Rattle.jsonpath_base.specs.Pattern.{found};
 ghost use Rattle.jsonpath_rust.specs.Document.{Document};
 ghost use Rattle.jsonpath_rust.specs.Meaning.{nodelist};
-ghost use Rattle.jsonpath_rust.specs.Functions.{is_found};
+ghost use Rattle.jsonpath_rust.specs.Functions.{is_matched};
 ghost use Rattle.jsonpath_rust.specs.inner.Operands.{operand_tree, operand_is_whole, is_entire};
 ghost use Rattle.jsonpath_rust.specs.Patterns.{IsInvalid, IsPattern};
 ghost use Rattle.jsonpath_rust.specs.inner.Sinks.{seen, start, give};
@@ -118,7 +118,7 @@ impl<'a, 's, T: Queryable> Cache<'a, 's, T> {
 
     /// Whether the pattern is found in the text, as all of it or somewhere. Patterns that stand in the query were read
     /// before, and of others the last is kept.
-    pub fn is_found(
+    pub fn is_matched(
         &mut self,
         alloc: Global,
         text: &Operand<'a, 's, T>,
@@ -128,7 +128,7 @@ impl<'a, 's, T: Queryable> Cache<'a, 's, T> {
     ) -> Queried<bool>
         requires text { IsTrue (operand_is_whole T.is_whole text.now) }
         requires pattern { IsTrue (operand_is_whole T.is_whole pattern.now) }
-        ensures value { IfOk result (λ b. b ≡ is_found (is_entire extent) (operand_tree T.tree text.now) (operand_tree T.tree pattern.now)) }
+        ensures value { IfOk result (λ b. b ≡ is_matched (is_entire extent) (operand_tree T.tree text.now) (operand_tree T.tree pattern.now)) }
         ensures keeps { OnOk result (nodelists_of self.new ≡ nodelists_of self.old) }
         ensures refused { IfErr result (λ e. (e ≡ OutOfMemory → ⊥) → IsInvalid e × IsPattern (is_entire extent) (operand_tree T.tree pattern.now)) }
     {

@@ -4,7 +4,7 @@ ghost use Rattle.jsonpath_parser.specs.Syntax.{compare};
 ghost use Rattle.jsonpath_parser.specs.View.{comparison_view, comparable_view};
 ghost use Rattle.jsonpath_base.specs.Same.{same};
 ghost use Rattle.jsonpath_rust.specs.Comparing.{are_equal, is_below, compares};
-ghost use Rattle.jsonpath_rust.specs.inner.Operands.{scalar_tree, operand_tree, operand_is_whole, operator_of};
+ghost use Rattle.jsonpath_rust.specs.inner.Operands.{scalar_tree, operand_tree, operand_is_whole, sign_operator};
 
 use crate::query::queryable::Queryable;
 use crate::query::value::{Operand, Scalar};
@@ -25,7 +25,7 @@ pub enum Sign {
 /// The operator of a comparison and its two sides.
 #[inline(always)]
 pub fn sides(comparison: &Comparison) -> (Sign, &Comparable, &Comparable)
-    ensures { comparison_view comparison.now ≡ compare (operator_of result.0) (comparable_view result.1.now) (comparable_view result.2.now) }
+    ensures { comparison_view comparison.now ≡ compare (sign_operator result.0) (comparable_view result.1.now) (comparable_view result.2.now) }
 {
     match comparison {
         Comparison::Eq(left, right) => (Sign::Eq, left, right),
@@ -45,7 +45,7 @@ pub fn compares<'a, 's, T: Queryable>(
 ) -> bool
     requires left { IsTrue (operand_is_whole T.is_whole left.now) }
     requires right { IsTrue (operand_is_whole T.is_whole right.now) }
-    ensures { result ≡ compares (operator_of sign) (operand_tree T.tree left.now) (operand_tree T.tree right.now) }
+    ensures { result ≡ compares (sign_operator sign) (operand_tree T.tree left.now) (operand_tree T.tree right.now) }
 {
     match sign {
         Sign::Eq => are_equal(left, right),

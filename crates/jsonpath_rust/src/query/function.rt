@@ -2,9 +2,9 @@
 ghost use Rattle.std.specs.Prelude.{◌≡◌, ◌≤◌, ◌∷◌, ◌++◌, Some, string_bytes, IsTrue, IfOk, IfErr, OnOk};
 ghost use Rattle.jsonpath_parser.specs.View.{call_view, argument_view, test_view};
 ghost use Rattle.jsonpath_base.specs.Tree.{truth};
-ghost use Rattle.jsonpath_rust.specs.Functions.{is_found, count_of, only_value};
+ghost use Rattle.jsonpath_rust.specs.Functions.{is_matched, count_of, only_value};
 ghost use Rattle.jsonpath_rust.specs.Meaning.{answer, argument_value, test_value, argument_nodes, test_nodes, argument_trees, test_trees, all_trees};
-ghost use Rattle.jsonpath_rust.specs.inner.Operands.{operand_tree, operand_is_whole, trees_of, AreWhole, is_entire};
+ghost use Rattle.jsonpath_rust.specs.inner.Operands.{operand_tree, operand_is_whole, arg_trees, AreWhole, is_entire};
 ghost use Rattle.jsonpath_rust.specs.inner.Sinks.{start, give};
 ghost use Rattle.jsonpath_rust.specs.inner.Size.{size};
 ghost use Rattle.jsonpath_rust.specs.Patterns.{IsStop, call_patterns, argument_patterns, arguments_patterns, test_patterns};
@@ -133,7 +133,7 @@ fn match_or_search<'a: 's, 's, T: Queryable>(
     requires here { LeadTo T.tree way.old.steps.items task.now.root.now at.now }
     requires part { StandIn (query_of task.now) ((is_entire extent, argument_view pattern.now) ∷ (argument_patterns (argument_view text.now) ++ argument_patterns (argument_view pattern.now))) }
     requires ready { IsReady T.tree T.is_whole T.custom task.now cache.old }
-    ensures value { IfOk result (λ o. operand_tree T.tree o ≡ Some (truth (is_found (is_entire extent) (argument_value (argument_view text.now) (document T.tree T.custom task.now) (node_of T.tree way.old.steps.items at.now)) (argument_value (argument_view pattern.now) (document T.tree T.custom task.now) (node_of T.tree way.old.steps.items at.now))))) }
+    ensures value { IfOk result (λ o. operand_tree T.tree o ≡ Some (truth (is_matched (is_entire extent) (argument_value (argument_view text.now) (document T.tree T.custom task.now) (node_of T.tree way.old.steps.items at.now)) (argument_value (argument_view pattern.now) (document T.tree T.custom task.now) (node_of T.tree way.old.steps.items at.now))))) }
     ensures whole { IfOk result (λ o. IsTrue (operand_is_whole T.is_whole o)) }
     ensures same { OnOk result (way.new.steps.items ≡ way.old.steps.items) }
     ensures keeps { OnOk result (IsReady T.tree T.is_whole T.custom task.now cache.new) }
@@ -142,7 +142,7 @@ fn match_or_search<'a: 's, 's, T: Queryable>(
     let is_literal = matches!(pattern, FnArg::Literal(_));
     let text = argument_value(task, text, at, way, cache)?;
     let pattern = argument_value(task, pattern, at, way, cache)?;
-    let found = cache.is_found(task.alloc, &text, &pattern, extent, is_literal)?;
+    let found = cache.is_matched(task.alloc, &text, &pattern, extent, is_literal)?;
     Ok(Operand::Plain(Scalar::Truth(found)))
 }
 
@@ -190,7 +190,7 @@ fn push_argument<'a: 's, 's, T: Queryable>(
     requires part { StandIn (query_of task.now) (argument_patterns (argument_view arg.now)) }
     requires ready { IsReady T.tree T.is_whole T.custom task.now cache.old }
     requires others { AreWhole T.is_whole values.old.items }
-    ensures value { OnOk result (trees_of T.tree values.new.items ≡ trees_of T.tree values.old.items ++ argument_trees (argument_view arg.now) (document T.tree T.custom task.now) (node_of T.tree way.old.steps.items at.now)) }
+    ensures value { OnOk result (arg_trees T.tree values.new.items ≡ arg_trees T.tree values.old.items ++ argument_trees (argument_view arg.now) (document T.tree T.custom task.now) (node_of T.tree way.old.steps.items at.now)) }
     ensures whole { OnOk result (AreWhole T.is_whole values.new.items) }
     ensures same { OnOk result (way.new.steps.items ≡ way.old.steps.items) }
     ensures keeps { OnOk result (IsReady T.tree T.is_whole T.custom task.now cache.new) }
@@ -222,7 +222,7 @@ fn push_test<'a: 's, 's, T: Queryable>(
     requires part { StandIn (query_of task.now) (test_patterns (test_view test.now)) }
     requires ready { IsReady T.tree T.is_whole T.custom task.now cache.old }
     requires others { AreWhole T.is_whole values.old.items }
-    ensures value { OnOk result (trees_of T.tree values.new.items ≡ trees_of T.tree values.old.items ++ test_trees (test_view test.now) (document T.tree T.custom task.now) (node_of T.tree way.old.steps.items at.now)) }
+    ensures value { OnOk result (arg_trees T.tree values.new.items ≡ arg_trees T.tree values.old.items ++ test_trees (test_view test.now) (document T.tree T.custom task.now) (node_of T.tree way.old.steps.items at.now)) }
     ensures whole { OnOk result (AreWhole T.is_whole values.new.items) }
     ensures same { OnOk result (way.new.steps.items ≡ way.old.steps.items) }
     ensures keeps { OnOk result (IsReady T.tree T.is_whole T.custom task.now cache.new) }

@@ -3,10 +3,10 @@ ghost use Rattle.std.specs.Prelude.{◌≡◌, ◌++◌, [], ◌∷◌, Some, Is
 ghost use Rattle.jsonpath_parser.specs.View.{literal_view};
 ghost use Rattle.jsonpath_parser.specs.declared.errors.JsonPathError.TheVariants.{OutOfMemory};
 ghost use Rattle.jsonpath_base.specs.Tree.{as_text, as_int};
-ghost use Rattle.jsonpath_rust.specs.Functions.{length_of, counted, is_true};
+ghost use Rattle.jsonpath_rust.specs.Functions.{length_of, count_value, is_true};
 ghost use Rattle.jsonpath_rust.specs.Meaning.{literal_tree};
 ghost use Rattle.jsonpath_rust.specs.inner.Sinks.{seen, values_in, ValuesAreWhole};
-ghost use Rattle.jsonpath_rust.specs.inner.Operands.{scalar_tree, operand_tree, operand_is_whole, trees_of, AreWhole};
+ghost use Rattle.jsonpath_rust.specs.inner.Operands.{scalar_tree, operand_tree, operand_is_whole, arg_trees, AreWhole};
 
 use crate::query::Queried;
 use crate::query::queryable::{Arg, Queryable};
@@ -51,7 +51,7 @@ pub fn scalar_of(literal: &Literal) -> Scalar<'_>
 /// A count as a value.
 #[inline(always)]
 pub fn count_scalar<'s>(count: usize) -> Scalar<'s>
-    ensures { scalar_tree result ≡ counted count }
+    ensures { scalar_tree result ≡ count_value count }
 {
     Scalar::Number(count.min(GREATEST_COUNT) as i64)
 }
@@ -133,7 +133,7 @@ impl<'a, 's, T: Queryable> Operand<'a, 's, T> {
     pub fn push_to(self, alloc: Global, args: &mut Vec<Arg<'a, T>>) -> Queried<()>
         requires own { IsTrue (operand_is_whole T.is_whole self) }
         requires others { AreWhole T.is_whole args.old.items }
-        ensures value { OnOk result (trees_of T.tree args.new.items ≡ trees_of T.tree args.old.items ++ option_to_list (operand_tree T.tree self.entry)) }
+        ensures value { OnOk result (arg_trees T.tree args.new.items ≡ arg_trees T.tree args.old.items ++ option_to_list (operand_tree T.tree self.entry)) }
         ensures whole { OnOk result (AreWhole T.is_whole args.new.items) }
         ensures memory { IfErr result (λ e. e ≡ OutOfMemory) }
     {
@@ -159,7 +159,7 @@ pub fn push_scalar<'a, T: Queryable>(
     args: &mut Vec<Arg<'a, T>>,
 ) -> Queried<()>
     requires { AreWhole T.is_whole args.old.items }
-    ensures value { OnOk result (trees_of T.tree args.new.items ≡ trees_of T.tree args.old.items ++ scalar_tree scalar.entry ∷ []) }
+    ensures value { OnOk result (arg_trees T.tree args.new.items ≡ arg_trees T.tree args.old.items ++ scalar_tree scalar.entry ∷ []) }
     ensures whole { OnOk result (AreWhole T.is_whole args.new.items) }
     ensures memory { IfErr result (λ e. e ≡ OutOfMemory) }
 {
@@ -172,7 +172,7 @@ pub fn push_scalar<'a, T: Queryable>(
 pub fn push_values<'a, T: Queryable>(nodes: &Sink<'a, T>, args: &mut Vec<Arg<'a, T>>) -> Queried<()>
     requires nodes { ValuesAreWhole (seen T.tree T.is_whole nodes.now) }
     requires others { AreWhole T.is_whole args.old.items }
-    ensures value { OnOk result (trees_of T.tree args.new.items ≡ trees_of T.tree args.old.items ++ values_in (seen T.tree T.is_whole nodes.now)) }
+    ensures value { OnOk result (arg_trees T.tree args.new.items ≡ arg_trees T.tree args.old.items ++ values_in (seen T.tree T.is_whole nodes.now)) }
     ensures whole { OnOk result (AreWhole T.is_whole args.new.items) }
     ensures memory { IfErr result (λ e. e ≡ OutOfMemory) }
 {

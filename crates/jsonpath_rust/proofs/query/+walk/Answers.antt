@@ -346,11 +346,11 @@ pub «function::match_or_search-argument_value-requires» : goal.«function::mat
 pub «function::match_or_search-argument_value-requires-2» : goal.«function::match_or_search-argument_value-requires-2»
 «function::match_or_search-argument_value-requires-2» = function.«function::match_or_search-argument_value-requires-2»
 
-pub «function::match_or_search-is_found-requires-clause-text» : goal.«function::match_or_search-is_found-requires-clause-text»
-«function::match_or_search-is_found-requires-clause-text» = function.«function::match_or_search-is_found-requires-clause-text»
+pub «function::match_or_search-is_matched-requires-clause-text» : goal.«function::match_or_search-is_matched-requires-clause-text»
+«function::match_or_search-is_matched-requires-clause-text» = function.«function::match_or_search-is_matched-requires-clause-text»
 
-pub «function::match_or_search-is_found-requires-clause-pattern» : goal.«function::match_or_search-is_found-requires-clause-pattern»
-«function::match_or_search-is_found-requires-clause-pattern» = function.«function::match_or_search-is_found-requires-clause-pattern»
+pub «function::match_or_search-is_matched-requires-clause-pattern» : goal.«function::match_or_search-is_matched-requires-clause-pattern»
+«function::match_or_search-is_matched-requires-clause-pattern» = function.«function::match_or_search-is_matched-requires-clause-pattern»
 
 pub «function::match_or_search-returns-clause-value» : goal.«function::match_or_search-returns-clause-value»
 «function::match_or_search-returns-clause-value» = function.«function::match_or_search-returns-clause-value»

@@ -8,7 +8,7 @@ use Rattle.jsonpath_rust.specs.Meaning.{all_pick, element, some_holds, each_hold
 use Rattle.jsonpath_rust.specs.inner.Walking.{segments_in, selectors_in, filters_in, arguments_in, through, node_of, acted}
 use Rattle.jsonpath_rust.specs.inner.Sinks.{seen, give}
 use Rattle.jsonpath_rust.specs.inner.Keeping.{IsReady, document}
-use Rattle.jsonpath_rust.specs.inner.Operands.{trees_of, AreWhole}
+use Rattle.jsonpath_rust.specs.inner.Operands.{arg_trees, AreWhole}
 use Rattle.jsonpath_rust.specs.inner.Size.{size}
 use Rattle.jsonpath_rust.proofs.Weight.{work, action_weight, segments_weight, segment_weight, selectors_weight, selector_weight, filter_weight, filters_weight, atom_weight, test_weight, comparison_weight, comparable_weight, call_weight, argument_weight, arguments_weight}
 use Rattle.jsonpath_rust.proofs.query.+walk.Given as goal
@@ -187,6 +187,6 @@ abbrev pub «invariant-function::custom-loop-arg» : goal.«invariant-function::
     record {
       same : l.way.steps.items ≡ l.initial.way.steps.items;
       ready : IsReady tree whole g.T.Queryable.custom l.task l.cache;
-      trees : trees_of tree l.values.items ++ all_trees (arguments_in (drop l.arg-index l.args)) d n ≡ all_trees (arguments_in l.args) d n;
+      trees : arg_trees tree l.values.items ++ all_trees (arguments_in (drop l.arg-index l.args)) d n ≡ all_trees (arguments_in l.args) d n;
       whole : AreWhole whole l.values.items;
     }

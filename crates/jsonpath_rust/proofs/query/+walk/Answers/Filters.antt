@@ -16,7 +16,7 @@ use Rattle.jsonpath_rust.specs.Patterns.{segments_patterns, filter_patterns, fil
 use Rattle.jsonpath_rust.specs.inner.Walking.{segments_in, filters_in, through, node_of}
 use Rattle.jsonpath_rust.specs.inner.Sinks.{any_in}
 use Rattle.jsonpath_rust.specs.inner.Keeping.{document}
-use Rattle.jsonpath_rust.specs.inner.Operands.{operand_tree, operator_of}
+use Rattle.jsonpath_rust.specs.inner.Operands.{operand_tree, sign_operator}
 use Rattle.jsonpath_rust.proofs.Sinks.{any_given}
 use Rattle.jsonpath_rust.proofs.Walks.{down}
 use Rattle.jsonpath_rust.proofs.NodesAt.{leads_as}
@@ -251,7 +251,7 @@ pub «filter::comparison_holds-returns-clause-holds» : goal.«filter::compariso
     let d = document tree custom c.args.task.now in
     let n = node_of tree c.args.way.now.steps.items c.args.at.now in
     let s = c.sides-sign.ensures in
-    let op = operator_of c.sides-sign.result.0 in
+    let op = sign_operator c.sides-sign.result.0 in
     let right = c.in_ok-right.ensures.value ∙ ap (λ q. value_of (comparable_view c.sides-sign.result.2.now) d (node_of tree q c.args.at.now)) c.in_ok-left.ensures.same in
     c.compares.ensures ∙ ap (λ o. compares op o (operand_tree tree c.in_ok-right.right)) c.in_ok-left.ensures.value ∙ ap (compares op (value_of (comparable_view c.sides-sign.result.1.now) d n)) right ∙ sym (ap (λ x. comparison_holds x d n) s)
 

@@ -17,7 +17,7 @@ use Rattle.jsonpath_rust.specs.inner.Walking.{segments_in, arguments_in, through
 use Rattle.jsonpath_rust.specs.inner.Sinks as sinks
 use Rattle.jsonpath_rust.specs.inner.Sinks.{start, give, values_in}
 use Rattle.jsonpath_rust.specs.inner.Keeping.{query_of, document, gathered}
-use Rattle.jsonpath_rust.specs.inner.Operands.{operand_tree, trees_of, AreWhole, is_entire}
+use Rattle.jsonpath_rust.specs.inner.Operands.{operand_tree, arg_trees, AreWhole, is_entire}
 use Rattle.jsonpath_rust.specs.declared.query.way.StepRef.{StepRef}
 use Rattle.jsonpath_rust.proofs.Sinks.{counted_all, values_all}
 use Rattle.jsonpath_rust.proofs.Walks.{down, down_tree}
@@ -128,7 +128,7 @@ pub «function::only_value-given-requires» : goal.«function::only_value-given-
 
 pub «function::count-returns-clause-value» : goal.«function::count-returns-clause-value»
 «function::count-returns-clause-value» g t c =
-    ap (λ x. Some x) c.count_scalar.ensures ∙ ap (λ k. Some (functions.counted k)) (c.counted.ensures ∙ ap sinks.count_in (c.given.ensures ∙ c.in_ok-nodes.ensures.given)) ∙ counted_all _
+    ap (λ x. Some x) c.count_scalar.ensures ∙ ap (λ k. Some (functions.count_value k)) (c.counted.ensures ∙ ap sinks.count_in (c.given.ensures ∙ c.in_ok-nodes.ensures.given)) ∙ counted_all _
 
 pub «function::only_value-lent-requires» : goal.«function::only_value-lent-requires»
 «function::only_value-lent-requires» g t c =
@@ -154,11 +154,11 @@ pub «function::match_or_search-argument_value-requires» : goal.«function::mat
 pub «function::match_or_search-argument_value-requires-2» : goal.«function::match_or_search-argument_value-requires-2»
 «function::match_or_search-argument_value-requires-2» g t c κs within = (down _ _ _ _ _ _ c.decreases (omega arith) (omega (arith, c.requires.within)), (within, (c.requires.whole, (c.requires.within, (leads_as _ _ _ _ c.in_ok-text.ensures.same c.requires.here, (part_right _ _ _ (part_rest _ _ _ c.requires.part), c.in_ok-text.ensures.keeps))))))
 
-pub «function::match_or_search-is_found-requires-clause-text» : goal.«function::match_or_search-is_found-requires-clause-text»
-«function::match_or_search-is_found-requires-clause-text» g t c = c.in_ok-text.ensures.whole
+pub «function::match_or_search-is_matched-requires-clause-text» : goal.«function::match_or_search-is_matched-requires-clause-text»
+«function::match_or_search-is_matched-requires-clause-text» g t c = c.in_ok-text.ensures.whole
 
-pub «function::match_or_search-is_found-requires-clause-pattern» : goal.«function::match_or_search-is_found-requires-clause-pattern»
-«function::match_or_search-is_found-requires-clause-pattern» g t c = c.in_ok-pattern.ensures.whole
+pub «function::match_or_search-is_matched-requires-clause-pattern» : goal.«function::match_or_search-is_matched-requires-clause-pattern»
+«function::match_or_search-is_matched-requires-clause-pattern» g t c = c.in_ok-pattern.ensures.whole
 
 pub «function::match_or_search-returns-clause-value» : goal.«function::match_or_search-returns-clause-value»
 «function::match_or_search-returns-clause-value» g t c =
@@ -167,7 +167,7 @@ pub «function::match_or_search-returns-clause-value» : goal.«function::match_
     let d = document tree custom c.args.task.now in
     let n = node_of tree c.args.way.now.steps.items c.args.at.now in
     let pattern = c.in_ok-pattern.ensures.value ∙ ap (λ q. argument_value (argument_view c.args.pattern.now) d (node_of tree q c.args.at.now)) c.in_ok-text.ensures.same in
-    ap (λ b. Some (truth b)) (c.in_ok-found.ensures.value ∙ ap (λ o. functions.is_found (is_entire c.args.extent) o (operand_tree tree c.in_ok-pattern.pattern)) c.in_ok-text.ensures.value ∙ ap (functions.is_found (is_entire c.args.extent) (argument_value (argument_view c.args.text.now) d n)) pattern)
+    ap (λ b. Some (truth b)) (c.in_ok-found.ensures.value ∙ ap (λ o. functions.is_matched (is_entire c.args.extent) o (operand_tree tree c.in_ok-pattern.pattern)) c.in_ok-text.ensures.value ∙ ap (functions.is_matched (is_entire c.args.extent) (argument_value (argument_view c.args.text.now) d n)) pattern)
 
 pub «function::match_or_search-returns-clause-keeps» : goal.«function::match_or_search-returns-clause-keeps»
 «function::match_or_search-returns-clause-keeps» g t c =
@@ -198,7 +198,7 @@ pub «function::custom-loop-arg-init» : goal.«function::custom-loop-arg-init»
     let custom = g.T.Queryable.custom in
     let d = document tree custom c.args.task.now in
     let n = node_of tree c.args.way.now.steps.items c.args.at.now in
-    record { same = refl; ready = c.requires.ready; trees = ap (λ xs. trees_of tree xs ++ all_trees (arguments_in c.args.args.now) d n) c.new-values.ensures.items; whole = subst (AreWhole whole) (sym c.new-values.ensures.items) (All-nil _) }
+    record { same = refl; ready = c.requires.ready; trees = ap (λ xs. arg_trees tree xs ++ all_trees (arguments_in c.args.args.now) d n) c.new-values.ensures.items; whole = subst (AreWhole whole) (sym c.new-values.ensures.items) (All-nil _) }
 
 pub «function::custom-loop-arg-preserved» : goal.«function::custom-loop-arg-preserved»
 «function::custom-loop-arg-preserved» g t c =
@@ -209,7 +209,7 @@ pub «function::custom-loop-arg-preserved» : goal.«function::custom-loop-arg-p
     let n = node_of tree c.args.way.now.steps.items c.args.at.now in
     let inv = c.loop-arg.invariant in
     let item = c.arg-item.result in
-    let was = trees_of tree c.loop-arg.values.items in
+    let was = arg_trees tree c.loop-arg.values.items in
     let ok = c.in_ok-push_argument.ensures in
     let more = ok.value ∙ ap (λ q. was ++ argument_trees (argument_view item) d (node_of tree q c.args.at.now)) inv.same in
     record { same = ok.same ∙ inv.same; ready = ok.keeps; trees = joined_next (λ (xs : List FnArg). all_trees (arguments_in xs) d n) (λ a. argument_trees (argument_view a) d n) (λ x xs. refl) c.args.args.now c.loop-arg.arg-index item was _ _ c.loop-arg-test.true c.arg-item.is more inv.trees; whole = ok.whole }
@@ -221,10 +221,10 @@ pub «function::custom-returns-clause-value» : goal.«function::custom-returns-
     let d = document tree custom c.args.task.now in
     let n = node_of tree c.args.way.now.steps.items c.args.at.now in
     let inv = c.loop-arg.invariant in
-    let all = trees_of tree c.loop-arg.values.items in
+    let all = arg_trees tree c.loop-arg.values.items in
     let end = sym (append-nil all) ∙ parts_end (λ (xs : List FnArg). all ++ all_trees (arguments_in xs) d n) c.args.args.now c.loop-arg.arg-index _ c.loop-arg-test.false inv.trees in
     let nm = string_bytes c.args.name.now in
-    ap (λ x. Some x) (c.in_ok-extension_custom.ensures.value ∙ ap (λ k. custom k (trees_of tree c.deref-2.result.now)) c.deref.ensures ∙ ap (λ xs. custom nm (trees_of tree xs)) c.deref-2.ensures.value ∙ ap (custom nm) end)
+    ap (λ x. Some x) (c.in_ok-extension_custom.ensures.value ∙ ap (λ k. custom k (arg_trees tree c.deref-2.result.now)) c.deref.ensures ∙ ap (λ xs. custom nm (arg_trees tree xs)) c.deref-2.ensures.value ∙ ap (custom nm) end)
 
 pub «function::push_argument-push_scalar-requires» : goal.«function::push_argument-push_scalar-requires»
 «function::push_argument-push_scalar-requires» g t c = c.requires.others
@@ -249,7 +249,7 @@ pub «function::push_argument-returns-in-Literal-clause-value» : goal.«functio
     let d = document tree custom c.args.task.now in
     let n = node_of tree c.args.way.now.steps.items c.args.at.now in
     let e = ap argument_view c.in-Literal.is ∙ argument_view-Literal c.in-Literal.literal in
-    let old = trees_of tree c.args.values.now.items in
+    let old = arg_trees tree c.args.values.now.items in
     on_ok_as _ _ _ _ (ap (λ x. old ++ x ∷ []) c.scalar_of.ensures ∙ sym (ap (λ a. old ++ argument_trees a d n) e)) c.push_scalar.ensures.value
 
 pub «function::push_argument-returns-in-Test-clause-value» : goal.«function::push_argument-returns-in-Test-clause-value»
@@ -259,7 +259,7 @@ pub «function::push_argument-returns-in-Test-clause-value» : goal.«function::
     let d = document tree custom c.args.task.now in
     let n = node_of tree c.args.way.now.steps.items c.args.at.now in
     let e = ap argument_view c.in-Test.is ∙ argument_view-Test c.in-Test.test in
-    let old = trees_of tree c.args.values.now.items in
+    let old = arg_trees tree c.args.values.now.items in
     on_ok_as _ _ _ _ (ap (λ (q : Test). old ++ test_trees (test_view q) d n) c.deref.ensures ∙ sym (ap (λ a. old ++ argument_trees a d n) e)) c.push_test.ensures.value
 
 pub «function::push_argument-returns-in_ok-truth-in-Filter-clause-value» : goal.«function::push_argument-returns-in_ok-truth-in-Filter-clause-value»
@@ -269,7 +269,7 @@ pub «function::push_argument-returns-in_ok-truth-in-Filter-clause-value» : goa
     let d = document tree custom c.args.task.now in
     let n = node_of tree c.args.way.now.steps.items c.args.at.now in
     let e = ap argument_view c.in-Filter.is ∙ argument_view-Filter c.in-Filter.filter in
-    let old = trees_of tree c.args.values.now.items in
+    let old = arg_trees tree c.args.values.now.items in
     on_ok_as _ _ _ _ (ap (λ b. old ++ truth b ∷ []) c.in_ok-truth-in-Filter.ensures.holds ∙ sym (ap (λ a. old ++ argument_trees a d n) e)) c.push_scalar-in-Filter.ensures.value
 
 pub «function::push_test-gather-requires» : goal.«function::push_test-gather-requires»
@@ -325,7 +325,7 @@ pub «function::push_test-returns-in_ok-nodes-in-RelQuery-clause-value» : goal.
     let n = node_of tree c.args.way.now.steps.items c.args.at.now in
     let e = ap test_view c.in-RelQuery.is ∙ test_view-RelQuery c.in-RelQuery.segments in
     let ns = ap (λ (gs : List Segment). through (segments_in gs) d n) c.deref.ensures.value ∙ through-applied (segments_in c.in-RelQuery.segments.items) d n in
-    let old = trees_of tree c.args.values.now.items in
+    let old = arg_trees tree c.args.values.now.items in
     on_ok_as _ _ _ _ (ap (λ ts. old ++ ts) (ap values_in c.in_ok-nodes-in-RelQuery.ensures.given ∙ values_all _ ∙ ap (λ ms. map (λ m. m.tree) ms) ns) ∙ sym (ap (λ q. old ++ test_trees q d n) e)) c.push_values.ensures.value
 
 pub «function::push_test-returns-in_ok-index-in-AbsQuery-clause-value» : goal.«function::push_test-returns-in_ok-index-in-AbsQuery-clause-value»
@@ -335,7 +335,7 @@ pub «function::push_test-returns-in_ok-index-in-AbsQuery-clause-value» : goal.
     let d = document tree custom c.args.task.now in
     let n = node_of tree c.args.way.now.steps.items c.args.at.now in
     let e = ap test_view c.in-AbsQuery.is ∙ test_view-AbsQuery c.in-AbsQuery.query in
-    let old = trees_of tree c.args.values.now.items in
+    let old = arg_trees tree c.args.values.now.items in
     on_ok_as _ _ _ _ (ap (λ ts. old ++ ts) (ap values_in (c.nodelist.ensures ∙ c.in_ok-index-in-AbsQuery.ensures.right) ∙ values_all _) ∙ sym (ap (λ q. old ++ test_trees q d n) e)) c.push_values-in-AbsQuery.ensures.value
 
 pub «function::push_test-returns-in_ok-answer-in-Function-clause-value» : goal.«function::push_test-returns-in_ok-answer-in-Function-clause-value»
@@ -345,7 +345,7 @@ pub «function::push_test-returns-in_ok-answer-in-Function-clause-value» : goal
     let d = document tree custom c.args.task.now in
     let n = node_of tree c.args.way.now.steps.items c.args.at.now in
     let e = ap test_view c.in-Function.is ∙ test_view-Function c.in-Function.function in
-    let old = trees_of tree c.args.values.now.items in
+    let old = arg_trees tree c.args.values.now.items in
     on_ok_as _ _ _ _ (ap (λ o. old ++ option_to_list o) (c.in_ok-answer-in-Function.ensures.value ∙ ap (λ (f : TestFunction). answer (call_view f) d n) c.deref-in-Function.ensures) ∙ sym (ap (λ q. old ++ test_trees q d n) e)) c.push_to.ensures.value
 
 pub «function::argument_value-test_value-requires» : goal.«function::argument_value-test_value-requires»
