@@ -15,6 +15,7 @@ mod filter;
 mod function;
 mod patterns;
 pub mod queryable;
+mod selector;
 mod singular;
 mod sink;
 mod subquery;

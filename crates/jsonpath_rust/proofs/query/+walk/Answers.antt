@@ -1,4 +1,4 @@
--- What is answered of the walk. The answers stand in three files, by the file of the code that they are about; those of subqueries stand with the functions.
+-- What is answered of the walk. The answers stand in three files, by the file of the code that they are about; those of selectors stand with the walk, those of subqueries with the functions.
 use Rattle.jsonpath_rust.proofs.query.+walk.Answers.Walks as walk
 use Rattle.jsonpath_rust.proofs.query.+walk.Answers.Filters as filter
 use Rattle.jsonpath_rust.proofs.query.+walk.Answers.Functions as function
@@ -91,74 +91,74 @@ pub «walk::pass-returns-in-Selectors-clause-gave» : goal.«walk::pass-returns-
 pub «walk::pass-returns-in-Descendant-clause-gave» : goal.«walk::pass-returns-in-Descendant-clause-gave»
 «walk::pass-returns-in-Descendant-clause-gave» = walk.«walk::pass-returns-in-Descendant-clause-gave»
 
-pub «walk::pick-at_child-requires» : goal.«walk::pick-at_child-requires»
-«walk::pick-at_child-requires» = walk.«walk::pick-at_child-requires»
+pub «selector::pick-at_child-requires» : goal.«selector::pick-at_child-requires»
+«selector::pick-at_child-requires» = walk.«selector::pick-at_child-requires»
 
-pub «walk::pick-each_child-requires» : goal.«walk::pick-each_child-requires»
-«walk::pick-each_child-requires» = walk.«walk::pick-each_child-requires»
+pub «selector::pick-each_child-requires» : goal.«selector::pick-each_child-requires»
+«selector::pick-each_child-requires» = walk.«selector::pick-each_child-requires»
 
-pub «walk::pick-at_child-requires-in-Some-element» : goal.«walk::pick-at_child-requires-in-Some-element»
-«walk::pick-at_child-requires-in-Some-element» = walk.«walk::pick-at_child-requires-in-Some-element»
+pub «selector::pick-at_child-requires-in-Some-element» : goal.«selector::pick-at_child-requires-in-Some-element»
+«selector::pick-at_child-requires-in-Some-element» = walk.«selector::pick-at_child-requires-in-Some-element»
 
-pub «walk::pick-element-requires» : goal.«walk::pick-element-requires»
-«walk::pick-element-requires» = walk.«walk::pick-element-requires»
+pub «selector::pick-element-requires» : goal.«selector::pick-element-requires»
+«selector::pick-element-requires» = walk.«selector::pick-element-requires»
 
-pub «walk::pick-pick_slice-requires» : goal.«walk::pick-pick_slice-requires»
-«walk::pick-pick_slice-requires» = walk.«walk::pick-pick_slice-requires»
+pub «selector::pick-pick_slice-requires» : goal.«selector::pick-pick_slice-requires»
+«selector::pick-pick_slice-requires» = walk.«selector::pick-pick_slice-requires»
 
-pub «walk::pick-each_child-requires-in-Filter» : goal.«walk::pick-each_child-requires-in-Filter»
-«walk::pick-each_child-requires-in-Filter» = walk.«walk::pick-each_child-requires-in-Filter»
+pub «selector::pick-each_child-requires-in-Filter» : goal.«selector::pick-each_child-requires-in-Filter»
+«selector::pick-each_child-requires-in-Filter» = walk.«selector::pick-each_child-requires-in-Filter»
 
-pub «walk::pick-returns-in-Some-clause-gave» : goal.«walk::pick-returns-in-Some-clause-gave»
-«walk::pick-returns-in-Some-clause-gave» = walk.«walk::pick-returns-in-Some-clause-gave»
+pub «selector::pick-returns-in-Some-clause-gave» : goal.«selector::pick-returns-in-Some-clause-gave»
+«selector::pick-returns-in-Some-clause-gave» = walk.«selector::pick-returns-in-Some-clause-gave»
 
-pub «walk::pick-returns-in-None-clause-gave» : goal.«walk::pick-returns-in-None-clause-gave»
-«walk::pick-returns-in-None-clause-gave» = walk.«walk::pick-returns-in-None-clause-gave»
+pub «selector::pick-returns-in-None-clause-gave» : goal.«selector::pick-returns-in-None-clause-gave»
+«selector::pick-returns-in-None-clause-gave» = walk.«selector::pick-returns-in-None-clause-gave»
 
-pub «walk::pick-returns-in-Wildcard-clause-gave» : goal.«walk::pick-returns-in-Wildcard-clause-gave»
-«walk::pick-returns-in-Wildcard-clause-gave» = walk.«walk::pick-returns-in-Wildcard-clause-gave»
+pub «selector::pick-returns-in-Wildcard-clause-gave» : goal.«selector::pick-returns-in-Wildcard-clause-gave»
+«selector::pick-returns-in-Wildcard-clause-gave» = walk.«selector::pick-returns-in-Wildcard-clause-gave»
 
-pub «walk::pick-returns-in-Some-element-clause-gave» : goal.«walk::pick-returns-in-Some-element-clause-gave»
-«walk::pick-returns-in-Some-element-clause-gave» = walk.«walk::pick-returns-in-Some-element-clause-gave»
+pub «selector::pick-returns-in-Some-element-clause-gave» : goal.«selector::pick-returns-in-Some-element-clause-gave»
+«selector::pick-returns-in-Some-element-clause-gave» = walk.«selector::pick-returns-in-Some-element-clause-gave»
 
-pub «walk::pick-returns-in-None-element-clause-gave» : goal.«walk::pick-returns-in-None-element-clause-gave»
-«walk::pick-returns-in-None-element-clause-gave» = walk.«walk::pick-returns-in-None-element-clause-gave»
+pub «selector::pick-returns-in-None-element-clause-gave» : goal.«selector::pick-returns-in-None-element-clause-gave»
+«selector::pick-returns-in-None-element-clause-gave» = walk.«selector::pick-returns-in-None-element-clause-gave»
 
-pub «walk::pick-returns-in-Slice-clause-gave» : goal.«walk::pick-returns-in-Slice-clause-gave»
-«walk::pick-returns-in-Slice-clause-gave» = walk.«walk::pick-returns-in-Slice-clause-gave»
+pub «selector::pick-returns-in-Slice-clause-gave» : goal.«selector::pick-returns-in-Slice-clause-gave»
+«selector::pick-returns-in-Slice-clause-gave» = walk.«selector::pick-returns-in-Slice-clause-gave»
 
-pub «walk::pick-returns-in-Filter-clause-gave» : goal.«walk::pick-returns-in-Filter-clause-gave»
-«walk::pick-returns-in-Filter-clause-gave» = walk.«walk::pick-returns-in-Filter-clause-gave»
+pub «selector::pick-returns-in-Filter-clause-gave» : goal.«selector::pick-returns-in-Filter-clause-gave»
+«selector::pick-returns-in-Filter-clause-gave» = walk.«selector::pick-returns-in-Filter-clause-gave»
 
-pub «walk::pick_each-pick-requires» : goal.«walk::pick_each-pick-requires»
-«walk::pick_each-pick-requires» = walk.«walk::pick_each-pick-requires»
+pub «selector::pick_each-pick-requires» : goal.«selector::pick_each-pick-requires»
+«selector::pick_each-pick-requires» = walk.«selector::pick_each-pick-requires»
 
-pub «walk::pick_each-returns-then-not-branch-clause-gave» : goal.«walk::pick_each-returns-then-not-branch-clause-gave»
-«walk::pick_each-returns-then-not-branch-clause-gave» = walk.«walk::pick_each-returns-then-not-branch-clause-gave»
+pub «selector::pick_each-returns-then-not-branch-clause-gave» : goal.«selector::pick_each-returns-then-not-branch-clause-gave»
+«selector::pick_each-returns-then-not-branch-clause-gave» = walk.«selector::pick_each-returns-then-not-branch-clause-gave»
 
-pub «walk::pick_each-loop-selector-preserved» : goal.«walk::pick_each-loop-selector-preserved»
-«walk::pick_each-loop-selector-preserved» = walk.«walk::pick_each-loop-selector-preserved»
+pub «selector::pick_each-loop-selector-preserved» : goal.«selector::pick_each-loop-selector-preserved»
+«selector::pick_each-loop-selector-preserved» = walk.«selector::pick_each-loop-selector-preserved»
 
-pub «walk::pick_each-returns-clause-gave» : goal.«walk::pick_each-returns-clause-gave»
-«walk::pick_each-returns-clause-gave» = walk.«walk::pick_each-returns-clause-gave»
+pub «selector::pick_each-returns-clause-gave» : goal.«selector::pick_each-returns-clause-gave»
+«selector::pick_each-returns-clause-gave» = walk.«selector::pick_each-returns-clause-gave»
 
-pub «walk::pick_slice-returns-in_default-clause-gave» : goal.«walk::pick_slice-returns-in_default-clause-gave»
-«walk::pick_slice-returns-in_default-clause-gave» = walk.«walk::pick_slice-returns-in_default-clause-gave»
+pub «selector::pick_slice-returns-in_default-clause-gave» : goal.«selector::pick_slice-returns-in_default-clause-gave»
+«selector::pick_slice-returns-in_default-clause-gave» = walk.«selector::pick_slice-returns-in_default-clause-gave»
 
-pub «walk::pick_slice-at_child-requires» : goal.«walk::pick_slice-at_child-requires»
-«walk::pick_slice-at_child-requires» = walk.«walk::pick_slice-at_child-requires»
+pub «selector::pick_slice-at_child-requires» : goal.«selector::pick_slice-at_child-requires»
+«selector::pick_slice-at_child-requires» = walk.«selector::pick_slice-at_child-requires»
 
-pub «walk::pick_slice-index-requires» : goal.«walk::pick_slice-index-requires»
-«walk::pick_slice-index-requires» = walk.«walk::pick_slice-index-requires»
+pub «selector::pick_slice-index-requires» : goal.«selector::pick_slice-index-requires»
+«selector::pick_slice-index-requires» = walk.«selector::pick_slice-index-requires»
 
-pub «walk::pick_slice-returns-then-not-branch-clause-gave» : goal.«walk::pick_slice-returns-then-not-branch-clause-gave»
-«walk::pick_slice-returns-then-not-branch-clause-gave» = walk.«walk::pick_slice-returns-then-not-branch-clause-gave»
+pub «selector::pick_slice-returns-then-not-branch-clause-gave» : goal.«selector::pick_slice-returns-then-not-branch-clause-gave»
+«selector::pick_slice-returns-then-not-branch-clause-gave» = walk.«selector::pick_slice-returns-then-not-branch-clause-gave»
 
-pub «walk::pick_slice-loop-position-preserved» : goal.«walk::pick_slice-loop-position-preserved»
-«walk::pick_slice-loop-position-preserved» = walk.«walk::pick_slice-loop-position-preserved»
+pub «selector::pick_slice-loop-position-preserved» : goal.«selector::pick_slice-loop-position-preserved»
+«selector::pick_slice-loop-position-preserved» = walk.«selector::pick_slice-loop-position-preserved»
 
-pub «walk::pick_slice-returns-clause-gave» : goal.«walk::pick_slice-returns-clause-gave»
-«walk::pick_slice-returns-clause-gave» = walk.«walk::pick_slice-returns-clause-gave»
+pub «selector::pick_slice-returns-clause-gave» : goal.«selector::pick_slice-returns-clause-gave»
+«selector::pick_slice-returns-clause-gave» = walk.«selector::pick_slice-returns-clause-gave»
 
 pub «filter::filter_holds-some_holds-requires» : goal.«filter::filter_holds-some_holds-requires»
 «filter::filter_holds-some_holds-requires» = filter.«filter::filter_holds-some_holds-requires»

@@ -19,14 +19,14 @@ abbrev pub «decreases-walk::walk» : goal.«decreases-walk::walk»
 abbrev pub «decreases-walk::pass» : goal.«decreases-walk::pass»
 «decreases-walk::pass» g l = let tree = g.T.Queryable.tree in work (segment_weight (segment_view l.first.now) + segments_weight (segments_in l.rest.now)) (size (tree l.task.now.root.now)) (3 * size (tree l.at.now))
 
-abbrev pub «decreases-walk::pick_each» : goal.«decreases-walk::pick_each»
-«decreases-walk::pick_each» g l = let tree = g.T.Queryable.tree in work (selectors_weight (selectors_in l.selectors.now) + 1 + segments_weight (segments_in l.rest.now)) (size (tree l.task.now.root.now)) (3 * size (tree l.at.now))
+abbrev pub «decreases-selector::pick_each» : goal.«decreases-selector::pick_each»
+«decreases-selector::pick_each» g l = let tree = g.T.Queryable.tree in work (selectors_weight (selectors_in l.selectors.now) + 1 + segments_weight (segments_in l.rest.now)) (size (tree l.task.now.root.now)) (3 * size (tree l.at.now))
 
-abbrev pub «decreases-walk::pick» : goal.«decreases-walk::pick»
-«decreases-walk::pick» g l = let tree = g.T.Queryable.tree in work (selector_weight (selector_view l.selector.now) + segments_weight (segments_in l.rest.now)) (size (tree l.task.now.root.now)) (3 * size (tree l.at.now))
+abbrev pub «decreases-selector::pick» : goal.«decreases-selector::pick»
+«decreases-selector::pick» g l = let tree = g.T.Queryable.tree in work (selector_weight (selector_view l.selector.now) + segments_weight (segments_in l.rest.now)) (size (tree l.task.now.root.now)) (3 * size (tree l.at.now))
 
-abbrev pub «decreases-walk::pick_slice» : goal.«decreases-walk::pick_slice»
-«decreases-walk::pick_slice» g l = let tree = g.T.Queryable.tree in work (segments_weight (segments_in l.rest.now) + 3) (size (tree l.task.now.root.now)) (3 * size (tree l.at.now))
+abbrev pub «decreases-selector::pick_slice» : goal.«decreases-selector::pick_slice»
+«decreases-selector::pick_slice» g l = let tree = g.T.Queryable.tree in work (segments_weight (segments_in l.rest.now) + 3) (size (tree l.task.now.root.now)) (3 * size (tree l.at.now))
 
 abbrev pub «decreases-walk::each_child» : goal.«decreases-walk::each_child»
 «decreases-walk::each_child» g l = let tree = g.T.Queryable.tree in work (action_weight l.action + segments_weight (segments_in l.rest.now)) (size (tree l.task.now.root.now)) (3 * size (tree l.at.now))
@@ -98,8 +98,8 @@ abbrev pub «decreases-subquery::absolute» : goal.«decreases-subquery::absolut
 «decreases-subquery::absolute» g l = let tree = g.T.Queryable.tree in work (segments_weight (query_view l.query.now) + 3) (size (tree l.task.now.root.now)) (3 * size (tree l.task.now.root.now))
 
 -- what was given, with what is left, is what all of them give
-abbrev pub «invariant-walk::pick_each-loop-selector» : goal.«invariant-walk::pick_each-loop-selector»
-«invariant-walk::pick_each-loop-selector» g l =
+abbrev pub «invariant-selector::pick_each-loop-selector» : goal.«invariant-selector::pick_each-loop-selector»
+«invariant-selector::pick_each-loop-selector» g l =
     let tree = g.T.Queryable.tree in
     let whole = g.T.Queryable.is_whole in
     let d = document tree g.T.Queryable.custom l.task in
@@ -111,8 +111,8 @@ abbrev pub «invariant-walk::pick_each-loop-selector» : goal.«invariant-walk::
       given : give (seen tree whole l.sink) (flat_map rest (all_pick (selectors_in (drop l.selector-index l.selectors)) d n)) ≡ give (seen tree whole l.initial.sink) (flat_map rest (all_pick (selectors_in l.selectors) d n));
     }
 
-abbrev pub «invariant-walk::pick_slice-loop-position» : goal.«invariant-walk::pick_slice-loop-position»
-«invariant-walk::pick_slice-loop-position» g l =
+abbrev pub «invariant-selector::pick_slice-loop-position» : goal.«invariant-selector::pick_slice-loop-position»
+«invariant-selector::pick_slice-loop-position» g l =
     let tree = g.T.Queryable.tree in
     let whole = g.T.Queryable.is_whole in
     let d = document tree g.T.Queryable.custom l.task in
