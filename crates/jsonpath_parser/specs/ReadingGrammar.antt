@@ -9,8 +9,6 @@ use Rattle.jsonpath_parser.specs.ReadingNumbers.{number_at}
 use Rattle.jsonpath_parser.specs.ReadingStrings.{string_at}
 use Rattle.jsonpath_parser.specs.declared.grammar.literals.Numbers.{Numbers}
 use Rattle.jsonpath_parser.specs.declared.grammar.literals.Numbers.TheVariants.{Valued, Any}
-use Rattle.jsonpath_parser.specs.declared.model.operator.Operator.{Operator as CodeOperator}
-use Rattle.jsonpath_parser.specs.declared.model.operator.Operator.TheVariants.{Equal, NotEqual, Greater, GreaterOrEqual, Less, LessOrEqual}
 use Rattle.jsonpath_parser.specs.Syntax.{Literal, number, string, bool, null, SingularStep, name_step, index_step, current, root, Operator, equal, not_equal, greater, greater_or_equal, less, less_or_equal, Selector, name, wildcard, index, slice, filter, Selectors, no_selectors, selector, Segment, one, several, descendant, Segments, no_segments, segment, Filter, or, and, atom, Filters, no_filters, filter_then, group, test, comparison, compare, Comparable, literal, function, singular, relative, absolute, call, Call, Argument, literal_argument, test_argument, filter_argument, Arguments, no_arguments, argument, Query}
 use Rattle.jsonpath_parser.specs.Typing.{call_of}
 
@@ -20,14 +18,6 @@ use Rattle.jsonpath_parser.specs.Typing.{call_of}
 unfoldable pub number_reading : Numbers → List ℕ → Read (Option ℤ)
 number_reading Valued text = number_at text >>= (λ n. n.0 >>= (λ v. Some (Some v, n.1)))
 number_reading Any text = number_at text >>= (λ n. Some (Some (unwrap_or n.0 (pos 0)), n.1))
-
-abbrev pub operator_view : CodeOperator → Operator
-operator_view Equal = equal
-operator_view NotEqual = not_equal
-operator_view Greater = greater
-operator_view GreaterOrEqual = greater_or_equal
-operator_view Less = less
-operator_view LessOrEqual = less_or_equal
 
 -- ---- what a part becomes
 

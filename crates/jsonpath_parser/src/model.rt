@@ -2,14 +2,14 @@
 ghost use Rattle.std.specs.Prelude.{◌≡◌, IfOk, IfErr, IsOk, IsSome};
 ghost use Rattle.jsonpath_parser.specs.Making.{Makes, comparison_of, operator_of, sides};
 ghost use Rattle.jsonpath_parser.specs.Syntax as tree;
-ghost use Rattle.jsonpath_parser.specs.View.{segment_view, selector_view, filter_view, atom_view, comparison_view, comparable_view, test_view};
+ghost use Rattle.jsonpath_parser.specs.View.{segment_view, selector_view, filter_view, atom_view, comparison_view, comparable_view, operator_view, test_view};
 ghost use Rattle.jsonpath_parser.specs.declared.errors.JsonPathError.TheVariants.{OutOfMemory};
 
 pub(crate) mod call;
-pub(crate) mod operator;
+mod operator;
 mod refusal;
 
-use self::operator::Operator;
+pub use self::operator::Operator;
 use self::refusal::invalid;
 use crate::errors::{JsonPathError, Parsed};
 use std::alloc::Global;
@@ -269,17 +269,25 @@ impl Comparison {
         Ok(operator.compare(left, right))
     }
 
+    /// The operator, left and right.
+    pub fn parts(&self) -> (Operator, &Comparable, &Comparable)
+        ensures { comparison_view self.now ≡ tree.compare (operator_view result.0) (comparable_view result.1.now) (comparable_view result.2.now) }
+    {
+        match self {
+            Comparison::Eq(left, right) => (Operator::Equal, left, right),
+            Comparison::Ne(left, right) => (Operator::NotEqual, left, right),
+            Comparison::Gt(left, right) => (Operator::Greater, left, right),
+            Comparison::Gte(left, right) => (Operator::GreaterOrEqual, left, right),
+            Comparison::Lt(left, right) => (Operator::Less, left, right),
+            Comparison::Lte(left, right) => (Operator::LessOrEqual, left, right),
+        }
+    }
+
     /// Left and right.
     pub fn vals(&self) -> (&Comparable, &Comparable)
         ensures { (comparable_view result.0.now, comparable_view result.1.now) ≡ sides (comparison_view self.now) }
     {
-        match self {
-            Comparison::Eq(left, right)
-            | Comparison::Ne(left, right)
-            | Comparison::Gt(left, right)
-            | Comparison::Gte(left, right)
-            | Comparison::Lt(left, right)
-            | Comparison::Lte(left, right) => (left, right),
-        }
+        let (_, left, right) = self.parts();
+        (left, right)
     }
 }

@@ -3,11 +3,9 @@ ghost use Rattle.std.specs.Prelude.{◌≡◌, ◌≢◌, ◌<◌, ◌≤◌, le
 ghost use Rattle.jsonpath_parser.specs.Reading.{Reads};
 ghost use Rattle.jsonpath_parser.specs.Reading as reading;
 ghost use Rattle.jsonpath_parser.specs.ReadingGrammar as spec;
-ghost use Rattle.jsonpath_parser.specs.ReadingGrammar.{operator_view};
-ghost use Rattle.jsonpath_parser.specs.View.{selector_view, literal_view};
+ghost use Rattle.jsonpath_parser.specs.View.{selector_view, literal_view, operator_view};
 
-use crate::model::operator::Operator;
-use crate::model::{Literal, Selector};
+use crate::model::{Literal, Operator, Selector};
 use crate::stop::Stop;
 use crate::text::{byte_at, first, function_run, is_function_first, is_name_first, name_run, skip};
 use std::alloc::Global;

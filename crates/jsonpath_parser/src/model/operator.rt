@@ -1,26 +1,31 @@
 //! The operators of comparisons (RFC 9535, 2.3.5.1).
 ghost use Rattle.std.specs.Prelude.{◌≡◌, option_map};
 ghost use Rattle.jsonpath_parser.specs.Making.{operator_of};
-ghost use Rattle.jsonpath_parser.specs.ReadingGrammar.{operator_view};
 ghost use Rattle.jsonpath_parser.specs.Syntax.{compare};
-ghost use Rattle.jsonpath_parser.specs.View.{comparable_view, comparison_view};
+ghost use Rattle.jsonpath_parser.specs.View.{comparable_view, comparison_view, operator_view};
 
 use super::{Comparable, Comparison};
 
 /// How two values are compared (2.3.5.2.2).
 #[derive(Clone, Copy, Debug)]
 pub enum Operator {
+    /// `==`
     Equal,
+    /// `!=`
     NotEqual,
+    /// `>`
     Greater,
+    /// `>=`
     GreaterOrEqual,
+    /// `<`
     Less,
+    /// `<=`
     LessOrEqual,
 }
 
 impl Operator {
     /// The operator that the text is.
-    pub fn of(text: &str) -> Option<Self>
+    pub(super) fn of(text: &str) -> Option<Self>
         ensures { option_map operator_view result ≡ operator_of text.now }
     {
         match text {
@@ -35,7 +40,7 @@ impl Operator {
     }
 
     /// The comparison of left and right by this operator.
-    pub fn compare(self, left: Comparable, right: Comparable) -> Comparison
+    pub(crate) fn compare(self, left: Comparable, right: Comparable) -> Comparison
         ensures { comparison_view result ≡ compare (operator_view self) (comparable_view left) (comparable_view right) }
     {
         match self {
