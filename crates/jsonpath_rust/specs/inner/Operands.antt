@@ -1,6 +1,5 @@
 -- What the two sides of a comparison and the arguments of calls are inside the evaluator, for its contracts alone.
 use Rattle.std.specs.Prelude.{List, map, Bool, true, false, Option, Some, None, IsTrue, All}
-use Rattle.jsonpath_parser.specs.Syntax.{Operator, equal, not_equal, greater, greater_or_equal, less, less_or_equal}
 use Rattle.jsonpath_base.specs.Tree as tree
 use Rattle.jsonpath_base.specs.Tree.{Tree}
 use Rattle.jsonpath_rust.specs.Args.{arg_value}
@@ -11,8 +10,6 @@ use Rattle.jsonpath_rust.specs.declared.query.value.Scalar.{Scalar}
 use Rattle.jsonpath_rust.specs.declared.query.value.Scalar.TheVariants as scalar
 use Rattle.jsonpath_rust.specs.declared.query.value.Operand.{Operand}
 use Rattle.jsonpath_rust.specs.declared.query.value.Operand.TheVariants as operand
-use Rattle.jsonpath_rust.specs.declared.query.comparison.Sign.{Sign}
-use Rattle.jsonpath_rust.specs.declared.query.comparison.Sign.TheVariants as sign
 
 abbrev pub scalar_tree : Scalar → Tree
 scalar_tree scalar.Null = tree.null
@@ -32,14 +29,6 @@ operand_is_whole w operand.Absent = true
 operand_is_whole w (operand.Lent v) = w v.now
 operand_is_whole w (operand.Made v) = w v
 operand_is_whole w (operand.Plain s) = true
-
-abbrev pub sign_operator : Sign → Operator
-sign_operator sign.Eq = equal
-sign_operator sign.Ne = not_equal
-sign_operator sign.Gt = greater
-sign_operator sign.Gte = greater_or_equal
-sign_operator sign.Lt = less
-sign_operator sign.Lte = less_or_equal
 
 -- whether a pattern has to match the entire text
 abbrev pub is_entire : Extent → Bool

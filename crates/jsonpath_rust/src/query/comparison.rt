@@ -1,59 +1,32 @@
 //! How values compare (RFC 9535, 2.3.5.2.2).
 ghost use Rattle.std.specs.Prelude.{◌≡◌, Some, IsTrue};
-ghost use Rattle.jsonpath_parser.specs.Syntax.{compare};
-ghost use Rattle.jsonpath_parser.specs.View.{comparison_view, comparable_view};
+ghost use Rattle.jsonpath_parser.specs.View.{operator_view};
 ghost use Rattle.jsonpath_base.specs.Same.{same};
 ghost use Rattle.jsonpath_rust.specs.Comparing.{are_equal, is_below, compares};
-ghost use Rattle.jsonpath_rust.specs.inner.Operands.{scalar_tree, operand_tree, operand_is_whole, sign_operator};
+ghost use Rattle.jsonpath_rust.specs.inner.Operands.{scalar_tree, operand_tree, operand_is_whole};
 
 use crate::query::queryable::Queryable;
 use crate::query::value::{Operand, Scalar};
 use jsonpath_base::text::text_less;
-use jsonpath_parser::model::{Comparable, Comparison};
-
-/// The operator of a comparison.
-#[derive(Clone, Copy)]
-pub enum Sign {
-    Eq,
-    Ne,
-    Gt,
-    Gte,
-    Lt,
-    Lte,
-}
-
-/// The operator of a comparison and its two sides.
-#[inline(always)]
-pub fn sides(comparison: &Comparison) -> (Sign, &Comparable, &Comparable)
-    ensures { comparison_view comparison.now ≡ compare (sign_operator result.0) (comparable_view result.1.now) (comparable_view result.2.now) }
-{
-    match comparison {
-        Comparison::Eq(left, right) => (Sign::Eq, left, right),
-        Comparison::Ne(left, right) => (Sign::Ne, left, right),
-        Comparison::Gt(left, right) => (Sign::Gt, left, right),
-        Comparison::Gte(left, right) => (Sign::Gte, left, right),
-        Comparison::Lt(left, right) => (Sign::Lt, left, right),
-        Comparison::Lte(left, right) => (Sign::Lte, left, right),
-    }
-}
+use jsonpath_parser::model::Operator;
 
 /// Whether the comparison holds (RFC 9535, 2.3.5.2.2).
 pub fn compares<'a, 's, T: Queryable>(
-    sign: Sign,
+    operator: Operator,
     left: &Operand<'a, 's, T>,
     right: &Operand<'a, 's, T>,
 ) -> bool
     requires left { IsTrue (operand_is_whole T.is_whole left.now) }
     requires right { IsTrue (operand_is_whole T.is_whole right.now) }
-    ensures { result ≡ compares (sign_operator sign) (operand_tree T.tree left.now) (operand_tree T.tree right.now) }
+    ensures { result ≡ compares (operator_view operator) (operand_tree T.tree left.now) (operand_tree T.tree right.now) }
 {
-    match sign {
-        Sign::Eq => are_equal(left, right),
-        Sign::Ne => !are_equal(left, right),
-        Sign::Lt => is_below(left, right),
-        Sign::Lte => is_below(left, right) || are_equal(left, right),
-        Sign::Gt => is_below(right, left),
-        Sign::Gte => is_below(right, left) || are_equal(left, right),
+    match operator {
+        Operator::Equal => are_equal(left, right),
+        Operator::NotEqual => !are_equal(left, right),
+        Operator::Less => is_below(left, right),
+        Operator::LessOrEqual => is_below(left, right) || are_equal(left, right),
+        Operator::Greater => is_below(right, left),
+        Operator::GreaterOrEqual => is_below(right, left) || are_equal(left, right),
     }
 }
 

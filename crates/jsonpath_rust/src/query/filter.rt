@@ -10,7 +10,7 @@ ghost use Rattle.jsonpath_rust.specs.inner.Walking.{node_of, filters_in, LeadTo}
 
 use crate::query::Queried;
 use crate::query::cache::Cache;
-use crate::query::comparison::{compares, sides};
+use crate::query::comparison::compares;
 use crate::query::function::answer;
 use crate::query::queryable::Queryable;
 use crate::query::singular::singular_value;
@@ -182,10 +182,10 @@ fn comparison_holds<'a: 's, 's, T: Queryable>(
     ensures keeps { OnOk result (IsReady T.tree T.is_whole T.custom task.now cache.new) }
     ensures refused { IfErr result (IsStop (query_of task.now) (document T.tree T.custom task.now)) }
 {
-    let (sign, left, right) = sides(comparison);
+    let (operator, left, right) = comparison.parts();
     let left = side(task, left, at, way, cache)?;
     let right = side(task, right, at, way, cache)?;
-    Ok(compares(sign, &left, &right))
+    Ok(compares(operator, &left, &right))
 }
 
 /// The value of a side of a comparison.

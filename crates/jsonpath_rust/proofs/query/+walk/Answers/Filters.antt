@@ -1,6 +1,6 @@
 -- The answers of the tests in filters.
 use Rattle.std.proofs.Common.{List, arith, Some, sym, ◌∙◌, ap, refl}
-use Rattle.jsonpath_parser.specs.View.{filter_view, atom_view, test_view, comparison_view, comparable_view, call_view}
+use Rattle.jsonpath_parser.specs.View.{filter_view, atom_view, test_view, comparison_view, comparable_view, operator_view, call_view}
 use Rattle.jsonpath_parser.specs.declared.model.Segment.{Segment}
 use Rattle.jsonpath_parser.specs.declared.model.Filter.{Filter}
 use Rattle.jsonpath_parser.specs.declared.model.Test.{Test}
@@ -16,7 +16,7 @@ use Rattle.jsonpath_rust.specs.Patterns.{segments_patterns, filter_patterns, fil
 use Rattle.jsonpath_rust.specs.inner.Walking.{segments_in, filters_in, through, node_of}
 use Rattle.jsonpath_rust.specs.inner.Sinks.{any_in}
 use Rattle.jsonpath_rust.specs.inner.Keeping.{document}
-use Rattle.jsonpath_rust.specs.inner.Operands.{operand_tree, sign_operator}
+use Rattle.jsonpath_rust.specs.inner.Operands.{operand_tree}
 use Rattle.jsonpath_rust.proofs.Sinks.{any_given}
 use Rattle.jsonpath_rust.proofs.Walks.{down}
 use Rattle.jsonpath_rust.proofs.NodesAt.{leads_as}
@@ -230,12 +230,12 @@ pub «filter::test_holds-returns-in_ok-answer-in-Function-clause-holds» : goal.
 
 pub «filter::comparison_holds-side-requires» : goal.«filter::comparison_holds-side-requires»
 «filter::comparison_holds-side-requires» g t c κs within =
-    let s = c.sides-sign.ensures in
+    let s = c.parts-operator.ensures in
     (down _ _ _ _ _ _ c.decreases (omega (arith, ap comparison_weight s)) (omega (arith, c.requires.within)), (within, (c.requires.whole, (c.requires.within, (c.requires.here, (part_left _ _ _ (part_as comparison_patterns _ _ _ s c.requires.part), c.requires.ready))))))
 
 pub «filter::comparison_holds-side-requires-2» : goal.«filter::comparison_holds-side-requires-2»
 «filter::comparison_holds-side-requires-2» g t c κs within =
-    let s = c.sides-sign.ensures in
+    let s = c.parts-operator.ensures in
     (down _ _ _ _ _ _ c.decreases (omega (arith, ap comparison_weight s)) (omega (arith, c.requires.within)), (within, (c.requires.whole, (c.requires.within, (leads_as _ _ _ _ c.in_ok-left.ensures.same c.requires.here, (part_right _ _ _ (part_as comparison_patterns _ _ _ s c.requires.part), c.in_ok-left.ensures.keeps))))))
 
 pub «filter::comparison_holds-compares-requires-clause-left» : goal.«filter::comparison_holds-compares-requires-clause-left»
@@ -250,10 +250,10 @@ pub «filter::comparison_holds-returns-clause-holds» : goal.«filter::compariso
     let custom = g.T.Queryable.custom in
     let d = document tree custom c.args.task.now in
     let n = node_of tree c.args.way.now.steps.items c.args.at.now in
-    let s = c.sides-sign.ensures in
-    let op = sign_operator c.sides-sign.result.0 in
-    let right = c.in_ok-right.ensures.value ∙ ap (λ q. value_of (comparable_view c.sides-sign.result.2.now) d (node_of tree q c.args.at.now)) c.in_ok-left.ensures.same in
-    c.compares.ensures ∙ ap (λ o. compares op o (operand_tree tree c.in_ok-right.right)) c.in_ok-left.ensures.value ∙ ap (compares op (value_of (comparable_view c.sides-sign.result.1.now) d n)) right ∙ sym (ap (λ x. comparison_holds x d n) s)
+    let s = c.parts-operator.ensures in
+    let op = operator_view c.parts-operator.result.0 in
+    let right = c.in_ok-right.ensures.value ∙ ap (λ q. value_of (comparable_view c.parts-operator.result.2.now) d (node_of tree q c.args.at.now)) c.in_ok-left.ensures.same in
+    c.compares.ensures ∙ ap (λ o. compares op o (operand_tree tree c.in_ok-right.right)) c.in_ok-left.ensures.value ∙ ap (compares op (value_of (comparable_view c.parts-operator.result.1.now) d n)) right ∙ sym (ap (λ x. comparison_holds x d n) s)
 
 pub «filter::side-answer-requires» : goal.«filter::side-answer-requires»
 «filter::side-answer-requires» g t c κs within =
