@@ -81,14 +81,14 @@ pub fn js_path<'a, T: Queryable>(
     value: &'a T,
 ) -> Queried<Vec<QueryRef<'a, T>>>
     requires { IsTrue (T.is_whole value.now) }
-    ensures answered { IfOk result (λ v. Lists IsNodeAt 128 path.now (document_of T.tree T.custom value.now) (shown T.tree v.items)) }
+    ensures answered { IfOk result (λ v. Lists IsNodeAt MAX_NESTING_DEPTH path.now (document_of T.tree T.custom value.now) (shown T.tree v.items)) }
 
     // Whatever query the text derives, its nodes are answered, unless memory ran out or a pattern was refused.
-    ensures only { (q : Query) → Derives 128 path.now q → MatchResult result
+    ensures only { (q : Query) → Derives MAX_NESTING_DEPTH path.now q → MatchResult result
         (λ v. AllZip (IsNodeAt (document_of T.tree T.custom value.now)) (selected q (document_of T.tree T.custom value.now)) (shown T.tree v.items))
         (IsStop q (document_of T.tree T.custom value.now)) }
     ensures whole { IfOk result (λ v. All (λ r. IsTrue (T.is_whole r.val.now)) v.items) }
-    ensures refused { IfErr result (IsQueryRefusal 128 path.now (document_of T.tree T.custom value.now)) }
+    ensures refused { IfErr result (IsQueryRefusal MAX_NESTING_DEPTH path.now (document_of T.tree T.custom value.now)) }
 {
     js_path_within(alloc, path, MAX_NESTING_DEPTH, value)
 }
@@ -128,14 +128,14 @@ pub fn js_path_vals<'a, T: Queryable>(
     value: &'a T,
 ) -> Queried<Vec<&'a T>>
     requires { IsTrue (T.is_whole value.now) }
-    ensures answered { IfOk result (λ v. Lists IsValueAt 128 path.now (document_of T.tree T.custom value.now) (map (λ x. T.tree x.now) v.items)) }
+    ensures answered { IfOk result (λ v. Lists IsValueAt MAX_NESTING_DEPTH path.now (document_of T.tree T.custom value.now) (map (λ x. T.tree x.now) v.items)) }
 
     // Whatever query the text derives, its nodes' values are answered, unless memory ran out or a pattern was refused.
-    ensures only { (q : Query) → Derives 128 path.now q → MatchResult result
+    ensures only { (q : Query) → Derives MAX_NESTING_DEPTH path.now q → MatchResult result
         (λ v. AllZip (IsValueAt (document_of T.tree T.custom value.now)) (selected q (document_of T.tree T.custom value.now)) (map (λ x. T.tree x.now) v.items))
         (IsStop q (document_of T.tree T.custom value.now)) }
     ensures whole { IfOk result (λ v. All (λ x. IsTrue (T.is_whole x.now)) v.items) }
-    ensures refused { IfErr result (IsQueryRefusal 128 path.now (document_of T.tree T.custom value.now)) }
+    ensures refused { IfErr result (IsQueryRefusal MAX_NESTING_DEPTH path.now (document_of T.tree T.custom value.now)) }
 {
     let query = parse_json_path(alloc, path)?;
     let values = js_path_process_vals(alloc, &query, value);
@@ -146,13 +146,13 @@ pub fn js_path_vals<'a, T: Queryable>(
 /// The Normalized Paths of the nodes that a query text selects in a document, in order. It refuses as [`js_path`] does.
 pub fn js_path_path<T: Queryable>(alloc: Global, path: &str, value: &T) -> Queried<Vec<QueryPath>>
     requires { IsTrue (T.is_whole value.now) }
-    ensures answered { IfOk result (λ v. Lists IsPathAt 128 path.now (document_of T.tree T.custom value.now) (paths_of v.items)) }
+    ensures answered { IfOk result (λ v. Lists IsPathAt MAX_NESTING_DEPTH path.now (document_of T.tree T.custom value.now) (paths_of v.items)) }
 
     // Whatever query the text derives, its nodes' paths are answered, unless memory ran out or a pattern was refused.
-    ensures only { (q : Query) → Derives 128 path.now q → MatchResult result
+    ensures only { (q : Query) → Derives MAX_NESTING_DEPTH path.now q → MatchResult result
         (λ v. AllZip (IsPathAt (document_of T.tree T.custom value.now)) (selected q (document_of T.tree T.custom value.now)) (paths_of v.items))
         (IsStop q (document_of T.tree T.custom value.now)) }
-    ensures refused { IfErr result (IsQueryRefusal 128 path.now (document_of T.tree T.custom value.now)) }
+    ensures refused { IfErr result (IsQueryRefusal MAX_NESTING_DEPTH path.now (document_of T.tree T.custom value.now)) }
 {
     let query = parse_json_path(alloc, path)?;
     let paths = process_paths(alloc, &query, value);

@@ -10,6 +10,7 @@ use Rattle.jsonpath_rust.specs.declared.query.sink.Only.{Only}
 use Rattle.jsonpath_rust.specs.declared.query.sink.Only.TheVariants.{Nothing, One, Several}
 use Rattle.jsonpath_rust.specs.declared.query.sink.Wanted.{Wanted}
 use Rattle.jsonpath_rust.specs.declared.query.sink.Wanted.TheVariants as wanted
+use Rattle.jsonpath_rust.specs.declared.query.sink.TheConstants.{GREATEST_COUNT}
 
 -- a node as it is answered: its Normalized Path and its tree
 abbrev pub answer_of : Node → List ℕ × Tree
@@ -52,7 +53,7 @@ add (nodes bs ns) n = nodes (bs ++ true ∷ []) (ns ++ answer_of n ∷ [])
 add (paths ps) n = paths (ps ++ normal n.location ∷ [])
 add (values bs ts) n = values (bs ++ true ∷ []) (ts ++ n.tree ∷ [])
 add (any b) n = any true
-add (count k) n = count (min (suc k) 9223372036854775807)
+add (count k) n = count (min (suc k) GREATEST_COUNT)
 add nothing n = one true n.tree
 add (one b t) n = several
 add several n = several

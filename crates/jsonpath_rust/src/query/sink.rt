@@ -182,7 +182,7 @@ impl<'a, T: Queryable> Sink<'a, T> {
 /// The count and one, up to [`GREATEST_COUNT`].
 #[inline(always)]
 fn one_more(count: usize) -> usize
-    ensures { result ≡ min (suc count) 9223372036854775807 }
+    ensures { result ≡ min (suc count) GREATEST_COUNT }
 {
     if count < GREATEST_COUNT {
         count + 1
