@@ -4,15 +4,15 @@ use Rattle.std.proofs.lemmas.List.{map-append, get_or-map, length-map}
 use Rattle.std.proofs.lemmas.List.Elements.{All-append, All-cons, All-nil, All-get_or}
 use Rattle.jsonpath_base.specs.Tree.{Tree}
 use Rattle.jsonpath_rust.specs.Args.{arg_value}
-use Rattle.jsonpath_rust.specs.Operands.{trees_of, AreWhole}
+use Rattle.jsonpath_rust.specs.inner.Operands.{arg_trees, AreWhole}
 use Rattle.jsonpath_rust.specs.declared.query.queryable.Arg.{Arg}
 use Rattle.jsonpath_rust.specs.declared.query.queryable.Arg.TheVariants.{Borrowed}
 
 -- one value more
-pub values_next : {A : Type 0} (tree : A → Tree) (args more : List (Arg A)) (x : Bor A) (xs : List (Bor A)) (i : ℕ) (all : List Tree) → more ≡ args ++ Borrowed x ∷ [] → i < length xs → x ≡ get_or xs i x → trees_of tree args ++ map (λ v. tree v.now) (drop i xs) ≡ all → trees_of tree more ++ map (λ v. tree v.now) (drop (i + 1) xs) ≡ all
+pub values_next : {A : Type 0} (tree : A → Tree) (args more : List (Arg A)) (x : Bor A) (xs : List (Bor A)) (i : ℕ) (all : List Tree) → more ≡ args ++ Borrowed x ∷ [] → i < length xs → x ≡ get_or xs i x → arg_trees tree args ++ map (λ v. tree v.now) (drop i xs) ≡ all → arg_trees tree more ++ map (λ v. tree v.now) (drop (i + 1) xs) ≡ all
 values_next tree args more x xs i all e h is v =
     let rest = map (λ v. tree v.now) (drop (suc i) xs) in
-    ap (λ some. trees_of tree some ++ map (λ v. tree v.now) (drop (i + 1) xs)) e ∙ ap (λ j. trees_of tree (args ++ Borrowed x ∷ []) ++ map (λ v. tree v.now) (drop j xs)) (add-one i) ∙ ap (λ ts. ts ++ rest) (map-append (λ a. tree (arg_value a)) args (Borrowed x ∷ [])) ∙ append_assoc (trees_of tree args) (tree x.now ∷ []) rest ∙ ap (λ y. trees_of tree args ++ tree y.now ∷ rest) is ∙ ap (λ ys. trees_of tree args ++ map (λ v. tree v.now) ys) (sym (drop-cons xs i x h)) ∙ v
+    ap (λ some. arg_trees tree some ++ map (λ v. tree v.now) (drop (i + 1) xs)) e ∙ ap (λ j. arg_trees tree (args ++ Borrowed x ∷ []) ++ map (λ v. tree v.now) (drop j xs)) (add-one i) ∙ ap (λ ts. ts ++ rest) (map-append (λ a. tree (arg_value a)) args (Borrowed x ∷ [])) ∙ append_assoc (arg_trees tree args) (tree x.now ∷ []) rest ∙ ap (λ y. arg_trees tree args ++ tree y.now ∷ rest) is ∙ ap (λ ys. arg_trees tree args ++ map (λ v. tree v.now) ys) (sym (drop-cons xs i x h)) ∙ v
 
 pub values_whole_next : {A : Type 0} (whole : A → Bool) (args more : List (Arg A)) (x : Bor A) (xs : List (Bor A)) (i : ℕ) → more ≡ args ++ Borrowed x ∷ [] → i < length xs → x ≡ get_or xs i x → All (λ b. IsTrue b) (map (λ v. whole v.now) xs) → AreWhole whole args → AreWhole whole more
 values_whole_next whole args more x xs i e h is all before =

@@ -9,7 +9,7 @@ use Rattle.jsonpath_base.specs.Slice.{slice_of}
 use Rattle.jsonpath_rust.specs.Node.{Node, subtree, subtree_at}
 use Rattle.jsonpath_rust.specs.Document.{Document}
 use Rattle.jsonpath_rust.specs.Meaning.{picks, all_pick, replaced, element, element_of, holds}
-use Rattle.jsonpath_rust.proofs.Trees.{none_some, children_at-none, subtree-children, named_none}
+use Rattle.jsonpath_rust.proofs.Trees.{children_at-none, subtree-children, named_none}
 
 get-none : (k : List ℕ) (t : Tree) → None ≡ as_members t → None ≡ get k t
 get-none k null m = refl
@@ -17,7 +17,7 @@ get-none k (truth b) m = refl
 get-none k (number n) m = refl
 get-none k (text s) m = refl
 get-none k (list ts) m = refl
-get-none k (object ms) m = none_some _ (sym m)
+get-none k (object ms) m = cc
 
 subtree_at-none : (l : Location) (t : Tree) → None ≡ as_list t → None ≡ as_members t → subtree_at l t ≡ record { location = l; tree = t } ∷ []
 subtree_at-none l t h m = subtree-children l t ∙ ap (λ ns. record { location = l; tree = t } ∷ flat_map subtree ns) (children_at-none l t h m)

@@ -10,3 +10,4 @@ pub mod Sinks
 pub mod Trees
 pub mod Walks
 pub mod Way
+pub mod Weight

@@ -5,7 +5,7 @@ use Rattle.jsonpath_parser.specs.Syntax.{Segments, no_segments, segment, Query}
 use Rattle.jsonpath_rust.specs.Document.{Document}
 use Rattle.jsonpath_rust.specs.Node.{Node, root_node}
 use Rattle.jsonpath_rust.specs.Meaning.{replaced, all_applied, nodelist}
-use Rattle.jsonpath_rust.specs.Walking.{through}
+use Rattle.jsonpath_rust.specs.inner.Walking.{through}
 use Rattle.jsonpath_rust.proofs.Walks.{flat_map-flat_map, flat_map-alone}
 
 -- whole lists segment by segment are the same as one node after another

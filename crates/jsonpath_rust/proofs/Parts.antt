@@ -7,10 +7,10 @@ use Rattle.jsonpath_base.specs.Tree.{Tree}
 use Rattle.jsonpath_rust.specs.Node.{Node}
 use Rattle.jsonpath_rust.specs.Functions.{only_value}
 use Rattle.jsonpath_rust.specs.Meaning.{turned}
-use Rattle.jsonpath_rust.specs.Sinks.{Seen, values, nothing, give, only_in, values_whole, ValuesAreWhole}
-use Rattle.jsonpath_rust.specs.Keeping.{IsReady, answers_of, AreRight, document}
-use Rattle.jsonpath_rust.specs.declared.query.kept.Kept.{Kept}
-use Rattle.jsonpath_rust.specs.declared.query.kept.Task.{Task}
+use Rattle.jsonpath_rust.specs.inner.Sinks.{Seen, values, nothing, give, only_in, values_whole, ValuesAreWhole}
+use Rattle.jsonpath_rust.specs.inner.Keeping.{IsReady, nodelists_of, AreRight, document}
+use Rattle.jsonpath_rust.specs.declared.query.cache.Cache.{Cache}
+use Rattle.jsonpath_rust.specs.declared.query.walk.Task.{Task}
 use Rattle.jsonpath_rust.proofs.Sinks.{only_all, only_whole, give-values, trues}
 use Rattle.std.proofs.lemmas.List.{at_drop_all}
 
@@ -101,5 +101,5 @@ values_are_whole s ns e =
 
 -- ---- what is kept
 
-pub ready_as : {A : Type 0} (tree : A → Tree) (whole : A → Bool) (custom : List ℕ → List Tree → Tree) (task : Task A) (k m : Kept A) → answers_of m ≡ answers_of k → IsReady tree whole custom task k → IsReady tree whole custom task m
-ready_as tree whole custom task k m e r = record { root = r.root; answers = subst (AreRight tree whole (document tree custom task)) (sym e) r.answers }
+pub ready_as : {A : Type 0} (tree : A → Tree) (whole : A → Bool) (custom : List ℕ → List Tree → Tree) (task : Task A) (k m : Cache A) → nodelists_of m ≡ nodelists_of k → IsReady tree whole custom task k → IsReady tree whole custom task m
+ready_as tree whole custom task k m e r = record { root = r.root; nodelists = subst (AreRight tree whole (document tree custom task)) (sym e) r.nodelists }

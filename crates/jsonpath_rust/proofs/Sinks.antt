@@ -7,9 +7,9 @@ use Rattle.std.specs.List.{AllByRecursion}
 use Rattle.jsonpath_parser.specs.Normal.{normal}
 use Rattle.jsonpath_base.specs.Tree.{Tree, number}
 use Rattle.jsonpath_rust.specs.Node.{Node, has_node}
-use Rattle.jsonpath_rust.specs.Functions.{counted, count_of, only_value}
-use Rattle.jsonpath_rust.specs.Sinks as sinks
-use Rattle.jsonpath_rust.specs.Sinks.{Seen, nodes, paths, values, any, count, nothing, one, several, add, give, full, is_found, only_in, nodes_in, nodes_whole, paths_in, values_in, values_whole, answer_of, Gives}
+use Rattle.jsonpath_rust.specs.Functions.{count_value, count_of, only_value}
+use Rattle.jsonpath_rust.specs.inner.Sinks as sinks
+use Rattle.jsonpath_rust.specs.inner.Sinks.{Seen, nodes, paths, values, any, count, nothing, one, several, add, give, full, any_in, only_in, nodes_in, nodes_whole, paths_in, values_in, values_whole, answer_of, Took}
 
 pub give-append : (s : Seen) (xs ys : List Node) → give s (xs ++ ys) ≡ give (give s xs) ys
 give-append s [] ys = refl
@@ -34,31 +34,31 @@ pub true_false : {A : Type 0} → true ≡ false → A
 true_false h = absurd (false≢true (sym h))
 
 -- where no node is to be given, nothing is done
-pub gives_none : (s : Seen) (ns : List Node) → ns ≡ [] → Gives s ns s true
-gives_none s ns e = record { given = sym (ap (give s) e); stopped = λ h. true_false h }
+pub took_none : (s : Seen) (ns : List Node) → ns ≡ [] → Took s ns s true
+took_none s ns e = record { given = sym (ap (give s) e); stopped = λ h. true_false h }
 
-pub gives_as : (s : Seen) (xs ys : List Node) (z : Seen) (b : Bool) → xs ≡ ys → Gives s xs z b → Gives s ys z b
-gives_as s xs ys z b e h = record { given = h.given ∙ ap (give s) e; stopped = h.stopped }
+pub took_as : (s : Seen) (xs ys : List Node) (z : Seen) (b : Bool) → xs ≡ ys → Took s xs z b → Took s ys z b
+took_as s xs ys z b e h = record { given = h.given ∙ ap (give s) e; stopped = h.stopped }
 
-pub gives_then : (s : Seen) (xs ys all : List Node) (m z : Seen) (a b : Bool) → xs ++ ys ≡ all → Gives s xs m a → Gives m ys z b → Gives s all z b
-gives_then s xs ys all m z a b e h k = record { given = k.given ∙ ap (λ q. give q ys) h.given ∙ sym (give-append s xs ys) ∙ ap (give s) e; stopped = k.stopped }
+pub took_then : (s : Seen) (xs ys all : List Node) (m z : Seen) (a b : Bool) → xs ++ ys ≡ all → Took s xs m a → Took m ys z b → Took s all z b
+took_then s xs ys all m z a b e h k = record { given = k.given ∙ ap (λ q. give q ys) h.given ∙ sym (give-append s xs ys) ∙ ap (give s) e; stopped = k.stopped }
 
 -- the rest makes no difference
-pub gives_stop : (s : Seen) (xs ys all : List Node) (m : Seen) (a b : Bool) → xs ++ ys ≡ all → Gives s xs m a → a ≡ false → Gives s all m b
-gives_stop s xs ys all m a b e h f = record { given = sym (give-full m ys (h.stopped f)) ∙ ap (λ q. give q ys) h.given ∙ sym (give-append s xs ys) ∙ ap (give s) e; stopped = λ _. h.stopped f }
+pub took_stop : (s : Seen) (xs ys all : List Node) (m : Seen) (a b : Bool) → xs ++ ys ≡ all → Took s xs m a → a ≡ false → Took s all m b
+took_stop s xs ys all m a b e h f = record { given = sym (give-full m ys (h.stopped f)) ∙ ap (λ q. give q ys) h.given ∙ sym (give-append s xs ys) ∙ ap (give s) e; stopped = λ _. h.stopped f }
 
 -- a call's answer, with what it gave in other words
-pub result_as : {E : Type 0} (r : Result Bool E) (s z : Seen) (xs ys : List Node) → xs ≡ ys → IfOk r (λ b. Gives s xs z b) → IfOk r (λ b. Gives s ys z b)
-result_as r s z xs ys e h = IfOk-weaker r (λ b. Gives s xs z b) (λ b. Gives s ys z b) (λ b k. gives_as s xs ys z b e k) h
+pub result_as : {E : Type 0} (r : Result Bool E) (s z : Seen) (xs ys : List Node) → xs ≡ ys → IfOk r (λ b. Took s xs z b) → IfOk r (λ b. Took s ys z b)
+result_as r s z xs ys e h = IfOk-weaker r (λ b. Took s xs z b) (λ b. Took s ys z b) (λ b k. took_as s xs ys z b e k) h
 
-pub result_then : {E : Type 0} (r : Result Bool E) (s m z : Seen) (xs ys all : List Node) (a : Bool) → xs ++ ys ≡ all → Gives s xs m a → IfOk r (λ b. Gives m ys z b) → IfOk r (λ b. Gives s all z b)
-result_then r s m z xs ys all a e h k = IfOk-weaker r (λ b. Gives m ys z b) (λ b. Gives s all z b) (λ b q. gives_then s xs ys all m z a b e h q) k
+pub result_then : {E : Type 0} (r : Result Bool E) (s m z : Seen) (xs ys all : List Node) (a : Bool) → xs ++ ys ≡ all → Took s xs m a → IfOk r (λ b. Took m ys z b) → IfOk r (λ b. Took s all z b)
+result_then r s m z xs ys all a e h k = IfOk-weaker r (λ b. Took m ys z b) (λ b. Took s all z b) (λ b q. took_then s xs ys all m z a b e h q) k
 
 -- ---- inside a filter
 
-pub found_any : (ns : List Node) → is_found (give (any false) ns) ≡ has_node ns
-found_any [] = refl
-found_any (n ∷ ns) = ap is_found (give-full (any true) ns refl)
+pub any_given : (ns : List Node) → any_in (give (any false) ns) ≡ has_node ns
+any_given [] = refl
+any_given (n ∷ ns) = ap any_in (give-full (any true) ns refl)
 
 give-count : (k : ℕ) (ns : List Node) → k ≤ 9223372036854775807 → give (count k) ns ≡ count (min (k + length ns) 9223372036854775807)
 give-count k [] h = ap count (omega (arith, h))
@@ -67,8 +67,8 @@ give-count k (n ∷ ns) h = give-count (min (suc k) 9223372036854775807) ns (ome
 twice : (n : ℕ) → min (min (0 + n) 9223372036854775807) 9223372036854775807 ≡ min n 9223372036854775807
 twice n = omega arith
 
-pub counted_all : (ns : List Node) → Some (counted (sinks.counted (give (count 0) ns))) ≡ count_of ns
-counted_all ns = ap (λ s. Some (counted (sinks.counted s))) (give-count 0 ns (omega arith)) ∙ ap (λ k. Some (number (pos k))) (twice (length ns))
+pub counted_all : (ns : List Node) → Some (count_value (sinks.count_in (give (count 0) ns))) ≡ count_of ns
+counted_all ns = ap (λ s. Some (count_value (sinks.count_in s))) (give-count 0 ns (omega arith)) ∙ ap (λ k. Some (number (pos k))) (twice (length ns))
 
 -- the tree of the only node, which is whole
 pub only_all : (ns : List Node) → option_map (λ p. p.1) (only_in (give nothing ns)) ≡ only_value ns

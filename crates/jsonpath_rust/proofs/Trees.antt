@@ -1,10 +1,8 @@
 -- The children of a tree: which they are, and that each is smaller.
 use Rattle.std.proofs.Common.{◌≡◌, ℕ, zero, suc, ◌+◌, ◌<◌, ◌≤◌, ℤ, List, [], ◌∷◌, ◌++◌, map, cond, length, get_or, refl, sym, ◌∙◌, ap, arith, Bool, true, false, Option, Some, None, option_map, option_and_then, option_to_list, All, subst}
-use Rattle.std.proofs.lemmas.Bool.{false≢true}
 use Rattle.std.proofs.lemmas.Option.{slice_get-map, slice_get_read}
 use Rattle.std.proofs.lemmas.List.Elements.{All-get_or}
 use Rattle.std.specs.List.{flat_map, slice_get}
-use Rattle.std.specs.Option.{is_some}
 use Rattle.std.specs.Str.{bytes_eq}
 use Rattle.jsonpath_parser.specs.Location.{Location, name, index}
 use Rattle.jsonpath_base.specs.Tree.{Tree, null, truth, number, text, list, object, Trees, no_trees, tree, Members, no_members, member, elements, pairs, as_list, as_members, find, get}
@@ -14,18 +12,7 @@ use Rattle.jsonpath_rust.specs.Meaning.{indexed, element_of, stepped, element, s
 use Rattle.jsonpath_base.specs.Slice.{slice_of}
 use Rattle.std.proofs.lemmas.List.{length-map, append-nil}
 use Rattle.jsonpath_parser.specs.Syntax.{index_step}
-use Rattle.jsonpath_rust.specs.Weight.{size, trees_size, members_size}
-
-pub none_some : {A B : Type 0} (x : A) → Some x ≡ None → B
-none_some x h = absurd (false≢true (sym (ap is_some h)))
-
-abbrev list_or : Option (List Tree) → List Tree
-list_or None = []
-list_or (Some x) = x
-
-abbrev pub members_or : Option (List (List ℕ × Tree)) → List (List ℕ × Tree)
-members_or None = []
-members_or (Some x) = x
+use Rattle.jsonpath_rust.specs.inner.Size.{size, trees_size, members_size}
 
 -- what all elements have, this one has
 pub all_at : {X : Type 0} (P : X → Type 0) (xs : List X) (i : ℕ) (x : X) → All P xs → i < length xs → x ≡ get_or xs i x → P x
@@ -34,8 +21,8 @@ all_at P xs i x all h e = subst P (sym e) (All-get_or P xs i x h all)
 -- ---- which children a tree has
 
 pub children_at-none : (l : Location) (t : Tree) → None ≡ as_list t → None ≡ as_members t → children_at l t ≡ []
-children_at-none l (list us) h k = none_some _ (sym h)
-children_at-none l (object us) h k = none_some _ (sym k)
+children_at-none l (list us) h k = cc
+children_at-none l (object us) h k = cc
 children_at-none l null h k = refl
 children_at-none l (truth b) h k = refl
 children_at-none l (number n) h k = refl
@@ -49,12 +36,14 @@ item_at-elements zero (tree t ts) = refl
 item_at-elements (suc n) (tree t ts) = item_at-elements n ts
 
 child-list : (t : Tree) (ts : List Tree) (k : ℕ) → Some ts ≡ as_list t → child (index k) t ≡ slice_get ts k
-child-list (list us) ts k h = item_at-elements k us ∙ ap (λ o. slice_get (list_or o) k) (sym h)
-child-list (object us) ts k h = none_some ts h
-child-list null ts k h = none_some ts h
-child-list (truth b) ts k h = none_some ts h
-child-list (number n) ts k h = none_some ts h
-child-list (text s) ts k h = none_some ts h
+child-list (list us) ts k h =
+    let same : elements us ≡ ts = cc in
+    item_at-elements k us ∙ ap (λ vs. slice_get vs k) same
+child-list (object us) ts k h = cc
+child-list null ts k h = cc
+child-list (truth b) ts k h = cc
+child-list (number n) ts k h = cc
+child-list (text s) ts k h = cc
 
 pub child_there : {A : Type 0} (tree_of : A → Tree) (t : Tree) (xs : List A) (k : ℕ) (x : A) → Some (map tree_of xs) ≡ as_list t → k < length xs → x ≡ get_or xs k x → child (index k) t ≡ Some (tree_of x)
 child_there tree_of t xs k x is_list h e = child-list t (map tree_of xs) k is_list ∙ slice_get-map tree_of xs k ∙ ap (option_map tree_of) (slice_get_read xs (length xs) k x refl h e)
@@ -65,11 +54,7 @@ indexed_some tree_of l t xs i k x is_list is_place h e =
     let here = sym (child_there tree_of t xs k x is_list h e) in
     let n : Node = record { location = l; tree = t } in
     ap (λ o. map (below l (index k)) (option_to_list o)) here
-    ∙ sym (◌∙◌ (ap (λ o. flat_map (λ j. map (below l (index j)) (option_to_list (child (index j) t))) (option_to_list (option_and_then (λ us. element_of i (length us)) o))) (sym is_list)) (ap (λ o. flat_map (λ j. map (below l (index j)) (option_to_list (child (index j) t))) (option_to_list o)) (sym is_place) ∙ one_more (map (below l (index k)) (option_to_list (child (index k) t)))))
-  where
-    one_more : (ns : List Node) → ns ++ [] ≡ ns
-    one_more [] = refl
-    one_more (m ∷ ms) = ap (λ z. m ∷ z) (one_more ms)
+    ∙ sym (◌∙◌ (ap (λ o. flat_map (λ j. map (below l (index j)) (option_to_list (child (index j) t))) (option_to_list (option_and_then (λ us. element_of i (length us)) o))) (sym is_list)) (ap (λ o. flat_map (λ j. map (below l (index j)) (option_to_list (child (index j) t))) (option_to_list o)) (sym is_place) ∙ append-nil (map (below l (index k)) (option_to_list (child (index k) t)))))
 
 -- ---- sizes
 
@@ -86,20 +71,24 @@ pairs-size no_members = refl
 pairs-size (member n t ms) = ap (λ k. size t + k) (pairs-size ms)
 
 list-size : (t : Tree) (ts : List Tree) → Some ts ≡ as_list t → total (map size ts) < size t
-list-size (list us) ts h = omega (arith, ap (λ o. total (map size (list_or o))) h, elements-size us)
-list-size (object us) ts h = none_some ts h
-list-size null ts h = none_some ts h
-list-size (truth b) ts h = none_some ts h
-list-size (number n) ts h = none_some ts h
-list-size (text s) ts h = none_some ts h
+list-size (list us) ts h =
+    let same : ts ≡ elements us = cc in
+    omega (arith, ap (λ vs. total (map size vs)) same, elements-size us)
+list-size (object us) ts h = cc
+list-size null ts h = cc
+list-size (truth b) ts h = cc
+list-size (number n) ts h = cc
+list-size (text s) ts h = cc
 
 object-size : (t : Tree) (ms : List (List ℕ × Tree)) → Some ms ≡ as_members t → total (map (λ m. size m.1) ms) < size t
-object-size (list us) ts h = none_some ts h
-object-size (object us) ts h = omega (arith, ap (λ o. total (map (λ m. size m.1) (members_or o))) h, pairs-size us)
-object-size null ts h = none_some ts h
-object-size (truth b) ts h = none_some ts h
-object-size (number n) ts h = none_some ts h
-object-size (text s) ts h = none_some ts h
+object-size (list us) ts h = cc
+object-size (object us) ms h =
+    let same : ms ≡ pairs us = cc in
+    omega (arith, ap (λ vs. total (map (λ m. size m.1) vs)) same, pairs-size us)
+object-size null ts h = cc
+object-size (truth b) ts h = cc
+object-size (number n) ts h = cc
+object-size (text s) ts h = cc
 
 sizes_at : {X Y : Type 0} (f : X → Y) (size_of : Y → ℕ) (xs : List X) (i : ℕ) (x : X) → i < length xs → x ≡ get_or xs i x → size_of (f x) ≤ total (map size_of (map f xs))
 sizes_at f size_of [] i x h e = absurd (omega (arith, h))
@@ -114,26 +103,24 @@ element_size tree_of t xs i x s h e = omega (arith, list-size t (map tree_of xs)
 pub pair_size : {M : Type 0} (pair : M → List ℕ × Tree) (t : Tree) (xs : List M) (i : ℕ) (x : M) → Some (map pair xs) ≡ as_members t → i < length xs → x ≡ get_or xs i x → size (pair x).1 < size t
 pair_size pair t xs i x s h e = omega (arith, object-size t (map pair xs) s, sizes_at pair (λ m. size m.1) xs i x h e)
 
-abbrev size_or : Option Tree → ℕ
-size_or None = 0
-size_or (Some x) = size x
-
 find-here : (b : Bool) (t c : Tree) (rest : Option Tree) (n : ℕ) → (Some c ≡ rest → size c ≤ n) → Some c ≡ cond b (Some t) rest → size c ≤ size t + n
-find-here true t c rest n k e = omega (arith, ap size_or e)
+find-here true t c rest n k e =
+    let same : c ≡ t = cc in
+    omega (arith, ap size same)
 find-here false t c rest n k e = omega (arith, k e)
 
 find-size : (key : List ℕ) (ms : List (List ℕ × Tree)) (c : Tree) → Some c ≡ find key ms → size c ≤ total (map (λ m. size m.1) ms)
-find-size key [] c h = none_some c h
+find-size key [] c h = cc
 find-size key (m ∷ ms) c h = find-here (bytes_eq key m.0) m.1 c (find key ms) _ (λ e. find-size key ms c e) h
 
 -- the member of a name is smaller than its object
 pub member_size : (key : List ℕ) (t c : Tree) → Some c ≡ get key t → size c < size t
-member_size key (list us) c h = none_some c h
+member_size key (list us) c h = cc
 member_size key (object us) c h = omega (arith, find-size key (pairs us) c h, pairs-size us)
-member_size key null c h = none_some c h
-member_size key (truth b) c h = none_some c h
-member_size key (number n) c h = none_some c h
-member_size key (text s) c h = none_some c h
+member_size key null c h = cc
+member_size key (truth b) c h = cc
+member_size key (number n) c h = cc
+member_size key (text s) c h = cc
 
 -- ---- what is below a node
 

@@ -1,6 +1,7 @@
 -- The loops and the measures of the walk.
-use Rattle.std.proofs.Common.{◌≡◌, ℕ, suc, ◌+◌, ◌*◌, ◌<◌, ◌≤◌, List, [], ◌∷◌, ◌++◌, map, filter, cond, length, get_or, drop, drop-cons, add-one, append_assoc, refl, sym, ◌∙◌, ap, arith, Bool, true, false}
+use Rattle.std.proofs.Common.{◌≡◌, ℕ, suc, ◌+◌, ◌*◌, ◌<◌, ◌≤◌, List, [], ◌∷◌, ◌++◌, map, filter, cond, length, get_or, drop, drop-cons, add-one, refl, sym, ◌∙◌, ap, arith, Bool, true, false}
 use Rattle.std.proofs.Math.Nat.{mul-le-mul_left}
+use Rattle.std.proofs.lemmas.Grind.{flat_map-append}
 use Rattle.std.proofs.lemmas.List.{at_drop_all}
 use Rattle.std.specs.List.{flat_map}
 use Rattle.jsonpath_parser.specs.Location.{Location, name, index}
@@ -9,9 +10,9 @@ use Rattle.jsonpath_base.specs.Tree.{Tree}
 use Rattle.jsonpath_rust.specs.Document.{Document}
 use Rattle.jsonpath_rust.specs.Node.{Node, below, element_nodes, member_nodes, children_at, subtree, subtree_at}
 use Rattle.jsonpath_rust.specs.Meaning.{picks, all_pick}
-use Rattle.jsonpath_rust.specs.Walking.{selectors_in}
-use Rattle.jsonpath_rust.specs.Sinks.{Seen, give, Gives}
-use Rattle.jsonpath_rust.specs.Weight.{work}
+use Rattle.jsonpath_rust.specs.inner.Walking.{selectors_in}
+use Rattle.jsonpath_rust.specs.inner.Sinks.{Seen, give, Took}
+use Rattle.jsonpath_rust.proofs.Weight.{work}
 use Rattle.jsonpath_rust.proofs.Sinks.{give-append, give-full}
 use Rattle.jsonpath_rust.proofs.Trees.{subtree-children}
 
@@ -25,22 +26,18 @@ turn : {X : Type 0} (G : ℕ → List X → List Node) (g : ℕ → X → List N
 turn G g t xs i x h e = ap (G i) (drop-cons xs i x h) ∙ t.more i (get_or xs i x) (drop (suc i) xs) ∙ ap (λ y. g i y ++ G (suc i) (drop (suc i) xs)) (sym e) ∙ ap (λ j. g i x ++ G j (drop j xs)) (sym (add-one i))
 
 -- the turn at x goes on
-pub turn_next : {X : Type 0} (G : ℕ → List X → List Node) (g : ℕ → X → List Node) → Turns G g → (xs : List X) (i : ℕ) (x : X) (s m w : Seen) (b : Bool) → i < length xs → x ≡ get_or xs i x → Gives s (g i x) m b → give s (G i (drop i xs)) ≡ w → give m (G (i + 1) (drop (i + 1) xs)) ≡ w
+pub turn_next : {X : Type 0} (G : ℕ → List X → List Node) (g : ℕ → X → List Node) → Turns G g → (xs : List X) (i : ℕ) (x : X) (s m w : Seen) (b : Bool) → i < length xs → x ≡ get_or xs i x → Took s (g i x) m b → give s (G i (drop i xs)) ≡ w → give m (G (i + 1) (drop (i + 1) xs)) ≡ w
 turn_next G g t xs i x s m w b h e k v =
     let rest = G (i + 1) (drop (i + 1) xs) in
     ap (λ q. give q rest) k.given ∙ sym (give-append s (g i x) rest) ∙ ap (give s) (sym (turn G g t xs i x h e)) ∙ v
 
 -- the turn at x ends the loop: the rest makes no difference
-pub turn_stop : {X : Type 0} (G : ℕ → List X → List Node) (g : ℕ → X → List Node) → Turns G g → (xs : List X) (i : ℕ) (x : X) (s m w : Seen) (b : Bool) → i < length xs → x ≡ get_or xs i x → Gives s (g i x) m b → b ≡ false → give s (G i (drop i xs)) ≡ w → m ≡ w
+pub turn_stop : {X : Type 0} (G : ℕ → List X → List Node) (g : ℕ → X → List Node) → Turns G g → (xs : List X) (i : ℕ) (x : X) (s m w : Seen) (b : Bool) → i < length xs → x ≡ get_or xs i x → Took s (g i x) m b → b ≡ false → give s (G i (drop i xs)) ≡ w → m ≡ w
 turn_stop G g t xs i x s m w b h e k f v = sym (give-full m (G (i + 1) (drop (i + 1) xs)) (k.stopped f)) ∙ turn_next G g t xs i x s m w b h e k v
 
 -- nothing is left
 pub turn_end : {X : Type 0} (G : ℕ → List X → List Node) (g : ℕ → X → List Node) → Turns G g → (xs : List X) (i : ℕ) (s w : Seen) → length xs ≤ i → give s (G i (drop i xs)) ≡ w → s ≡ w
 turn_end G g t xs i s w h v = sym (ap (give s) (at_drop_all (G i) xs i h ∙ t.none i)) ∙ v
-
-pub flat_map-append : {A B : Type 0} (f : A → List B) (xs ys : List A) → flat_map f (xs ++ ys) ≡ flat_map f xs ++ flat_map f ys
-flat_map-append f [] ys = refl
-flat_map-append f (x ∷ xs) ys = ap (λ z. f x ++ z) (flat_map-append f xs ys) ∙ sym (append_assoc (f x) (flat_map f xs) (flat_map f ys))
 
 pub flat_map-flat_map : {A B C : Type 0} (f : A → List B) (g : B → List C) (xs : List A) → flat_map g (flat_map f xs) ≡ flat_map (λ x. flat_map g (f x)) xs
 flat_map-flat_map f g [] = refl
@@ -69,11 +66,11 @@ pub member_turns : {M : Type 0} (pair : M → List ℕ × Tree) (l : Location) (
 member_turns pair l rest act = record { none = λ k. refl; more = λ k m ms. flat_map-append rest (act (below l (name (pair m).0) (pair m).1)) (flat_map act (member_nodes l (map pair ms))) }
 
 -- one place of a slice: it goes on, or ends the loop
-pub place_next : (rest : Node → List Node) (at : ℕ → List Node) (old new : List ℕ) (i : ℕ) (s m w : Seen) (b : Bool) → old ≡ i ∷ new → Gives s (flat_map rest (at i)) m b → give s (flat_map rest (flat_map at old)) ≡ w → give m (flat_map rest (flat_map at new)) ≡ w
+pub place_next : (rest : Node → List Node) (at : ℕ → List Node) (old new : List ℕ) (i : ℕ) (s m w : Seen) (b : Bool) → old ≡ i ∷ new → Took s (flat_map rest (at i)) m b → give s (flat_map rest (flat_map at old)) ≡ w → give m (flat_map rest (flat_map at new)) ≡ w
 place_next rest at old new i s m w b e k v =
     ap (λ q. give q (flat_map rest (flat_map at new))) k.given ∙ sym (give-append s (flat_map rest (at i)) (flat_map rest (flat_map at new))) ∙ ap (give s) (sym (flat_map-append rest (at i) (flat_map at new))) ∙ ap (λ is. give s (flat_map rest (flat_map at is))) (sym e) ∙ v
 
-pub place_stop : (rest : Node → List Node) (at : ℕ → List Node) (old new : List ℕ) (i : ℕ) (s m w : Seen) (b : Bool) → old ≡ i ∷ new → Gives s (flat_map rest (at i)) m b → b ≡ false → give s (flat_map rest (flat_map at old)) ≡ w → m ≡ w
+pub place_stop : (rest : Node → List Node) (at : ℕ → List Node) (old new : List ℕ) (i : ℕ) (s m w : Seen) (b : Bool) → old ≡ i ∷ new → Took s (flat_map rest (at i)) m b → b ≡ false → give s (flat_map rest (flat_map at old)) ≡ w → m ≡ w
 place_stop rest at old new i s m w b e k f v = sym (give-full m (flat_map rest (flat_map at new)) (k.stopped f)) ∙ place_next rest at old new i s m w b e k v
 
 -- at a node, and then at what is below each child

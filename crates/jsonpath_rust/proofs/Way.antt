@@ -6,9 +6,9 @@ use Rattle.std.proofs.lemmas.Str.{IsCharBoundary-before_ascii}
 use Rattle.std.specs.String.Boundary.{IsSplitPoint}
 use Rattle.jsonpath_parser.specs.Location.{Step, name, index}
 use Rattle.jsonpath_parser.specs.Normal.{step_text}
-use Rattle.jsonpath_rust.specs.Walking.{step_of}
-use Rattle.jsonpath_rust.specs.Way.{spelled, IsSpelled}
-use Rattle.jsonpath_rust.specs.declared.query.sink.StepRef.{StepRef}
+use Rattle.jsonpath_rust.specs.inner.Walking.{step_of}
+use Rattle.jsonpath_rust.specs.inner.Way.{spelled, IsSpelled}
+use Rattle.jsonpath_rust.specs.declared.query.way.StepRef.{StepRef}
 
 spelled-append : (ss ts : List StepRef) → spelled (ss ++ ts) ≡ spelled ss ++ spelled ts
 spelled-append [] ts = refl

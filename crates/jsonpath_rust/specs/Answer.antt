@@ -1,5 +1,6 @@
 -- What a query answers.
-use Rattle.std.specs.Prelude.{◌≡◌, ℕ, List, [], ◌∷◌, map, Some, string_bytes, String}
+use Rattle.std.specs.Prelude.{◌≡◌, ℕ, List, map, Some, string_bytes, String}
+use Rattle.std.specs.List.{AllZip}
 use Rattle.jsonpath_parser.specs.Location.{Location}
 use Rattle.jsonpath_parser.specs.Normal.{IsNormal, IsOnlyPath}
 use Rattle.jsonpath_parser.specs.Syntax.{Query}
@@ -19,40 +20,20 @@ shown tree refs = map (λ r. (string_bytes r.path, tree r.val.now)) refs
 abbrev pub paths_of : List (String Global) → List (List ℕ)
 paths_of paths = map (λ p. string_bytes p) paths
 
--- the relation holds place by place, and both lists are of one length
-abbrev pub Along : {A B : Type 0} → (A → B → Type 0) → List A → List B → Type 0
-Along R [] [] = Unit {0}
-Along R (a ∷ xs) (b ∷ ys) = R a b × Along R xs ys
-Along R _ _ = ⊥
-
--- the path is the Normalized Path of the location, and the tree is the one there
-abbrev pub IsNodeAt : Document → Location → List ℕ × Tree → Type 0
-IsNodeAt doc l shown = IsNormal l shown.0 × (at l doc.root ≡ Some shown.1)
-
--- the path is the location's alone
-abbrev pub HasOnlyPath : Location → List ℕ × Tree → Type 0
-HasOnlyPath l shown = IsOnlyPath l shown.0
+-- the path is the Normalized Path of the location, and of no other
+abbrev pub IsPathAt : Document → Location → List ℕ → Type 0
+IsPathAt doc l path = IsNormal l path × IsOnlyPath l path
 
 -- the tree is the one at the location
 abbrev pub IsValueAt : Document → Location → Tree → Type 0
 IsValueAt doc l t = at l doc.root ≡ Some t
 
--- The text is a query, no deeper than the limit, and the list shows its nodes in the document, in order.
-pub record ListsNodes (limit : ℕ) (text : List ℕ) (doc : Document) (answer : List (List ℕ × Tree)) : Type 0 where
-  pub query : Query
-  pub derived : Derives limit text query
-  pub nodes : Along (IsNodeAt doc) (selected query doc) answer
-  pub only_path : Along HasOnlyPath (selected query doc) answer
+abbrev pub IsNodeAt : Document → Location → List ℕ × Tree → Type 0
+IsNodeAt doc l shown = IsPathAt doc l shown.0 × IsValueAt doc l shown.1
 
--- The same of a list of the nodes' values.
-pub record ListsValues (limit : ℕ) (text : List ℕ) (doc : Document) (answer : List Tree) : Type 0 where
+-- The text is a query, no deeper than the limit, and the list has what is shown of each of its nodes in the document, in order: a path, a
+-- value, or both.
+pub record Lists {A : Type 0} (IsShownAt : Document → Location → A → Type 0) (limit : ℕ) (text : List ℕ) (doc : Document) (answer : List A) : Type 0 where
   pub query : Query
   pub derived : Derives limit text query
-  pub values : Along (IsValueAt doc) (selected query doc) answer
-
--- The same of a list of the nodes' paths.
-pub record ListsPaths (limit : ℕ) (text : List ℕ) (doc : Document) (answer : List (List ℕ)) : Type 0 where
-  pub query : Query
-  pub derived : Derives limit text query
-  pub paths : Along IsNormal (selected query doc) answer
-  pub only_path : Along IsOnlyPath (selected query doc) answer
+  pub nodes : AllZip (IsShownAt doc) (selected query doc) answer

@@ -6,10 +6,5 @@ pub mod Meaning
 pub mod Answer
 pub mod Args
 pub mod Defaults
-pub mod Sinks
-pub mod Walking
-pub mod Keeping
-pub mod Operands
-pub mod Way
-pub mod Weight
 pub mod Patterns
+pub mod inner

@@ -80,19 +80,19 @@ abbrev mutual
   arguments_patterns no_arguments = []
   arguments_patterns (argument a rest) = argument_patterns a ++ arguments_patterns rest
 
--- the value is a text in which `regex` reads a pattern, for `match` where `whole`, and else for `search`
+-- the value is a text in which `regex` reads a pattern: with true for `match`, which asks of the entire text, and with false for `search`
 abbrev pub IsPattern : Bool → Option Tree → Type 0
-IsPattern whole (Some (tree.text s)) = IsSome (pattern_sought whole s)
-IsPattern whole _ = ⊥
+IsPattern entire (Some (tree.text s)) = IsSome (pattern_sought entire s)
+IsPattern entire _ = ⊥
 
 -- A pattern that stands in the query and that it asks at a node of the document: its value there is one that `regex` reads.
 pub record AsksPattern (q : Query) (doc : Document) : Type 0 where
-  pub whole : Bool
+  pub entire : Bool
   pub pattern : Argument
-  pub stands : Contains (segments_patterns q) (whole, pattern)
+  pub stands : Contains (segments_patterns q) (entire, pattern)
   pub node : Node
   pub here : IsValueAt doc node.location node.tree
-  pub read : IsPattern whole (argument_value pattern doc node)
+  pub read : IsPattern entire (argument_value pattern doc node)
 
 abbrev pub IsInvalid : JsonPathError → Type 0
 IsInvalid (InvalidJsonPath _) = Unit {0}

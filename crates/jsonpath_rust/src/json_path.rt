@@ -2,10 +2,11 @@
 ghost use Rattle.std.specs.Prelude.{map, All, IsTrue, IfOk, IfErr};
 ghost use Rattle.jsonpath_rust.specs.Document.{document_of};
 ghost use Rattle.jsonpath_rust.specs.Patterns.{IsQueryRefusal};
-ghost use Rattle.jsonpath_rust.specs.Answer.{ListsNodes, ListsValues, ListsPaths, shown, paths_of};
+ghost use Rattle.jsonpath_rust.specs.Answer.{IsNodeAt, IsPathAt, IsValueAt, Lists, shown, paths_of};
 
 use crate::query::queryable::Queryable;
 use crate::query::{Queried, QueryPath, QueryRef, js_path, js_path_path, js_path_vals};
+use jsonpath_parser::MAX_NESTING_DEPTH;
 use serde_json::Value;
 use std::alloc::Global;
 
@@ -16,9 +17,9 @@ pub trait JsonPath: Queryable {
     /// The values of the nodes and their Normalized Paths.
     fn query_with_path(&self, alloc: Global, path: &str) -> Queried<Vec<QueryRef<'_, Self>>>
         requires { IsTrue (Self.is_whole self.now) }
-        ensures answered { IfOk result (λ v. ListsNodes 128 path.now (document_of Self.tree Self.custom self.now) (shown Self.tree v.items)) }
+        ensures answered { IfOk result (λ v. Lists IsNodeAt MAX_NESTING_DEPTH path.now (document_of Self.tree Self.custom self.now) (shown Self.tree v.items)) }
         ensures whole { IfOk result (λ v. All (λ r. IsTrue (Self.is_whole r.val.now)) v.items) }
-        ensures refused { IfErr result (IsQueryRefusal 128 path.now (document_of Self.tree Self.custom self.now)) }
+        ensures refused { IfErr result (IsQueryRefusal MAX_NESTING_DEPTH path.now (document_of Self.tree Self.custom self.now)) }
     {
         js_path(alloc, path, self)
     }
@@ -26,8 +27,8 @@ pub trait JsonPath: Queryable {
     /// The Normalized Paths of the nodes.
     fn query_only_path(&self, alloc: Global, path: &str) -> Queried<Vec<QueryPath>>
         requires { IsTrue (Self.is_whole self.now) }
-        ensures answered { IfOk result (λ v. ListsPaths 128 path.now (document_of Self.tree Self.custom self.now) (paths_of v.items)) }
-        ensures refused { IfErr result (IsQueryRefusal 128 path.now (document_of Self.tree Self.custom self.now)) }
+        ensures answered { IfOk result (λ v. Lists IsPathAt MAX_NESTING_DEPTH path.now (document_of Self.tree Self.custom self.now) (paths_of v.items)) }
+        ensures refused { IfErr result (IsQueryRefusal MAX_NESTING_DEPTH path.now (document_of Self.tree Self.custom self.now)) }
     {
         js_path_path(alloc, path, self)
     }
@@ -35,9 +36,9 @@ pub trait JsonPath: Queryable {
     /// The values of the nodes. No path is made.
     fn query(&self, alloc: Global, path: &str) -> Queried<Vec<&Self>>
         requires { IsTrue (Self.is_whole self.now) }
-        ensures answered { IfOk result (λ v. ListsValues 128 path.now (document_of Self.tree Self.custom self.now) (map (λ x. Self.tree x.now) v.items)) }
+        ensures answered { IfOk result (λ v. Lists IsValueAt MAX_NESTING_DEPTH path.now (document_of Self.tree Self.custom self.now) (map (λ x. Self.tree x.now) v.items)) }
         ensures whole { IfOk result (λ v. All (λ x. IsTrue (Self.is_whole x.now)) v.items) }
-        ensures refused { IfErr result (IsQueryRefusal 128 path.now (document_of Self.tree Self.custom self.now)) }
+        ensures refused { IfErr result (IsQueryRefusal MAX_NESTING_DEPTH path.now (document_of Self.tree Self.custom self.now)) }
     {
         js_path_vals(alloc, path, self)
     }

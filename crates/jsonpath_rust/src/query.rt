@@ -1,22 +1,25 @@
 //! Queries on a document.
 ghost use Rattle.std.specs.Prelude.{◌≡◌, map, All, IsTrue, IfOk, IfErr, MatchResult};
+ghost use Rattle.std.specs.List.{AllZip};
 ghost use Rattle.jsonpath_parser.specs.Derives.{Derives};
 ghost use Rattle.jsonpath_parser.specs.Syntax.{Query};
 ghost use Rattle.jsonpath_parser.specs.View.{query_view};
-ghost use Rattle.jsonpath_parser.specs.Normal.{IsNormal, IsOnlyPath};
 ghost use Rattle.jsonpath_rust.specs.Document.{document_of};
 ghost use Rattle.jsonpath_rust.specs.Meaning.{selected};
 ghost use Rattle.jsonpath_rust.specs.Patterns.{IsStop, IsQueryRefusal};
-ghost use Rattle.jsonpath_rust.specs.Answer.{Along, IsNodeAt, IsValueAt, HasOnlyPath, ListsNodes, ListsValues, ListsPaths, shown, paths_of};
+ghost use Rattle.jsonpath_rust.specs.Answer.{IsNodeAt, IsPathAt, IsValueAt, Lists, shown, paths_of};
 
-mod call;
-mod filter_test;
-mod kept;
-mod literals;
-mod operand;
+mod cache;
+mod comparison;
+mod filter;
+mod function;
+mod patterns;
 pub mod queryable;
+mod selector;
 mod singular;
 mod sink;
+mod subquery;
+mod value;
 mod walk;
 mod way;
 
@@ -71,21 +74,21 @@ impl<'a, T: Queryable> From<(&'a T, QueryPath)> for QueryRef<'a, T> {
 /// - those of `parse_json_path`, where the text is no query.
 /// - `InvalidJsonPath` where a pattern that the query asks of a node of the document, by `match` or `search`, can be read
 ///   by `regex` and is too large to be built.
-/// - `OutOfMemory` where a growth was refused.
+/// - `OutOfMemory` where memory ran out.
 pub fn js_path<'a, T: Queryable>(
     alloc: Global,
     path: &str,
     value: &'a T,
 ) -> Queried<Vec<QueryRef<'a, T>>>
     requires { IsTrue (T.is_whole value.now) }
-    ensures answered { IfOk result (λ v. ListsNodes 128 path.now (document_of T.tree T.custom value.now) (shown T.tree v.items)) }
+    ensures answered { IfOk result (λ v. Lists IsNodeAt MAX_NESTING_DEPTH path.now (document_of T.tree T.custom value.now) (shown T.tree v.items)) }
 
     // Whatever query the text derives, its nodes are answered, unless memory ran out or a pattern was refused.
-    ensures only { (q : Query) → Derives 128 path.now q → MatchResult result
-        (λ v. Along (IsNodeAt (document_of T.tree T.custom value.now)) (selected q (document_of T.tree T.custom value.now)) (shown T.tree v.items))
+    ensures only { (q : Query) → Derives MAX_NESTING_DEPTH path.now q → MatchResult result
+        (λ v. AllZip (IsNodeAt (document_of T.tree T.custom value.now)) (selected q (document_of T.tree T.custom value.now)) (shown T.tree v.items))
         (IsStop q (document_of T.tree T.custom value.now)) }
     ensures whole { IfOk result (λ v. All (λ r. IsTrue (T.is_whole r.val.now)) v.items) }
-    ensures refused { IfErr result (IsQueryRefusal 128 path.now (document_of T.tree T.custom value.now)) }
+    ensures refused { IfErr result (IsQueryRefusal MAX_NESTING_DEPTH path.now (document_of T.tree T.custom value.now)) }
 {
     js_path_within(alloc, path, MAX_NESTING_DEPTH, value)
 }
@@ -102,11 +105,11 @@ pub fn js_path_within<'a, T: Queryable>(
     value: &'a T,
 ) -> Queried<Vec<QueryRef<'a, T>>>
     requires { IsTrue (T.is_whole value.now) }
-    ensures answered { IfOk result (λ v. ListsNodes depth path.now (document_of T.tree T.custom value.now) (shown T.tree v.items)) }
+    ensures answered { IfOk result (λ v. Lists IsNodeAt depth path.now (document_of T.tree T.custom value.now) (shown T.tree v.items)) }
 
     // Whatever query the text derives, its nodes are answered, unless memory ran out or a pattern was refused.
     ensures only { (q : Query) → Derives depth path.now q → MatchResult result
-        (λ v. Along (IsNodeAt (document_of T.tree T.custom value.now)) (selected q (document_of T.tree T.custom value.now)) (shown T.tree v.items))
+        (λ v. AllZip (IsNodeAt (document_of T.tree T.custom value.now)) (selected q (document_of T.tree T.custom value.now)) (shown T.tree v.items))
         (IsStop q (document_of T.tree T.custom value.now)) }
     ensures whole { IfOk result (λ v. All (λ r. IsTrue (T.is_whole r.val.now)) v.items) }
     ensures refused { IfErr result (IsQueryRefusal depth path.now (document_of T.tree T.custom value.now)) }
@@ -125,14 +128,14 @@ pub fn js_path_vals<'a, T: Queryable>(
     value: &'a T,
 ) -> Queried<Vec<&'a T>>
     requires { IsTrue (T.is_whole value.now) }
-    ensures answered { IfOk result (λ v. ListsValues 128 path.now (document_of T.tree T.custom value.now) (map (λ x. T.tree x.now) v.items)) }
+    ensures answered { IfOk result (λ v. Lists IsValueAt MAX_NESTING_DEPTH path.now (document_of T.tree T.custom value.now) (map (λ x. T.tree x.now) v.items)) }
 
     // Whatever query the text derives, its nodes' values are answered, unless memory ran out or a pattern was refused.
-    ensures only { (q : Query) → Derives 128 path.now q → MatchResult result
-        (λ v. Along (IsValueAt (document_of T.tree T.custom value.now)) (selected q (document_of T.tree T.custom value.now)) (map (λ x. T.tree x.now) v.items))
+    ensures only { (q : Query) → Derives MAX_NESTING_DEPTH path.now q → MatchResult result
+        (λ v. AllZip (IsValueAt (document_of T.tree T.custom value.now)) (selected q (document_of T.tree T.custom value.now)) (map (λ x. T.tree x.now) v.items))
         (IsStop q (document_of T.tree T.custom value.now)) }
     ensures whole { IfOk result (λ v. All (λ x. IsTrue (T.is_whole x.now)) v.items) }
-    ensures refused { IfErr result (IsQueryRefusal 128 path.now (document_of T.tree T.custom value.now)) }
+    ensures refused { IfErr result (IsQueryRefusal MAX_NESTING_DEPTH path.now (document_of T.tree T.custom value.now)) }
 {
     let query = parse_json_path(alloc, path)?;
     let values = js_path_process_vals(alloc, &query, value);
@@ -143,13 +146,13 @@ pub fn js_path_vals<'a, T: Queryable>(
 /// The Normalized Paths of the nodes that a query text selects in a document, in order. It refuses as [`js_path`] does.
 pub fn js_path_path<T: Queryable>(alloc: Global, path: &str, value: &T) -> Queried<Vec<QueryPath>>
     requires { IsTrue (T.is_whole value.now) }
-    ensures answered { IfOk result (λ v. ListsPaths 128 path.now (document_of T.tree T.custom value.now) (paths_of v.items)) }
+    ensures answered { IfOk result (λ v. Lists IsPathAt MAX_NESTING_DEPTH path.now (document_of T.tree T.custom value.now) (paths_of v.items)) }
 
     // Whatever query the text derives, its nodes' paths are answered, unless memory ran out or a pattern was refused.
-    ensures only { (q : Query) → Derives 128 path.now q → MatchResult result
-        (λ v. Along IsNormal (selected q (document_of T.tree T.custom value.now)) (paths_of v.items))
+    ensures only { (q : Query) → Derives MAX_NESTING_DEPTH path.now q → MatchResult result
+        (λ v. AllZip (IsPathAt (document_of T.tree T.custom value.now)) (selected q (document_of T.tree T.custom value.now)) (paths_of v.items))
         (IsStop q (document_of T.tree T.custom value.now)) }
-    ensures refused { IfErr result (IsQueryRefusal 128 path.now (document_of T.tree T.custom value.now)) }
+    ensures refused { IfErr result (IsQueryRefusal MAX_NESTING_DEPTH path.now (document_of T.tree T.custom value.now)) }
 {
     let query = parse_json_path(alloc, path)?;
     let paths = process_paths(alloc, &query, value);
@@ -161,9 +164,7 @@ pub fn js_path_path<T: Queryable>(alloc: Global, path: &str, value: &T) -> Queri
 /// does.
 fn process_paths<T: Queryable>(alloc: Global, query: &JpQuery, value: &T) -> Queried<Vec<QueryPath>>
     requires { IsTrue (T.is_whole value.now) }
-    ensures paths { IfOk result (λ v. Along IsNormal
-        (selected (query_view query.now) (document_of T.tree T.custom value.now)) (paths_of v.items)) }
-    ensures only_path { IfOk result (λ v. Along IsOnlyPath
+    ensures paths { IfOk result (λ v. AllZip (IsPathAt (document_of T.tree T.custom value.now))
         (selected (query_view query.now) (document_of T.tree T.custom value.now)) (paths_of v.items)) }
     ensures refused { IfErr result (IsStop (query_view query.now) (document_of T.tree T.custom value.now)) }
 {
@@ -184,9 +185,7 @@ pub fn js_path_process<'a, T: Queryable>(
     value: &'a T,
 ) -> Queried<Vec<QueryRef<'a, T>>>
     requires { IsTrue (T.is_whole value.now) }
-    ensures nodes { IfOk result (λ v. Along (IsNodeAt (document_of T.tree T.custom value.now))
-        (selected (query_view path.now) (document_of T.tree T.custom value.now)) (shown T.tree v.items)) }
-    ensures only_path { IfOk result (λ v. Along HasOnlyPath
+    ensures nodes { IfOk result (λ v. AllZip (IsNodeAt (document_of T.tree T.custom value.now))
         (selected (query_view path.now) (document_of T.tree T.custom value.now)) (shown T.tree v.items)) }
     ensures whole { IfOk result (λ v. All (λ r. IsTrue (T.is_whole r.val.now)) v.items) }
     ensures refused { IfErr result (IsStop (query_view path.now) (document_of T.tree T.custom value.now)) }
@@ -204,7 +203,7 @@ pub fn js_path_process_vals<'a, T: Queryable>(
     value: &'a T,
 ) -> Queried<Vec<&'a T>>
     requires { IsTrue (T.is_whole value.now) }
-    ensures values { IfOk result (λ v. Along (IsValueAt (document_of T.tree T.custom value.now))
+    ensures values { IfOk result (λ v. AllZip (IsValueAt (document_of T.tree T.custom value.now))
         (selected (query_view query.now) (document_of T.tree T.custom value.now)) (map (λ x. T.tree x.now) v.items)) }
     ensures whole { IfOk result (λ v. All (λ x. IsTrue (T.is_whole x.now)) v.items) }
     ensures refused { IfErr result (IsStop (query_view query.now) (document_of T.tree T.custom value.now)) }

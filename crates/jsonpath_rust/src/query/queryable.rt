@@ -12,6 +12,7 @@ use jsonpath_parser::errors::JsonPathError;
 use std::alloc::Global;
 use std::fmt::Debug;
 
+pub(crate) mod children;
 pub mod value;
 
 /// An argument of a custom function: a value of its own, as a literal has, or one that stands in the document.
@@ -34,7 +35,7 @@ impl<'a, T> Arg<'a, T> {
 }
 
 /// A document. A value that passes `is_whole` has one tree, and each call agrees with it; what the calls answer on any
-/// other value is left open. All calls but `delete_by_path` refuse for want of memory alone.
+/// other value is left open. All calls but `delete_by_path` refuse by `OutOfMemory` alone.
 pub trait Queryable: Sized + Debug + Drop {
     /// The tree of a value.
     ghost tree: { Self → Tree };
@@ -45,7 +46,7 @@ pub trait Queryable: Sized + Debug + Drop {
     /// What a custom function of that name answers, of the arguments' trees (RFC 9535, 2.4).
     ghost custom: { List ℕ → List Tree → Tree };
 
-    /// Whether `reference` and `reference_mut` look for a place. Where they do not, they answer None.
+    /// Whether `reference` and `reference_mut` look for a location. Where they do not, they answer None.
     ghost refers: { Bool } = { false };
 
     /// Whether `delete_by_path` removes anything. Where it does not, it refuses.
@@ -61,7 +62,7 @@ pub trait Queryable: Sized + Debug + Drop {
         ensures value { IsTrue (is_whole self.now) → option_map (λ v. map tree v.now.items) result ≡ as_list (tree self.now) }
         ensures whole { IsTrue (is_whole self.now) → IfSome result (λ v. All (λ x. IsTrue (is_whole x)) v.now.items) };
 
-    /// The members of an object, in walk order. It refuses for want of memory alone.
+    /// The members of an object, in walk order. It refuses by `OutOfMemory` alone.
     fn as_object(&self, alloc: Global) -> Queried<Option<Vec<(&str, &Self)>>>
         ensures value { IsTrue (is_whole self.now) → IfOk result (λ o. option_map (λ v. map (λ m. (m.0.now, tree m.1.now)) v.items) o ≡ as_members (tree self.now)) }
         ensures whole { IsTrue (is_whole self.now) → IfOk result (λ o. IfSome o (λ v. All (λ m. IsTrue (is_whole m.1.now)) v.items)) }
@@ -88,32 +89,32 @@ pub trait Queryable: Sized + Debug + Drop {
         ensures value { tree result ≡ null }
         ensures whole { IsTrue (is_whole result) };
 
-    /// That text. It refuses for want of memory alone.
+    /// That text. It refuses by `OutOfMemory` alone.
     fn from_text(alloc: Global, value: &str) -> Queried<Self>
         ensures value { IfOk result (λ v. tree v ≡ text value.now) }
         ensures whole { IfOk result (λ v. IsTrue (is_whole v)) }
         ensures memory { IfErr result (λ e. e ≡ OutOfMemory) };
 
-    /// That truth. It refuses for want of memory alone.
+    /// That truth. It refuses by `OutOfMemory` alone.
     fn from_bool(alloc: Global, value: bool) -> Queried<Self>
         ensures value { IfOk result (λ v. tree v ≡ truth value) }
         ensures whole { IfOk result (λ v. IsTrue (is_whole v)) }
         ensures memory { IfErr result (λ e. e ≡ OutOfMemory) };
 
-    /// That number. It refuses for want of memory alone.
+    /// That number. It refuses by `OutOfMemory` alone.
     fn from_i64(alloc: Global, value: i64) -> Queried<Self>
         ensures value { IfOk result (λ v. tree v ≡ number value) }
         ensures whole { IfOk result (λ v. IsTrue (is_whole v)) }
         ensures memory { IfErr result (λ e. e ≡ OutOfMemory) };
 
-    /// The list of these elements. It refuses for want of memory alone.
+    /// The list of these elements. It refuses by `OutOfMemory` alone.
     fn from_list(alloc: Global, values: Vec<Self>) -> Queried<Self>
         requires { All (λ x. IsTrue (is_whole x)) values.items }
         ensures value { IfOk result (λ v. as_list (tree v) ≡ Some (map tree values.items)) }
         ensures whole { IfOk result (λ v. IsTrue (is_whole v)) }
         ensures memory { IfErr result (λ e. e ≡ OutOfMemory) };
 
-    /// A value of the same tree. It refuses for want of memory alone.
+    /// A value of the same tree. It refuses by `OutOfMemory` alone.
     fn try_clone(&self, alloc: Global) -> Queried<Self>
         requires { IsTrue (is_whole self.now) }
         ensures value { IfOk result (λ v. tree v ≡ tree self.now) }
@@ -127,14 +128,14 @@ pub trait Queryable: Sized + Debug + Drop {
         requires right { IsTrue (is_whole other.now) }
         ensures { result ≡ same (tree self.now) (tree other.now) };
 
-    /// What a custom function of that name answers. It refuses for want of memory alone.
+    /// What a custom function of that name answers. It refuses by `OutOfMemory` alone.
     fn extension_custom(alloc: Global, name: &str, args: &[Arg<'_, Self>]) -> Queried<Self>
         requires { All (λ a. IsTrue (is_whole (arg_value a))) args.now }
         ensures value { IfOk result (λ v. tree v ≡ custom name.now (map (λ a. tree (arg_value a)) args.now)) }
         ensures whole { IfOk result (λ v. IsTrue (is_whole v)) }
         ensures memory { IfErr result (λ e. e ≡ OutOfMemory) };
 
-    /// The value at the one location that a path means; by default None. It refuses for want of memory alone.
+    /// The value at the one location that a path means; by default None. It refuses by `OutOfMemory` alone.
     fn reference(&self, _alloc: Global, _path: &str) -> Queried<Option<&Self>>
         ensures whole { IsTrue (is_whole self.now) → IfOk result (λ o. IfSome o (λ v. IsTrue (is_whole v.now))) }
         ensures nowhere { refers ≡ false → IfOk result (λ o. o ≡ None) }
@@ -143,7 +144,7 @@ pub trait Queryable: Sized + Debug + Drop {
         Ok(None)
     }
 
-    /// As [`Queryable::reference`], for writing; by default None. It refuses for want of memory alone.
+    /// As [`Queryable::reference`], for writing; by default None. It refuses by `OutOfMemory` alone.
     fn reference_mut(&mut self, _alloc: Global, _path: &str) -> Queried<Option<&mut Self>>
         ensures nowhere { refers ≡ false → IfOk result (λ o. o ≡ None) }
         ensures memory { IfErr result (λ e. e ≡ OutOfMemory) }

@@ -6,7 +6,7 @@ ghost use Rattle.jsonpath_rust.specs.Meaning.{stepped, value_at, singular_value}
 ghost use Rattle.jsonpath_rust.specs.Node.{Node};
 
 use crate::query::queryable::Queryable;
-use crate::query::walk::element;
+use crate::query::queryable::children::element;
 use jsonpath_parser::model::{SingularQuery, SingularQuerySegment};
 
 /// The value of a query of at most one node, from a value on or from the root.
@@ -51,7 +51,7 @@ fn stepped<'a, T: Queryable>(step: &SingularQuerySegment, at: &'a T) -> Option<&
     match step {
         SingularQuerySegment::Name(name) => at.get(name),
         SingularQuerySegment::Index(index) => match element(at, *index) {
-            Some((_place, child)) => Some(child),
+            Some((_position, child)) => Some(child),
             None => None,
         },
     }

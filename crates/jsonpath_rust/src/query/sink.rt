@@ -3,22 +3,13 @@ ghost use Rattle.std.specs.Prelude.{◌≡◌, suc, min, ◌∷◌, [], map, opt
 ghost use Rattle.jsonpath_parser.specs.declared.errors.JsonPathError.TheVariants.{OutOfMemory};
 ghost use Rattle.jsonpath_rust.specs.Answer.{shown, paths_of};
 ghost use Rattle.jsonpath_rust.specs.Node.{Node};
-ghost use Rattle.jsonpath_rust.specs.Sinks.{Gives, seen, seen_only, start, is_found, counted, only_in, nodes_in, nodes_whole, values_in, values_whole, paths_in};
-ghost use Rattle.jsonpath_rust.specs.Walking.{node_of};
+ghost use Rattle.jsonpath_rust.specs.inner.Sinks.{Took, seen, seen_only, start, any_in, count_in, only_in, nodes_in, nodes_whole, values_in, values_whole, paths_in};
+ghost use Rattle.jsonpath_rust.specs.inner.Walking.{node_of};
 
 use crate::query::queryable::Queryable;
 use crate::query::way::Way;
 use crate::query::{Queried, QueryPath, QueryRef};
 use std::alloc::Global;
-
-/// One step down, lent by the query or by the document.
-#[derive(Clone, Copy, Debug)]
-pub enum StepRef<'s> {
-    /// To the member of this name.
-    Name(&'s str),
-    /// To this element, counted from 0.
-    Index(usize),
-}
 
 /// The only node of a list, if it has one alone.
 #[derive(Clone, Copy)]
@@ -28,9 +19,9 @@ pub enum Only<'a, T> {
     Several,
 }
 
-/// What is asked of the nodes of a query inside a filter.
+/// What is wanted of the nodes of a query inside a filter.
 #[derive(Clone, Copy)]
-pub enum Kind {
+pub enum Wanted {
     /// Whether there is one.
     Any,
     /// How many there are.
@@ -62,24 +53,24 @@ pub enum Sink<'a, T> {
 pub const GREATEST_COUNT: usize = 9223372036854775807;
 
 impl<'a, T: Queryable> Sink<'a, T> {
-    /// A sink for what is asked, with no node yet.
+    /// A sink for what is wanted, with no node yet.
     #[inline(always)]
-    pub fn start(alloc: Global, kind: Kind) -> Self
-        ensures { seen T.tree T.is_whole result ≡ start kind }
+    pub fn start(alloc: Global, wanted: Wanted) -> Self
+        ensures { seen T.tree T.is_whole result ≡ start wanted }
     {
-        match kind {
-            Kind::Any => Sink::Any(false),
-            Kind::Count => Sink::Count(0),
-            Kind::Only => Sink::Only(Only::Nothing),
-            Kind::Values => Sink::Values(Vec::new(alloc)),
+        match wanted {
+            Wanted::Any => Sink::Any(false),
+            Wanted::Count => Sink::Count(0),
+            Wanted::Only => Sink::Only(Only::Nothing),
+            Wanted::Values => Sink::Values(Vec::new(alloc)),
         }
     }
 
-    /// Takes the value that this way leads to. The answer says whether the walk goes on.
+    /// Takes the value that this way leads to. The result says whether the walk goes on.
     #[inline(always)]
     pub fn take(&mut self, alloc: Global, value: &'a T, way: &mut Way<'_>) -> Queried<bool>
         requires { IsTrue (T.is_whole value.now) }
-        ensures gave { IfOk result (λ b. Gives (seen T.tree T.is_whole self.old) (node_of T.tree way.old.steps.items value.now ∷ []) (seen T.tree T.is_whole self.new) b) }
+        ensures gave { IfOk result (λ b. Took (seen T.tree T.is_whole self.old) (node_of T.tree way.old.steps.items value.now ∷ []) (seen T.tree T.is_whole self.new) b) }
         ensures same { way.new.steps.items ≡ way.old.steps.items }
         ensures memory { IfErr result (λ e. e ≡ OutOfMemory) }
     {
@@ -98,8 +89,8 @@ impl<'a, T: Queryable> Sink<'a, T> {
                 values.push(value)?;
                 Ok(true)
             }
-            Sink::Any(found) => {
-                *found = true;
+            Sink::Any(any) => {
+                *any = true;
                 Ok(false)
             }
             Sink::Count(count) => {
@@ -113,10 +104,10 @@ impl<'a, T: Queryable> Sink<'a, T> {
     /// Whether an `Any` was given a node.
     #[inline(always)]
     pub fn has_any(&self) -> bool
-        ensures { result ≡ is_found (seen T.tree T.is_whole self.now) }
+        ensures { result ≡ any_in (seen T.tree T.is_whole self.now) }
     {
         match self {
-            Sink::Any(found) => *found,
+            Sink::Any(any) => *any,
             _ => false,
         }
     }
@@ -124,7 +115,7 @@ impl<'a, T: Queryable> Sink<'a, T> {
     /// How many nodes a `Count` was given.
     #[inline(always)]
     pub fn counted(&self) -> usize
-        ensures { result ≡ counted (seen T.tree T.is_whole self.now) }
+        ensures { result ≡ count_in (seen T.tree T.is_whole self.now) }
     {
         match self {
             Sink::Count(count) => *count,
@@ -152,7 +143,7 @@ impl<'a, T: Queryable> Sink<'a, T> {
             Sink::Nodes(nodes) => nodes,
             Sink::Paths(_paths) => Vec::new(alloc),
             Sink::Values(_values) => Vec::new(alloc),
-            Sink::Any(_found) => Vec::new(alloc),
+            Sink::Any(_any) => Vec::new(alloc),
             Sink::Count(_count) => Vec::new(alloc),
             Sink::Only(_only) => Vec::new(alloc),
         }
@@ -166,7 +157,7 @@ impl<'a, T: Queryable> Sink<'a, T> {
             Sink::Nodes(_nodes) => Vec::new(alloc),
             Sink::Paths(paths) => paths,
             Sink::Values(_values) => Vec::new(alloc),
-            Sink::Any(_found) => Vec::new(alloc),
+            Sink::Any(_any) => Vec::new(alloc),
             Sink::Count(_count) => Vec::new(alloc),
             Sink::Only(_only) => Vec::new(alloc),
         }
@@ -181,17 +172,17 @@ impl<'a, T: Queryable> Sink<'a, T> {
             Sink::Nodes(_nodes) => Vec::new(alloc),
             Sink::Paths(_paths) => Vec::new(alloc),
             Sink::Values(values) => values,
-            Sink::Any(_found) => Vec::new(alloc),
+            Sink::Any(_any) => Vec::new(alloc),
             Sink::Count(_count) => Vec::new(alloc),
             Sink::Only(_only) => Vec::new(alloc),
         }
     }
 }
 
-/// The next count.
+/// The count and one, up to [`GREATEST_COUNT`].
 #[inline(always)]
 fn one_more(count: usize) -> usize
-    ensures { result ≡ min (suc count) 9223372036854775807 }
+    ensures { result ≡ min (suc count) GREATEST_COUNT }
 {
     if count < GREATEST_COUNT {
         count + 1
@@ -204,7 +195,7 @@ fn one_more(count: usize) -> usize
 #[inline(always)]
 fn take_only<'a, T: Queryable>(only: &mut Only<'a, T>, value: &'a T) -> bool
     requires { IsTrue (T.is_whole value.now) }
-    ensures { (n : Node) → n.tree ≡ T.tree value.now → Gives (seen_only T.tree T.is_whole only.old) (n ∷ []) (seen_only T.tree T.is_whole only.new) result }
+    ensures { (n : Node) → n.tree ≡ T.tree value.now → Took (seen_only T.tree T.is_whole only.old) (n ∷ []) (seen_only T.tree T.is_whole only.new) result }
 {
     match only {
         Only::Nothing => {

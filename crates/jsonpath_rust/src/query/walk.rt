@@ -1,33 +1,38 @@
 //! The evaluator: a walk that meets the nodes of a query depth-first, in the order of its nodelist (RFC 9535, 2.1.2).
 //!
 //! The way to the value at hand stands on a stack of borrowed steps, so nothing is kept for a node that is only passed.
-ghost use Rattle.std.specs.Prelude.{◌≡◌, ◌≤◌, ◌<◌, [], ◌∷◌, ◌++◌, map, None, option_to_list, IsTrue, IfOk, IfErr, IfSome, OnOk};
+ghost use Rattle.std.specs.Prelude.{◌≡◌, ◌≤◌, ◌<◌, [], ◌∷◌, ◌++◌, map, IsTrue, IfOk, IfErr, OnOk};
 ghost use Rattle.std.specs.List.{flat_map};
-ghost use Rattle.jsonpath_parser.specs.Location.{Location};
-ghost use Rattle.jsonpath_parser.specs.Location as location;
-ghost use Rattle.jsonpath_parser.specs.View.{selector_view, segment_view, query_view};
-ghost use Rattle.jsonpath_base.specs.Tree.{as_list, as_members};
+ghost use Rattle.jsonpath_parser.specs.View.{segment_view, query_view};
 ghost use Rattle.jsonpath_rust.specs.Document.{document_of};
-ghost use Rattle.jsonpath_rust.specs.Node.{Node, below, children};
-ghost use Rattle.jsonpath_rust.specs.Meaning as meaning;
-ghost use Rattle.jsonpath_rust.specs.Meaning.{picks, all_pick, replaced, indexed, sliced, element, nodelist};
-ghost use Rattle.jsonpath_rust.specs.Weight.{size};
-ghost use Rattle.jsonpath_rust.specs.Patterns.{IsStop, segments_patterns, segment_patterns, selectors_patterns, selector_patterns};
-ghost use Rattle.jsonpath_rust.specs.Sinks.{Gives, seen};
-ghost use Rattle.jsonpath_rust.specs.Keeping.{IsReady, StandIn, document, asked};
-ghost use Rattle.jsonpath_rust.specs.Walking.{through, node_of, step_of, segments_in, selectors_in, acted, action_patterns, LeadTo};
+ghost use Rattle.jsonpath_rust.specs.Node.{below, children};
+ghost use Rattle.jsonpath_rust.specs.Meaning.{replaced, nodelist};
+ghost use Rattle.jsonpath_rust.specs.inner.Size.{size};
+ghost use Rattle.jsonpath_rust.specs.Patterns.{IsStop, segments_patterns, segment_patterns};
+ghost use Rattle.jsonpath_rust.specs.inner.Sinks.{Took, seen};
+ghost use Rattle.jsonpath_rust.specs.inner.Keeping.{IsReady, StandIn, document, query_of};
+ghost use Rattle.jsonpath_rust.specs.inner.Walking.{through, node_of, step_of, segments_in, acted, action_patterns, LeadTo};
 
 use crate::query::Queried;
-use crate::query::filter_test::filter_holds;
-use crate::query::kept::{Kept, Task};
-use crate::query::literals::{finders_of, patterns_of};
+use crate::query::cache::Cache;
+use crate::query::filter::filter_holds;
+use crate::query::patterns::{finders_of, patterns_of};
 use crate::query::queryable::Queryable;
-use crate::query::sink::{Sink, StepRef};
-use crate::query::way::Way;
+use crate::query::queryable::children::is_leaf;
+use crate::query::selector::{pick, pick_each};
+use crate::query::sink::Sink;
+use crate::query::way::{StepRef, Way};
 use jsonpath_base::pattern::Finder;
-use jsonpath_base::slice::slice_places;
-use jsonpath_parser::model::{Filter, JpQuery, Segment, Selector};
+use jsonpath_parser::model::{Filter, JpQuery, Segment};
 use std::alloc::Global;
+
+/// What is asked: a query, of a document.
+#[derive(Drop)]
+pub struct Task<'a, 's, T> {
+    pub alloc: Global,
+    pub query: &'s JpQuery,
+    pub root: &'a T,
+}
 
 /// What is done at a child.
 #[derive(Clone, Copy)]
@@ -40,7 +45,7 @@ pub enum Action<'s> {
     Below(&'s Segment),
 }
 
-/// Gives to the sink the nodes of a query on a document. The answer says whether to go on.
+/// Gives to the sink the nodes of a query on a document. The result says whether to go on.
 pub fn give_nodes<'a, T: Queryable>(
     alloc: Global,
     query: &JpQuery,
@@ -48,7 +53,7 @@ pub fn give_nodes<'a, T: Queryable>(
     sink: &mut Sink<'a, T>,
 ) -> Queried<bool>
     requires { IsTrue (T.is_whole root.now) }
-    ensures gave { IfOk result (λ b. Gives (seen T.tree T.is_whole sink.old) (nodelist (query_view query.now) (document_of T.tree T.custom root.now))
+    ensures gave { IfOk result (λ b. Took (seen T.tree T.is_whole sink.old) (nodelist (query_view query.now) (document_of T.tree T.custom root.now))
         (seen T.tree T.is_whole sink.new) b) }
     ensures refused { IfErr result (IsStop (query_view query.now) (document_of T.tree T.custom root.now)) }
 {
@@ -61,22 +66,22 @@ pub fn give_nodes<'a, T: Queryable>(
 fn give_from_root<'a: 's, 's, T: Queryable>(
     alloc: Global,
     query: &'s JpQuery,
-    literals: Vec<Finder<'s>>,
+    finders: Vec<Finder<'s>>,
     root: &'a T,
     sink: &mut Sink<'a, T>,
 ) -> Queried<bool>
     requires { IsTrue (T.is_whole root.now) }
-    ensures gave { IfOk result (λ b. Gives (seen T.tree T.is_whole sink.old) (nodelist (query_view query.now) (document_of T.tree T.custom root.now))
+    ensures gave { IfOk result (λ b. Took (seen T.tree T.is_whole sink.old) (nodelist (query_view query.now) (document_of T.tree T.custom root.now))
         (seen T.tree T.is_whole sink.new) b) }
     ensures refused { IfErr result (IsStop (query_view query.now) (document_of T.tree T.custom root.now)) }
 {
     let task = Task { alloc, query, root };
-    let mut kept = Kept::new(alloc, literals);
+    let mut cache = Cache::new(alloc, finders);
     let mut way = Way::new(alloc);
-    walk(&task, &query.segments, root, &mut way, &mut kept, sink)
+    walk(&task, &query.segments, root, &mut way, &mut cache, sink)
 }
 
-/// Gives to the sink what the segments select from a value on, to which this way leads. The answer says whether
+/// Gives to the sink what the segments select from a value on, to which this way leads. The result says whether
 /// to go on.
 #[cycle(walk)]
 pub fn walk<'a: 's, 's, T: Queryable>(
@@ -84,24 +89,24 @@ pub fn walk<'a: 's, 's, T: Queryable>(
     segments: &'s [Segment],
     at: &'a T,
     way: &mut Way<'s>,
-    kept: &mut Kept<'a, 's, T>,
+    cache: &mut Cache<'a, 's, T>,
     sink: &mut Sink<'a, T>,
 ) -> Queried<bool>
     requires whole { IsTrue (T.is_whole at.now) }
     requires within { size (T.tree at.now) ≤ size (T.tree task.now.root.now) }
     requires here { LeadTo T.tree way.old.steps.items task.now.root.now at.now }
-    requires part { StandIn (asked task.now) (segments_patterns (segments_in segments.now)) }
-    requires ready { IsReady T.tree T.is_whole T.custom task.now kept.old }
-    ensures gave { IfOk result (λ b. Gives (seen T.tree T.is_whole sink.old)
+    requires part { StandIn (query_of task.now) (segments_patterns (segments_in segments.now)) }
+    requires ready { IsReady T.tree T.is_whole T.custom task.now cache.old }
+    ensures gave { IfOk result (λ b. Took (seen T.tree T.is_whole sink.old)
         (through (segments_in segments.now) (document T.tree T.custom task.now) (node_of T.tree way.old.steps.items at.now))
         (seen T.tree T.is_whole sink.new) b) }
     ensures same { OnOk result (way.new.steps.items ≡ way.old.steps.items) }
-    ensures keeps { OnOk result (IsReady T.tree T.is_whole T.custom task.now kept.new) }
-    ensures refused { IfErr result (IsStop (asked task.now) (document T.tree T.custom task.now)) }
+    ensures keeps { OnOk result (IsReady T.tree T.is_whole T.custom task.now cache.new) }
+    ensures refused { IfErr result (IsStop (query_of task.now) (document T.tree T.custom task.now)) }
 {
     match segments.split_first() {
         None => sink.take(task.alloc, at, way),
-        Some((first, rest)) => pass(task, first, rest, at, way, kept, sink),
+        Some((first, rest)) => pass(task, first, rest, at, way, cache, sink),
     }
 }
 
@@ -114,190 +119,52 @@ fn pass<'a: 's, 's, T: Queryable>(
     rest: &'s [Segment],
     at: &'a T,
     way: &mut Way<'s>,
-    kept: &mut Kept<'a, 's, T>,
+    cache: &mut Cache<'a, 's, T>,
     sink: &mut Sink<'a, T>,
 ) -> Queried<bool>
     requires whole { IsTrue (T.is_whole at.now) }
     requires within { size (T.tree at.now) ≤ size (T.tree task.now.root.now) }
     requires here { LeadTo T.tree way.old.steps.items task.now.root.now at.now }
-    requires part { StandIn (asked task.now) (segment_patterns (segment_view first.now) ++ segments_patterns (segments_in rest.now)) }
-    requires ready { IsReady T.tree T.is_whole T.custom task.now kept.old }
-    ensures gave { IfOk result (λ b. Gives (seen T.tree T.is_whole sink.old)
+    requires part { StandIn (query_of task.now) (segment_patterns (segment_view first.now) ++ segments_patterns (segments_in rest.now)) }
+    requires ready { IsReady T.tree T.is_whole T.custom task.now cache.old }
+    ensures gave { IfOk result (λ b. Took (seen T.tree T.is_whole sink.old)
         (flat_map (through (segments_in rest.now) (document T.tree T.custom task.now))
         (replaced (segment_view first.now) (document T.tree T.custom task.now) (node_of T.tree way.old.steps.items at.now)))
         (seen T.tree T.is_whole sink.new) b) }
     ensures same { OnOk result (way.new.steps.items ≡ way.old.steps.items) }
-    ensures keeps { OnOk result (IsReady T.tree T.is_whole T.custom task.now kept.new) }
-    ensures refused { IfErr result (IsStop (asked task.now) (document T.tree T.custom task.now)) }
+    ensures keeps { OnOk result (IsReady T.tree T.is_whole T.custom task.now cache.new) }
+    ensures refused { IfErr result (IsStop (query_of task.now) (document T.tree T.custom task.now)) }
 {
     match first {
-        Segment::Selector(selector) => pick(task, selector, rest, at, way, kept, sink),
-        Segment::Selectors(selectors) => pick_each(task, selectors, rest, at, way, kept, sink),
-        Segment::Descendant(inner) => act(task, Action::Below(inner), rest, at, way, kept, sink),
+        Segment::Selector(selector) => pick(task, selector, rest, at, way, cache, sink),
+        Segment::Selectors(selectors) => pick_each(task, selectors, rest, at, way, cache, sink),
+        Segment::Descendant(inner) => act(task, Action::Below(inner), rest, at, way, cache, sink),
     }
-}
-
-/// The rest from each child that the selectors pick here, one selector after the other.
-#[cycle(walk)]
-fn pick_each<'a: 's, 's, T: Queryable>(
-    task: &Task<'a, 's, T>,
-    selectors: &'s [Selector],
-    rest: &'s [Segment],
-    at: &'a T,
-    way: &mut Way<'s>,
-    kept: &mut Kept<'a, 's, T>,
-    sink: &mut Sink<'a, T>,
-) -> Queried<bool>
-    requires whole { IsTrue (T.is_whole at.now) }
-    requires within { size (T.tree at.now) ≤ size (T.tree task.now.root.now) }
-    requires here { LeadTo T.tree way.old.steps.items task.now.root.now at.now }
-    requires part { StandIn (asked task.now) (selectors_patterns (selectors_in selectors.now) ++ segments_patterns (segments_in rest.now)) }
-    requires ready { IsReady T.tree T.is_whole T.custom task.now kept.old }
-    ensures gave { IfOk result (λ b. Gives (seen T.tree T.is_whole sink.old)
-        (flat_map (through (segments_in rest.now) (document T.tree T.custom task.now))
-        (all_pick (selectors_in selectors.now) (document T.tree T.custom task.now) (node_of T.tree way.old.steps.items at.now)))
-        (seen T.tree T.is_whole sink.new) b) }
-    ensures same { OnOk result (way.new.steps.items ≡ way.old.steps.items) }
-    ensures keeps { OnOk result (IsReady T.tree T.is_whole T.custom task.now kept.new) }
-    ensures refused { IfErr result (IsStop (asked task.now) (document T.tree T.custom task.now)) }
-{
-    for selector in selectors {
-        if !pick(task, selector, rest, at, way, kept, sink)? {
-            return Ok(false);
-        }
-    }
-    Ok(true)
-}
-
-/// The rest from each child that the selector picks here.
-#[cycle(walk)]
-#[inline(always)]
-fn pick<'a: 's, 's, T: Queryable>(
-    task: &Task<'a, 's, T>,
-    selector: &'s Selector,
-    rest: &'s [Segment],
-    at: &'a T,
-    way: &mut Way<'s>,
-    kept: &mut Kept<'a, 's, T>,
-    sink: &mut Sink<'a, T>,
-) -> Queried<bool>
-    requires whole { IsTrue (T.is_whole at.now) }
-    requires within { size (T.tree at.now) ≤ size (T.tree task.now.root.now) }
-    requires here { LeadTo T.tree way.old.steps.items task.now.root.now at.now }
-    requires part { StandIn (asked task.now) (selector_patterns (selector_view selector.now) ++ segments_patterns (segments_in rest.now)) }
-    requires ready { IsReady T.tree T.is_whole T.custom task.now kept.old }
-    ensures gave { IfOk result (λ b. Gives (seen T.tree T.is_whole sink.old)
-        (flat_map (through (segments_in rest.now) (document T.tree T.custom task.now))
-        (picks (selector_view selector.now) (document T.tree T.custom task.now) (node_of T.tree way.old.steps.items at.now)))
-        (seen T.tree T.is_whole sink.new) b) }
-    ensures same { OnOk result (way.new.steps.items ≡ way.old.steps.items) }
-    ensures keeps { OnOk result (IsReady T.tree T.is_whole T.custom task.now kept.new) }
-    ensures refused { IfErr result (IsStop (asked task.now) (document T.tree T.custom task.now)) }
-{
-    match selector {
-        Selector::Name(name) => match at.get(name) {
-            Some(child) => at_child(
-                task,
-                Action::All,
-                rest,
-                StepRef::Name(name),
-                child,
-                way,
-                kept,
-                sink,
-            ),
-            None => Ok(true),
-        },
-        Selector::Wildcard => each_child(task, Action::All, rest, at, way, kept, sink),
-        Selector::Index(index) => match element(at, *index) {
-            Some((place, child)) => at_child(
-                task,
-                Action::All,
-                rest,
-                StepRef::Index(place),
-                child,
-                way,
-                kept,
-                sink,
-            ),
-            None => Ok(true),
-        },
-        Selector::Slice(start, end, step) => pick_slice(
-            task, *start, *end, *step, rest, at, way, kept, sink,
-        ),
-        Selector::Filter(filter) => each_child(task, Action::If(filter), rest, at, way, kept, sink),
-    }
-}
-
-/// The rest from each element that the slice picks, in its order (RFC 9535, 2.3.4).
-#[cycle(walk)]
-fn pick_slice<'a: 's, 's, T: Queryable>(
-    task: &Task<'a, 's, T>,
-    start: Option<i64>,
-    end: Option<i64>,
-    step: Option<i64>,
-    rest: &'s [Segment],
-    at: &'a T,
-    way: &mut Way<'s>,
-    kept: &mut Kept<'a, 's, T>,
-    sink: &mut Sink<'a, T>,
-) -> Queried<bool>
-    requires whole { IsTrue (T.is_whole at.now) }
-    requires within { size (T.tree at.now) ≤ size (T.tree task.now.root.now) }
-    requires here { LeadTo T.tree way.old.steps.items task.now.root.now at.now }
-    requires part { StandIn (asked task.now) (segments_patterns (segments_in rest.now)) }
-    requires ready { IsReady T.tree T.is_whole T.custom task.now kept.old }
-    ensures gave { IfOk result (λ b. Gives (seen T.tree T.is_whole sink.old)
-        (flat_map (through (segments_in rest.now) (document T.tree T.custom task.now))
-        (sliced start end step (node_of T.tree way.old.steps.items at.now)))
-        (seen T.tree T.is_whole sink.new) b) }
-    ensures same { OnOk result (way.new.steps.items ≡ way.old.steps.items) }
-    ensures keeps { OnOk result (IsReady T.tree T.is_whole T.custom task.now kept.new) }
-    ensures refused { IfErr result (IsStop (asked task.now) (document T.tree T.custom task.now)) }
-{
-    let Some(items) = at.as_array() else {
-        return Ok(true);
-    };
-    for place in slice_places(start, end, step, items.len()) {
-        if !at_child(
-            task,
-            Action::All,
-            rest,
-            StepRef::Index(place),
-            &items[place],
-            way,
-            kept,
-            sink,
-        )? {
-            return Ok(false);
-        }
-    }
-    Ok(true)
 }
 
 /// The action at each child, in walk order.
 #[cycle(walk)]
-fn each_child<'a: 's, 's, T: Queryable>(
+pub fn each_child<'a: 's, 's, T: Queryable>(
     task: &Task<'a, 's, T>,
     action: Action<'s>,
     rest: &'s [Segment],
     at: &'a T,
     way: &mut Way<'s>,
-    kept: &mut Kept<'a, 's, T>,
+    cache: &mut Cache<'a, 's, T>,
     sink: &mut Sink<'a, T>,
 ) -> Queried<bool>
     requires whole { IsTrue (T.is_whole at.now) }
     requires within { size (T.tree at.now) ≤ size (T.tree task.now.root.now) }
     requires here { LeadTo T.tree way.old.steps.items task.now.root.now at.now }
-    requires part { StandIn (asked task.now) (action_patterns action ++ segments_patterns (segments_in rest.now)) }
-    requires ready { IsReady T.tree T.is_whole T.custom task.now kept.old }
-    ensures gave { IfOk result (λ b. Gives (seen T.tree T.is_whole sink.old)
+    requires part { StandIn (query_of task.now) (action_patterns action ++ segments_patterns (segments_in rest.now)) }
+    requires ready { IsReady T.tree T.is_whole T.custom task.now cache.old }
+    ensures gave { IfOk result (λ b. Took (seen T.tree T.is_whole sink.old)
         (flat_map (through (segments_in rest.now) (document T.tree T.custom task.now))
         (flat_map (acted action.entry (document T.tree T.custom task.now)) (children (node_of T.tree way.old.steps.items at.now))))
         (seen T.tree T.is_whole sink.new) b) }
     ensures same { OnOk result (way.new.steps.items ≡ way.old.steps.items) }
-    ensures keeps { OnOk result (IsReady T.tree T.is_whole T.custom task.now kept.new) }
-    ensures refused { IfErr result (IsStop (asked task.now) (document T.tree T.custom task.now)) }
+    ensures keeps { OnOk result (IsReady T.tree T.is_whole T.custom task.now cache.new) }
+    ensures refused { IfErr result (IsStop (query_of task.now) (document T.tree T.custom task.now)) }
 {
     if let Some(items) = at.as_array() {
         for (i, child) in items.iter().enumerate() {
@@ -308,7 +175,7 @@ fn each_child<'a: 's, 's, T: Queryable>(
                 StepRef::Index(i),
                 child,
                 way,
-                kept,
+                cache,
                 sink,
             )? {
                 return Ok(false);
@@ -323,7 +190,7 @@ fn each_child<'a: 's, 's, T: Queryable>(
                 StepRef::Name(member.0),
                 member.1,
                 way,
-                kept,
+                cache,
                 sink,
             )? {
                 return Ok(false);
@@ -336,36 +203,36 @@ fn each_child<'a: 's, 's, T: Queryable>(
 /// The action at a child, a step from here.
 #[cycle(walk)]
 #[inline(always)]
-fn at_child<'a: 's, 's, T: Queryable>(
+pub fn at_child<'a: 's, 's, T: Queryable>(
     task: &Task<'a, 's, T>,
     action: Action<'s>,
     rest: &'s [Segment],
     step: StepRef<'s>,
     child: &'a T,
     way: &mut Way<'s>,
-    kept: &mut Kept<'a, 's, T>,
+    cache: &mut Cache<'a, 's, T>,
     sink: &mut Sink<'a, T>,
 ) -> Queried<bool>
     requires whole { IsTrue (T.is_whole child.now) }
     requires within { size (T.tree child.now) ≤ size (T.tree task.now.root.now) }
     requires here { LeadTo T.tree (way.old.steps.items ++ step ∷ []) task.now.root.now child.now }
-    requires part { StandIn (asked task.now) (action_patterns action ++ segments_patterns (segments_in rest.now)) }
-    requires ready { IsReady T.tree T.is_whole T.custom task.now kept.old }
-    ensures gave { IfOk result (λ b. Gives (seen T.tree T.is_whole sink.old)
+    requires part { StandIn (query_of task.now) (action_patterns action ++ segments_patterns (segments_in rest.now)) }
+    requires ready { IsReady T.tree T.is_whole T.custom task.now cache.old }
+    ensures gave { IfOk result (λ b. Took (seen T.tree T.is_whole sink.old)
         (flat_map (through (segments_in rest.now) (document T.tree T.custom task.now))
         (acted action.entry (document T.tree T.custom task.now) (below (map step_of way.old.steps.items) (step_of step.entry) (T.tree child.now))))
         (seen T.tree T.is_whole sink.new) b) }
     ensures same { OnOk result (way.new.steps.items ≡ way.old.steps.items) }
-    ensures keeps { OnOk result (IsReady T.tree T.is_whole T.custom task.now kept.new) }
-    ensures refused { IfErr result (IsStop (asked task.now) (document T.tree T.custom task.now)) }
+    ensures keeps { OnOk result (IsReady T.tree T.is_whole T.custom task.now cache.new) }
+    ensures refused { IfErr result (IsStop (query_of task.now) (document T.tree T.custom task.now)) }
 {
     way.push(step)?;
-    let goes_on = act(task, action, rest, child, way, kept, sink)?;
+    let goes_on = act(task, action, rest, child, way, cache, sink)?;
     way.pop();
     Ok(goes_on)
 }
 
-/// The action here.
+/// Does the action at this value, and gives the rest from each node that it makes of it.
 #[cycle(walk)]
 #[inline(always)]
 fn act<'a: 's, 's, T: Queryable>(
@@ -374,27 +241,27 @@ fn act<'a: 's, 's, T: Queryable>(
     rest: &'s [Segment],
     at: &'a T,
     way: &mut Way<'s>,
-    kept: &mut Kept<'a, 's, T>,
+    cache: &mut Cache<'a, 's, T>,
     sink: &mut Sink<'a, T>,
 ) -> Queried<bool>
     requires whole { IsTrue (T.is_whole at.now) }
     requires within { size (T.tree at.now) ≤ size (T.tree task.now.root.now) }
     requires here { LeadTo T.tree way.old.steps.items task.now.root.now at.now }
-    requires part { StandIn (asked task.now) (action_patterns action ++ segments_patterns (segments_in rest.now)) }
-    requires ready { IsReady T.tree T.is_whole T.custom task.now kept.old }
-    ensures gave { IfOk result (λ b. Gives (seen T.tree T.is_whole sink.old)
+    requires part { StandIn (query_of task.now) (action_patterns action ++ segments_patterns (segments_in rest.now)) }
+    requires ready { IsReady T.tree T.is_whole T.custom task.now cache.old }
+    ensures gave { IfOk result (λ b. Took (seen T.tree T.is_whole sink.old)
         (flat_map (through (segments_in rest.now) (document T.tree T.custom task.now))
         (acted action.entry (document T.tree T.custom task.now) (node_of T.tree way.old.steps.items at.now)))
         (seen T.tree T.is_whole sink.new) b) }
     ensures same { OnOk result (way.new.steps.items ≡ way.old.steps.items) }
-    ensures keeps { OnOk result (IsReady T.tree T.is_whole T.custom task.now kept.new) }
-    ensures refused { IfErr result (IsStop (asked task.now) (document T.tree T.custom task.now)) }
+    ensures keeps { OnOk result (IsReady T.tree T.is_whole T.custom task.now cache.new) }
+    ensures refused { IfErr result (IsStop (query_of task.now) (document T.tree T.custom task.now)) }
 {
     match action {
-        Action::All => walk(task, rest, at, way, kept, sink),
+        Action::All => walk(task, rest, at, way, cache, sink),
         Action::If(filter) => {
-            if filter_holds(task, filter, at, way, kept)? {
-                walk(task, rest, at, way, kept, sink)
+            if filter_holds(task, filter, at, way, cache)? {
+                walk(task, rest, at, way, cache, sink)
             } else {
                 Ok(true)
             }
@@ -403,49 +270,11 @@ fn act<'a: 's, 's, T: Queryable>(
             if is_leaf(at) {
                 return Ok(true);
             }
-            if pass(task, segment, rest, at, way, kept, sink)? {
-                each_child(task, action, rest, at, way, kept, sink)
+            if pass(task, segment, rest, at, way, cache, sink)? {
+                each_child(task, action, rest, at, way, cache, sink)
             } else {
                 Ok(false)
             }
         }
-    }
-}
-
-/// Whether the value is a text or a number, which has no children.
-#[inline(always)]
-fn is_leaf<T: Queryable>(at: &T) -> bool
-    requires { IsTrue (T.is_whole at.now) }
-    ensures list { IsTrue result → None ≡ as_list (T.tree at.now) }
-    ensures object { IsTrue result → None ≡ as_members (T.tree at.now) }
-{
-    at.as_str().is_some() || at.as_i64().is_some()
-}
-
-/// The element that an index means in a list, with its place from 0 (RFC 9535, 2.3.3).
-#[inline(always)]
-pub fn element<T: Queryable>(at: &T, index: i64) -> Option<(usize, &T)>
-    requires { IsTrue (T.is_whole at.now) }
-    ensures value { (l : Location) → map (λ p. below l (location.index p.0) (T.tree p.1.now)) (option_to_list result)
-        ≡ indexed index (record { location = l; tree = T.tree at.now }) }
-    ensures whole { IfSome result (λ p. IsTrue (T.is_whole p.1.now)) }
-    ensures smaller { IfSome result (λ p. size (T.tree p.1.now) < size (T.tree at.now)) }
-{
-    let items = at.as_array()?;
-    let place = element_of(index, items.len())?;
-    let child = items.get(place)?;
-    Some((place, child))
-}
-
-/// The place from 0 that an index means in a list of this length: a negative one counts from the end.
-#[inline(always)]
-fn element_of(index: i64, length: usize) -> Option<usize>
-    ensures { result ≡ meaning.element_of index length }
-{
-    if index < 0 {
-        length.checked_sub(index.unsigned_abs() as usize)
-    } else {
-        let place = index as usize;
-        if place < length { Some(place) } else { None }
     }
 }

@@ -2,14 +2,22 @@
 ghost use Rattle.std.specs.Prelude.{◌≡◌, List, [], ◌∷◌, ◌++◌, length, map, IfOk, IfErr, OnOk, OnErr, string_bytes};
 ghost use Rattle.jsonpath_parser.specs.Normal.{normal, step_text};
 ghost use Rattle.jsonpath_parser.specs.declared.errors.JsonPathError.TheVariants.{OutOfMemory};
-ghost use Rattle.jsonpath_rust.specs.Walking.{step_of};
-ghost use Rattle.jsonpath_rust.specs.Way.{spelled, IsSpelled};
-ghost use Rattle.jsonpath_rust.specs.declared.query.sink.StepRef.{StepRef};
+ghost use Rattle.jsonpath_rust.specs.inner.Walking.{step_of};
+ghost use Rattle.jsonpath_rust.specs.inner.Way.{spelled, IsSpelled};
+ghost use Rattle.jsonpath_rust.specs.declared.query.way.StepRef.{StepRef};
 
-use crate::query::sink::StepRef;
 use crate::query::{Queried, QueryPath};
 use jsonpath_base::step::{add_index, add_name};
 use std::alloc::Global;
+
+/// One step down, lent by the query or by the document.
+#[derive(Clone, Copy, Debug)]
+pub enum StepRef<'s> {
+    /// To the member of this name.
+    Name(&'s str),
+    /// To this element, counted from 0.
+    Index(usize),
+}
 
 /// The steps from the root to the value at hand. A step is spelled when a node at its end or below is answered, and then
 /// no more while it stands here.

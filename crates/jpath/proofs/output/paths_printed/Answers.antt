@@ -2,9 +2,9 @@ use Rattle.std.proofs.Common.{◌∙◌}
 use Rattle.jsonpath_base.specs.Values.{value_tree}
 use Rattle.jsonpath_base.specs.SetFunctions.{set_function}
 use Rattle.jsonpath_rust.specs.Document.{document_of}
-use Rattle.jpath.proofs.Lines.{path_lines-Along}
+use Rattle.jpath.proofs.Lines.{path_lines-AllZip}
 use Rattle.jpath.proofs.output.paths_printed.Goals as goal
 
 pub returns-clause-text : goal.returns-clause-text
 returns-clause-text c =
-    c.in_ok-paths_text.ensures ∙ rw c.as_slice.ensures.value (path_lines-Along (document_of value_tree set_function c.args.document.now) _ _ c.in_ok-nodes.ensures.nodes)
+    c.in_ok-paths_text.ensures ∙ rw c.as_slice.ensures.value (path_lines-AllZip (document_of value_tree set_function c.args.document.now) _ _ c.in_ok-nodes.ensures.nodes)

@@ -4,7 +4,7 @@ use Rattle.jsonpath_rust.specs.Document.{document_of}
 use Rattle.jsonpath_rust.specs.Meaning.{nodelist}
 use Rattle.jsonpath_rust.specs.declared.query.QueryRef.{QueryRef}
 use Rattle.jsonpath_rust.proofs.Sinks.{given_nodes, given_nodes_whole, all_whole}
-use Rattle.jsonpath_rust.proofs.Answers.{nodes_answered, paths_answered}
+use Rattle.jsonpath_rust.proofs.Answers.{nodes_answered}
 use Rattle.jsonpath_rust.proofs.query.js_path_process.Goals as goal
 
 pub returns-clause-nodes : goal.returns-clause-nodes
@@ -13,13 +13,6 @@ returns-clause-nodes g c =
     let q = query_view c.args.path.now in
     let doc = document_of tree g.T.Queryable.custom c.args.value.now in
     nodes_answered q doc _ (g.met.T.Queryable.distinct c.args.value.now c.requires) (c.into_nodes.ensures.nodes ∙ given_nodes (λ r. g.T.Queryable.is_whole r.val.now) (λ r. (string_bytes r.path, tree r.val.now)) c.new.result.items _ (nodelist q doc) c.new.ensures.items c.in_ok-_goes_on.ensures.gave.given)
-
-pub returns-clause-only_path : goal.returns-clause-only_path
-returns-clause-only_path g c =
-    let tree = g.T.Queryable.tree in
-    let q = query_view c.args.path.now in
-    let doc = document_of tree g.T.Queryable.custom c.args.value.now in
-    paths_answered q doc _ (c.into_nodes.ensures.nodes ∙ given_nodes (λ r. g.T.Queryable.is_whole r.val.now) (λ r. (string_bytes r.path, tree r.val.now)) c.new.result.items _ (nodelist q doc) c.new.ensures.items c.in_ok-_goes_on.ensures.gave.given)
 
 pub returns-clause-whole : goal.returns-clause-whole
 returns-clause-whole g c =

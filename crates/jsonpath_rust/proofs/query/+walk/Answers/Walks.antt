@@ -14,13 +14,13 @@ use Rattle.jsonpath_base.specs.Tree.{get}
 use Rattle.jsonpath_base.specs.Slice.{slice_of}
 use Rattle.jsonpath_rust.specs.Node.{below, children, subtree}
 use Rattle.jsonpath_rust.specs.Meaning.{picks, all_pick, replaced, indexed, element, holds}
-use Rattle.jsonpath_rust.specs.Weight.{action_weight, segment_weight, selectors_weight, selector_weight}
+use Rattle.jsonpath_rust.proofs.Weight.{action_weight, segment_weight, selectors_weight, selector_weight}
 use Rattle.jsonpath_rust.specs.Patterns.{segments_patterns, segment_patterns, selectors_patterns, selector_patterns}
-use Rattle.jsonpath_rust.specs.Walking.{action_patterns, segments_in, selectors_in, through, node_of, step_of, acted}
-use Rattle.jsonpath_rust.specs.Sinks.{seen, give}
-use Rattle.jsonpath_rust.specs.Keeping.{document}
-use Rattle.jsonpath_rust.specs.declared.query.sink.StepRef.TheVariants.{Name, Index}
-use Rattle.jsonpath_rust.proofs.Sinks.{gives_none, gives_as, gives_stop, result_as, result_then, true_false}
+use Rattle.jsonpath_rust.specs.inner.Walking.{action_patterns, segments_in, selectors_in, through, node_of, step_of, acted}
+use Rattle.jsonpath_rust.specs.inner.Sinks.{seen, give}
+use Rattle.jsonpath_rust.specs.inner.Keeping.{document}
+use Rattle.jsonpath_rust.specs.declared.query.way.StepRef.TheVariants.{Name, Index}
+use Rattle.jsonpath_rust.proofs.Sinks.{took_none, took_as, took_stop, result_as, result_then, true_false}
 use Rattle.jsonpath_rust.proofs.Walks.{down, down_tree, turn_next, turn_stop, turn_end, selector_turns, element_turns, member_turns, place_next, place_stop, below_more, flat_map-alone, flat_map-filter}
 use Rattle.jsonpath_rust.proofs.Leaves.{replaced-none}
 use Rattle.jsonpath_rust.proofs.NodesAt.{leads_as, leads_below, leads_indexed, member_there}
@@ -85,7 +85,7 @@ pub «walk::act-returns-else-branch-clause-gave» : goal.«walk::act-returns-els
     let n = node_of tree c.args.way.now.steps.items c.args.at.now in
     let rest = through (segments_in c.args.rest.now) d in
     let h = c.in_ok-filter_holds-in-If.ensures in
-    gives_none _ _ (ap (λ a. flat_map rest (acted a d n)) c.in-If.is ∙ kept_false rest (holds (filter_view c.in-If.filter.now) d) n (sym h.holds ∙ c.if-branch.false))
+    took_none _ _ (ap (λ a. flat_map rest (acted a d n)) c.in-If.is ∙ kept_false rest (holds (filter_view c.in-If.filter.now) d) n (sym h.holds ∙ c.if-branch.false))
 
 pub «walk::act-returns-then-is_leaf-clause-gave» : goal.«walk::act-returns-then-is_leaf-clause-gave»
 «walk::act-returns-then-is_leaf-clause-gave» g t c =
@@ -96,7 +96,7 @@ pub «walk::act-returns-then-is_leaf-clause-gave» : goal.«walk::act-returns-th
     let rest = through (segments_in c.args.rest.now) d in
     let leaf = c.is_leaf.ensures in
     let none = replaced-none (descendant (segment_view c.in-Below.segment.now)) d n.location n.tree (leaf.list c.if-is_leaf.true) (leaf.object c.if-is_leaf.true) in
-    gives_none _ _ (ap (λ a. flat_map rest (acted a d n)) c.in-Below.is ∙ ap (flat_map rest) none)
+    took_none _ _ (ap (λ a. flat_map rest (acted a d n)) c.in-Below.is ∙ ap (flat_map rest) none)
 
 pub «walk::act-returns-then-branch-2-clause-gave» : goal.«walk::act-returns-then-branch-2-clause-gave»
 «walk::act-returns-then-branch-2-clause-gave» g t c =
@@ -119,7 +119,7 @@ pub «walk::act-returns-else-branch-2-clause-gave» : goal.«walk::act-returns-e
     let n = node_of tree c.args.way.now.steps.items c.args.at.now in
     let rest = through (segments_in c.args.rest.now) d in
     let h = replaced (segment_view c.in-Below.segment.now) d in
-    gives_stop _ _ _ _ _ _ _ (below_more rest h n.location n.tree ∙ ap (λ a. flat_map rest (acted a d n)) (sym c.in-Below.is)) c.in_ok-pass-in-Below.ensures.gave c.if-branch-2.false
+    took_stop _ _ _ _ _ _ _ (below_more rest h n.location n.tree ∙ ap (λ a. flat_map rest (acted a d n)) (sym c.in-Below.is)) c.in_ok-pass-in-Below.ensures.gave c.if-branch-2.false
 
 pub «walk::at_child-act-requires» : goal.«walk::at_child-act-requires»
 «walk::at_child-act-requires» g t c κs within = (down_tree _ _ _ _ _ c.decreases (omega arith), (within, (c.requires.whole, (c.requires.within, (leads_as _ _ _ _ c.in_ok-push.ensures.steps c.requires.here, (c.requires.part, c.requires.ready))))))
@@ -131,7 +131,7 @@ pub «walk::at_child-returns-clause-gave» : goal.«walk::at_child-returns-claus
     let d = document tree custom c.args.task.now in
     let rest = through (segments_in c.args.rest.now) d in
     let x = tree c.args.child.now in
-    gives_as _ _ _ _ _ (ap (λ q. flat_map rest (acted c.args.action d (node_of tree q c.args.child.now))) c.in_ok-push.ensures.steps ∙ ap (λ l. flat_map rest (acted c.args.action d (record { location = l; tree = x }))) (map-append step_of c.args.way.now.steps.items (c.args.step ∷ []))) c.in_ok-goes_on.ensures.gave
+    took_as _ _ _ _ _ (ap (λ q. flat_map rest (acted c.args.action d (node_of tree q c.args.child.now))) c.in_ok-push.ensures.steps ∙ ap (λ l. flat_map rest (acted c.args.action d (record { location = l; tree = x }))) (map-append step_of c.args.way.now.steps.items (c.args.step ∷ []))) c.in_ok-goes_on.ensures.gave
 
 pub «walk::at_child-returns-clause-same» : goal.«walk::at_child-returns-clause-same»
 «walk::at_child-returns-clause-same» g t c = c.pop.ensures _ _ (c.in_ok-goes_on.ensures.same ∙ c.in_ok-push.ensures.steps)
@@ -159,7 +159,7 @@ pub «walk::each_child-returns-then-not-branch-clause-gave» : goal.«walk::each
     let rest = through (segments_in c.args.rest.now) d in
     let act = acted c.args.action d in
     let inv = c.loop-i.invariant in
-    let k = gives_as _ _ _ _ _ (ap (λ q. flat_map rest (act (below (map step_of q) (index c.loop-i.i) (tree c.child-item.result)))) inv.same) c.in_ok-at_child.ensures.gave in
+    let k = took_as _ _ _ _ _ (ap (λ q. flat_map rest (act (below (map step_of q) (index c.loop-i.i) (tree c.child-item.result)))) inv.same) c.in_ok-at_child.ensures.gave in
     record { given = turn_stop _ _ (element_turns tree n.location rest act) c.deref-child-items.result.now c.loop-i.i c.child-item.result _ _ _ _ c.loop-i-test.true c.child-item.is k c.if-not-branch.true inv.given; stopped = λ _. k.stopped c.if-not-branch.true }
 
 pub «walk::each_child-loop-i-preserved» : goal.«walk::each_child-loop-i-preserved»
@@ -171,7 +171,7 @@ pub «walk::each_child-loop-i-preserved» : goal.«walk::each_child-loop-i-prese
     let rest = through (segments_in c.args.rest.now) d in
     let act = acted c.args.action d in
     let inv = c.loop-i.invariant in
-    let k = gives_as _ _ _ _ _ (ap (λ q. flat_map rest (act (below (map step_of q) (index c.loop-i.i) (tree c.child-item.result)))) inv.same) c.in_ok-at_child.ensures.gave in
+    let k = took_as _ _ _ _ _ (ap (λ q. flat_map rest (act (below (map step_of q) (index c.loop-i.i) (tree c.child-item.result)))) inv.same) c.in_ok-at_child.ensures.gave in
     record { same = c.in_ok-at_child.ensures.same ∙ inv.same; ready = c.in_ok-at_child.ensures.keeps; given = turn_next _ _ (element_turns tree n.location rest act) c.deref-child-items.result.now c.loop-i.i c.child-item.result _ _ _ _ c.loop-i-test.true c.child-item.is k inv.given }
 
 pub «walk::each_child-returns-then-not-branch-2-clause-gave» : goal.«walk::each_child-returns-then-not-branch-2-clause-gave»
@@ -183,7 +183,7 @@ pub «walk::each_child-returns-then-not-branch-2-clause-gave» : goal.«walk::ea
     let rest = through (segments_in c.args.rest.now) d in
     let act = acted c.args.action d in
     let inv = c.loop-member.invariant in
-    let k = gives_as _ _ _ _ _ (ap (λ q. flat_map rest (act (below (map step_of q) (name c.member-item.result.0.now) (tree c.member-item.result.1.now)))) inv.same) c.in_ok-at_child-2.ensures.gave in
+    let k = took_as _ _ _ _ _ (ap (λ q. flat_map rest (act (below (map step_of q) (name c.member-item.result.0.now) (tree c.member-item.result.1.now)))) inv.same) c.in_ok-at_child-2.ensures.gave in
     record { given = turn_stop _ _ (member_turns (λ m. (m.0.now, tree m.1.now)) n.location rest act) c.deref-member-items.result.now c.loop-member.member-index c.member-item.result _ _ _ _ c.loop-member-test.true c.member-item.is k c.if-not-branch-2.true inv.given; stopped = λ _. k.stopped c.if-not-branch-2.true }
 
 pub «walk::each_child-loop-member-preserved» : goal.«walk::each_child-loop-member-preserved»
@@ -195,7 +195,7 @@ pub «walk::each_child-loop-member-preserved» : goal.«walk::each_child-loop-me
     let rest = through (segments_in c.args.rest.now) d in
     let act = acted c.args.action d in
     let inv = c.loop-member.invariant in
-    let k = gives_as _ _ _ _ _ (ap (λ q. flat_map rest (act (below (map step_of q) (name c.member-item.result.0.now) (tree c.member-item.result.1.now)))) inv.same) c.in_ok-at_child-2.ensures.gave in
+    let k = took_as _ _ _ _ _ (ap (λ q. flat_map rest (act (below (map step_of q) (name c.member-item.result.0.now) (tree c.member-item.result.1.now)))) inv.same) c.in_ok-at_child-2.ensures.gave in
     record { same = c.in_ok-at_child-2.ensures.same ∙ inv.same; ready = c.in_ok-at_child-2.ensures.keeps; given = turn_next _ _ (member_turns (λ m. (m.0.now, tree m.1.now)) n.location rest act) c.deref-member-items.result.now c.loop-member.member-index c.member-item.result _ _ _ _ c.loop-member-test.true c.member-item.is k inv.given }
 
 pub «walk::pass-pick-requires» : goal.«walk::pass-pick-requires»
@@ -243,38 +243,38 @@ pub «walk::pass-returns-in-Descendant-clause-gave» : goal.«walk::pass-returns
     let e = ap segment_view c.in-Descendant.is ∙ segment_view-Descendant c.in-Descendant.inner in
     result_as _ _ _ _ _ (ap (flat_map rest) (ap (λ (s : Segment). flat_map (replaced (segment_view s) d) (subtree n)) c.deref-in-Descendant.ensures ∙ sym (ap (λ s. replaced s d n) e))) c.act.ensures.gave
 
-pub «walk::pick-at_child-requires» : goal.«walk::pick-at_child-requires»
-«walk::pick-at_child-requires» g t c κs within =
+pub «selector::pick-at_child-requires» : goal.«selector::pick-at_child-requires»
+«selector::pick-at_child-requires» g t c κs within =
     let tree = g.T.Queryable.tree in
     let s = member_size c.deref.result.now (tree c.args.at.now) (tree c.in-Some.child.now) (c.in-Some.ensures.value c.requires.whole) in
     let e = ap selector_view c.in-Name.is ∙ selector_view-Name c.in-Name.name in
     (down _ _ _ _ _ _ c.decreases (omega (arith, ap selector_weight e)) (omega (arith, s, c.requires.within)), (within, (c.in-Some.ensures.whole c.requires.whole, (omega (arith, s, c.requires.within), (leads_below c.args.way.now.steps.items (Name c.deref-in-Some.result) (tree c.args.task.now.root.now) _ _ c.requires.here (ap (λ q. get q (tree c.args.at.now)) (c.deref-in-Some.ensures ∙ sym c.deref.ensures) ∙ sym (c.in-Some.ensures.value c.requires.whole)), (part_right _ _ _ c.requires.part, c.requires.ready))))))
 
-pub «walk::pick-each_child-requires» : goal.«walk::pick-each_child-requires»
-«walk::pick-each_child-requires» g t c κs within =
+pub «selector::pick-each_child-requires» : goal.«selector::pick-each_child-requires»
+«selector::pick-each_child-requires» g t c κs within =
     let e = ap selector_view c.in-Wildcard.is ∙ selector_view-Wildcard in
     (down _ _ _ _ _ _ c.decreases (omega (arith, ap selector_weight e)) (omega (arith, c.requires.within)), (within, (c.requires.whole, (c.requires.within, (c.requires.here, (part_right _ _ _ c.requires.part, c.requires.ready))))))
 
-pub «walk::pick-at_child-requires-in-Some-element» : goal.«walk::pick-at_child-requires-in-Some-element»
-«walk::pick-at_child-requires-in-Some-element» g t c κs within =
+pub «selector::pick-at_child-requires-in-Some-element» : goal.«selector::pick-at_child-requires-in-Some-element»
+«selector::pick-at_child-requires-in-Some-element» g t c κs within =
     let e = ap selector_view c.in-Index.is ∙ selector_view-Index c.in-Index.index in
     (down _ _ _ _ _ _ c.decreases (omega (arith, ap selector_weight e)) (omega (arith, c.in-Some-element.ensures.smaller, c.requires.within)), (within, (c.in-Some-element.ensures.whole, (omega (arith, c.in-Some-element.ensures.smaller, c.requires.within), (leads_indexed c.args.way.now.steps.items _ _ _ _ _ (g.met.T.Queryable.distinct c.args.at.now c.requires.whole) c.requires.here (c.in-Some-element.ensures.value (map step_of c.args.way.now.steps.items)), (part_right _ _ _ c.requires.part, c.requires.ready))))))
 
-pub «walk::pick-element-requires» : goal.«walk::pick-element-requires»
-«walk::pick-element-requires» g t c = c.requires.whole
+pub «selector::pick-element-requires» : goal.«selector::pick-element-requires»
+«selector::pick-element-requires» g t c = c.requires.whole
 
-pub «walk::pick-pick_slice-requires» : goal.«walk::pick-pick_slice-requires»
-«walk::pick-pick_slice-requires» g t c κs within =
+pub «selector::pick-pick_slice-requires» : goal.«selector::pick-pick_slice-requires»
+«selector::pick-pick_slice-requires» g t c κs within =
     let e = ap selector_view c.in-Slice.is ∙ selector_view-Slice c.in-Slice.start c.in-Slice.end c.in-Slice.step in
     (down _ _ _ _ _ _ c.decreases (omega (arith, ap selector_weight e)) (omega (arith, c.requires.within)), (within, (c.requires.whole, (c.requires.within, (c.requires.here, (part_right _ _ _ c.requires.part, c.requires.ready))))))
 
-pub «walk::pick-each_child-requires-in-Filter» : goal.«walk::pick-each_child-requires-in-Filter»
-«walk::pick-each_child-requires-in-Filter» g t c κs within =
+pub «selector::pick-each_child-requires-in-Filter» : goal.«selector::pick-each_child-requires-in-Filter»
+«selector::pick-each_child-requires-in-Filter» g t c κs within =
     let e = ap selector_view c.in-Filter.is ∙ selector_view-Filter c.in-Filter.filter in
     (down _ _ _ _ _ _ c.decreases (omega (arith, ap selector_weight e)) (omega (arith, c.requires.within)), (within, (c.requires.whole, (c.requires.within, (c.requires.here, (part_as (λ z. selector_patterns z ++ segments_patterns (segments_in c.args.rest.now)) _ _ _ e c.requires.part, c.requires.ready))))))
 
-pub «walk::pick-returns-in-Some-clause-gave» : goal.«walk::pick-returns-in-Some-clause-gave»
-«walk::pick-returns-in-Some-clause-gave» g t c =
+pub «selector::pick-returns-in-Some-clause-gave» : goal.«selector::pick-returns-in-Some-clause-gave»
+«selector::pick-returns-in-Some-clause-gave» g t c =
     let tree = g.T.Queryable.tree in
     let custom = g.T.Queryable.custom in
     let d = document tree custom c.args.task.now in
@@ -286,8 +286,8 @@ pub «walk::pick-returns-in-Some-clause-gave» : goal.«walk::pick-returns-in-So
     let h = c.in-Some.ensures.value c.requires.whole ∙ ap (λ q. get q n.tree) c.deref.ensures in
     result_as _ _ _ _ _ (ap (flat_map rest) (ap (λ q. below n.location (name q) x ∷ []) c.deref-in-Some.ensures ∙ named_some n.location k n.tree x h ∙ sym (ap (λ s. picks s d n) e))) c.at_child.ensures.gave
 
-pub «walk::pick-returns-in-None-clause-gave» : goal.«walk::pick-returns-in-None-clause-gave»
-«walk::pick-returns-in-None-clause-gave» g t c =
+pub «selector::pick-returns-in-None-clause-gave» : goal.«selector::pick-returns-in-None-clause-gave»
+«selector::pick-returns-in-None-clause-gave» g t c =
     let tree = g.T.Queryable.tree in
     let custom = g.T.Queryable.custom in
     let d = document tree custom c.args.task.now in
@@ -295,10 +295,10 @@ pub «walk::pick-returns-in-None-clause-gave» : goal.«walk::pick-returns-in-No
     let rest = through (segments_in c.args.rest.now) d in
     let e = ap selector_view c.in-Name.is ∙ selector_view-Name c.in-Name.name in
     let h = c.in-None.ensures.value c.requires.whole ∙ ap (λ q. get q n.tree) c.deref.ensures in
-    gives_none _ _ (ap (flat_map rest) (ap (λ s. picks s d n) e ∙ named_none n.location (string_bytes c.in-Name.name) n.tree h))
+    took_none _ _ (ap (flat_map rest) (ap (λ s. picks s d n) e ∙ named_none n.location (string_bytes c.in-Name.name) n.tree h))
 
-pub «walk::pick-returns-in-Wildcard-clause-gave» : goal.«walk::pick-returns-in-Wildcard-clause-gave»
-«walk::pick-returns-in-Wildcard-clause-gave» g t c =
+pub «selector::pick-returns-in-Wildcard-clause-gave» : goal.«selector::pick-returns-in-Wildcard-clause-gave»
+«selector::pick-returns-in-Wildcard-clause-gave» g t c =
     let tree = g.T.Queryable.tree in
     let custom = g.T.Queryable.custom in
     let d = document tree custom c.args.task.now in
@@ -307,8 +307,8 @@ pub «walk::pick-returns-in-Wildcard-clause-gave» : goal.«walk::pick-returns-i
     let e = ap selector_view c.in-Wildcard.is ∙ selector_view-Wildcard in
     result_as _ _ _ _ _ (ap (flat_map rest) (flat_map-alone (children n) ∙ sym (ap (λ s. picks s d n) e))) c.each_child.ensures.gave
 
-pub «walk::pick-returns-in-Some-element-clause-gave» : goal.«walk::pick-returns-in-Some-element-clause-gave»
-«walk::pick-returns-in-Some-element-clause-gave» g t c =
+pub «selector::pick-returns-in-Some-element-clause-gave» : goal.«selector::pick-returns-in-Some-element-clause-gave»
+«selector::pick-returns-in-Some-element-clause-gave» g t c =
     let tree = g.T.Queryable.tree in
     let custom = g.T.Queryable.custom in
     let d = document tree custom c.args.task.now in
@@ -319,8 +319,8 @@ pub «walk::pick-returns-in-Some-element-clause-gave» : goal.«walk::pick-retur
     let z = to_z-of_z w64 c.in-Index.index fits in
     result_as _ _ _ _ _ (ap (flat_map rest) (c.in-Some-element.ensures.value n.location ∙ ap (λ i. indexed i n) z ∙ sym (ap (λ s. picks s d n) e))) c.at_child-in-Some-element.ensures.gave
 
-pub «walk::pick-returns-in-None-element-clause-gave» : goal.«walk::pick-returns-in-None-element-clause-gave»
-«walk::pick-returns-in-None-element-clause-gave» g t c =
+pub «selector::pick-returns-in-None-element-clause-gave» : goal.«selector::pick-returns-in-None-element-clause-gave»
+«selector::pick-returns-in-None-element-clause-gave» g t c =
     let tree = g.T.Queryable.tree in
     let custom = g.T.Queryable.custom in
     let d = document tree custom c.args.task.now in
@@ -329,10 +329,10 @@ pub «walk::pick-returns-in-None-element-clause-gave» : goal.«walk::pick-retur
     let e = ap selector_view c.in-Index.is ∙ selector_view-Index c.in-Index.index in
     let fits : SFits w64 c.in-Index.index = search rules in
     let z = to_z-of_z w64 c.in-Index.index fits in
-    gives_none _ _ (ap (flat_map rest) (ap (λ s. picks s d n) e ∙ sym (c.in-None-element.ensures.value n.location ∙ ap (λ i. indexed i n) z)))
+    took_none _ _ (ap (flat_map rest) (ap (λ s. picks s d n) e ∙ sym (c.in-None-element.ensures.value n.location ∙ ap (λ i. indexed i n) z)))
 
-pub «walk::pick-returns-in-Slice-clause-gave» : goal.«walk::pick-returns-in-Slice-clause-gave»
-«walk::pick-returns-in-Slice-clause-gave» g t c =
+pub «selector::pick-returns-in-Slice-clause-gave» : goal.«selector::pick-returns-in-Slice-clause-gave»
+«selector::pick-returns-in-Slice-clause-gave» g t c =
     let tree = g.T.Queryable.tree in
     let custom = g.T.Queryable.custom in
     let d = document tree custom c.args.task.now in
@@ -341,8 +341,8 @@ pub «walk::pick-returns-in-Slice-clause-gave» : goal.«walk::pick-returns-in-S
     let e = ap selector_view c.in-Slice.is ∙ selector_view-Slice c.in-Slice.start c.in-Slice.end c.in-Slice.step in
     result_as _ _ _ _ _ (ap (flat_map rest) (sym (ap (λ s. picks s d n) e))) c.pick_slice.ensures.gave
 
-pub «walk::pick-returns-in-Filter-clause-gave» : goal.«walk::pick-returns-in-Filter-clause-gave»
-«walk::pick-returns-in-Filter-clause-gave» g t c =
+pub «selector::pick-returns-in-Filter-clause-gave» : goal.«selector::pick-returns-in-Filter-clause-gave»
+«selector::pick-returns-in-Filter-clause-gave» g t c =
     let tree = g.T.Queryable.tree in
     let custom = g.T.Queryable.custom in
     let d = document tree custom c.args.task.now in
@@ -351,35 +351,35 @@ pub «walk::pick-returns-in-Filter-clause-gave» : goal.«walk::pick-returns-in-
     let e = ap selector_view c.in-Filter.is ∙ selector_view-Filter c.in-Filter.filter in
     result_as _ _ _ _ _ (ap (flat_map rest) (flat_map-filter (holds (filter_view c.in-Filter.filter) d) (children n) ∙ sym (ap (λ s. picks s d n) e))) c.each_child-in-Filter.ensures.gave
 
-pub «walk::pick_each-pick-requires» : goal.«walk::pick_each-pick-requires»
-«walk::pick_each-pick-requires» g t c κs within =
+pub «selector::pick_each-pick-requires» : goal.«selector::pick_each-pick-requires»
+«selector::pick_each-pick-requires» g t c κs within =
     let w = part_of (λ (x : Selector). selector_weight (selector_view x)) (λ xs. selectors_weight (selectors_in xs)) (λ x xs. refl) c.args.selectors.now c.loop-selector.selector-index c.selector-item.result c.loop-selector-test.true c.selector-item.is in
     (down _ _ _ _ _ _ c.decreases (omega (arith, w)) (omega (arith, c.requires.within)), (within, (c.requires.whole, (c.requires.within, (leads_as _ _ _ _ c.loop-selector.invariant.same c.requires.here, (part_both _ _ _ (part_at (λ (x : Selector). selector_patterns (selector_view x)) (λ xs. selectors_patterns (selectors_in xs)) (λ x xs. refl) _ c.args.selectors.now c.loop-selector.selector-index c.selector-item.result c.loop-selector-test.true c.selector-item.is (part_left _ _ _ c.requires.part)) (part_right _ _ _ c.requires.part), c.loop-selector.invariant.ready))))))
 
-pub «walk::pick_each-returns-then-not-branch-clause-gave» : goal.«walk::pick_each-returns-then-not-branch-clause-gave»
-«walk::pick_each-returns-then-not-branch-clause-gave» g t c =
+pub «selector::pick_each-returns-then-not-branch-clause-gave» : goal.«selector::pick_each-returns-then-not-branch-clause-gave»
+«selector::pick_each-returns-then-not-branch-clause-gave» g t c =
     let tree = g.T.Queryable.tree in
     let custom = g.T.Queryable.custom in
     let d = document tree custom c.args.task.now in
     let n = node_of tree c.args.way.now.steps.items c.args.at.now in
     let rest = through (segments_in c.args.rest.now) d in
     let inv = c.loop-selector.invariant in
-    let k = gives_as _ _ _ _ _ (ap (λ q. flat_map rest (picks (selector_view c.selector-item.result) d (node_of tree q c.args.at.now))) inv.same) c.in_ok-pick.ensures.gave in
+    let k = took_as _ _ _ _ _ (ap (λ q. flat_map rest (picks (selector_view c.selector-item.result) d (node_of tree q c.args.at.now))) inv.same) c.in_ok-pick.ensures.gave in
     record { given = turn_stop _ _ (selector_turns d n rest) c.args.selectors.now c.loop-selector.selector-index c.selector-item.result _ _ _ _ c.loop-selector-test.true c.selector-item.is k c.if-not-branch.true inv.given; stopped = λ _. k.stopped c.if-not-branch.true }
 
-pub «walk::pick_each-loop-selector-preserved» : goal.«walk::pick_each-loop-selector-preserved»
-«walk::pick_each-loop-selector-preserved» g t c =
+pub «selector::pick_each-loop-selector-preserved» : goal.«selector::pick_each-loop-selector-preserved»
+«selector::pick_each-loop-selector-preserved» g t c =
     let tree = g.T.Queryable.tree in
     let custom = g.T.Queryable.custom in
     let d = document tree custom c.args.task.now in
     let n = node_of tree c.args.way.now.steps.items c.args.at.now in
     let rest = through (segments_in c.args.rest.now) d in
     let inv = c.loop-selector.invariant in
-    let k = gives_as _ _ _ _ _ (ap (λ q. flat_map rest (picks (selector_view c.selector-item.result) d (node_of tree q c.args.at.now))) inv.same) c.in_ok-pick.ensures.gave in
+    let k = took_as _ _ _ _ _ (ap (λ q. flat_map rest (picks (selector_view c.selector-item.result) d (node_of tree q c.args.at.now))) inv.same) c.in_ok-pick.ensures.gave in
     record { same = c.in_ok-pick.ensures.same ∙ inv.same; ready = c.in_ok-pick.ensures.keeps; given = turn_next _ _ (selector_turns d n rest) c.args.selectors.now c.loop-selector.selector-index c.selector-item.result _ _ _ _ c.loop-selector-test.true c.selector-item.is k inv.given }
 
-pub «walk::pick_each-returns-clause-gave» : goal.«walk::pick_each-returns-clause-gave»
-«walk::pick_each-returns-clause-gave» g t c =
+pub «selector::pick_each-returns-clause-gave» : goal.«selector::pick_each-returns-clause-gave»
+«selector::pick_each-returns-clause-gave» g t c =
     let tree = g.T.Queryable.tree in
     let custom = g.T.Queryable.custom in
     let d = document tree custom c.args.task.now in
@@ -387,41 +387,41 @@ pub «walk::pick_each-returns-clause-gave» : goal.«walk::pick_each-returns-cla
     let rest = through (segments_in c.args.rest.now) d in
     record { given = turn_end _ _ (selector_turns d n rest) c.args.selectors.now c.loop-selector.selector-index _ _ c.loop-selector-test.false c.loop-selector.invariant.given; stopped = λ h. true_false h }
 
-pub «walk::pick_slice-returns-in_default-clause-gave» : goal.«walk::pick_slice-returns-in_default-clause-gave»
-«walk::pick_slice-returns-in_default-clause-gave» g t c =
+pub «selector::pick_slice-returns-in_default-clause-gave» : goal.«selector::pick_slice-returns-in_default-clause-gave»
+«selector::pick_slice-returns-in_default-clause-gave» g t c =
     let tree = g.T.Queryable.tree in
     let custom = g.T.Queryable.custom in
     let d = document tree custom c.args.task.now in
     let n = node_of tree c.args.way.now.steps.items c.args.at.now in
     let rest = through (segments_in c.args.rest.now) d in
     let h = c.in_default.ensures.value c.requires.whole in
-    gives_none _ _ (ap (λ o. flat_map rest (flat_map (λ ts. flat_map (λ k. element k n) (slice_of c.args.start c.args.end c.args.step (length ts))) (option_to_list o))) (sym h))
+    took_none _ _ (ap (λ o. flat_map rest (flat_map (λ ts. flat_map (λ k. element k n) (slice_of c.args.start c.args.end c.args.step (length ts))) (option_to_list o))) (sym h))
 
-pub «walk::pick_slice-at_child-requires» : goal.«walk::pick_slice-at_child-requires»
-«walk::pick_slice-at_child-requires» g t c κs within =
+pub «selector::pick_slice-at_child-requires» : goal.«selector::pick_slice-at_child-requires»
+«selector::pick_slice-at_child-requires» g t c κs within =
     let tree = g.T.Queryable.tree in
     let items = c.in-Some.items.now.items in
     let some = c.in-Some.ensures.value c.requires.whole in
-    let inv = c.loop-place.invariant in
-    let place = c.in-Some-place.place in
-    let steps = c.in-Some-place.ensures.steps in
+    let inv = c.loop-position.invariant in
+    let position = c.in-Some-position.position in
+    let steps = c.in-Some-position.ensures.steps in
     let P : ℕ → Type 0 = λ i. i < length items in
-    let inside : place < length items = All-head P place _ (subst (All P) steps inv.below) in
-    let s = element_size tree (tree c.args.at.now) items place c.index.result.now some inside c.index.ensures in
-    (down _ _ _ _ _ _ c.decreases (omega arith) (omega (arith, s, c.requires.within)), (within, (all_at (λ x. IsTrue (g.T.Queryable.is_whole x)) items place c.index.result.now (c.in-Some.ensures.whole c.requires.whole) inside c.index.ensures, (omega (arith, s, c.requires.within), (leads_below c.loop-place.way.steps.items (Index place) (tree c.args.task.now.root.now) _ _ (leads_as _ _ _ _ inv.same c.requires.here) (child_there tree (tree c.args.at.now) items place c.index.result.now some inside c.index.ensures), (c.requires.part, inv.ready))))))
+    let inside : position < length items = All-head P position _ (subst (All P) steps inv.below) in
+    let s = element_size tree (tree c.args.at.now) items position c.index.result.now some inside c.index.ensures in
+    (down _ _ _ _ _ _ c.decreases (omega arith) (omega (arith, s, c.requires.within)), (within, (all_at (λ x. IsTrue (g.T.Queryable.is_whole x)) items position c.index.result.now (c.in-Some.ensures.whole c.requires.whole) inside c.index.ensures, (omega (arith, s, c.requires.within), (leads_below c.loop-position.way.steps.items (Index position) (tree c.args.task.now.root.now) _ _ (leads_as _ _ _ _ inv.same c.requires.here) (child_there tree (tree c.args.at.now) items position c.index.result.now some inside c.index.ensures), (c.requires.part, inv.ready))))))
 
-pub «walk::pick_slice-index-requires» : goal.«walk::pick_slice-index-requires»
-«walk::pick_slice-index-requires» g t c =
+pub «selector::pick_slice-index-requires» : goal.«selector::pick_slice-index-requires»
+«selector::pick_slice-index-requires» g t c =
     let items = c.in-Some.items.now.items in
-    let inv = c.loop-place.invariant in
-    let place = c.in-Some-place.place in
-    let steps = c.in-Some-place.ensures.steps in
+    let inv = c.loop-position.invariant in
+    let position = c.in-Some-position.position in
+    let steps = c.in-Some-position.ensures.steps in
     let P : ℕ → Type 0 = λ i. i < length items in
-    let inside : place < length items = All-head P place _ (subst (All P) steps inv.below) in
+    let inside : position < length items = All-head P position _ (subst (All P) steps inv.below) in
     omega (arith, inside, c.in-Some.items.now.ok.0)
 
-pub «walk::pick_slice-returns-then-not-branch-clause-gave» : goal.«walk::pick_slice-returns-then-not-branch-clause-gave»
-«walk::pick_slice-returns-then-not-branch-clause-gave» g t c =
+pub «selector::pick_slice-returns-then-not-branch-clause-gave» : goal.«selector::pick_slice-returns-then-not-branch-clause-gave»
+«selector::pick_slice-returns-then-not-branch-clause-gave» g t c =
     let tree = g.T.Queryable.tree in
     let whole = g.T.Queryable.is_whole in
     let custom = g.T.Queryable.custom in
@@ -430,18 +430,18 @@ pub «walk::pick_slice-returns-then-not-branch-clause-gave» : goal.«walk::pick
     let rest = through (segments_in c.args.rest.now) d in
     let items = c.in-Some.items.now.items in
     let some = c.in-Some.ensures.value c.requires.whole in
-    let inv = c.loop-place.invariant in
-    let place = c.in-Some-place.place in
-    let steps = c.in-Some-place.ensures.steps in
+    let inv = c.loop-position.invariant in
+    let position = c.in-Some-position.position in
+    let steps = c.in-Some-position.ensures.steps in
     let P : ℕ → Type 0 = λ i. i < length items in
-    let inside : place < length items = All-head P place _ (subst (All P) steps inv.below) in
+    let inside : position < length items = All-head P position _ (subst (All P) steps inv.below) in
     let x = tree c.index.result.now in
-    let here = element_at tree n.location n.tree items place c.index.result.now some inside c.index.ensures in
-    let k = gives_as _ _ _ _ _ (ap (λ q. flat_map rest (below (map step_of q) (index place) x ∷ [])) inv.same ∙ ap (flat_map rest) here) c.in_ok-at_child.ensures.gave in
-    record { given = place_stop rest (λ j. element j n) _ _ place _ _ _ _ steps k c.if-not-branch.true inv.given ∙ ap (λ ns. give (seen tree whole c.args.sink.now) (flat_map rest ns)) (sliced-list tree n items c.args.start c.args.end c.args.step some); stopped = λ _. k.stopped c.if-not-branch.true }
+    let here = element_at tree n.location n.tree items position c.index.result.now some inside c.index.ensures in
+    let k = took_as _ _ _ _ _ (ap (λ q. flat_map rest (below (map step_of q) (index position) x ∷ [])) inv.same ∙ ap (flat_map rest) here) c.in_ok-at_child.ensures.gave in
+    record { given = place_stop rest (λ j. element j n) _ _ position _ _ _ _ steps k c.if-not-branch.true inv.given ∙ ap (λ ns. give (seen tree whole c.args.sink.now) (flat_map rest ns)) (sliced-list tree n items c.args.start c.args.end c.args.step some); stopped = λ _. k.stopped c.if-not-branch.true }
 
-pub «walk::pick_slice-loop-place-preserved» : goal.«walk::pick_slice-loop-place-preserved»
-«walk::pick_slice-loop-place-preserved» g t c =
+pub «selector::pick_slice-loop-position-preserved» : goal.«selector::pick_slice-loop-position-preserved»
+«selector::pick_slice-loop-position-preserved» g t c =
     let tree = g.T.Queryable.tree in
     let custom = g.T.Queryable.custom in
     let d = document tree custom c.args.task.now in
@@ -449,18 +449,18 @@ pub «walk::pick_slice-loop-place-preserved» : goal.«walk::pick_slice-loop-pla
     let rest = through (segments_in c.args.rest.now) d in
     let items = c.in-Some.items.now.items in
     let some = c.in-Some.ensures.value c.requires.whole in
-    let inv = c.loop-place.invariant in
-    let place = c.in-Some-place.place in
-    let steps = c.in-Some-place.ensures.steps in
+    let inv = c.loop-position.invariant in
+    let position = c.in-Some-position.position in
+    let steps = c.in-Some-position.ensures.steps in
     let P : ℕ → Type 0 = λ i. i < length items in
-    let inside : place < length items = All-head P place _ (subst (All P) steps inv.below) in
+    let inside : position < length items = All-head P position _ (subst (All P) steps inv.below) in
     let x = tree c.index.result.now in
-    let here = element_at tree n.location n.tree items place c.index.result.now some inside c.index.ensures in
-    let k = gives_as _ _ _ _ _ (ap (λ q. flat_map rest (below (map step_of q) (index place) x ∷ [])) inv.same ∙ ap (flat_map rest) here) c.in_ok-at_child.ensures.gave in
-    record { same = c.in_ok-at_child.ensures.same ∙ inv.same; ready = c.in_ok-at_child.ensures.keeps; below = All-tail P place _ (subst (All P) steps inv.below); given = place_next rest (λ j. element j n) _ _ place _ _ _ _ steps k inv.given }
+    let here = element_at tree n.location n.tree items position c.index.result.now some inside c.index.ensures in
+    let k = took_as _ _ _ _ _ (ap (λ q. flat_map rest (below (map step_of q) (index position) x ∷ [])) inv.same ∙ ap (flat_map rest) here) c.in_ok-at_child.ensures.gave in
+    record { same = c.in_ok-at_child.ensures.same ∙ inv.same; ready = c.in_ok-at_child.ensures.keeps; below = All-tail P position _ (subst (All P) steps inv.below); given = place_next rest (λ j. element j n) _ _ position _ _ _ _ steps k inv.given }
 
-pub «walk::pick_slice-returns-clause-gave» : goal.«walk::pick_slice-returns-clause-gave»
-«walk::pick_slice-returns-clause-gave» g t c =
+pub «selector::pick_slice-returns-clause-gave» : goal.«selector::pick_slice-returns-clause-gave»
+«selector::pick_slice-returns-clause-gave» g t c =
     let tree = g.T.Queryable.tree in
     let whole = g.T.Queryable.is_whole in
     let custom = g.T.Queryable.custom in
@@ -469,5 +469,5 @@ pub «walk::pick_slice-returns-clause-gave» : goal.«walk::pick_slice-returns-c
     let rest = through (segments_in c.args.rest.now) d in
     let items = c.in-Some.items.now.items in
     let some = c.in-Some.ensures.value c.requires.whole in
-    let inv = c.loop-place.invariant in
-    record { given = ap (λ is. give (seen tree whole c.loop-place.sink) (flat_map rest (flat_map (λ j. element j n) is))) (sym c.in-None.ensures.steps.0) ∙ inv.given ∙ ap (λ ns. give (seen tree whole c.args.sink.now) (flat_map rest ns)) (sliced-list tree n items c.args.start c.args.end c.args.step some); stopped = λ h. true_false h }
+    let inv = c.loop-position.invariant in
+    record { given = ap (λ is. give (seen tree whole c.loop-position.sink) (flat_map rest (flat_map (λ j. element j n) is))) (sym c.in-None.ensures.steps.0) ∙ inv.given ∙ ap (λ ns. give (seen tree whole c.args.sink.now) (flat_map rest ns)) (sliced-list tree n items c.args.start c.args.end c.args.step some); stopped = λ h. true_false h }

@@ -12,7 +12,7 @@ returns-in-Some-clause-value g c =
     let n : Node = record { location = []; tree = tree c.args.at.now } in
     let fits : SFits w64 c.in-Index.index = search rules in
     let same = ap (λ i. indexed i n) (to_z-of_z w64 c.in-Index.index fits) in
-    stepped-found c.in-Index.index (tree c.args.at.now) (Some (c.in-Some._place, tree c.in-Some.child.now)) (c.in-Some.ensures.value [] ∙ same) ∙ ap (λ s. stepped (step_view s) (tree c.args.at.now)) (sym c.in-Index.is)
+    stepped-found c.in-Index.index (tree c.args.at.now) (Some (c.in-Some._position, tree c.in-Some.child.now)) (c.in-Some.ensures.value [] ∙ same) ∙ ap (λ s. stepped (step_view s) (tree c.args.at.now)) (sym c.in-Index.is)
 
 pub returns-in-None-clause-value : goal.returns-in-None-clause-value
 returns-in-None-clause-value g c =

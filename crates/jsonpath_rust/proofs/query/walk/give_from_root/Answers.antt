@@ -3,8 +3,8 @@ use Rattle.jsonpath_parser.specs.declared.model.Segment.{Segment}
 use Rattle.jsonpath_parser.proofs.ViewEquations.{query_view-segments}
 use Rattle.jsonpath_rust.specs.Document.{document_of}
 use Rattle.jsonpath_rust.specs.Meaning.{nodelist}
-use Rattle.jsonpath_rust.specs.Walking.{segments_in, through, node_of}
-use Rattle.jsonpath_rust.specs.declared.query.sink.StepRef.{StepRef}
+use Rattle.jsonpath_rust.specs.inner.Walking.{segments_in, through, node_of}
+use Rattle.jsonpath_rust.specs.declared.query.way.StepRef.{StepRef}
 use Rattle.jsonpath_rust.proofs.Sinks.{result_as}
 use Rattle.jsonpath_rust.proofs.Nodelist.{nodelist-through}
 use Rattle.jsonpath_rust.proofs.query.walk.give_from_root.Goals as goal

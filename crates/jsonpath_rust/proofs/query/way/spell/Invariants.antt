@@ -1,5 +1,5 @@
 use Rattle.std.proofs.Common.{◌-◌, length, string_bytes}
-use Rattle.jsonpath_rust.specs.Way.{IsSpelled}
+use Rattle.jsonpath_rust.specs.inner.Way.{IsSpelled}
 use Rattle.jsonpath_rust.proofs.query.way.spell.Given as goal
 
 -- what is spelled so far is spelled right

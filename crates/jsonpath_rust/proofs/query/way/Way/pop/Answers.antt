@@ -1,5 +1,5 @@
 use Rattle.std.proofs.Common.{◌<◌, length, arith, subst, sym}
-use Rattle.jsonpath_rust.specs.Way.{IsSpelled}
+use Rattle.jsonpath_rust.specs.inner.Way.{IsSpelled}
 use Rattle.jsonpath_rust.proofs.Way.{may_cut, spelled_back, at_most_one}
 use Rattle.jsonpath_rust.proofs.query.way.Way.pop.Goals as goal
 

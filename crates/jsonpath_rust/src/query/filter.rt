@@ -2,19 +2,22 @@
 ghost use Rattle.std.specs.Prelude.{◌≡◌, ◌≤◌, IsTrue, IfOk, IfErr, OnOk};
 ghost use Rattle.jsonpath_parser.specs.View.{filter_view, atom_view, comparison_view, comparable_view, test_view};
 ghost use Rattle.jsonpath_rust.specs.Meaning.{holds, some_holds, each_holds, atom_holds, comparison_holds, test_holds, value_of};
-ghost use Rattle.jsonpath_rust.specs.Operands.{operand_tree, operand_is_whole};
-ghost use Rattle.jsonpath_rust.specs.Weight.{size};
+ghost use Rattle.jsonpath_rust.specs.inner.Operands.{operand_tree, operand_is_whole};
+ghost use Rattle.jsonpath_rust.specs.inner.Size.{size};
 ghost use Rattle.jsonpath_rust.specs.Patterns.{IsStop, filter_patterns, filters_patterns, atom_patterns, comparison_patterns, comparable_patterns, test_patterns};
-ghost use Rattle.jsonpath_rust.specs.Keeping.{IsReady, StandIn, document, asked};
-ghost use Rattle.jsonpath_rust.specs.Walking.{node_of, filters_in, LeadTo};
+ghost use Rattle.jsonpath_rust.specs.inner.Keeping.{IsReady, StandIn, document, query_of};
+ghost use Rattle.jsonpath_rust.specs.inner.Walking.{node_of, filters_in, LeadTo};
 
 use crate::query::Queried;
-use crate::query::call::{absolute, answer, gather};
-use crate::query::kept::{Kept, Task};
-use crate::query::operand::{Operand, compares, scalar_of, sides};
+use crate::query::cache::Cache;
+use crate::query::comparison::compares;
+use crate::query::function::answer;
 use crate::query::queryable::Queryable;
 use crate::query::singular::singular_value;
-use crate::query::sink::Kind;
+use crate::query::sink::Wanted;
+use crate::query::subquery::{absolute, gather};
+use crate::query::value::{Operand, scalar_of};
+use crate::query::walk::Task;
 use crate::query::way::Way;
 use jsonpath_parser::model::{Comparable, Comparison, Filter, FilterAtom, Test};
 
@@ -25,22 +28,22 @@ pub fn filter_holds<'a: 's, 's, T: Queryable>(
     filter: &'s Filter,
     at: &'a T,
     way: &mut Way<'s>,
-    kept: &mut Kept<'a, 's, T>,
+    cache: &mut Cache<'a, 's, T>,
 ) -> Queried<bool>
     requires whole { IsTrue (T.is_whole at.now) }
     requires within { size (T.tree at.now) ≤ size (T.tree task.now.root.now) }
     requires here { LeadTo T.tree way.old.steps.items task.now.root.now at.now }
-    requires part { StandIn (asked task.now) (filter_patterns (filter_view filter.now)) }
-    requires ready { IsReady T.tree T.is_whole T.custom task.now kept.old }
+    requires part { StandIn (query_of task.now) (filter_patterns (filter_view filter.now)) }
+    requires ready { IsReady T.tree T.is_whole T.custom task.now cache.old }
     ensures holds { IfOk result (λ b. b ≡ holds (filter_view filter.now) (document T.tree T.custom task.now) (node_of T.tree way.old.steps.items at.now)) }
     ensures same { OnOk result (way.new.steps.items ≡ way.old.steps.items) }
-    ensures keeps { OnOk result (IsReady T.tree T.is_whole T.custom task.now kept.new) }
-    ensures refused { IfErr result (IsStop (asked task.now) (document T.tree T.custom task.now)) }
+    ensures keeps { OnOk result (IsReady T.tree T.is_whole T.custom task.now cache.new) }
+    ensures refused { IfErr result (IsStop (query_of task.now) (document T.tree T.custom task.now)) }
 {
     match filter {
-        Filter::Or(parts) => some_holds(task, parts, at, way, kept),
-        Filter::And(parts) => each_holds(task, parts, at, way, kept),
-        Filter::Atom(atom) => atom_holds(task, atom, at, way, kept),
+        Filter::Or(parts) => some_holds(task, parts, at, way, cache),
+        Filter::And(parts) => each_holds(task, parts, at, way, cache),
+        Filter::Atom(atom) => atom_holds(task, atom, at, way, cache),
     }
 }
 
@@ -51,20 +54,20 @@ fn some_holds<'a: 's, 's, T: Queryable>(
     parts: &'s [Filter],
     at: &'a T,
     way: &mut Way<'s>,
-    kept: &mut Kept<'a, 's, T>,
+    cache: &mut Cache<'a, 's, T>,
 ) -> Queried<bool>
     requires whole { IsTrue (T.is_whole at.now) }
     requires within { size (T.tree at.now) ≤ size (T.tree task.now.root.now) }
     requires here { LeadTo T.tree way.old.steps.items task.now.root.now at.now }
-    requires part { StandIn (asked task.now) (filters_patterns (filters_in parts.now)) }
-    requires ready { IsReady T.tree T.is_whole T.custom task.now kept.old }
+    requires part { StandIn (query_of task.now) (filters_patterns (filters_in parts.now)) }
+    requires ready { IsReady T.tree T.is_whole T.custom task.now cache.old }
     ensures holds { IfOk result (λ b. b ≡ some_holds (filters_in parts.now) (document T.tree T.custom task.now) (node_of T.tree way.old.steps.items at.now)) }
     ensures same { OnOk result (way.new.steps.items ≡ way.old.steps.items) }
-    ensures keeps { OnOk result (IsReady T.tree T.is_whole T.custom task.now kept.new) }
-    ensures refused { IfErr result (IsStop (asked task.now) (document T.tree T.custom task.now)) }
+    ensures keeps { OnOk result (IsReady T.tree T.is_whole T.custom task.now cache.new) }
+    ensures refused { IfErr result (IsStop (query_of task.now) (document T.tree T.custom task.now)) }
 {
     for part in parts {
-        if filter_holds(task, part, at, way, kept)? {
+        if filter_holds(task, part, at, way, cache)? {
             return Ok(true);
         }
     }
@@ -78,20 +81,20 @@ fn each_holds<'a: 's, 's, T: Queryable>(
     parts: &'s [Filter],
     at: &'a T,
     way: &mut Way<'s>,
-    kept: &mut Kept<'a, 's, T>,
+    cache: &mut Cache<'a, 's, T>,
 ) -> Queried<bool>
     requires whole { IsTrue (T.is_whole at.now) }
     requires within { size (T.tree at.now) ≤ size (T.tree task.now.root.now) }
     requires here { LeadTo T.tree way.old.steps.items task.now.root.now at.now }
-    requires part { StandIn (asked task.now) (filters_patterns (filters_in parts.now)) }
-    requires ready { IsReady T.tree T.is_whole T.custom task.now kept.old }
+    requires part { StandIn (query_of task.now) (filters_patterns (filters_in parts.now)) }
+    requires ready { IsReady T.tree T.is_whole T.custom task.now cache.old }
     ensures holds { IfOk result (λ b. b ≡ each_holds (filters_in parts.now) (document T.tree T.custom task.now) (node_of T.tree way.old.steps.items at.now)) }
     ensures same { OnOk result (way.new.steps.items ≡ way.old.steps.items) }
-    ensures keeps { OnOk result (IsReady T.tree T.is_whole T.custom task.now kept.new) }
-    ensures refused { IfErr result (IsStop (asked task.now) (document T.tree T.custom task.now)) }
+    ensures keeps { OnOk result (IsReady T.tree T.is_whole T.custom task.now cache.new) }
+    ensures refused { IfErr result (IsStop (query_of task.now) (document T.tree T.custom task.now)) }
 {
     for part in parts {
-        if !filter_holds(task, part, at, way, kept)? {
+        if !filter_holds(task, part, at, way, cache)? {
             return Ok(false);
         }
     }
@@ -105,22 +108,22 @@ fn atom_holds<'a: 's, 's, T: Queryable>(
     atom: &'s FilterAtom,
     at: &'a T,
     way: &mut Way<'s>,
-    kept: &mut Kept<'a, 's, T>,
+    cache: &mut Cache<'a, 's, T>,
 ) -> Queried<bool>
     requires whole { IsTrue (T.is_whole at.now) }
     requires within { size (T.tree at.now) ≤ size (T.tree task.now.root.now) }
     requires here { LeadTo T.tree way.old.steps.items task.now.root.now at.now }
-    requires part { StandIn (asked task.now) (atom_patterns (atom_view atom.now)) }
-    requires ready { IsReady T.tree T.is_whole T.custom task.now kept.old }
+    requires part { StandIn (query_of task.now) (atom_patterns (atom_view atom.now)) }
+    requires ready { IsReady T.tree T.is_whole T.custom task.now cache.old }
     ensures holds { IfOk result (λ b. b ≡ atom_holds (atom_view atom.now) (document T.tree T.custom task.now) (node_of T.tree way.old.steps.items at.now)) }
     ensures same { OnOk result (way.new.steps.items ≡ way.old.steps.items) }
-    ensures keeps { OnOk result (IsReady T.tree T.is_whole T.custom task.now kept.new) }
-    ensures refused { IfErr result (IsStop (asked task.now) (document T.tree T.custom task.now)) }
+    ensures keeps { OnOk result (IsReady T.tree T.is_whole T.custom task.now cache.new) }
+    ensures refused { IfErr result (IsStop (query_of task.now) (document T.tree T.custom task.now)) }
 {
     match atom {
-        FilterAtom::Filter { expr, not } => Ok(filter_holds(task, expr, at, way, kept)? != *not),
-        FilterAtom::Test { expr, not } => Ok(test_holds(task, expr, at, way, kept)? != *not),
-        FilterAtom::Comparison(comparison) => comparison_holds(task, comparison, at, way, kept),
+        FilterAtom::Filter { expr, not } => Ok(filter_holds(task, expr, at, way, cache)? != *not),
+        FilterAtom::Test { expr, not } => Ok(test_holds(task, expr, at, way, cache)? != *not),
+        FilterAtom::Comparison(comparison) => comparison_holds(task, comparison, at, way, cache),
     }
 }
 
@@ -131,25 +134,32 @@ fn test_holds<'a: 's, 's, T: Queryable>(
     test: &'s Test,
     at: &'a T,
     way: &mut Way<'s>,
-    kept: &mut Kept<'a, 's, T>,
+    cache: &mut Cache<'a, 's, T>,
 ) -> Queried<bool>
     requires whole { IsTrue (T.is_whole at.now) }
     requires within { size (T.tree at.now) ≤ size (T.tree task.now.root.now) }
     requires here { LeadTo T.tree way.old.steps.items task.now.root.now at.now }
-    requires part { StandIn (asked task.now) (test_patterns (test_view test.now)) }
-    requires ready { IsReady T.tree T.is_whole T.custom task.now kept.old }
+    requires part { StandIn (query_of task.now) (test_patterns (test_view test.now)) }
+    requires ready { IsReady T.tree T.is_whole T.custom task.now cache.old }
     ensures holds { IfOk result (λ b. b ≡ test_holds (test_view test.now) (document T.tree T.custom task.now) (node_of T.tree way.old.steps.items at.now)) }
     ensures same { OnOk result (way.new.steps.items ≡ way.old.steps.items) }
-    ensures keeps { OnOk result (IsReady T.tree T.is_whole T.custom task.now kept.new) }
-    ensures refused { IfErr result (IsStop (asked task.now) (document T.tree T.custom task.now)) }
+    ensures keeps { OnOk result (IsReady T.tree T.is_whole T.custom task.now cache.new) }
+    ensures refused { IfErr result (IsStop (query_of task.now) (document T.tree T.custom task.now)) }
 {
     match test {
-        Test::RelQuery(segments) => Ok(gather(task, segments, Kind::Any, at, way, kept)?.has_any()),
+        Test::RelQuery(segments) => Ok(gather(
+            task,
+            segments,
+            Wanted::Any,
+            at,
+            way,
+            cache,
+        )?.has_any()),
         Test::AbsQuery(query) => {
-            let place = absolute(task, query, Kind::Any, kept)?;
-            Ok(kept.answer(place).has_any())
+            let index = absolute(task, query, Wanted::Any, cache)?;
+            Ok(cache.nodelist(index).has_any())
         }
-        Test::Function(function) => Ok(answer(task, function, at, way, kept)?.is_true()),
+        Test::Function(function) => Ok(answer(task, function, at, way, cache)?.is_true()),
     }
 }
 
@@ -160,22 +170,22 @@ fn comparison_holds<'a: 's, 's, T: Queryable>(
     comparison: &'s Comparison,
     at: &'a T,
     way: &mut Way<'s>,
-    kept: &mut Kept<'a, 's, T>,
+    cache: &mut Cache<'a, 's, T>,
 ) -> Queried<bool>
     requires whole { IsTrue (T.is_whole at.now) }
     requires within { size (T.tree at.now) ≤ size (T.tree task.now.root.now) }
     requires here { LeadTo T.tree way.old.steps.items task.now.root.now at.now }
-    requires part { StandIn (asked task.now) (comparison_patterns (comparison_view comparison.now)) }
-    requires ready { IsReady T.tree T.is_whole T.custom task.now kept.old }
+    requires part { StandIn (query_of task.now) (comparison_patterns (comparison_view comparison.now)) }
+    requires ready { IsReady T.tree T.is_whole T.custom task.now cache.old }
     ensures holds { IfOk result (λ b. b ≡ comparison_holds (comparison_view comparison.now) (document T.tree T.custom task.now) (node_of T.tree way.old.steps.items at.now)) }
     ensures same { OnOk result (way.new.steps.items ≡ way.old.steps.items) }
-    ensures keeps { OnOk result (IsReady T.tree T.is_whole T.custom task.now kept.new) }
-    ensures refused { IfErr result (IsStop (asked task.now) (document T.tree T.custom task.now)) }
+    ensures keeps { OnOk result (IsReady T.tree T.is_whole T.custom task.now cache.new) }
+    ensures refused { IfErr result (IsStop (query_of task.now) (document T.tree T.custom task.now)) }
 {
-    let (sign, left, right) = sides(comparison);
-    let left = side(task, left, at, way, kept)?;
-    let right = side(task, right, at, way, kept)?;
-    Ok(compares(sign, &left, &right))
+    let (operator, left, right) = comparison.parts();
+    let left = side(task, left, at, way, cache)?;
+    let right = side(task, right, at, way, cache)?;
+    Ok(compares(operator, &left, &right))
 }
 
 /// The value of a side of a comparison.
@@ -185,22 +195,22 @@ fn side<'a: 's, 's, T: Queryable>(
     comparable: &'s Comparable,
     at: &'a T,
     way: &mut Way<'s>,
-    kept: &mut Kept<'a, 's, T>,
+    cache: &mut Cache<'a, 's, T>,
 ) -> Queried<Operand<'a, 's, T>>
     requires whole { IsTrue (T.is_whole at.now) }
     requires within { size (T.tree at.now) ≤ size (T.tree task.now.root.now) }
     requires here { LeadTo T.tree way.old.steps.items task.now.root.now at.now }
-    requires part { StandIn (asked task.now) (comparable_patterns (comparable_view comparable.now)) }
-    requires ready { IsReady T.tree T.is_whole T.custom task.now kept.old }
+    requires part { StandIn (query_of task.now) (comparable_patterns (comparable_view comparable.now)) }
+    requires ready { IsReady T.tree T.is_whole T.custom task.now cache.old }
     ensures value { IfOk result (λ o. operand_tree T.tree o ≡ value_of (comparable_view comparable.now) (document T.tree T.custom task.now) (node_of T.tree way.old.steps.items at.now)) }
     ensures whole { IfOk result (λ o. IsTrue (operand_is_whole T.is_whole o)) }
     ensures same { OnOk result (way.new.steps.items ≡ way.old.steps.items) }
-    ensures keeps { OnOk result (IsReady T.tree T.is_whole T.custom task.now kept.new) }
-    ensures refused { IfErr result (IsStop (asked task.now) (document T.tree T.custom task.now)) }
+    ensures keeps { OnOk result (IsReady T.tree T.is_whole T.custom task.now cache.new) }
+    ensures refused { IfErr result (IsStop (query_of task.now) (document T.tree T.custom task.now)) }
 {
     match comparable {
         Comparable::Literal(literal) => Ok(Operand::Plain(scalar_of(literal))),
-        Comparable::Function(function) => answer(task, function, at, way, kept),
+        Comparable::Function(function) => answer(task, function, at, way, cache),
         Comparable::SingularQuery(query) => Ok(Operand::lent(singular_value(query, task.root, at))),
     }
 }

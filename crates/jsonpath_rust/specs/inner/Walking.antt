@@ -15,8 +15,8 @@ use Rattle.jsonpath_rust.specs.Node.{Node, subtree}
 use Rattle.jsonpath_rust.specs.Document.{Document}
 use Rattle.jsonpath_rust.specs.Meaning.{replaced, holds}
 use Rattle.jsonpath_rust.specs.Patterns.{segment_patterns, filter_patterns}
-use Rattle.jsonpath_rust.specs.declared.query.sink.StepRef.{StepRef}
-use Rattle.jsonpath_rust.specs.declared.query.sink.StepRef.TheVariants.{Name, Index}
+use Rattle.jsonpath_rust.specs.declared.query.way.StepRef.{StepRef}
+use Rattle.jsonpath_rust.specs.declared.query.way.StepRef.TheVariants.{Name, Index}
 use Rattle.jsonpath_rust.specs.declared.query.walk.Action.{Action}
 use Rattle.jsonpath_rust.specs.declared.query.walk.Action.TheVariants.{All, If, Below}
 

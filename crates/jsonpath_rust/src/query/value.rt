@@ -1,21 +1,18 @@
-//! The sides of a comparison, and what functions take and answer.
+//! Values inside the evaluator: the sides of a comparison, and what functions take and answer.
 ghost use Rattle.std.specs.Prelude.{◌≡◌, ◌++◌, [], ◌∷◌, Some, IsTrue, IfOk, IfErr, IfSome, OnOk, option_map, option_and_then, option_to_list};
-ghost use Rattle.jsonpath_parser.specs.Syntax.{compare};
-ghost use Rattle.jsonpath_parser.specs.View.{literal_view, comparison_view, comparable_view};
+ghost use Rattle.jsonpath_parser.specs.View.{literal_view};
 ghost use Rattle.jsonpath_parser.specs.declared.errors.JsonPathError.TheVariants.{OutOfMemory};
 ghost use Rattle.jsonpath_base.specs.Tree.{as_text, as_int};
-ghost use Rattle.jsonpath_base.specs.Same.{same};
-ghost use Rattle.jsonpath_rust.specs.Comparing.{are_equal, is_below, compares};
-ghost use Rattle.jsonpath_rust.specs.Functions.{length_of, counted, is_true};
+ghost use Rattle.jsonpath_rust.specs.Functions.{length_of, count_value, is_true};
 ghost use Rattle.jsonpath_rust.specs.Meaning.{literal_tree};
-ghost use Rattle.jsonpath_rust.specs.Sinks.{seen, values_in, ValuesAreWhole};
-ghost use Rattle.jsonpath_rust.specs.Operands.{scalar_tree, operand_tree, operand_is_whole, operator_of, trees_of, AreWhole};
+ghost use Rattle.jsonpath_rust.specs.inner.Sinks.{seen, values_in, ValuesAreWhole};
+ghost use Rattle.jsonpath_rust.specs.inner.Operands.{scalar_tree, operand_tree, operand_is_whole, arg_trees, AreWhole};
 
 use crate::query::Queried;
 use crate::query::queryable::{Arg, Queryable};
 use crate::query::sink::{GREATEST_COUNT, Sink};
-use jsonpath_base::text::{text_length, text_less};
-use jsonpath_parser::model::{Comparable, Comparison, Literal};
+use jsonpath_base::text::text_length;
+use jsonpath_parser::model::Literal;
 use std::alloc::Global;
 
 /// A value without parts.
@@ -38,32 +35,6 @@ pub enum Operand<'a, 's, T> {
     Plain(Scalar<'s>),
 }
 
-/// The operator of a comparison.
-#[derive(Clone, Copy)]
-pub enum Sign {
-    Eq,
-    Ne,
-    Gt,
-    Gte,
-    Lt,
-    Lte,
-}
-
-/// The operator of a comparison and its two sides.
-#[inline(always)]
-pub fn sides(comparison: &Comparison) -> (Sign, &Comparable, &Comparable)
-    ensures { comparison_view comparison.now ≡ compare (operator_of result.0) (comparable_view result.1.now) (comparable_view result.2.now) }
-{
-    match comparison {
-        Comparison::Eq(left, right) => (Sign::Eq, left, right),
-        Comparison::Ne(left, right) => (Sign::Ne, left, right),
-        Comparison::Gt(left, right) => (Sign::Gt, left, right),
-        Comparison::Gte(left, right) => (Sign::Gte, left, right),
-        Comparison::Lt(left, right) => (Sign::Lt, left, right),
-        Comparison::Lte(left, right) => (Sign::Lte, left, right),
-    }
-}
-
 /// The value of a literal.
 #[inline(always)]
 pub fn scalar_of(literal: &Literal) -> Scalar<'_>
@@ -80,7 +51,7 @@ pub fn scalar_of(literal: &Literal) -> Scalar<'_>
 /// A count as a value.
 #[inline(always)]
 pub fn count_scalar<'s>(count: usize) -> Scalar<'s>
-    ensures { scalar_tree result ≡ counted count }
+    ensures { scalar_tree result ≡ count_value count }
 {
     Scalar::Number(count.min(GREATEST_COUNT) as i64)
 }
@@ -99,7 +70,7 @@ impl<'a, 's, T: Queryable> Operand<'a, 's, T> {
         }
     }
 
-    /// The text.
+    /// The text, where it is one.
     #[inline(always)]
     pub fn as_text(&self) -> Option<&str>
         requires { IsTrue (operand_is_whole T.is_whole self.now) }
@@ -113,7 +84,7 @@ impl<'a, 's, T: Queryable> Operand<'a, 's, T> {
         }
     }
 
-    /// The number.
+    /// The number, where it is one.
     #[inline(always)]
     pub fn as_number(&self) -> Option<i64>
         requires { IsTrue (operand_is_whole T.is_whole self.now) }
@@ -162,7 +133,7 @@ impl<'a, 's, T: Queryable> Operand<'a, 's, T> {
     pub fn push_to(self, alloc: Global, args: &mut Vec<Arg<'a, T>>) -> Queried<()>
         requires own { IsTrue (operand_is_whole T.is_whole self) }
         requires others { AreWhole T.is_whole args.old.items }
-        ensures value { OnOk result (trees_of T.tree args.new.items ≡ trees_of T.tree args.old.items ++ option_to_list (operand_tree T.tree self.entry)) }
+        ensures value { OnOk result (arg_trees T.tree args.new.items ≡ arg_trees T.tree args.old.items ++ option_to_list (operand_tree T.tree self.entry)) }
         ensures whole { OnOk result (AreWhole T.is_whole args.new.items) }
         ensures memory { IfErr result (λ e. e ≡ OutOfMemory) }
     {
@@ -188,7 +159,7 @@ pub fn push_scalar<'a, T: Queryable>(
     args: &mut Vec<Arg<'a, T>>,
 ) -> Queried<()>
     requires { AreWhole T.is_whole args.old.items }
-    ensures value { OnOk result (trees_of T.tree args.new.items ≡ trees_of T.tree args.old.items ++ scalar_tree scalar.entry ∷ []) }
+    ensures value { OnOk result (arg_trees T.tree args.new.items ≡ arg_trees T.tree args.old.items ++ scalar_tree scalar.entry ∷ []) }
     ensures whole { OnOk result (AreWhole T.is_whole args.new.items) }
     ensures memory { IfErr result (λ e. e ≡ OutOfMemory) }
 {
@@ -201,7 +172,7 @@ pub fn push_scalar<'a, T: Queryable>(
 pub fn push_values<'a, T: Queryable>(nodes: &Sink<'a, T>, args: &mut Vec<Arg<'a, T>>) -> Queried<()>
     requires nodes { ValuesAreWhole (seen T.tree T.is_whole nodes.now) }
     requires others { AreWhole T.is_whole args.old.items }
-    ensures value { OnOk result (trees_of T.tree args.new.items ≡ trees_of T.tree args.old.items ++ values_in (seen T.tree T.is_whole nodes.now)) }
+    ensures value { OnOk result (arg_trees T.tree args.new.items ≡ arg_trees T.tree args.old.items ++ values_in (seen T.tree T.is_whole nodes.now)) }
     ensures whole { OnOk result (AreWhole T.is_whole args.new.items) }
     ensures memory { IfErr result (λ e. e ≡ OutOfMemory) }
 {
@@ -243,133 +214,5 @@ fn length_of<'a, 's, T: Queryable>(alloc: Global, value: &T) -> Queried<Operand<
     match value.as_object(alloc)? {
         Some(members) => Ok(Operand::Plain(count_scalar(members.len()))),
         None => Ok(Operand::Absent),
-    }
-}
-
-/// Whether the comparison holds (RFC 9535, 2.3.5.2.2).
-pub fn compares<'a, 's, T: Queryable>(
-    sign: Sign,
-    left: &Operand<'a, 's, T>,
-    right: &Operand<'a, 's, T>,
-) -> bool
-    requires left { IsTrue (operand_is_whole T.is_whole left.now) }
-    requires right { IsTrue (operand_is_whole T.is_whole right.now) }
-    ensures { result ≡ compares (operator_of sign) (operand_tree T.tree left.now) (operand_tree T.tree right.now) }
-{
-    match sign {
-        Sign::Eq => are_equal(left, right),
-        Sign::Ne => !are_equal(left, right),
-        Sign::Lt => is_below(left, right),
-        Sign::Lte => is_below(left, right) || are_equal(left, right),
-        Sign::Gt => is_below(right, left),
-        Sign::Gte => is_below(right, left) || are_equal(left, right),
-    }
-}
-
-/// Whether both are absent, or the same.
-fn are_equal<'a, 's, T: Queryable>(left: &Operand<'a, 's, T>, right: &Operand<'a, 's, T>) -> bool
-    requires left { IsTrue (operand_is_whole T.is_whole left.now) }
-    requires right { IsTrue (operand_is_whole T.is_whole right.now) }
-    ensures { result ≡ are_equal (operand_tree T.tree left.now) (operand_tree T.tree right.now) }
-{
-    match left {
-        Operand::Absent => is_absent(right),
-        Operand::Lent(value) => is_value(*value, right),
-        Operand::Made(value) => is_value(value, right),
-        Operand::Plain(scalar) => is_scalar(*scalar, right),
-    }
-}
-
-/// Whether it is absent.
-#[inline(always)]
-fn is_absent<'a, 's, T: Queryable>(operand: &Operand<'a, 's, T>) -> bool
-    ensures { result ≡ are_equal None (operand_tree T.tree operand.now) }
-{
-    match operand {
-        Operand::Absent => true,
-        _ => false,
-    }
-}
-
-/// Whether the operand is the same as the value.
-#[inline(always)]
-fn is_value<'a, 's, T: Queryable>(value: &T, operand: &Operand<'a, 's, T>) -> bool
-    requires left { IsTrue (T.is_whole value.now) }
-    requires right { IsTrue (operand_is_whole T.is_whole operand.now) }
-    ensures { result ≡ are_equal (Some (T.tree value.now)) (operand_tree T.tree operand.now) }
-{
-    match operand {
-        Operand::Absent => false,
-        Operand::Lent(other) => value.equal(*other),
-        Operand::Made(other) => value.equal(other),
-        Operand::Plain(scalar) => value_is_scalar(value, *scalar),
-    }
-}
-
-/// Whether the operand is the same as the value without parts.
-#[inline(always)]
-fn is_scalar<'a, 's, T: Queryable>(scalar: Scalar<'_>, operand: &Operand<'a, 's, T>) -> bool
-    requires { IsTrue (operand_is_whole T.is_whole operand.now) }
-    ensures { result ≡ are_equal (Some (scalar_tree scalar.entry)) (operand_tree T.tree operand.now) }
-{
-    match operand {
-        Operand::Absent => false,
-        Operand::Lent(value) => scalar_is_value(scalar, *value),
-        Operand::Made(value) => scalar_is_value(scalar, value),
-        Operand::Plain(other) => scalars_are_same(scalar, *other),
-    }
-}
-
-#[inline(always)]
-fn value_is_scalar<T: Queryable>(value: &T, scalar: Scalar<'_>) -> bool
-    requires { IsTrue (T.is_whole value.now) }
-    ensures { result ≡ same (T.tree value.now) (scalar_tree scalar.entry) }
-{
-    match scalar {
-        Scalar::Null => value.equal(&T::null()),
-        Scalar::Truth(truth) => value.as_bool() == Some(truth),
-        Scalar::Number(number) => value.as_i64() == Some(number),
-        Scalar::Text(text) => value.as_str() == Some(text),
-    }
-}
-
-#[inline(always)]
-fn scalar_is_value<T: Queryable>(scalar: Scalar<'_>, value: &T) -> bool
-    requires { IsTrue (T.is_whole value.now) }
-    ensures { result ≡ same (scalar_tree scalar.entry) (T.tree value.now) }
-{
-    match scalar {
-        Scalar::Null => T::null().equal(value),
-        Scalar::Truth(truth) => value.as_bool() == Some(truth),
-        Scalar::Number(number) => value.as_i64() == Some(number),
-        Scalar::Text(text) => value.as_str() == Some(text),
-    }
-}
-
-#[inline(always)]
-fn scalars_are_same(left: Scalar<'_>, right: Scalar<'_>) -> bool
-    ensures { result ≡ same (scalar_tree left.entry) (scalar_tree right.entry) }
-{
-    match (left, right) {
-        (Scalar::Null, Scalar::Null) => true,
-        (Scalar::Truth(a), Scalar::Truth(b)) => a == b,
-        (Scalar::Number(a), Scalar::Number(b)) => a == b,
-        (Scalar::Text(a), Scalar::Text(b)) => a == b,
-        _ => false,
-    }
-}
-
-/// Whether both are numbers or both are texts, and the left is less.
-fn is_below<'a, 's, T: Queryable>(left: &Operand<'a, 's, T>, right: &Operand<'a, 's, T>) -> bool
-    requires left { IsTrue (operand_is_whole T.is_whole left.now) }
-    requires right { IsTrue (operand_is_whole T.is_whole right.now) }
-    ensures { result ≡ is_below (operand_tree T.tree left.now) (operand_tree T.tree right.now) }
-{
-    match (left.as_number(), right.as_number()) {
-        (Some(a), Some(b)) => a < b,
-        _ => match (left.as_text(), right.as_text()) {
-            (Some(a), Some(b)) => text_less(a, b),
-            _ => false,
-        },
     }
 }

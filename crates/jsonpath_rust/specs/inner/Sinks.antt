@@ -8,8 +8,9 @@ use Rattle.jsonpath_rust.specs.declared.query.sink.Sink.{Sink}
 use Rattle.jsonpath_rust.specs.declared.query.sink.Sink.TheVariants as sink
 use Rattle.jsonpath_rust.specs.declared.query.sink.Only.{Only}
 use Rattle.jsonpath_rust.specs.declared.query.sink.Only.TheVariants.{Nothing, One, Several}
-use Rattle.jsonpath_rust.specs.declared.query.sink.Kind.{Kind}
-use Rattle.jsonpath_rust.specs.declared.query.sink.Kind.TheVariants as kind
+use Rattle.jsonpath_rust.specs.declared.query.sink.Wanted.{Wanted}
+use Rattle.jsonpath_rust.specs.declared.query.sink.Wanted.TheVariants as wanted
+use Rattle.jsonpath_rust.specs.declared.query.sink.TheConstants.{GREATEST_COUNT}
 
 -- a node as it is answered: its Normalized Path and its tree
 abbrev pub answer_of : Node → List ℕ × Tree
@@ -40,11 +41,11 @@ seen tree whole (sink.Count n) = count n
 seen tree whole (sink.Only o) = seen_only tree whole o
 
 -- before any node
-abbrev pub start : Kind → Seen
-start kind.Any = any false
-start kind.Count = count 0
-start kind.Only = nothing
-start kind.Values = values [] []
+abbrev pub start : Wanted → Seen
+start wanted.Any = any false
+start wanted.Count = count 0
+start wanted.Only = nothing
+start wanted.Values = values [] []
 
 -- every node of a whole document is whole
 abbrev pub add : Seen → Node → Seen
@@ -52,7 +53,7 @@ add (nodes bs ns) n = nodes (bs ++ true ∷ []) (ns ++ answer_of n ∷ [])
 add (paths ps) n = paths (ps ++ normal n.location ∷ [])
 add (values bs ts) n = values (bs ++ true ∷ []) (ts ++ n.tree ∷ [])
 add (any b) n = any true
-add (count k) n = count (min (suc k) 9223372036854775807)
+add (count k) n = count (min (suc k) GREATEST_COUNT)
 add nothing n = one true n.tree
 add (one b t) n = several
 add several n = several
@@ -74,13 +75,13 @@ full (one b t) = false
 
 -- ---- what it has
 
-abbrev pub is_found : Seen → Bool
-is_found (any b) = b
-is_found _ = false
+abbrev pub any_in : Seen → Bool
+any_in (any b) = b
+any_in _ = false
 
-abbrev pub counted : Seen → ℕ
-counted (count k) = k
-counted _ = 0
+abbrev pub count_in : Seen → ℕ
+count_in (count k) = k
+count_in _ = 0
 
 abbrev pub only_in : Seen → Option (Bool × Tree)
 only_in (one b t) = Some (b, t)
@@ -111,6 +112,6 @@ abbrev pub ValuesAreWhole : Seen → Type 0
 ValuesAreWhole s = All (λ b. IsTrue b) (values_whole s)
 
 -- s was given these nodes and became s'; the walk may stop only where more would make no difference
-pub record Gives (s : Seen) (ns : List Node) (s' : Seen) (goes_on : Bool) : Type 0 where
+pub record Took (s : Seen) (ns : List Node) (s' : Seen) (goes_on : Bool) : Type 0 where
   pub given : s' ≡ give s ns
   pub stopped : goes_on ≡ false → full s' ≡ true

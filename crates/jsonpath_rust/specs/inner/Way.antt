@@ -1,8 +1,8 @@
 -- What is spelled of a way, for the contracts of the walk alone: the definitions here are no part of what a query means.
 use Rattle.std.specs.Prelude.{◌≡◌, ℕ, ◌<◌, ◌≤◌, List, map, length, take, get_or}
 use Rattle.jsonpath_parser.specs.Normal.{steps_text}
-use Rattle.jsonpath_rust.specs.Walking.{step_of}
-use Rattle.jsonpath_rust.specs.declared.query.sink.StepRef.{StepRef}
+use Rattle.jsonpath_rust.specs.inner.Walking.{step_of}
+use Rattle.jsonpath_rust.specs.declared.query.way.StepRef.{StepRef}
 
 -- these steps, as a Normalized Path writes them
 abbrev pub spelled : List StepRef → List ℕ

@@ -1,7 +1,7 @@
 use Rattle.std.proofs.Common.{ap, IsTrue, All, map, subst, List, Bool, sym, ◌∙◌}
-use Rattle.jsonpath_rust.specs.Sinks.{seen, values_whole}
+use Rattle.jsonpath_rust.specs.inner.Sinks.{seen, values_whole}
 use Rattle.jsonpath_rust.proofs.Arguments.{values_next, values_whole_next}
-use Rattle.jsonpath_rust.proofs.query.operand.push_values.Goals as goal
+use Rattle.jsonpath_rust.proofs.query.value.push_values.Goals as goal
 
 pub loop-value-preserved : goal.loop-value-preserved
 loop-value-preserved g c =

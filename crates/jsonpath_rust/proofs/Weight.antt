@@ -1,28 +1,10 @@
--- How large a tree and a query are, for the measures of the walk alone.
+-- How much work a part of a query is, for the measures of the walk.
 use Rattle.std.specs.Prelude.{ℕ, ◌+◌, ◌*◌}
 use Rattle.jsonpath_parser.specs.Syntax as syntax
 use Rattle.jsonpath_parser.specs.Syntax.{Selector, wildcard, slice, Selectors, no_selectors, selector, Segment, one, several, descendant, Segments, no_segments, segment, Filter, or, and, atom, Filters, no_filters, filter_then, Atom, group, test, comparison, Comparison, compare, Comparable, literal, function, singular, Test, relative, absolute, call, Call, custom_call, length_call, value_call, count_call, search_call, match_call, Argument, literal_argument, test_argument, filter_argument, Arguments, no_arguments, argument}
 use Rattle.jsonpath_parser.specs.View.{filter_view, segment_view}
-use Rattle.jsonpath_base.specs.Tree.{Tree, null, truth, number, text, list, object, Trees, no_trees, tree, Members, no_members, member}
 use Rattle.jsonpath_rust.specs.declared.query.walk.Action.{Action}
 use Rattle.jsonpath_rust.specs.declared.query.walk.Action.TheVariants.{All, If, Below}
-
-abbrev mutual
-  pub size : Tree → ℕ
-  size null = 1
-  size (truth b) = 1
-  size (number n) = 1
-  size (text s) = 1
-  size (list ts) = trees_size ts + 1
-  size (object ms) = members_size ms + 1
-
-  pub trees_size : Trees → ℕ
-  trees_size no_trees = 0
-  trees_size (tree t ts) = size t + trees_size ts
-
-  pub members_size : Members → ℕ
-  members_size no_members = 0
-  members_size (member k t ms) = size t + members_size ms
 
 -- every part is less than the whole
 abbrev mutual

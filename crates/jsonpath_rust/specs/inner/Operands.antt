@@ -1,16 +1,15 @@
 -- What the two sides of a comparison and the arguments of calls are inside the evaluator, for its contracts alone.
-use Rattle.std.specs.Prelude.{List, map, Bool, true, Option, Some, None, IsTrue, All}
-use Rattle.jsonpath_parser.specs.Syntax.{Operator, equal, not_equal, greater, greater_or_equal, less, less_or_equal}
+use Rattle.std.specs.Prelude.{List, map, Bool, true, false, Option, Some, None, IsTrue, All}
 use Rattle.jsonpath_base.specs.Tree as tree
 use Rattle.jsonpath_base.specs.Tree.{Tree}
 use Rattle.jsonpath_rust.specs.Args.{arg_value}
 use Rattle.jsonpath_rust.specs.declared.query.queryable.Arg.{Arg}
-use Rattle.jsonpath_rust.specs.declared.query.operand.Scalar.{Scalar}
-use Rattle.jsonpath_rust.specs.declared.query.operand.Scalar.TheVariants as scalar
-use Rattle.jsonpath_rust.specs.declared.query.operand.Operand.{Operand}
-use Rattle.jsonpath_rust.specs.declared.query.operand.Operand.TheVariants as operand
-use Rattle.jsonpath_rust.specs.declared.query.operand.Sign.{Sign}
-use Rattle.jsonpath_rust.specs.declared.query.operand.Sign.TheVariants as sign
+use Rattle.jsonpath_rust.specs.declared.query.patterns.Extent.{Extent}
+use Rattle.jsonpath_rust.specs.declared.query.patterns.Extent.TheVariants.{Entire, Substring}
+use Rattle.jsonpath_rust.specs.declared.query.value.Scalar.{Scalar}
+use Rattle.jsonpath_rust.specs.declared.query.value.Scalar.TheVariants as scalar
+use Rattle.jsonpath_rust.specs.declared.query.value.Operand.{Operand}
+use Rattle.jsonpath_rust.specs.declared.query.value.Operand.TheVariants as operand
 
 abbrev pub scalar_tree : Scalar → Tree
 scalar_tree scalar.Null = tree.null
@@ -31,17 +30,14 @@ operand_is_whole w (operand.Lent v) = w v.now
 operand_is_whole w (operand.Made v) = w v
 operand_is_whole w (operand.Plain s) = true
 
-abbrev pub operator_of : Sign → Operator
-operator_of sign.Eq = equal
-operator_of sign.Ne = not_equal
-operator_of sign.Gt = greater
-operator_of sign.Gte = greater_or_equal
-operator_of sign.Lt = less
-operator_of sign.Lte = less_or_equal
+-- whether a pattern has to match the entire text
+abbrev pub is_entire : Extent → Bool
+is_entire Entire = true
+is_entire Substring = false
 
 -- the arguments of a custom function
-abbrev pub trees_of : {A : Type 0} → (A → Tree) → List (Arg A) → List Tree
-trees_of t args = map (λ a. t (arg_value a)) args
+abbrev pub arg_trees : {A : Type 0} → (A → Tree) → List (Arg A) → List Tree
+arg_trees t args = map (λ a. t (arg_value a)) args
 
 abbrev pub AreWhole : {A : Type 0} → (A → Bool) → List (Arg A) → Type 0
 AreWhole w args = All (λ a. IsTrue (w (arg_value a))) args

@@ -1,0 +1,7 @@
+-- What the evaluator's own contracts and proofs say. Nothing here is part of what a query means.
+pub mod Keeping
+pub mod Operands
+pub mod Sinks
+pub mod Size
+pub mod Walking
+pub mod Way
