@@ -1,14 +1,15 @@
 -- How deep brackets nest in a text (a limit for readers, RFC 9535, 4.1).
 use Rattle.std.specs.Prelude.{ℕ, ◌+◌, ◌-◌, max, List, [], ◌∷◌, Bool, ◌||◌, ◌==◌, if◌then◌else◌}
+use Rattle.std.specs.Str.{byte}
 use Rattle.jsonpath_parser.specs.Lexical.{is_quote}
 
 -- `(` or `[`
 abbrev pub opens : ℕ → Bool
-opens b = b == 40 || b == 91
+opens b = b == byte "(" || b == byte "["
 
 -- `)` or `]`
 abbrev pub closes : ℕ → Bool
-closes b = b == 41 || b == 93
+closes b = b == byte ")" || b == byte "]"
 
 -- outside a string; inside one that this quote ends; or there, behind a backslash
 pub data Place : Type 0 where
@@ -18,7 +19,7 @@ pub data Place : Type 0 where
 
 abbrev pub next_place : Place → ℕ → Place
 next_place outside b = if is_quote b then inside b else outside
-next_place (inside q) b = if b == 92 then escaped q else (if b == q then outside else inside q)
+next_place (inside q) b = if b == byte "\\" then escaped q else (if b == q then outside else inside q)
 next_place (escaped q) b = inside q
 
 -- how many brackets stand open

@@ -2,6 +2,7 @@
 --
 -- `Number v text` is how a number literal of the value v is written; all else stands here.
 use Rattle.std.specs.Prelude.{◌≡◌, ◌⊎◌, ℕ, zero, suc, ◌≤◌, ◌≤ℤ◌, ℤ, pos, negsuc, Bool, true, false, Option, Some, None, List, [], ◌∷◌, ◌++◌, slice_index, codes}
+use Rattle.std.specs.Str.{byte}
 use Rattle.std.specs.Str.Parse.{digits_value}
 use Rattle.std.specs.Char.{is_ascii_digit}
 use Rattle.jsonpath_parser.specs.Lexical.{IsRun, IsBlank, IsName, IsFunctionName}
@@ -11,7 +12,7 @@ use Rattle.jsonpath_parser.specs.Syntax.{Literal, number, string, bool, null, Si
 
 -- a digit from 1 to 9, then digits (2.3.3.1)
 abbrev pub SpellsPositive : ℕ → List ℕ → Type 0
-SpellsPositive n text = IsRun is_ascii_digit text × (49 ≤ slice_index text 0) × (n ≡ digits_value 10 text)
+SpellsPositive n text = IsRun is_ascii_digit text × (byte "1" ≤ slice_index text 0) × (n ≡ digits_value 10 text)
 
 -- `0`, or a positive number, perhaps behind `-` (`negsuc n` is -(n + 1))
 abbrev pub SpellsInt : ℤ → List ℕ → Type 0

@@ -1,5 +1,6 @@
 -- Number literals and their exact values (RFC 9535, 2.3.5.1).
 use Rattle.std.specs.Prelude.{◌≡◌, ◌⊎◌, ℕ, ◌+◌, ◌^◌, ◌<◌, ◌≤◌, ℤ, pos, negsuc, neg_ℤ, ◌*ℤ◌, ◌≤ℤ◌, Bool, true, false, ◌||◌, ◌==◌, Option, Some, None, List, [], ◌∷◌, ◌++◌, length, slice_index, codes}
+use Rattle.std.specs.Str.{byte}
 use Rattle.std.specs.Str.Parse.{digits_value}
 use Rattle.std.specs.Char.{is_ascii_digit}
 use Rattle.jsonpath_parser.specs.Lexical.{IsRun}
@@ -15,7 +16,7 @@ SpellsSign true text = text ≡ codes "-"
 
 -- the digits before the point: `0`, or a digit from 1 to 9, then digits; with a sign before them, if there is one, they are an int or `-0`
 abbrev pub IsWholePart : List ℕ → Type 0
-IsWholePart digits = (digits ≡ codes "0") ⊎ (IsRun is_ascii_digit digits × (49 ≤ slice_index digits 0))
+IsWholePart digits = (digits ≡ codes "0") ⊎ (IsRun is_ascii_digit digits × (byte "1" ≤ slice_index digits 0))
 
 -- the digits behind the point: nothing, or `.` and digits
 abbrev pub SpellsFraction : List ℕ → List ℕ → Type 0
@@ -29,7 +30,7 @@ pub data Exponent : Type 0 where
 
 -- `e` or `E`
 abbrev pub is_exponent_mark : ℕ → Bool
-is_exponent_mark b = b == 101 || b == 69
+is_exponent_mark b = b == byte "e" || b == byte "E"
 
 -- nothing, or `e` or `E`, perhaps a sign, and digits
 abbrev pub SpellsExponent : Exponent → List ℕ → Type 0

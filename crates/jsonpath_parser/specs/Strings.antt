@@ -4,22 +4,23 @@
 use Rattle.std.specs.Prelude.{◌≡◌, ◌⊎◌, ℕ, ◌+◌, ◌-◌, ◌*◌, Bool, true, false, not, ◌&&◌, ◌||◌, ◌==◌, nat_le, nat_lt, if◌then◌else◌, List, [], ◌∷◌, ◌++◌, length, codes, Option, Some, None}
 use Rattle.std.specs.Char.{is_digit, encode_utf8}
 use Rattle.std.specs.List.{concat}
+use Rattle.std.specs.Str.{byte}
 use Rattle.std.specs.Str.Parse.{digits_value}
 use Rattle.jsonpath_parser.specs.Lexical.{IsRun, is_quote}
 
 -- what stands for itself between quotes q: from U+0020 on, neither the quote nor a backslash
 abbrev pub is_plain : ℕ → ℕ → Bool
-is_plain q b = (nat_le 32 b && not (b == q)) && not (b == 92)
+is_plain q b = (nat_le 32 b && not (b == q)) && not (b == byte "\\")
 
 -- The character that a backslash and this byte stand for between quotes q: U+0008, U+000C, U+000A, U+000D and U+0009 for `b`, `f`, `n`, `r` and `t`; a slash, a backslash and the quote for themselves.
 abbrev pub escaped : ℕ → ℕ → Option ℕ
 escaped q b =
-    if b == 98 then Some 8
-    else (if b == 102 then Some 12
-    else (if b == 110 then Some 10
-    else (if b == 114 then Some 13
-    else (if b == 116 then Some 9
-    else (if (b == 47 || b == 92) || b == q then Some b
+    if b == byte "b" then Some 8
+    else (if b == byte "f" then Some 12
+    else (if b == byte "n" then Some 10
+    else (if b == byte "r" then Some 13
+    else (if b == byte "t" then Some 9
+    else (if (b == byte "/" || b == byte "\\") || b == q then Some b
     else None)))))
 
 -- `0` to `9`, `a` to `f` or `A` to `F`
