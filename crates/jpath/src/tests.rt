@@ -1,9 +1,7 @@
-//! What the rows of `jpath_rows` cannot ask: runs and their streams, trees made by hand, a cursor from call to call,
-//! documents through their trait, the texts of errors, and a pattern that `regex` may refuse.
-mod cursor;
+//! What the rows of `jpath_rows` cannot ask: runs and their streams, trees made by hand, documents through their trait, the
+//! texts of errors, and a pattern that `regex` may refuse.
 mod documents;
 mod errors;
-mod makers;
 mod patterns;
 mod runs;
 mod streams;

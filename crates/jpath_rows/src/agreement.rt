@@ -2,8 +2,7 @@
 ghost use Rattle.std.specs.Prelude.{IsTrue};
 ghost use Rattle.jsonpath_base.specs.Values.{value_is_whole};
 
-use crate::nodes::{have_nodes, have_paths, have_values, is_same};
-use jsonpath_parser::model::JpQuery;
+use crate::document::are_equal;
 use jsonpath_parser::{let_go, parse_json_path_within};
 use jsonpath_rust::JsonPath;
 use jsonpath_rust::query::queryable::Queryable;
@@ -13,32 +12,48 @@ use jsonpath_rust::query::{
 };
 use serde_json::Value;
 use std::alloc::Global;
+use std::slice;
 
-fn answers_nodes<T: Queryable>(
+/// Whether the answer is the same nodes, in order.
+fn are_same<T: Queryable>(
     nodes: &[QueryRef<'_, T>],
     answered: Queried<Vec<QueryRef<'_, T>>>,
 ) -> bool {
-    match answered {
-        Ok(others) => have_nodes(nodes, others.as_slice()),
-        Err(_) => false,
+    let Some(others) = answered.ok() else {
+        return false;
+    };
+    for (node, other) in nodes.iter().zip(&others) {
+        if node.path.as_str() != other.path.as_str() || !are_equal(node.val, other.val) {
+            return false;
+        }
     }
+    nodes.len() == others.len()
 }
 
-fn answers_values<T: Queryable>(nodes: &[QueryRef<'_, T>], answered: Queried<Vec<&T>>) -> bool {
-    match answered {
-        Ok(values) => have_values(nodes, values.as_slice()),
-        Err(_) => false,
+/// Whether the answer is the values of the nodes, in order.
+fn are_values<T: Queryable>(nodes: &[QueryRef<'_, T>], answered: Queried<Vec<&T>>) -> bool {
+    let Some(values) = answered.ok() else {
+        return false;
+    };
+    for (node, value) in nodes.iter().zip(&values) {
+        if !are_equal(node.val, *value) {
+            return false;
+        }
     }
+    nodes.len() == values.len()
 }
 
-fn answers_paths<T: Queryable>(
-    nodes: &[QueryRef<'_, T>],
-    answered: Queried<Vec<QueryPath>>,
-) -> bool {
-    match answered {
-        Ok(paths) => have_paths(nodes, paths.as_slice()),
-        Err(_) => false,
+/// Whether the answer is the paths of the nodes, in order.
+fn are_paths<T: Queryable>(nodes: &[QueryRef<'_, T>], answered: Queried<Vec<QueryPath>>) -> bool {
+    let Some(paths) = answered.ok() else {
+        return false;
+    };
+    for (node, path) in nodes.iter().zip(&paths) {
+        if node.path.as_str() != path.as_str() {
+            return false;
+        }
     }
+    nodes.len() == paths.len()
 }
 
 /// Whether the calls that take a text, at the default depth, answer these nodes.
@@ -50,9 +65,9 @@ pub fn is_by_text<T: Queryable>(
 ) -> bool
     requires { IsTrue (T.is_whole document.now) }
 {
-    answers_nodes(nodes, js_path(alloc, query, document))
-        && answers_values(nodes, js_path_vals(alloc, query, document))
-        && answers_paths(nodes, js_path_path(alloc, query, document))
+    are_same(nodes, js_path(alloc, query, document))
+        && are_values(nodes, js_path_vals(alloc, query, document))
+        && are_paths(nodes, js_path_path(alloc, query, document))
 }
 
 /// Whether the calls that take a tree answer these nodes.
@@ -65,40 +80,25 @@ pub fn is_by_tree<T: Queryable>(
 ) -> bool
     requires { IsTrue (T.is_whole document.now) }
 {
-    match parse_json_path_within(alloc, query, depth) {
-        Ok(tree) => {
-            let agrees = is_of_tree(alloc, &tree, document, nodes);
-            let_go(tree);
-            agrees
-        }
-        Err(_) => false,
-    }
+    let Some(tree) = parse_json_path_within(alloc, query, depth).ok() else {
+        return false;
+    };
+    let agrees = are_same(nodes, js_path_process(alloc, &tree, document))
+        && are_values(nodes, js_path_process_vals(alloc, &tree, document));
+    let_go(tree);
+    agrees
 }
 
-fn is_of_tree<T: Queryable>(
-    alloc: Global,
-    tree: &JpQuery,
-    document: &T,
-    nodes: &[QueryRef<'_, T>],
-) -> bool
-    requires { IsTrue (T.is_whole document.now) }
-{
-    answers_nodes(nodes, js_path_process(alloc, tree, document))
-        && answers_values(nodes, js_path_process_vals(alloc, tree, document))
-}
-
-/// Whether the methods of a document, at the default depth, answer these nodes.
-pub fn is_by_methods(
-    alloc: Global,
-    query: &str,
-    document: &Value,
-    nodes: &[QueryRef<'_, Value>],
-) -> bool
+/// Whether the methods of a document, at the default depth, answer the same nodes as `js_path`.
+pub fn is_by_methods(alloc: Global, query: &str, document: &Value) -> bool
     requires { IsTrue (value_is_whole document.now) }
 {
-    answers_nodes(nodes, document.query_with_path(alloc, query))
-        && answers_values(nodes, document.query(alloc, query))
-        && answers_paths(nodes, document.query_only_path(alloc, query))
+    let Some(nodes) = js_path(alloc, query, document).ok() else {
+        return false;
+    };
+    are_same(&nodes, document.query_with_path(alloc, query))
+        && are_values(&nodes, document.query(alloc, query))
+        && are_paths(&nodes, document.query_only_path(alloc, query))
 }
 
 /// Whether the path of each of these nodes of the document, asked as a query, gives that node alone.
@@ -106,21 +106,12 @@ pub fn lead_back<T: Queryable>(alloc: Global, document: &T, nodes: &[QueryRef<'_
     requires { IsTrue (T.is_whole document.now) }
 {
     for node in nodes {
-        if !leads_back(alloc, document, node) {
+        if !are_same(
+            slice::from_ref(node),
+            js_path(alloc, node.path.as_str(), document),
+        ) {
             return false;
         }
     }
     true
-}
-
-fn leads_back<T: Queryable>(alloc: Global, document: &T, node: &QueryRef<'_, T>) -> bool
-    requires { IsTrue (T.is_whole document.now) }
-{
-    match js_path(alloc, node.path.as_str(), document) {
-        Ok(found) => match found.as_slice() {
-            [only] => is_same(node, only),
-            _ => false,
-        },
-        Err(_) => false,
-    }
 }

@@ -5,7 +5,6 @@ ghost use Rattle.jsonpath_rust.specs.Args.{arg_value};
 use crate::document::{Document, is_value};
 use crate::members::Types;
 use jpath_doc::Doc;
-use jsonpath_rust::query::Queried;
 use jsonpath_rust::query::queryable::{Arg, Queryable};
 use serde_json::Value;
 use std::alloc::Global;
@@ -21,14 +20,11 @@ pub fn answers(
     match types {
         Types::Value => answers_of::<Value>(alloc, name, arguments, answer),
         Types::Doc => answers_of::<Doc>(alloc, name, arguments, answer),
-        Types::Both => answers_of_both(alloc, name, arguments, answer),
+        Types::Both => {
+            answers_of::<Value>(alloc, name, arguments, answer)
+                && answers_of::<Doc>(alloc, name, arguments, answer)
+        }
     }
-}
-
-/// Whether the call answers so, of both types.
-pub fn answers_of_both(alloc: Global, name: &str, arguments: &[Value], answer: &Value) -> bool {
-    answers_of::<Value>(alloc, name, arguments, answer)
-        && answers_of::<Doc>(alloc, name, arguments, answer)
 }
 
 fn answers_of<T: Document>(alloc: Global, name: &str, arguments: &[Value], answer: &Value) -> bool {
@@ -42,21 +38,16 @@ fn answers_of<T: Document>(alloc: Global, name: &str, arguments: &[Value], answe
 }
 
 fn are_equal_so<T: Document>(alloc: Global, left: &Value, right: &Value, answer: &Value) -> bool {
-    left.is_whole()
-        && match T::made(alloc, left) {
-            Ok(left) => is_equal_so(alloc, &left, right, answer),
-            Err(_) => false,
-        }
-}
-
-fn is_equal_so<T: Document>(alloc: Global, left: &T, right: &Value, answer: &Value) -> bool {
-    right.is_whole()
-        && match T::made(alloc, right) {
-            Ok(right) => {
-                left.is_whole() && right.is_whole() && answer.as_bool() == Some(left.equal(&right))
-            }
-            Err(_) => false,
-        }
+    if !left.is_whole() || !right.is_whole() {
+        return false;
+    }
+    let Some(left) = T::made(alloc, left) else {
+        return false;
+    };
+    let Some(right) = T::made(alloc, right) else {
+        return false;
+    };
+    left.is_whole() && right.is_whole() && answer.as_bool() == Some(left.equal(&right))
 }
 
 fn answers_custom<T: Document>(
@@ -65,32 +56,26 @@ fn answers_custom<T: Document>(
     values: &[Value],
     answer: &Value,
 ) -> bool {
-    values.iter().all(|value| value.is_whole())
-        && match arguments_of::<T>(alloc, values) {
-            Ok(arguments) => answers_custom_of(alloc, name, arguments.as_slice(), answer),
-            Err(_) => false,
+    let Some(arguments) = arguments_of::<T>(alloc, values) else {
+        return false;
+    };
+    are_whole(&arguments)
+        && match T::extension_custom(alloc, name, &arguments).ok() {
+            Some(found) => is_value(alloc, &found, answer),
+            None => false,
         }
 }
 
-fn arguments_of<T: Document>(alloc: Global, values: &[Value]) -> Queried<Vec<Arg<'_, T>>> {
+/// The values, as arguments of their own; None where one is not whole, or memory ran out.
+fn arguments_of<T: Document>(alloc: Global, values: &[Value]) -> Option<Vec<Arg<'_, T>>> {
     let mut arguments = Vec::new(alloc);
     for value in values {
-        arguments.push(Arg::Owned(T::made(alloc, value)?))?;
-    }
-    Ok(arguments)
-}
-
-fn answers_custom_of<T: Document>(
-    alloc: Global,
-    name: &str,
-    arguments: &[Arg<'_, T>],
-    answer: &Value,
-) -> bool {
-    are_whole(arguments)
-        && match T::extension_custom(alloc, name, arguments) {
-            Ok(found) => is_value(alloc, &found, answer),
-            Err(_) => false,
+        if !value.is_whole() {
+            return None;
         }
+        arguments.push(Arg::Owned(T::made(alloc, value)?)).ok()?;
+    }
+    Some(arguments)
 }
 
 fn are_whole<T: Queryable>(arguments: &[Arg<'_, T>]) -> bool

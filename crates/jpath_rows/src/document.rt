@@ -2,25 +2,24 @@
 use jpath_doc::{Doc, of_value};
 use jsonpath_rust::JsonPath;
 use jsonpath_rust::query::queryable::Queryable;
-use jsonpath_rust::query::{Queried, QueryRef};
 use serde_json::Value;
 use std::alloc::Global;
 
 /// A document that can be made of a value.
 pub trait Document: Queryable {
-    /// The document of a value, whose numbers are whole.
-    fn made(alloc: Global, value: &Value) -> Queried<Self>;
+    /// The document of a value, whose numbers are whole; None where memory ran out.
+    fn made(alloc: Global, value: &Value) -> Option<Self>;
 }
 
 impl Document for Value {
-    fn made(_alloc: Global, value: &Value) -> Queried<Value> {
-        Ok(value.clone()?)
+    fn made(_alloc: Global, value: &Value) -> Option<Value> {
+        value.clone().ok()
     }
 }
 
 impl Document for Doc {
-    fn made(alloc: Global, value: &Value) -> Queried<Doc> {
-        Ok(of_value(alloc, value)?)
+    fn made(alloc: Global, value: &Value) -> Option<Doc> {
+        of_value(alloc, value).ok()
     }
 }
 
@@ -28,8 +27,8 @@ impl Document for Doc {
 pub fn is_value<T: Document>(alloc: Global, found: &T, wanted: &Value) -> bool {
     wanted.is_whole()
         && match T::made(alloc, wanted) {
-            Ok(made) => are_equal(found, &made),
-            Err(_) => false,
+            Some(made) => are_equal(found, &made),
+            None => false,
         }
 }
 

@@ -9,6 +9,7 @@ mod agreement;
 mod call;
 mod custom;
 mod document;
+mod maker;
 mod members;
 mod nodes;
 mod parse;
@@ -25,19 +26,21 @@ mod text;
 mod tree;
 mod values;
 
-use row::Answer;
+use members::{list_at, string_at};
 use serde_json::Value;
 use std::io;
 use suite::Outcome;
 
 fn main(rt: HostRuntime) -> io::Result<()> {
     let input = io::read_to_string(rt.alloc(), rt.reader())?;
-    match Value::from_str(rt.alloc(), input.as_str()) {
-        Ok(whole) => match suite::tests_of(&whole) {
-            Some(tests) => ask_tests(&rt, tests),
-            None => ask_rows(&rt, input.as_str()),
-        },
-        Err(_) => ask_rows(&rt, input.as_str()),
+    let whole = Value::from_str(rt.alloc(), input.as_str()).ok();
+    let tests = match &whole {
+        Some(whole) => list_at(whole, "tests"),
+        None => None,
+    };
+    match tests {
+        Some(tests) => ask_tests(&rt, tests),
+        None => ask_rows(&rt, input.as_str()),
     }
 }
 
@@ -50,12 +53,11 @@ fn ask_rows(rt: &HostRuntime, input: &str) -> io::Result<()> {
             continue;
         }
         count = count.saturating_add(1);
-        match row::ask(rt.alloc(), line) {
-            Answer::Holds => held = held.saturating_add(1),
-            Answer::Fails => {
-                let number = at.saturating_add(1);
-                println!(rt; "row {number} does not hold: {line}")?;
-            }
+        if row::holds(rt.alloc(), line) {
+            held = held.saturating_add(1);
+        } else {
+            let number = at.saturating_add(1);
+            println!(rt; "row {number} does not hold: {line}")?;
         }
     }
     println!(rt; "{held} of {count} rows hold")
@@ -71,7 +73,7 @@ fn ask_tests(rt: &HostRuntime, tests: &[Value]) -> io::Result<()> {
             Outcome::Holds => held = held.saturating_add(1),
             Outcome::Skipped => skipped = skipped.saturating_add(1),
             Outcome::Fails => {
-                let name = suite::name_of(test);
+                let name = string_at(test, "name").unwrap_or("without a name");
                 println!(rt; "test {name} does not hold")?;
             }
         }

@@ -23,15 +23,24 @@ pub fn size(value: &Value) -> Option<usize> {
 
 /// Whether the row is an object of members of these names alone; each row may have a `name`.
 pub fn has_only(row: &Value, names: &[&str]) -> bool {
-    match row.as_object() {
-        Some(members) => members.iter().all(|(name, _)| name.as_str() == "name"
-            || is_among(name.as_str(), names)),
-        None => false,
+    let Some(members) = row.as_object() else {
+        return false;
+    };
+    for (name, _) in members {
+        if name.as_str() != "name" && !is_among(name.as_str(), names) {
+            return false;
+        }
     }
+    true
 }
 
 fn is_among(name: &str, names: &[&str]) -> bool {
-    names.iter().any(|other| *other == name)
+    for other in names {
+        if *other == name {
+            return true;
+        }
+    }
+    false
 }
 
 /// How many brackets may stand open in the row's query.

@@ -1,76 +1,47 @@
-//! The nodes that a query answered, beside those that are wanted, and beside what another call answered.
-use crate::document::{Document, are_equal, is_value};
+//! The nodes that a query answered, beside what is wanted of them.
+use crate::document::{Document, is_value};
 use crate::members::list;
 use crate::text::spells;
-use jsonpath_rust::query::queryable::Queryable;
-use jsonpath_rust::query::{QueryPath, QueryRef};
+use jsonpath_rust::query::QueryRef;
 use serde_json::Value;
 use std::alloc::Global;
 
-/// Whether the nodes are these, in order, each a list of its path and its value.
-pub fn are_nodes<T: Document>(alloc: Global, nodes: &[QueryRef<'_, T>], wanted: &[Value]) -> bool {
-    nodes.len() == wanted.len()
-        && nodes
-            .iter()
-            .zip(wanted)
-            .all(|(node, wanted)| is_node(alloc, node, wanted))
+/// What is wanted of each node.
+#[derive(Clone, Copy)]
+pub enum Part {
+    /// A list of its path and its value.
+    Node,
+    Path,
+    Value,
 }
 
-fn is_node<T: Document>(alloc: Global, node: &QueryRef<'_, T>, wanted: &Value) -> bool {
-    match list(wanted) {
-        Some([path, value]) => {
+/// Whether that part of the nodes is as wanted, in order.
+pub fn are_wanted<T: Document>(
+    alloc: Global,
+    nodes: &[QueryRef<'_, T>],
+    part: Part,
+    wanted: &[Value],
+) -> bool {
+    for (node, wanted) in nodes.iter().zip(wanted) {
+        if !is_wanted(alloc, node, part, wanted) {
+            return false;
+        }
+    }
+    nodes.len() == wanted.len()
+}
+
+fn is_wanted<T: Document>(
+    alloc: Global,
+    node: &QueryRef<'_, T>,
+    part: Part,
+    wanted: &Value,
+) -> bool {
+    match (part, list(wanted)) {
+        (Part::Node, Some([path, value])) => {
             spells(alloc, path, node.path.as_str()) && is_value(alloc, node.val, value)
         }
-        _ => false,
+        (Part::Node, _) => false,
+        (Part::Path, _) => spells(alloc, wanted, node.path.as_str()),
+        (Part::Value, _) => is_value(alloc, node.val, wanted),
     }
-}
-
-/// Whether the nodes have these paths, in order.
-pub fn are_paths<T: Queryable>(alloc: Global, nodes: &[QueryRef<'_, T>], wanted: &[Value]) -> bool {
-    nodes.len() == wanted.len()
-        && nodes
-            .iter()
-            .zip(wanted)
-            .all(|(node, wanted)| spells(alloc, wanted, node.path.as_str()))
-}
-
-/// Whether the nodes have these values, in order.
-pub fn are_values<T: Document>(alloc: Global, nodes: &[QueryRef<'_, T>], wanted: &[Value]) -> bool {
-    nodes.len() == wanted.len()
-        && nodes
-            .iter()
-            .zip(wanted)
-            .all(|(node, wanted)| is_value(alloc, node.val, wanted))
-}
-
-/// Whether two nodes have one path, and equal values.
-pub fn is_same<T: Queryable>(node: &QueryRef<'_, T>, other: &QueryRef<'_, T>) -> bool {
-    node.path.as_str() == other.path.as_str() && are_equal(node.val, other.val)
-}
-
-/// Whether other nodes are the same, in order.
-pub fn have_nodes<T: Queryable>(nodes: &[QueryRef<'_, T>], others: &[QueryRef<'_, T>]) -> bool {
-    nodes.len() == others.len()
-        && nodes
-            .iter()
-            .zip(others)
-            .all(|(node, other)| is_same(node, other))
-}
-
-/// Whether these are the values of the nodes, in order.
-pub fn have_values<T: Queryable>(nodes: &[QueryRef<'_, T>], values: &[&T]) -> bool {
-    nodes.len() == values.len()
-        && nodes
-            .iter()
-            .zip(values)
-            .all(|(node, value)| are_equal(node.val, *value))
-}
-
-/// Whether these are the paths of the nodes, in order.
-pub fn have_paths<T: Queryable>(nodes: &[QueryRef<'_, T>], paths: &[QueryPath]) -> bool {
-    nodes.len() == paths.len()
-        && nodes
-            .iter()
-            .zip(paths)
-            .all(|(node, path)| node.path.as_str() == path.as_str())
 }

@@ -32,38 +32,29 @@ pub fn is_found(alloc: Global, arguments: &[Value], answer: &Value) -> bool {
                 pattern,
                 whole,
             },
-        ) => match found(alloc, text, pattern, whole) {
-            Ok(found) => answer.as_bool() == Some(found),
-            Err(_) => false,
-        },
+        ) => is_truth(answer, found(alloc, text, pattern, whole).ok()),
         None => false,
     }
+}
+
+/// Whether there is a truth, and it is the row's answer.
+fn is_truth(answer: &Value, truth: Option<bool>) -> bool {
+    truth.is_some() && answer.as_bool() == truth
 }
 
 /// Whether a `Pattern` that was read before answers so, and tells what it was read from.
 pub fn is_found_by_pattern(alloc: Global, arguments: &[Value], answer: &Value) -> bool {
-    match search_of(arguments) {
-        Some(search) => match Pattern::new(alloc, search.pattern, search.whole) {
-            Ok(read) => is_of_search(&read, search)
-                && is_found_in(alloc, &read, search.text, answer),
-            Err(_) => false,
-        },
-        None => false,
-    }
-}
-
-fn is_of_search(read: &Pattern, search: Search<'_>) -> bool {
+    let Some(search) = search_of(arguments) else {
+        return false;
+    };
+    let Some(read) = Pattern::new(alloc, search.pattern, search.whole).ok() else {
+        return false;
+    };
     read.source() == search.pattern
         && read.is_whole() == search.whole
         && read.is_of(search.pattern, search.whole)
         && !read.is_of(search.pattern, !search.whole)
-}
-
-fn is_found_in(alloc: Global, read: &Pattern, text: &str, answer: &Value) -> bool {
-    match read.is_found(alloc, text) {
-        Ok(found) => answer.as_bool() == Some(found),
-        Err(_) => false,
-    }
+        && is_truth(answer, read.is_found(alloc, search.text).ok())
 }
 
 /// Whether one `Finder`, asked of each text, answers so.
@@ -77,11 +68,9 @@ pub fn are_found(alloc: Global, arguments: &[Value], answer: &Value) -> bool {
             ],
             Some(answers),
         ) => {
-            match Pattern::new(alloc, pattern.as_str(), *whole) {
-                Ok(read) => {
-                    texts.len() == answers.len() && finds(alloc, &read, texts.as_slice(), answers)
-                }
-                Err(_) => false,
+            match Pattern::new(alloc, pattern.as_str(), *whole).ok() {
+                Some(read) => finds(alloc, &read, texts.as_slice(), answers),
+                None => false,
             }
         }
         _ => false,
@@ -89,21 +78,19 @@ pub fn are_found(alloc: Global, arguments: &[Value], answer: &Value) -> bool {
 }
 
 fn finds(alloc: Global, read: &Pattern, texts: &[Value], answers: &[Value]) -> bool {
-    match read.finder(alloc) {
-        Ok(mut finder) => {
-            for (text, answer) in texts.iter().zip(answers) {
-                let found = match text.as_str() {
-                    Some(text) => Some(finder.is_found(text)),
-                    None => None,
-                };
-                if found.is_none() || answer.as_bool() != found {
-                    return false;
-                }
-            }
-            finder.is_of(read.source(), read.is_whole())
+    let Some(mut finder) = read.finder(alloc).ok() else {
+        return false;
+    };
+    for (text, answer) in texts.iter().zip(answers) {
+        let found = match text.as_str() {
+            Some(text) => Some(finder.is_found(text)),
+            None => None,
+        };
+        if !is_truth(answer, found) {
+            return false;
         }
-        Err(_) => false,
     }
+    texts.len() == answers.len() && finder.is_of(read.source(), read.is_whole())
 }
 
 /// Whether one kept pattern, asked again and again, answers so.
@@ -126,20 +113,17 @@ fn is_found_again(
     search: &Value,
     answer: &Value,
 ) -> bool {
-    match list(search) {
-        Some(arguments) => match search_of(arguments) {
-            Some(
-                Search {
-                    text,
-                    pattern,
-                    whole,
-                },
-            ) => match found_again(alloc, kept, text, pattern, whole) {
-                Ok(found) => answer.as_bool() == Some(found),
-                Err(_) => false,
+    let Some(arguments) = list(search) else {
+        return false;
+    };
+    match search_of(arguments) {
+        Some(
+            Search {
+                text,
+                pattern,
+                whole,
             },
-            None => false,
-        },
+        ) => is_truth(answer, found_again(alloc, kept, text, pattern, whole).ok()),
         None => false,
     }
 }

@@ -1,72 +1,77 @@
-//! Rows on the grammar functions: what each reads from the start of a text.
-use crate::members::{has_only, size, string_at};
-use crate::refusal::is_refused;
-use crate::row::Answer;
+//! Rows on the grammar functions: what each reads from the start of a text, or `calls`, each where the one before it ended.
+use crate::members::{has_only, list_at, size, string_at};
+use crate::refusal::is_kind;
 use crate::text::{spells, text_at};
 use jsonpath_parser::errors::Parsed;
-use jsonpath_parser::model::JpQuery;
 use jsonpath_parser::{
-    Cursor, child_segment, comp_expr, comparable, filter_atom, function_expr, jp_query, let_go,
-    literal, logical_expr, logical_expr_and, parse_json_path, rel_query, segment, segments,
-    selector, singular_query, singular_query_segments, slice_selector, test,
+    Cursor, child_segment, comp_expr, comparable, filter_atom, function_expr, jp_query, literal,
+    logical_expr, logical_expr_and, parse_json_path, rel_query, segment, segments, selector,
+    singular_query, singular_query_segments, slice_selector, test,
 };
 use serde_json::Value;
 use std::alloc::Global;
 use std::fmt::Debug;
 
-/// Asks a row on a grammar function, or on the reading of a whole text.
-pub fn ask(alloc: Global, row: &Value) -> Answer {
-    match (string_at(row, "production"), text_at(alloc, row, "text")) {
-        (Some("parse_json_path"), Some(text)) => Answer::of(is_whole(alloc, row, text.as_str())),
-        (Some(name), Some(text)) => Answer::of(is_front(alloc, row, name, text.as_str())),
-        _ => Answer::Fails,
+/// Whether a row on a grammar function, on calls of several of them, or on the reading of a whole text, holds.
+pub fn holds(alloc: Global, row: &Value) -> bool {
+    let Some(text) = text_at(alloc, row, "text") else {
+        return false;
+    };
+    match (string_at(row, "production"), list_at(row, "calls")) {
+        (Some("parse_json_path"), None) => is_whole(alloc, row, text.as_str()),
+        (Some(_), None) => is_front(alloc, row, &mut Cursor::new(text.as_str())),
+        (None, Some(calls)) => {
+            has_only(row, &["text", "calls"]) && are_fronts(alloc, calls, text.as_str())
+        }
+        _ => false,
     }
+}
+
+/// Whether one call after the other, by one cursor, reads as it tells.
+fn are_fronts(alloc: Global, calls: &[Value], text: &str) -> bool {
+    let mut cursor = Cursor::new(text);
+    for call in calls {
+        if !is_front(alloc, call, &mut cursor) {
+            return false;
+        }
+    }
+    cursor.at_end() && cursor.text() == text
+}
+
+/// How a reading came out, beside its row.
+#[derive(Clone, Copy)]
+pub enum Reading {
+    /// The row's tree was read.
+    Tree,
+    /// It was refused as the row tells.
+    Refusal,
+    /// The row tells otherwise, or no function has the name.
+    Other,
 }
 
 /// Whether the whole text is read as the row tells.
 fn is_whole(alloc: Global, row: &Value, text: &str) -> bool {
-    let read = query_shown(alloc, text);
-    match &read {
-        Ok(tree) => {
-            has_only(row, &["production", "text", "tree"]) && is_tree(alloc, row, tree.as_str())
-        }
-        Err(_) => {
-            has_only(row, &["production", "text", "refused"]) && is_refusal(row, &read, text.len())
-        }
+    match beside(alloc, row, text.len(), parse_json_path(alloc, text)) {
+        Reading::Tree => has_only(row, &["production", "text", "tree"]),
+        Reading::Refusal => has_only(row, &["production", "text", "refused"]),
+        Reading::Other => false,
     }
 }
 
-/// Whether the front of the text is read as the row tells, up to the place that it tells. A refusal leaves the cursor.
-fn is_front(alloc: Global, row: &Value, name: &str, text: &str) -> bool {
-    let mut cursor = Cursor::new(text);
-    let Some(read) = read(alloc, name, &mut cursor) else {
+/// Whether what follows the cursor is read as the row tells, up to the place that it tells. A refusal leaves the cursor.
+fn is_front(alloc: Global, row: &Value, cursor: &mut Cursor<'_>) -> bool {
+    let Some(name) = string_at(row, "production") else {
         return false;
     };
-    match &read {
-        Ok(tree) => {
-            has_only(row, &["production", "text", "tree", "end"])
-                && is_tree(alloc, row, tree.as_str())
-                && is_end(row, &cursor)
+    let start = cursor.at();
+    match read(alloc, row, name, cursor) {
+        Reading::Tree => {
+            has_only(row, &["production", "text", "tree", "end"]) && is_end(row, cursor)
         }
-        Err(_) => {
-            has_only(row, &["production", "text", "refused"])
-                && is_refusal(row, &read, text.len())
-                && cursor.at() == 0
+        Reading::Refusal => {
+            has_only(row, &["production", "text", "refused"]) && cursor.at() == start
         }
-    }
-}
-
-fn is_tree(alloc: Global, row: &Value, tree: &str) -> bool {
-    match row.get("tree") {
-        Some(wanted) => spells(alloc, wanted, tree),
-        None => false,
-    }
-}
-
-fn is_refusal(row: &Value, read: &Parsed<String>, length: usize) -> bool {
-    match string_at(row, "refused") {
-        Some(kind) => is_refused(read, kind, length),
-        None => false,
+        Reading::Other => false,
     }
 }
 
@@ -81,42 +86,52 @@ fn is_end(row: &Value, cursor: &Cursor<'_>) -> bool {
     }
 }
 
-/// What the grammar function of that name reads, as its tree's `Debug` shows it, or None where no function has the name.
-fn read(alloc: Global, name: &str, cursor: &mut Cursor<'_>) -> Option<Parsed<String>> {
-    Some(match name {
-        "jp_query" => shown(alloc, jp_query(alloc, cursor)),
-        "rel_query" => shown(alloc, rel_query(alloc, cursor)),
-        "segments" => shown(alloc, segments(alloc, cursor)),
-        "child_segment" => shown(alloc, child_segment(alloc, cursor)),
-        "segment" => shown(alloc, segment(alloc, cursor)),
-        "selector" => shown(alloc, selector(alloc, cursor)),
-        "function_expr" => shown(alloc, function_expr(alloc, cursor)),
-        "test" => shown(alloc, test(alloc, cursor)),
-        "logical_expr" => shown(alloc, logical_expr(alloc, cursor)),
-        "logical_expr_and" => shown(alloc, logical_expr_and(alloc, cursor)),
-        "singular_query_segments" => shown(alloc, singular_query_segments(alloc, cursor)),
-        "slice_selector" => shown(alloc, slice_selector(alloc, cursor)),
-        "singular_query" => shown(alloc, singular_query(alloc, cursor)),
-        "comp_expr" => shown(alloc, comp_expr(alloc, cursor)),
-        "literal" => shown(alloc, literal(alloc, cursor)),
-        "filter_atom" => shown(alloc, filter_atom(alloc, cursor)),
-        "comparable" => shown(alloc, comparable(alloc, cursor)),
-        _ => return None,
-    })
+/// What the grammar function of that name reads.
+fn read(alloc: Global, row: &Value, name: &str, cursor: &mut Cursor<'_>) -> Reading {
+    let length = cursor.text().len();
+    match name {
+        "jp_query" => beside(alloc, row, length, jp_query(alloc, cursor)),
+        "rel_query" => beside(alloc, row, length, rel_query(alloc, cursor)),
+        "segments" => beside(alloc, row, length, segments(alloc, cursor)),
+        "child_segment" => beside(alloc, row, length, child_segment(alloc, cursor)),
+        "segment" => beside(alloc, row, length, segment(alloc, cursor)),
+        "selector" => beside(alloc, row, length, selector(alloc, cursor)),
+        "function_expr" => beside(alloc, row, length, function_expr(alloc, cursor)),
+        "test" => beside(alloc, row, length, test(alloc, cursor)),
+        "logical_expr" => beside(alloc, row, length, logical_expr(alloc, cursor)),
+        "logical_expr_and" => beside(alloc, row, length, logical_expr_and(alloc, cursor)),
+        "singular_query_segments" => {
+            beside(alloc, row, length, singular_query_segments(alloc, cursor))
+        }
+        "slice_selector" => beside(alloc, row, length, slice_selector(alloc, cursor)),
+        "singular_query" => beside(alloc, row, length, singular_query(alloc, cursor)),
+        "comp_expr" => beside(alloc, row, length, comp_expr(alloc, cursor)),
+        "literal" => beside(alloc, row, length, literal(alloc, cursor)),
+        "filter_atom" => beside(alloc, row, length, filter_atom(alloc, cursor)),
+        "comparable" => beside(alloc, row, length, comparable(alloc, cursor)),
+        _ => Reading::Other,
+    }
 }
 
-fn shown<T: Debug + Drop>(alloc: Global, read: Parsed<T>) -> Parsed<String> {
-    let tree = read?;
-    Ok(format!(in alloc; "{tree:?}")?)
-}
-
-fn query_shown(alloc: Global, text: &str) -> Parsed<String> {
-    let tree = parse_json_path(alloc, text)?;
-    let shown = debug_of(alloc, &tree);
-    let_go(tree);
-    shown
-}
-
-fn debug_of(alloc: Global, tree: &JpQuery) -> Parsed<String> {
-    Ok(format!(in alloc; "{tree:?}")?)
+/// What was read of a text of that length, beside the row: a tree is compared by its `Debug` text.
+pub fn beside<T: Debug + Drop>(
+    alloc: Global,
+    row: &Value,
+    length: usize,
+    read: Parsed<T>,
+) -> Reading {
+    match read {
+        Ok(tree) => match (row.get("tree"), format!(in alloc; "{tree:?}").ok()) {
+            (Some(wanted), Some(shown)) if spells(alloc, wanted, shown.as_str()) => Reading::Tree,
+            _ => Reading::Other,
+        },
+        Err(error) => {
+            let refusal = match string_at(row, "refused") {
+                Some(kind) if is_kind(&error, kind, length) => Reading::Refusal,
+                _ => Reading::Other,
+            };
+            drop(error);
+            refusal
+        }
+    }
 }

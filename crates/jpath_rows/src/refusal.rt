@@ -2,15 +2,20 @@
 use jsonpath_parser::errors::JsonPathError;
 
 /// Whether the answer is a refusal of that kind, of a text of that length.
-pub fn is_refused<T>(answer: &Result<T, JsonPathError>, kind: &str, length: usize) -> bool {
-    match answer {
-        Ok(_) => false,
-        Err(error) => is_kind(error, kind, length),
+pub fn is_refused<T: Drop>(answer: Result<T, JsonPathError>, kind: &str, length: usize) -> bool {
+    match answer.err() {
+        Some(error) => {
+            let told = is_kind(&error, kind, length);
+            drop(error);
+            told
+        }
+        None => false,
     }
 }
 
-/// `PestError`, at a place within the text; `InvalidNumber` and the literal; `MaxNestingDepthExceeded` and the depth.
-fn is_kind(error: &JsonPathError, kind: &str, length: usize) -> bool {
+/// `PestError`, at a place within the text; `InvalidNumber` and the literal; `MaxNestingDepthExceeded` and the depth;
+/// `InvalidJsonPath`.
+pub fn is_kind(error: &JsonPathError, kind: &str, length: usize) -> bool {
     match error {
         JsonPathError::PestError(place) => kind == "PestError" && *place <= length,
         JsonPathError::InvalidNumber(literal) => {
@@ -22,6 +27,7 @@ fn is_kind(error: &JsonPathError, kind: &str, length: usize) -> bool {
                 None => false,
             }
         }
+        JsonPathError::InvalidJsonPath(_) => kind == "InvalidJsonPath",
         _ => false,
     }
 }

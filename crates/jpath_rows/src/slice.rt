@@ -1,6 +1,6 @@
 //! Rows on slices: `picked`, `slice_places`.
 use crate::members::{list, size};
-use jsonpath_base::{SlicePlaces, picked, slice_places};
+use jsonpath_base::{picked, slice_places};
 use serde_json::Value;
 use std::alloc::Global;
 
@@ -35,50 +35,36 @@ fn part(value: &Value) -> Option<Option<i64>> {
 
 /// Whether `picked` answers these places.
 pub fn are_picked(alloc: Global, arguments: &[Value], answer: &Value) -> bool {
-    match (slice_of(arguments), list(answer)) {
-        (Some(slice), Some(wanted)) => {
-            match picked(alloc, slice.start, slice.end, slice.step, slice.length) {
-                Ok(places) => are(places.as_slice(), wanted),
-                Err(_) => false,
-            }
+    let (Some(slice), Some(wanted)) = (slice_of(arguments), list(answer)) else {
+        return false;
+    };
+    let Some(places) = picked(alloc, slice.start, slice.end, slice.step, slice.length).ok() else {
+        return false;
+    };
+    for (place, wanted) in places.iter().zip(wanted) {
+        if size(wanted) != Some(*place) {
+            return false;
         }
-        _ => false,
     }
-}
-
-fn are(places: &[usize], wanted: &[Value]) -> bool {
     places.len() == wanted.len()
-        && places
-            .iter()
-            .zip(wanted)
-            .all(|(place, wanted)| size(wanted) == Some(*place))
 }
 
-/// Whether `slice_places` tells their count before it gives them, and gives these places.
+/// Whether `slice_places` tells their count before it gives them, gives these places, and then none.
 pub fn are_places(arguments: &[Value], answer: &Value) -> bool {
-    match (slice_of(arguments), list(answer)) {
-        (Some(slice), Some([count, places])) => {
-            let found = slice_places(slice.start, slice.end, slice.step, slice.length);
-            size(count) == Some(found.len())
-                && match list(places) {
-                    Some(wanted) => gives(found, wanted),
-                    None => false,
-                }
-        }
-        _ => false,
+    let (Some(slice), Some([count, places])) = (slice_of(arguments), list(answer)) else {
+        return false;
+    };
+    let Some(wanted) = list(places) else {
+        return false;
+    };
+    let mut found = slice_places(slice.start, slice.end, slice.step, slice.length);
+    if size(count) != Some(found.len()) {
+        return false;
     }
-}
-
-/// Whether the iterator gives these places, and then none.
-fn gives(mut found: SlicePlaces, wanted: &[Value]) -> bool {
     for place in wanted {
-        match found.next() {
-            Some(next) => {
-                if size(place) != Some(next) {
-                    return false;
-                }
-            }
-            None => return false,
+        let next = found.next();
+        if next.is_none() || next != size(place) {
+            return false;
         }
     }
     found.next().is_none()

@@ -4,70 +4,20 @@ use jsonpath_base::{add_index, add_name, push_index, push_name};
 use serde_json::Value;
 use std::alloc::Global;
 
-/// The arguments: a path, and the name of a step behind it.
-fn path_and_name(arguments: &[Value]) -> Option<(&str, &str)> {
-    match arguments {
-        [path, name] => Some((path.as_str()?, name.as_str()?)),
+/// Whether the call of that name makes this path, of a path and the name or the index of a step behind it.
+pub fn answers(alloc: Global, name: &str, arguments: &[Value], answer: &Value) -> bool {
+    let [Value::String(path), step] = arguments else {
+        return false;
+    };
+    let Some(mut path) = path.clone().ok() else {
+        return false;
+    };
+    let added = match (name, step.as_str(), size(step)) {
+        ("add_name", Some(name), _) => add_name(alloc, &mut path, name).ok(),
+        ("push_name", Some(name), _) => push_name(&mut path, name).ok(),
+        ("add_index", _, Some(index)) => add_index(alloc, &mut path, index).ok(),
+        ("push_index", _, Some(index)) => push_index(&mut path, index).ok(),
         _ => None,
-    }
-}
-
-/// The arguments: a path, and the index of a step behind it.
-fn path_and_index(arguments: &[Value]) -> Option<(&str, usize)> {
-    match arguments {
-        [path, index] => Some((path.as_str()?, size(index)?)),
-        _ => None,
-    }
-}
-
-fn path_of(alloc: Global, path: &str) -> Option<String> {
-    String::from_str(alloc, path).ok()
-}
-
-pub fn adds_name(alloc: Global, arguments: &[Value], answer: &Value) -> bool {
-    let Some((path, name)) = path_and_name(arguments) else {
-        return false;
     };
-    match path_of(alloc, path) {
-        Some(mut path) => {
-            add_name(alloc, &mut path, name).is_ok() && answer.as_str() == Some(path.as_str())
-        }
-        None => false,
-    }
-}
-
-pub fn pushes_name(alloc: Global, arguments: &[Value], answer: &Value) -> bool {
-    let Some((path, name)) = path_and_name(arguments) else {
-        return false;
-    };
-    match path_of(alloc, path) {
-        Some(mut path) => {
-            push_name(&mut path, name).is_ok() && answer.as_str() == Some(path.as_str())
-        }
-        None => false,
-    }
-}
-
-pub fn adds_index(alloc: Global, arguments: &[Value], answer: &Value) -> bool {
-    let Some((path, index)) = path_and_index(arguments) else {
-        return false;
-    };
-    match path_of(alloc, path) {
-        Some(mut path) => {
-            add_index(alloc, &mut path, index).is_ok() && answer.as_str() == Some(path.as_str())
-        }
-        None => false,
-    }
-}
-
-pub fn pushes_index(alloc: Global, arguments: &[Value], answer: &Value) -> bool {
-    let Some((path, index)) = path_and_index(arguments) else {
-        return false;
-    };
-    match path_of(alloc, path) {
-        Some(mut path) => {
-            push_index(&mut path, index).is_ok() && answer.as_str() == Some(path.as_str())
-        }
-        None => false,
-    }
+    added.is_some() && answer.as_str() == Some(path.as_str())
 }

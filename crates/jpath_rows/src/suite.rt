@@ -2,11 +2,10 @@
 ghost use Rattle.std.specs.Prelude.{IsTrue};
 
 use crate::document::Document;
-use crate::members::{has_only, list_at, string_at};
-use crate::parse::read;
-use crate::results::{Wanted, are_wanted, is_in_any_order, is_wanted_whole, wanted_of};
+use crate::members::{Depth, has_only, string_at};
+use crate::parse::{Reading, read};
+use crate::results::{Order, Wanted, are_any, are_whole, wanted_of};
 use jpath_doc::Doc;
-use jsonpath_parser::errors::JsonPathError;
 use jsonpath_rust::query::js_path;
 use jsonpath_rust::query::queryable::Queryable;
 use serde_json::Value;
@@ -31,64 +30,54 @@ impl Outcome {
     }
 }
 
-/// The tests, where the value is a suite.
-pub fn tests_of(value: &Value) -> Option<&[Value]> {
-    list_at(value, "tests")
-}
-
-/// The name of a test.
-pub fn name_of(test: &Value) -> &str {
-    string_at(test, "name").unwrap_or("without a name")
-}
-
 /// Asks a test.
 pub fn ask(alloc: Global, test: &Value) -> Outcome {
-    match string_at(test, "selector") {
-        Some(selector) => ask_selector(alloc, test, selector),
-        None => Outcome::Fails,
-    }
-}
-
-fn ask_selector(alloc: Global, test: &Value, selector: &str) -> Outcome {
-    match test.get("invalid_selector") {
-        Some(invalid) => Outcome::of(
+    let Some(selector) = string_at(test, "selector") else {
+        return Outcome::Fails;
+    };
+    match (test.get("invalid_selector"), test.get("document")) {
+        (Some(invalid), _) => Outcome::of(
             invalid.as_bool() == Some(true)
                 && has_only(test, &["selector", "invalid_selector", "tags"])
-                && matches!(read(alloc, selector), Err(JsonPathError::PestError(_))),
+                && matches!(read(alloc, selector, Depth::Default), Reading::NoQuery),
         ),
-        None => match (test.get("document"), wanted_of(test)) {
-            (Some(document), Some(wanted)) => ask_of(alloc, selector, document, wanted),
-            _ => Outcome::Fails,
+        (None, Some(document)) => match wanted_of(test) {
+            Some(wanted) => ask_of(alloc, selector, document, wanted),
+            None => Outcome::Fails,
         },
+        _ => Outcome::Fails,
     }
 }
 
 fn ask_of(alloc: Global, selector: &str, document: &Value, wanted: Wanted<'_>) -> Outcome {
-    if !document.is_whole() || !is_wanted_whole(wanted) {
+    if !document.is_whole() || !are_whole(wanted) {
         return Outcome::Skipped;
     }
-    match read(alloc, selector) {
-        Ok(()) => Outcome::of(
+    match read(alloc, selector, Depth::Default) {
+        Reading::Tree => Outcome::of(
             selects(alloc, selector, document, wanted)
-                && (!is_in_any_order(wanted) || selects_in_doc(alloc, selector, document, wanted)),
+                && match wanted.order {
+                    Order::Matters => true,
+                    Order::IsFree => selects_in_doc(alloc, selector, document, wanted),
+                },
         ),
-        Err(JsonPathError::InvalidNumber(_)) => Outcome::Skipped,
-        Err(_) => Outcome::Fails,
+        Reading::NoNumber => Outcome::Skipped,
+        Reading::NoQuery | Reading::Refused => Outcome::Fails,
     }
 }
 
 fn selects_in_doc(alloc: Global, selector: &str, document: &Value, wanted: Wanted<'_>) -> bool {
     match Doc::made(alloc, document) {
-        Ok(document) => document.is_whole() && selects(alloc, selector, &document, wanted),
-        Err(_) => false,
+        Some(document) => document.is_whole() && selects(alloc, selector, &document, wanted),
+        None => false,
     }
 }
 
 fn selects<T: Document>(alloc: Global, selector: &str, document: &T, wanted: Wanted<'_>) -> bool
     requires { IsTrue (T.is_whole document.now) }
 {
-    match js_path(alloc, selector, document) {
-        Ok(nodes) => are_wanted(alloc, nodes.as_slice(), wanted),
-        Err(_) => false,
+    match js_path(alloc, selector, document).ok() {
+        Some(nodes) => are_any(alloc, &nodes, wanted),
+        None => false,
     }
 }

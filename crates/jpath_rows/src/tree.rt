@@ -14,19 +14,19 @@ pub enum Comparison {
 
 /// Compares the trees that two texts spell.
 pub fn compare(alloc: Global, text: &str, other: &str) -> Comparison {
-    match parse_json_path(alloc, text) {
-        Ok(tree) => {
+    match parse_json_path(alloc, text).ok() {
+        Some(tree) => {
             let found = compare_with(alloc, &tree, other);
             let_go(tree);
             found
         }
-        Err(_) => Comparison::NoTree,
+        None => Comparison::NoTree,
     }
 }
 
 fn compare_with(alloc: Global, tree: &JpQuery, other: &str) -> Comparison {
-    match parse_json_path(alloc, other) {
-        Ok(other) => {
+    match parse_json_path(alloc, other).ok() {
+        Some(other) => {
             let same = *tree == other;
             let_go(other);
             if same {
@@ -35,6 +35,6 @@ fn compare_with(alloc: Global, tree: &JpQuery, other: &str) -> Comparison {
                 Comparison::Different
             }
         }
-        Err(_) => Comparison::NoTree,
+        None => Comparison::NoTree,
     }
 }

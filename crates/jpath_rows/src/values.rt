@@ -1,29 +1,22 @@
-//! Rows on values: `whole`, `same`, `set_function`.
-use jsonpath_base::{same, set_function, whole};
+//! Rows on texts and values: `text_length`, `text_less`, `whole`, `same`, `set_function`.
+use crate::members::size;
+use jsonpath_base::{same, set_function, text_length, text_less, whole};
 use serde_json::Value;
 
-/// Whether `whole` answers so.
-pub fn is_whole(arguments: &[Value], answer: &Value) -> bool {
-    match arguments {
-        [value] => answer.as_bool() == Some(whole(value)),
-        _ => false,
-    }
-}
-
-/// Whether `same` answers so.
-pub fn are_same(arguments: &[Value], answer: &Value) -> bool {
-    match arguments {
-        [left, right] => {
+/// Whether the call of that name answers so; null stands for None.
+pub fn answers(name: &str, arguments: &[Value], answer: &Value) -> bool {
+    match (name, arguments) {
+        ("text_length", [Value::String(text)]) => {
+            size(answer) == Some(text_length(text.as_str()))
+        }
+        ("text_less", [Value::String(left), Value::String(right)]) => {
+            answer.as_bool() == Some(text_less(left.as_str(), right.as_str()))
+        }
+        ("whole", [value]) => answer.as_bool() == Some(whole(value)),
+        ("same", [left, right]) => {
             whole(left) && whole(right) && answer.as_bool() == Some(same(left, right))
         }
-        _ => false,
-    }
-}
-
-/// Whether `set_function` answers so; null stands for None.
-pub fn is_in_sets(arguments: &[Value], answer: &Value) -> bool {
-    match arguments {
-        [Value::String(name), left, right] => {
+        ("set_function", [Value::String(name), left, right]) => {
             whole(left)
                 && whole(right)
                 && match set_function(name.as_str(), left, right) {

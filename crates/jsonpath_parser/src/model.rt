@@ -270,6 +270,7 @@ impl Comparison {
     }
 
     /// The operator, left and right.
+    #[inline(always)]
     pub fn parts(&self) -> (Operator, &Comparable, &Comparable)
         ensures { comparison_view self.now ≡ tree.compare (operator_view result.0) (comparable_view result.1.now) (comparable_view result.2.now) }
     {

@@ -1,8 +1,7 @@
 //! The texts of errors, and of faults that no run here meets.
 use crate::fault::Fault;
-use jsonpath_parser::errors::{JsonPathError, Parsed};
+use jsonpath_parser::errors::JsonPathError;
 use std::alloc::Global;
-use std::test::Fail;
 
 /// Errors by their names, and their texts.
 static TEXTS: [(&str, &str); 5] = [
@@ -20,40 +19,53 @@ static TEXTS: [(&str, &str); 5] = [
 ];
 
 /// The error of that name.
-fn error_of(alloc: Global, name: &str) -> Parsed<JsonPathError> {
-    Ok(match name {
+fn error_of(alloc: Global, name: &str) -> Option<JsonPathError> {
+    Some(match name {
         "PestError" => JsonPathError::PestError(7),
-        "UnexpectedRuleLogicError" => rule_error(alloc, "a", "b")?,
-        "InvalidNumber" => JsonPathError::InvalidNumber(String::from_str(alloc, "1.5")?),
+        "UnexpectedRuleLogicError" => JsonPathError::UnexpectedRuleLogicError(
+            String::from_str(alloc, "a").ok()?,
+            String::from_str(alloc, "b").ok()?,
+        ),
+        "InvalidNumber" => JsonPathError::InvalidNumber(String::from_str(alloc, "1.5").ok()?),
         "MaxNestingDepthExceeded" => JsonPathError::MaxNestingDepthExceeded(128),
         _ => JsonPathError::OutOfMemory,
     })
 }
 
-fn rule_error(alloc: Global, rule: &str, whole: &str) -> Parsed<JsonPathError> {
-    Ok(JsonPathError::UnexpectedRuleLogicError(
-        String::from_str(alloc, rule)?,
-        String::from_str(alloc, whole)?,
-    ))
-}
-
-#[test]
-fn texts_of_errors(rt: HostRuntime) -> Result<(), Fail> {
-    let alloc = rt.alloc();
-    for (name, text) in &TEXTS {
-        assert_eq!(rt; error_of(alloc, name)?.to_string(alloc)?.as_str(), *text);
+/// Whether the error of that name has this text.
+fn has_text(alloc: Global, name: &str, wanted: &str) -> bool {
+    let Some(error) = error_of(alloc, name) else {
+        return false;
+    };
+    let text = error.to_string(alloc).ok();
+    drop(error);
+    match text {
+        Some(text) => text.as_str() == wanted,
+        None => false,
     }
-    Ok(())
 }
 
 #[test]
-fn line_of_a_large_pattern(rt: HostRuntime) -> Result<(), Fail> {
-    let alloc = rt.alloc();
+fn texts_of_errors(rt: HostRuntime) {
+    for (name, text) in &TEXTS {
+        assert!(rt; has_text(rt.alloc(), name, text), "{name}");
+    }
+}
+
+/// Whether the fault of a pattern that is too large has its status and its line.
+fn is_told(alloc: Global) -> bool {
     let fault = Fault::Query(JsonPathError::InvalidJsonPath(String::new(alloc)));
-    assert_eq!(rt; fault.status(), 1);
-    assert_eq!(rt;
-        fault.to_string(alloc)?.as_str(),
-        "jpath: a pattern is too large"
-    );
-    Ok(())
+    let status = fault.status();
+    let line = fault.to_string(alloc).ok();
+    drop(fault);
+    status == 1
+        && match line {
+            Some(line) => line.as_str() == "jpath: a pattern is too large",
+            None => false,
+        }
+}
+
+#[test]
+fn line_of_a_large_pattern(rt: HostRuntime) {
+    assert!(rt; is_told(rt.alloc()));
 }

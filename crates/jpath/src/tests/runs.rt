@@ -1,45 +1,44 @@
 //! Runs by their words and their input.
+use crate::fault::Fault;
 use crate::run::run;
-use std::alloc::{AllocError, Global};
-use std::test::Fail;
+use std::alloc::Global;
 
 // ---- how a run ends
 
-/// How a run ended: its exit status, and what it wrote, followed by its line on standard error.
-#[derive(Debug, Drop)]
-pub struct Ended {
-    pub status: u8,
-    pub shown: String,
+/// The exit status of a run, and its line on standard error.
+pub fn ending(alloc: Global, outcome: Result<(), Fault>) -> Option<(u8, String)> {
+    let Some(fault) = outcome.err() else {
+        return Some((0, String::new(alloc)));
+    };
+    let status = fault.status();
+    let line = fault.to_string(alloc).ok();
+    drop(fault);
+    Some((status, line?))
 }
 
-/// Runs on bytes in memory.
-pub fn run_by(alloc: Global, words: &[&str], input: &[u8]) -> Result<Ended, AllocError> {
-    run_on(alloc, texts(alloc, words)?.as_slice(), input)
-}
-
-fn texts(alloc: Global, words: &[&str]) -> Result<Vec<String>, AllocError> {
-    let mut texts = Vec::new(alloc);
-    for word in words {
-        texts.push(String::from_str(alloc, word)?)?;
-    }
-    Ok(texts)
-}
-
-fn run_on(alloc: Global, words: &[String], input: &[u8]) -> Result<Ended, AllocError> {
+/// Whether a run by these words, on bytes in memory, ends by this status, and writes this where it is 0, else nothing, and
+/// this as its line on standard error.
+pub fn ends_so(alloc: Global, words: &[String], input: &[u8], wanted: (u8, &str)) -> Option<bool> {
     let mut reader = input;
     let mut written = Vec::new(alloc);
-    let outcome = run(alloc, words, &mut reader, &mut written);
-    let mut shown = String::from_utf8_lossy(alloc, written.as_slice())?;
-    match outcome {
-        Ok(()) => Ok(Ended { status: 0, shown }),
-        Err(fault) => {
-            shown.push_str(fault.to_string(alloc)?.as_str())?;
-            Ok(Ended {
-                status: fault.status(),
-                shown,
-            })
-        }
+    let (status, line) = ending(alloc, run(alloc, words, &mut reader, &mut written))?;
+    Some(
+        status == wanted.0
+            && if status == 0 {
+                written.as_slice() == wanted.1.as_bytes()
+            } else {
+                written.is_empty() && line.as_str() == wanted.1
+            },
+    )
+}
+
+/// The words, as a command line has them.
+pub fn texts(alloc: Global, words: &[&str]) -> Option<Vec<String>> {
+    let mut texts = Vec::new(alloc);
+    for word in words {
+        texts.push(String::from_str(alloc, word).ok()?).ok()?;
     }
+    Some(texts)
 }
 
 // ---- runs by short texts
@@ -226,17 +225,16 @@ static ROWS: [Row; 72] = [
     ),
 ];
 
+fn holds(alloc: Global, row: &Row) -> Option<bool> {
+    let Row(words, input, status, shown) = row;
+    ends_so(alloc, &texts(alloc, words)?, input, (*status, shown))
+}
+
 #[test]
-fn runs_by_their_words(rt: HostRuntime) -> Result<(), Fail> {
-    for Row(words, input, status, shown) in &ROWS {
-        let run = run_by(rt.alloc(), words, input)?;
-        assert_eq!(rt;
-            (run.status, run.shown.as_str()),
-            (*status, *shown),
-            "{words:?}"
-        );
+fn runs_by_their_words(rt: HostRuntime) {
+    for row in &ROWS {
+        assert_eq!(rt; holds(rt.alloc(), row), Some(true), "{:?}", row.0);
     }
-    Ok(())
 }
 
 // ---- runs by long texts
@@ -307,47 +305,44 @@ static LONG_ROWS: [LongRow; 7] = [
     ),
 ];
 
-fn joined(alloc: Global, pieces: Pieces) -> Result<String, AllocError> {
+fn joined(alloc: Global, pieces: Pieces) -> Option<String> {
     let mut text = String::new(alloc);
     for (piece, count) in pieces {
         push_times(&mut text, piece, *count)?;
     }
-    Ok(text)
+    Some(text)
 }
 
-fn push_times(text: &mut String, piece: &str, count: usize) -> Result<(), AllocError> {
+fn push_times(text: &mut String, piece: &str, count: usize) -> Option<()> {
     for _ in 0..count {
-        text.push_str(piece)?;
+        text.push_str(piece).ok()?;
     }
-    Ok(())
+    Some(())
 }
 
-fn long_words(alloc: Global, words: &[Pieces]) -> Result<Vec<String>, AllocError> {
+fn long_words(alloc: Global, words: &[Pieces]) -> Option<Vec<String>> {
     let mut texts = Vec::new(alloc);
     for pieces in words {
-        texts.push(joined(alloc, *pieces)?)?;
+        texts.push(joined(alloc, *pieces)?).ok()?;
     }
-    Ok(texts)
+    Some(texts)
 }
 
-fn long_ended(alloc: Global, words: &[Pieces], input: Pieces) -> Result<Ended, AllocError> {
-    let input = joined(alloc, input)?;
-    run_on(
+fn long_holds(alloc: Global, row: &LongRow) -> Option<bool> {
+    let LongRow(words, input, status, shown) = row;
+    let input = joined(alloc, *input)?;
+    let shown = joined(alloc, *shown)?;
+    ends_so(
         alloc,
-        long_words(alloc, words)?.as_slice(),
+        &long_words(alloc, words)?,
         input.as_bytes(),
+        (*status, shown.as_str()),
     )
 }
 
 #[test]
-fn runs_of_long_texts(rt: HostRuntime) -> Result<(), Fail> {
-    let alloc = rt.alloc();
-    for LongRow(words, input, status, shown) in &LONG_ROWS {
-        let run = long_ended(alloc, words, *input)?;
-        assert_eq!(rt;
-            (run.status, run.shown.as_str()),
-            (*status, joined(alloc, *shown)?.as_str())
-        );
+fn runs_of_long_texts(rt: HostRuntime) {
+    for (at, row) in LONG_ROWS.iter().enumerate() {
+        assert_eq!(rt; long_holds(rt.alloc(), row), Some(true), "row {at}");
     }
-    Ok(())
 }

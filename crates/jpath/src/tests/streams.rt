@@ -1,9 +1,9 @@
 //! Streams that give and take little at a time, and that fail.
 use crate::run::run;
-use std::alloc::{AllocError, Global};
+use crate::tests::runs::texts;
+use std::alloc::Global;
 use std::io;
 use std::io::{ErrorKind, Read, Write};
-use std::test::Fail;
 
 /// Gives a byte at a time, and fails once it has no reads left.
 #[derive(Drop)]
@@ -73,52 +73,42 @@ const DOCUMENT: &[u8] = b"[1,2]";
 const OUTPUT: &[u8] = b"$[0]\t1\n$[1]\t2\n";
 
 /// The exit status of a run with the words `nodes` and `$[*]`.
-fn status<R: Read, W: Write>(
-    alloc: Global,
-    reader: &mut R,
-    writer: &mut W,
-) -> Result<u8, AllocError> {
-    match run(alloc, words(alloc)?.as_slice(), reader, writer) {
-        Ok(()) => Ok(0),
-        Err(fault) => Ok(fault.status()),
-    }
+fn status<R: Read, W: Write>(alloc: Global, reader: &mut R, writer: &mut W) -> Option<u8> {
+    let words = texts(alloc, &["nodes", "$[*]"])?;
+    let Some(fault) = run(alloc, &words, reader, writer).err() else {
+        return Some(0);
+    };
+    let status = fault.status();
+    drop(fault);
+    Some(status)
 }
 
-fn words(alloc: Global) -> Result<Vec<String>, AllocError> {
-    let mut words = Vec::new(alloc);
-    words.push(String::from_str(alloc, "nodes")?)?;
-    words.push(String::from_str(alloc, "$[*]")?)?;
-    Ok(words)
-}
-
-/// The exit status where a reader gives the document by so many reads, and what is written.
-fn read_by_bytes(alloc: Global, reads: usize) -> Result<(u8, Vec<u8>), AllocError> {
+/// Whether a run ends by this status and writes this, where a reader gives the document by so many reads.
+fn reads_so(alloc: Global, reads: usize, wanted: (u8, &[u8])) -> Option<bool> {
     let mut reader = ByteReader {
         bytes: DOCUMENT,
         reads_left: reads,
     };
     let mut written = Vec::new(alloc);
     let status = status(alloc, &mut reader, &mut written)?;
-    Ok((status, written))
+    Some(status == wanted.0 && written.as_slice() == wanted.1)
 }
 
 #[test]
-fn failing_reads(rt: HostRuntime) -> Result<(), Fail> {
+fn failing_reads(rt: HostRuntime) {
     // Five reads of a byte, and one of the end.
     for reads in 0..=6 {
         let wanted: (u8, &[u8]) = if reads < 6 { (5, b"") } else { (0, OUTPUT) };
-        let (status, written) = read_by_bytes(rt.alloc(), reads)?;
-        assert_eq!(rt; (status, written.as_slice()), wanted, "{reads} reads");
+        assert_eq!(rt;
+            reads_so(rt.alloc(), reads, wanted),
+            Some(true),
+            "{reads} reads"
+        );
     }
-    Ok(())
 }
 
-/// The exit status where a writer takes so many writes and fails so, and what is written.
-fn written_by_fives(
-    alloc: Global,
-    writes: usize,
-    failing: Failing,
-) -> Result<(u8, Vec<u8>), AllocError> {
+/// Whether a run ends by this status and writes this, where a writer takes so many writes and fails so.
+fn writes_so(alloc: Global, writes: usize, failing: Failing, wanted: (u8, &[u8])) -> Option<bool> {
     let mut reader = DOCUMENT;
     let mut writer = SmallWriter {
         written: Vec::new(alloc),
@@ -126,7 +116,7 @@ fn written_by_fives(
         failing,
     };
     let status = status(alloc, &mut reader, &mut writer)?;
-    Ok((status, writer.written))
+    Some(status == wanted.0 && writer.written.as_slice() == wanted.1)
 }
 
 /// How many writes a writer takes and how it fails; the exit status, and how many bytes are written. The fourteen
@@ -143,14 +133,13 @@ static WRITERS: [(usize, Failing, u8, usize); 8] = [
 ];
 
 #[test]
-fn failing_writes_and_flushes(rt: HostRuntime) -> Result<(), Fail> {
-    for (writes, failing, wanted, length) in &WRITERS {
-        let (status, written) = written_by_fives(rt.alloc(), *writes, *failing)?;
+fn failing_writes_and_flushes(rt: HostRuntime) {
+    for (writes, failing, status, length) in &WRITERS {
+        let wanted = (*status, &OUTPUT[..*length]);
         assert_eq!(rt;
-            (status, written.as_slice()),
-            (*wanted, &OUTPUT[..*length]),
+            writes_so(rt.alloc(), *writes, *failing, wanted),
+            Some(true),
             "{failing:?} behind {writes} writes"
         );
     }
-    Ok(())
 }

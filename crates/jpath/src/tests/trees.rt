@@ -1,12 +1,11 @@
 //! Documents asked by trees that no text spells.
-use crate::fault::Fault;
 use crate::output::printed;
 use crate::words::Command;
 use jsonpath_base::whole;
+use jsonpath_parser::let_go;
 use jsonpath_parser::model::{JpQuery, Segment, Selector};
 use serde_json::Value;
 use std::alloc::Global;
-use std::test::Fail;
 
 /// The one segment of a query.
 #[derive(Clone, Copy)]
@@ -47,21 +46,32 @@ fn segment(alloc: Global, picks: Picks) -> Segment {
     }
 }
 
-/// The nodes that the query of this segment selects, as they are printed.
-fn nodes(alloc: Global, picks: Picks, document: &Value) -> Result<String, Fault> {
+/// Whether the query of this segment selects the nodes of the document that are printed so.
+fn selects(alloc: Global, picks: Picks, document: &Value, wanted: &str) -> Option<bool> {
     if !whole(document) {
-        return Err(Fault::NotWhole);
+        return None;
     }
-    let query = JpQuery::new(vec![in alloc; segment(alloc, picks)]?);
-    printed(alloc, Command::Nodes, &query, document)
+    let mut segments = Vec::new(alloc);
+    segments.push(segment(alloc, picks)).ok()?;
+    let query = JpQuery::new(segments);
+    let text = printed(alloc, Command::Nodes, &query, document).ok();
+    let_go(query);
+    Some(text?.as_str() == wanted)
+}
+
+/// Whether the query of this segment selects so in the document `[1,2,3]`.
+fn is_asked(alloc: Global, picks: Picks, wanted: &str) -> bool {
+    let Some(document) = Value::from_str(alloc, "[1,2,3]").ok() else {
+        return false;
+    };
+    let selected = selects(alloc, picks, &document, wanted);
+    drop(document);
+    selected == Some(true)
 }
 
 #[test]
-fn indexes_and_slices_of_any_size(rt: HostRuntime) -> Result<(), Fail> {
-    let document = Value::from_str(rt.alloc(), "[1,2,3]")?;
+fn indexes_and_slices_of_any_size(rt: HostRuntime) {
     for (picks, wanted) in &ROWS {
-        let text = nodes(rt.alloc(), *picks, &document)?;
-        assert_eq!(rt; text.as_str(), *wanted);
+        assert!(rt; is_asked(rt.alloc(), *picks, wanted), "{wanted}");
     }
-    Ok(())
 }
