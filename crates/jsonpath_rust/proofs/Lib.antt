@@ -1,4 +1,5 @@
 pub mod Answers
+pub mod Arguing
 pub mod Arguments
 pub mod Leaves
 pub mod Made
@@ -7,6 +8,7 @@ pub mod NodesAt
 pub mod Parts
 pub mod Patterns
 pub mod Sinks
+pub mod Standing
 pub mod Trees
 pub mod Walks
 pub mod Way

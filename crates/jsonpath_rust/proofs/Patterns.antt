@@ -6,7 +6,8 @@ use Rattle.jsonpath_parser.specs.Syntax.{Argument, Query}
 use Rattle.jsonpath_base.specs.Tree.{Tree}
 use Rattle.jsonpath_rust.specs.Answer.{IsValueAt}
 use Rattle.jsonpath_rust.specs.Document.{Document}
-use Rattle.jsonpath_rust.specs.Meaning.{argument_value}
+use Rattle.jsonpath_rust.specs.Functions.{as_value}
+use Rattle.jsonpath_rust.specs.Meaning.{argued}
 use Rattle.jsonpath_rust.specs.Node.{Node}
 use Rattle.jsonpath_rust.specs.Patterns.{segments_patterns, IsPattern, AsksPattern}
 use Rattle.jsonpath_rust.specs.inner.Keeping.{StandIn}
@@ -41,5 +42,5 @@ part_at f all more q (y ∷ ys) zero x h e k = part_as f q y x (sym e) (part_lef
 part_at f all more q (y ∷ ys) (suc i) x h e k = part_at f all more q ys i x (omega (arith, h)) e (part_right q (f y) (all ys) (subst (StandIn q) (more y ys) k))
 
 -- the query asks its first pattern at a node
-pub pattern_asked : (q : Query) (doc : Document) (entire : Bool) (pattern : Argument) (more : List (Bool × Argument)) (n : Node) (o : Option Tree) → StandIn q ((entire, pattern) ∷ more) → IsValueAt doc n.location n.tree → o ≡ argument_value pattern doc n → IsPattern entire o → AsksPattern q doc
+pub pattern_asked : (q : Query) (doc : Document) (entire : Bool) (pattern : Argument) (more : List (Bool × Argument)) (n : Node) (o : Option Tree) → StandIn q ((entire, pattern) ∷ more) → IsValueAt doc n.location n.tree → o ≡ as_value (argued pattern doc n) → IsPattern entire o → AsksPattern q doc
 pattern_asked q doc entire pattern more n o h here e k = record { entire = entire; pattern = pattern; stands = h.all (entire, pattern) (0, omega arith, refl); node = n; here = here; read = subst (IsPattern entire) e k }

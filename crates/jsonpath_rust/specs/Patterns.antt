@@ -11,7 +11,8 @@ use Rattle.jsonpath_base.specs.Tree as tree
 use Rattle.jsonpath_base.specs.Tree.{Tree}
 use Rattle.jsonpath_rust.specs.Answer.{IsValueAt}
 use Rattle.jsonpath_rust.specs.Document.{Document}
-use Rattle.jsonpath_rust.specs.Meaning.{argument_value}
+use Rattle.jsonpath_rust.specs.Functions.{as_value}
+use Rattle.jsonpath_rust.specs.Meaning.{argued}
 use Rattle.jsonpath_rust.specs.Node.{Node}
 
 -- the patterns that stand in a part of a query: the second operand of each call of `match`, with true, and of `search`, with false
@@ -92,7 +93,7 @@ pub record AsksPattern (q : Query) (doc : Document) : Type 0 where
   pub stands : Contains (segments_patterns q) (entire, pattern)
   pub node : Node
   pub here : IsValueAt doc node.location node.tree
-  pub read : IsPattern entire (argument_value pattern doc node)
+  pub read : IsPattern entire (as_value (argued pattern doc node))
 
 abbrev pub IsInvalid : JsonPathError → Type 0
 IsInvalid (InvalidJsonPath _) = Unit {0}

@@ -1,7 +1,9 @@
 -- What the evaluator's own contracts and proofs say. Nothing here is part of what a query means.
+pub mod Arguing
 pub mod Keeping
 pub mod Operands
 pub mod Sinks
 pub mod Size
+pub mod Standing
 pub mod Walking
 pub mod Way

@@ -1,17 +1,17 @@
 //! What one call of the evaluator keeps: the nodelists of queries from the root inside filters, and patterns.
 ghost use Rattle.std.specs.Prelude.{◌≡◌, ◌<◌, length, IsTrue, IfOk, IfErr, IfSome, OnOk};
 ghost use Rattle.jsonpath_parser.specs.View.{query_view};
-ghost use Rattle.jsonpath_parser.specs.declared.errors.JsonPathError.TheVariants.{OutOfMemory};
 ghost use Rattle.jsonpath_base.specs.Pattern.{found};
 ghost use Rattle.jsonpath_rust.specs.Document.{Document};
 ghost use Rattle.jsonpath_rust.specs.Meaning.{nodelist};
 ghost use Rattle.jsonpath_rust.specs.Functions.{is_matched};
 ghost use Rattle.jsonpath_rust.specs.inner.Operands.{operand_tree, operand_is_whole, is_entire};
-ghost use Rattle.jsonpath_rust.specs.Patterns.{IsInvalid, IsPattern};
+ghost use Rattle.jsonpath_rust.specs.Patterns.{IsPattern};
+ghost use Rattle.jsonpath_rust.specs.declared.query.halt.Halt.TheVariants.{Memory};
 ghost use Rattle.jsonpath_rust.specs.inner.Sinks.{seen, start, give};
 ghost use Rattle.jsonpath_rust.specs.inner.Keeping.{seen_at, AreRight, nodelists_of, gathered, IsGathered};
 
-use crate::query::Queried;
+use crate::query::halt::Walked;
 use crate::query::patterns::Extent;
 use crate::query::queryable::Queryable;
 use crate::query::sink::{Sink, Wanted};
@@ -125,12 +125,12 @@ impl<'a, 's, T: Queryable> Cache<'a, 's, T> {
         pattern: &Operand<'a, 's, T>,
         extent: Extent,
         is_literal: bool,
-    ) -> Queried<bool>
+    ) -> Walked<bool>
         requires text { IsTrue (operand_is_whole T.is_whole text.now) }
         requires pattern { IsTrue (operand_is_whole T.is_whole pattern.now) }
         ensures value { IfOk result (λ b. b ≡ is_matched (is_entire extent) (operand_tree T.tree text.now) (operand_tree T.tree pattern.now)) }
         ensures keeps { OnOk result (nodelists_of self.new ≡ nodelists_of self.old) }
-        ensures refused { IfErr result (λ e. (e ≡ OutOfMemory → ⊥) → IsInvalid e × IsPattern (is_entire extent) (operand_tree T.tree pattern.now)) }
+        ensures refused { IfErr result (λ h. (h ≡ Memory → ⊥) → IsPattern (is_entire extent) (operand_tree T.tree pattern.now)) }
     {
         let (Some(text), Some(pattern)) = (text.as_text(), pattern.as_text()) else {
             return Ok(false);
@@ -140,7 +140,7 @@ impl<'a, 's, T: Queryable> Cache<'a, 's, T> {
                 return Ok(found);
             }
         }
-        found_again(alloc, &mut self.other, text, pattern, extent.is_entire())
+        Ok(found_again(alloc, &mut self.other, text, pattern, extent.is_entire())?)
     }
 }
 

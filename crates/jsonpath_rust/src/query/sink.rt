@@ -1,6 +1,6 @@
 //! What is done with the nodes that a walk meets.
 ghost use Rattle.std.specs.Prelude.{◌≡◌, suc, min, ◌∷◌, [], map, option_map, IsTrue, IfOk, IfErr};
-ghost use Rattle.jsonpath_parser.specs.declared.errors.JsonPathError.TheVariants.{OutOfMemory};
+ghost use Rattle.jsonpath_rust.specs.declared.query.halt.Halt.TheVariants.{Memory};
 ghost use Rattle.jsonpath_rust.specs.Answer.{shown, paths_of};
 ghost use Rattle.jsonpath_rust.specs.Node.{Node};
 ghost use Rattle.jsonpath_rust.specs.inner.Sinks.{Took, seen, seen_only, start, any_in, count_in, only_in, nodes_in, nodes_whole, values_in, values_whole, paths_in};
@@ -8,7 +8,8 @@ ghost use Rattle.jsonpath_rust.specs.inner.Walking.{node_of};
 
 use crate::query::queryable::Queryable;
 use crate::query::way::Way;
-use crate::query::{Queried, QueryPath, QueryRef};
+use crate::query::halt::Walked;
+use crate::query::{QueryPath, QueryRef};
 use std::alloc::Global;
 
 /// The only node of a list, if it has one alone.
@@ -68,11 +69,11 @@ impl<'a, T: Queryable> Sink<'a, T> {
 
     /// Takes the value that this way leads to. The result says whether the walk goes on.
     #[inline(always)]
-    pub fn take(&mut self, alloc: Global, value: &'a T, way: &mut Way<'_>) -> Queried<bool>
+    pub fn take(&mut self, alloc: Global, value: &'a T, way: &mut Way<'_>) -> Walked<bool>
         requires { IsTrue (T.is_whole value.now) }
         ensures gave { IfOk result (λ b. Took (seen T.tree T.is_whole self.old) (node_of T.tree way.old.steps.items value.now ∷ []) (seen T.tree T.is_whole self.new) b) }
         ensures same { way.new.steps.items ≡ way.old.steps.items }
-        ensures memory { IfErr result (λ e. e ≡ OutOfMemory) }
+        ensures memory { IfErr result (λ h. h ≡ Memory) }
     {
         match self {
             Sink::Nodes(nodes) => {

@@ -1,14 +1,14 @@
 //! Values inside the evaluator: the sides of a comparison, and what functions take and answer.
 ghost use Rattle.std.specs.Prelude.{◌≡◌, ◌++◌, [], ◌∷◌, Some, IsTrue, IfOk, IfErr, IfSome, OnOk, option_map, option_and_then, option_to_list};
 ghost use Rattle.jsonpath_parser.specs.View.{literal_view};
-ghost use Rattle.jsonpath_parser.specs.declared.errors.JsonPathError.TheVariants.{OutOfMemory};
+ghost use Rattle.jsonpath_rust.specs.declared.query.halt.Halt.TheVariants.{Memory};
 ghost use Rattle.jsonpath_base.specs.Tree.{as_text, as_int};
 ghost use Rattle.jsonpath_rust.specs.Functions.{length_of, count_value, is_true};
 ghost use Rattle.jsonpath_rust.specs.Meaning.{literal_tree};
 ghost use Rattle.jsonpath_rust.specs.inner.Sinks.{seen, values_in, ValuesAreWhole};
 ghost use Rattle.jsonpath_rust.specs.inner.Operands.{scalar_tree, operand_tree, operand_is_whole, arg_trees, AreWhole};
 
-use crate::query::Queried;
+use crate::query::halt::Walked;
 use crate::query::queryable::{Arg, Queryable};
 use crate::query::sink::{GREATEST_COUNT, Sink};
 use jsonpath_base::text::text_length;
@@ -113,11 +113,11 @@ impl<'a, 's, T: Queryable> Operand<'a, 's, T> {
     }
 
     /// The length of a text, a list or an object (RFC 9535, 2.4.4).
-    pub fn length(&self, alloc: Global) -> Queried<Operand<'a, 's, T>>
+    pub fn length(&self, alloc: Global) -> Walked<Operand<'a, 's, T>>
         requires { IsTrue (operand_is_whole T.is_whole self.now) }
         ensures value { IfOk result (λ o. operand_tree T.tree o ≡ length_of (operand_tree T.tree self.now)) }
         ensures whole { IfOk result (λ o. IsTrue (operand_is_whole T.is_whole o)) }
-        ensures memory { IfErr result (λ e. e ≡ OutOfMemory) }
+        ensures memory { IfErr result (λ h. h ≡ Memory) }
     {
         match self {
             Operand::Lent(value) => length_of(alloc, *value),
@@ -130,12 +130,12 @@ impl<'a, 's, T: Queryable> Operand<'a, 's, T> {
     }
 
     /// Follows the arguments of a custom function by this one, if it is not absent.
-    pub fn push_to(self, alloc: Global, args: &mut Vec<Arg<'a, T>>) -> Queried<()>
+    pub fn push_to(self, alloc: Global, args: &mut Vec<Arg<'a, T>>) -> Walked<()>
         requires own { IsTrue (operand_is_whole T.is_whole self) }
         requires others { AreWhole T.is_whole args.old.items }
         ensures value { OnOk result (arg_trees T.tree args.new.items ≡ arg_trees T.tree args.old.items ++ option_to_list (operand_tree T.tree self.entry)) }
         ensures whole { OnOk result (AreWhole T.is_whole args.new.items) }
-        ensures memory { IfErr result (λ e. e ≡ OutOfMemory) }
+        ensures memory { IfErr result (λ h. h ≡ Memory) }
     {
         match self {
             Operand::Absent => Ok(()),
@@ -157,11 +157,11 @@ pub fn push_scalar<'a, T: Queryable>(
     alloc: Global,
     scalar: Scalar<'_>,
     args: &mut Vec<Arg<'a, T>>,
-) -> Queried<()>
+) -> Walked<()>
     requires { AreWhole T.is_whole args.old.items }
     ensures value { OnOk result (arg_trees T.tree args.new.items ≡ arg_trees T.tree args.old.items ++ scalar_tree scalar.entry ∷ []) }
     ensures whole { OnOk result (AreWhole T.is_whole args.new.items) }
-    ensures memory { IfErr result (λ e. e ≡ OutOfMemory) }
+    ensures memory { IfErr result (λ h. h ≡ Memory) }
 {
     let value = made(alloc, scalar)?;
     args.push(Arg::Owned(value))?;
@@ -169,12 +169,12 @@ pub fn push_scalar<'a, T: Queryable>(
 }
 
 /// Follows the arguments of a custom function by the values that a sink was given.
-pub fn push_values<'a, T: Queryable>(nodes: &Sink<'a, T>, args: &mut Vec<Arg<'a, T>>) -> Queried<()>
+pub fn push_values<'a, T: Queryable>(nodes: &Sink<'a, T>, args: &mut Vec<Arg<'a, T>>) -> Walked<()>
     requires nodes { ValuesAreWhole (seen T.tree T.is_whole nodes.now) }
     requires others { AreWhole T.is_whole args.old.items }
     ensures value { OnOk result (arg_trees T.tree args.new.items ≡ arg_trees T.tree args.old.items ++ values_in (seen T.tree T.is_whole nodes.now)) }
     ensures whole { OnOk result (AreWhole T.is_whole args.new.items) }
-    ensures memory { IfErr result (λ e. e ≡ OutOfMemory) }
+    ensures memory { IfErr result (λ h. h ≡ Memory) }
 {
     if let Sink::Values(values) = nodes {
         for value in values {
@@ -185,25 +185,25 @@ pub fn push_values<'a, T: Queryable>(nodes: &Sink<'a, T>, args: &mut Vec<Arg<'a,
 }
 
 /// A value without parts, as a value of the document's type.
-fn made<T: Queryable>(alloc: Global, scalar: Scalar<'_>) -> Queried<T>
+fn made<T: Queryable>(alloc: Global, scalar: Scalar<'_>) -> Walked<T>
     ensures value { IfOk result (λ v. T.tree v ≡ scalar_tree scalar.entry) }
     ensures whole { IfOk result (λ v. IsTrue (T.is_whole v)) }
-    ensures memory { IfErr result (λ e. e ≡ OutOfMemory) }
+    ensures memory { IfErr result (λ h. h ≡ Memory) }
 {
     match scalar {
         Scalar::Null => Ok(T::null()),
-        Scalar::Truth(truth) => T::from_bool(alloc, truth),
-        Scalar::Number(number) => T::from_i64(alloc, number),
-        Scalar::Text(text) => T::from_text(alloc, text),
+        Scalar::Truth(truth) => Ok(T::from_bool(alloc, truth)?),
+        Scalar::Number(number) => Ok(T::from_i64(alloc, number)?),
+        Scalar::Text(text) => Ok(T::from_text(alloc, text)?),
     }
 }
 
 /// The length of a value (RFC 9535, 2.4.4).
-fn length_of<'a, 's, T: Queryable>(alloc: Global, value: &T) -> Queried<Operand<'a, 's, T>>
+fn length_of<'a, 's, T: Queryable>(alloc: Global, value: &T) -> Walked<Operand<'a, 's, T>>
     requires { IsTrue (T.is_whole value.now) }
     ensures value { IfOk result (λ o. operand_tree T.tree o ≡ length_of (Some (T.tree value.now))) }
     ensures whole { IfOk result (λ o. IsTrue (operand_is_whole T.is_whole o)) }
-    ensures memory { IfErr result (λ e. e ≡ OutOfMemory) }
+    ensures memory { IfErr result (λ h. h ≡ Memory) }
 {
     if let Some(text) = value.as_str() {
         return Ok(Operand::Plain(count_scalar(text_length(text))));

@@ -1,29 +1,32 @@
 //! The evaluator: a walk that meets the nodes of a query depth-first, in the order of its nodelist (RFC 9535, 2.1.2).
 //!
 //! The way to the value at hand stands on a stack of borrowed steps, so nothing is kept for a node that is only passed.
-ghost use Rattle.std.specs.Prelude.{◌≡◌, ◌≤◌, ◌<◌, [], ◌∷◌, ◌++◌, map, IsTrue, IfOk, IfErr, OnOk};
+//! Every method of the cycle asks for a value at hand (`Stands`), and comes back with the way as it was and what is kept
+//! still right (`Returns`).
+ghost use Rattle.std.specs.Prelude.{◌≡◌, [], ◌∷◌, ◌++◌, map, IsTrue, IfOk, IfErr, OnOk};
 ghost use Rattle.std.specs.List.{flat_map};
-ghost use Rattle.jsonpath_parser.specs.View.{segment_view, query_view};
+ghost use Rattle.jsonpath_parser.specs.View.{selector_view, segment_view, query_view};
 ghost use Rattle.jsonpath_rust.specs.Document.{document_of};
 ghost use Rattle.jsonpath_rust.specs.Node.{below, children};
-ghost use Rattle.jsonpath_rust.specs.Meaning.{replaced, nodelist};
-ghost use Rattle.jsonpath_rust.specs.inner.Size.{size};
-ghost use Rattle.jsonpath_rust.specs.Patterns.{IsStop, segments_patterns, segment_patterns};
+ghost use Rattle.jsonpath_rust.specs.Meaning.{picks, all_pick, replaced, sliced, nodelist};
+ghost use Rattle.jsonpath_rust.specs.Patterns.{IsStop, segments_patterns, segment_patterns, selectors_patterns, selector_patterns};
 ghost use Rattle.jsonpath_rust.specs.inner.Sinks.{Took, seen};
-ghost use Rattle.jsonpath_rust.specs.inner.Keeping.{IsReady, StandIn, document, query_of};
-ghost use Rattle.jsonpath_rust.specs.inner.Walking.{through, node_of, step_of, segments_in, acted, action_patterns, LeadTo};
+ghost use Rattle.jsonpath_rust.specs.inner.Keeping.{StandIn, document, query_of};
+ghost use Rattle.jsonpath_rust.specs.inner.Standing.{Stands, Returns, IsHalt};
+ghost use Rattle.jsonpath_rust.specs.inner.Walking.{through, node_of, step_of, segments_in, selectors_in, acted, action_patterns};
 
 use crate::query::Queried;
 use crate::query::cache::Cache;
-use crate::query::filter::filter_holds;
+use crate::query::halt::Walked;
 use crate::query::patterns::{finders_of, patterns_of};
 use crate::query::queryable::Queryable;
-use crate::query::queryable::children::is_leaf;
-use crate::query::selector::{pick, pick_each};
+use crate::query::queryable::children::{element, is_leaf};
 use crate::query::sink::Sink;
+use crate::query::trail::Trail;
 use crate::query::way::{StepRef, Way};
 use jsonpath_base::pattern::Finder;
-use jsonpath_parser::model::{Filter, JpQuery, Segment};
+use jsonpath_base::slice::slice_places;
+use jsonpath_parser::model::{Filter, JpQuery, Segment, Selector};
 use std::alloc::Global;
 
 /// What is asked: a query, of a document.
@@ -45,6 +48,13 @@ pub enum Action<'s> {
     Below(&'s Segment),
 }
 
+/// A child of the value at hand, and the step that leads to it.
+#[derive(Clone, Copy)]
+struct Child<'a, 's, T> {
+    step: StepRef<'s>,
+    value: &'a T,
+}
+
 /// Gives to the sink the nodes of a query on a document. The result says whether to go on.
 pub fn give_nodes<'a, T: Queryable>(
     alloc: Global,
@@ -59,7 +69,10 @@ pub fn give_nodes<'a, T: Queryable>(
 {
     let patterns = patterns_of(alloc, query)?;
     let finders = finders_of(alloc, &patterns)?;
-    give_from_root(alloc, query, finders, root, sink)
+    match give_from_root(alloc, query, finders, root, sink) {
+        Ok(goes_on) => Ok(goes_on),
+        Err(halt) => Err(halt.told(alloc)),
+    }
 }
 
 /// The same, where these ask the patterns that stand in the query.
@@ -69,211 +82,275 @@ fn give_from_root<'a: 's, 's, T: Queryable>(
     finders: Vec<Finder<'s>>,
     root: &'a T,
     sink: &mut Sink<'a, T>,
-) -> Queried<bool>
+) -> Walked<bool>
     requires { IsTrue (T.is_whole root.now) }
     ensures gave { IfOk result (λ b. Took (seen T.tree T.is_whole sink.old) (nodelist (query_view query.now) (document_of T.tree T.custom root.now))
         (seen T.tree T.is_whole sink.new) b) }
-    ensures refused { IfErr result (IsStop (query_view query.now) (document_of T.tree T.custom root.now)) }
+    ensures refused { IfErr result (IsHalt (query_view query.now) (document_of T.tree T.custom root.now)) }
 {
     let task = Task { alloc, query, root };
-    let mut cache = Cache::new(alloc, finders);
-    let mut way = Way::new(alloc);
-    walk(&task, &query.segments, root, &mut way, &mut cache, sink)
+    let way = Way::new(alloc);
+    let cache = Cache::new(alloc, finders);
+    let mut trail = Trail { way, cache };
+    task.walk(&query.segments, root, &mut trail, sink)
 }
 
-/// Gives to the sink what the segments select from a value on, to which this way leads. The result says whether
-/// to go on.
-#[cycle(walk)]
-pub fn walk<'a: 's, 's, T: Queryable>(
-    task: &Task<'a, 's, T>,
-    segments: &'s [Segment],
-    at: &'a T,
-    way: &mut Way<'s>,
-    cache: &mut Cache<'a, 's, T>,
-    sink: &mut Sink<'a, T>,
-) -> Queried<bool>
-    requires whole { IsTrue (T.is_whole at.now) }
-    requires within { size (T.tree at.now) ≤ size (T.tree task.now.root.now) }
-    requires here { LeadTo T.tree way.old.steps.items task.now.root.now at.now }
-    requires part { StandIn (query_of task.now) (segments_patterns (segments_in segments.now)) }
-    requires ready { IsReady T.tree T.is_whole T.custom task.now cache.old }
-    ensures gave { IfOk result (λ b. Took (seen T.tree T.is_whole sink.old)
-        (through (segments_in segments.now) (document T.tree T.custom task.now) (node_of T.tree way.old.steps.items at.now))
-        (seen T.tree T.is_whole sink.new) b) }
-    ensures same { OnOk result (way.new.steps.items ≡ way.old.steps.items) }
-    ensures keeps { OnOk result (IsReady T.tree T.is_whole T.custom task.now cache.new) }
-    ensures refused { IfErr result (IsStop (query_of task.now) (document T.tree T.custom task.now)) }
-{
-    match segments.split_first() {
-        None => sink.take(task.alloc, at, way),
-        Some((first, rest)) => pass(task, first, rest, at, way, cache, sink),
+impl<'a: 's, 's, T: Queryable> Task<'a, 's, T> {
+    /// Gives to the sink what the segments select from a value on, to which the way leads. The result says whether to
+    /// go on.
+    #[cycle(walk)]
+    pub fn walk(
+        &self,
+        segments: &'s [Segment],
+        at: &'a T,
+        trail: &mut Trail<'a, 's, T>,
+        sink: &mut Sink<'a, T>,
+    ) -> Walked<bool>
+        requires stands { Stands T.tree T.is_whole T.custom self.now at.now trail.old.way.steps.items trail.old.cache }
+        requires part { StandIn (query_of self.now) (segments_patterns (segments_in segments.now)) }
+        ensures gave { IfOk result (λ b. Took (seen T.tree T.is_whole sink.old)
+            (through (segments_in segments.now) (document T.tree T.custom self.now) (node_of T.tree trail.old.way.steps.items at.now))
+            (seen T.tree T.is_whole sink.new) b) }
+        ensures returns { OnOk result (Returns T.tree T.is_whole T.custom self.now trail.old trail.new) }
+        ensures refused { IfErr result (IsHalt (query_of self.now) (document T.tree T.custom self.now)) }
+    {
+        match segments.split_first() {
+            None => sink.take(self.alloc, at, &mut trail.way),
+            Some((first, rest)) => self.pass(first, rest, at, trail, sink),
+        }
     }
-}
 
-/// The first segment here, and the rest from each node that it makes of this one.
-#[cycle(walk)]
-#[inline(always)]
-fn pass<'a: 's, 's, T: Queryable>(
-    task: &Task<'a, 's, T>,
-    first: &'s Segment,
-    rest: &'s [Segment],
-    at: &'a T,
-    way: &mut Way<'s>,
-    cache: &mut Cache<'a, 's, T>,
-    sink: &mut Sink<'a, T>,
-) -> Queried<bool>
-    requires whole { IsTrue (T.is_whole at.now) }
-    requires within { size (T.tree at.now) ≤ size (T.tree task.now.root.now) }
-    requires here { LeadTo T.tree way.old.steps.items task.now.root.now at.now }
-    requires part { StandIn (query_of task.now) (segment_patterns (segment_view first.now) ++ segments_patterns (segments_in rest.now)) }
-    requires ready { IsReady T.tree T.is_whole T.custom task.now cache.old }
-    ensures gave { IfOk result (λ b. Took (seen T.tree T.is_whole sink.old)
-        (flat_map (through (segments_in rest.now) (document T.tree T.custom task.now))
-        (replaced (segment_view first.now) (document T.tree T.custom task.now) (node_of T.tree way.old.steps.items at.now)))
-        (seen T.tree T.is_whole sink.new) b) }
-    ensures same { OnOk result (way.new.steps.items ≡ way.old.steps.items) }
-    ensures keeps { OnOk result (IsReady T.tree T.is_whole T.custom task.now cache.new) }
-    ensures refused { IfErr result (IsStop (query_of task.now) (document T.tree T.custom task.now)) }
-{
-    match first {
-        Segment::Selector(selector) => pick(task, selector, rest, at, way, cache, sink),
-        Segment::Selectors(selectors) => pick_each(task, selectors, rest, at, way, cache, sink),
-        Segment::Descendant(inner) => act(task, Action::Below(inner), rest, at, way, cache, sink),
+    /// The first segment here, and the rest from each node that it makes of this one.
+    #[cycle(walk)]
+    #[inline(always)]
+    fn pass(
+        &self,
+        first: &'s Segment,
+        rest: &'s [Segment],
+        at: &'a T,
+        trail: &mut Trail<'a, 's, T>,
+        sink: &mut Sink<'a, T>,
+    ) -> Walked<bool>
+        requires stands { Stands T.tree T.is_whole T.custom self.now at.now trail.old.way.steps.items trail.old.cache }
+        requires part { StandIn (query_of self.now) (segment_patterns (segment_view first.now) ++ segments_patterns (segments_in rest.now)) }
+        ensures gave { IfOk result (λ b. Took (seen T.tree T.is_whole sink.old)
+            (flat_map (through (segments_in rest.now) (document T.tree T.custom self.now))
+            (replaced (segment_view first.now) (document T.tree T.custom self.now) (node_of T.tree trail.old.way.steps.items at.now)))
+            (seen T.tree T.is_whole sink.new) b) }
+        ensures returns { OnOk result (Returns T.tree T.is_whole T.custom self.now trail.old trail.new) }
+        ensures refused { IfErr result (IsHalt (query_of self.now) (document T.tree T.custom self.now)) }
+    {
+        match first {
+            Segment::Selector(selector) => self.pick(selector, rest, at, trail, sink),
+            Segment::Selectors(selectors) => self.pick_each(selectors, rest, at, trail, sink),
+            Segment::Descendant(inner) => self.act(Action::Below(inner), rest, at, trail, sink),
+        }
     }
-}
 
-/// The action at each child, in walk order.
-#[cycle(walk)]
-pub fn each_child<'a: 's, 's, T: Queryable>(
-    task: &Task<'a, 's, T>,
-    action: Action<'s>,
-    rest: &'s [Segment],
-    at: &'a T,
-    way: &mut Way<'s>,
-    cache: &mut Cache<'a, 's, T>,
-    sink: &mut Sink<'a, T>,
-) -> Queried<bool>
-    requires whole { IsTrue (T.is_whole at.now) }
-    requires within { size (T.tree at.now) ≤ size (T.tree task.now.root.now) }
-    requires here { LeadTo T.tree way.old.steps.items task.now.root.now at.now }
-    requires part { StandIn (query_of task.now) (action_patterns action ++ segments_patterns (segments_in rest.now)) }
-    requires ready { IsReady T.tree T.is_whole T.custom task.now cache.old }
-    ensures gave { IfOk result (λ b. Took (seen T.tree T.is_whole sink.old)
-        (flat_map (through (segments_in rest.now) (document T.tree T.custom task.now))
-        (flat_map (acted action.entry (document T.tree T.custom task.now)) (children (node_of T.tree way.old.steps.items at.now))))
-        (seen T.tree T.is_whole sink.new) b) }
-    ensures same { OnOk result (way.new.steps.items ≡ way.old.steps.items) }
-    ensures keeps { OnOk result (IsReady T.tree T.is_whole T.custom task.now cache.new) }
-    ensures refused { IfErr result (IsStop (query_of task.now) (document T.tree T.custom task.now)) }
-{
-    if let Some(items) = at.as_array() {
-        for (i, child) in items.iter().enumerate() {
-            if !at_child(
-                task,
-                action,
-                rest,
-                StepRef::Index(i),
-                child,
-                way,
-                cache,
-                sink,
-            )? {
+    /// The rest from each child that the selectors pick here, one selector after the other.
+    #[cycle(walk)]
+    fn pick_each(
+        &self,
+        selectors: &'s [Selector],
+        rest: &'s [Segment],
+        at: &'a T,
+        trail: &mut Trail<'a, 's, T>,
+        sink: &mut Sink<'a, T>,
+    ) -> Walked<bool>
+        requires stands { Stands T.tree T.is_whole T.custom self.now at.now trail.old.way.steps.items trail.old.cache }
+        requires part { StandIn (query_of self.now) (selectors_patterns (selectors_in selectors.now) ++ segments_patterns (segments_in rest.now)) }
+        ensures gave { IfOk result (λ b. Took (seen T.tree T.is_whole sink.old)
+            (flat_map (through (segments_in rest.now) (document T.tree T.custom self.now))
+            (all_pick (selectors_in selectors.now) (document T.tree T.custom self.now) (node_of T.tree trail.old.way.steps.items at.now)))
+            (seen T.tree T.is_whole sink.new) b) }
+        ensures returns { OnOk result (Returns T.tree T.is_whole T.custom self.now trail.old trail.new) }
+        ensures refused { IfErr result (IsHalt (query_of self.now) (document T.tree T.custom self.now)) }
+    {
+        for selector in selectors {
+            if !self.pick(selector, rest, at, trail, sink)? {
                 return Ok(false);
             }
         }
-    } else if let Some(members) = at.as_object(task.alloc)? {
-        for member in &members {
-            if !at_child(
-                task,
-                action,
-                rest,
-                StepRef::Name(member.0),
-                member.1,
-                way,
-                cache,
-                sink,
-            )? {
+        Ok(true)
+    }
+
+    /// The rest from each child that the selector picks here.
+    #[cycle(walk)]
+    #[inline(always)]
+    fn pick(
+        &self,
+        selector: &'s Selector,
+        rest: &'s [Segment],
+        at: &'a T,
+        trail: &mut Trail<'a, 's, T>,
+        sink: &mut Sink<'a, T>,
+    ) -> Walked<bool>
+        requires stands { Stands T.tree T.is_whole T.custom self.now at.now trail.old.way.steps.items trail.old.cache }
+        requires part { StandIn (query_of self.now) (selector_patterns (selector_view selector.now) ++ segments_patterns (segments_in rest.now)) }
+        ensures gave { IfOk result (λ b. Took (seen T.tree T.is_whole sink.old)
+            (flat_map (through (segments_in rest.now) (document T.tree T.custom self.now))
+            (picks (selector_view selector.now) (document T.tree T.custom self.now) (node_of T.tree trail.old.way.steps.items at.now)))
+            (seen T.tree T.is_whole sink.new) b) }
+        ensures returns { OnOk result (Returns T.tree T.is_whole T.custom self.now trail.old trail.new) }
+        ensures refused { IfErr result (IsHalt (query_of self.now) (document T.tree T.custom self.now)) }
+    {
+        match selector {
+            Selector::Name(name) => match at.get(name) {
+                Some(value) => {
+                    let step = StepRef::Name(name);
+                    self.at_child(Action::All, rest, Child { step, value }, trail, sink)
+                }
+                None => Ok(true),
+            },
+            Selector::Wildcard => self.each_child(Action::All, rest, at, trail, sink),
+            Selector::Index(index) => match element(at, *index) {
+                Some((position, value)) => {
+                    let step = StepRef::Index(position);
+                    self.at_child(Action::All, rest, Child { step, value }, trail, sink)
+                }
+                None => Ok(true),
+            },
+            Selector::Slice(start, end, step) => {
+                self.pick_slice((*start, *end, *step), rest, at, trail, sink)
+            }
+            Selector::Filter(filter) => self.each_child(Action::If(filter), rest, at, trail, sink),
+        }
+    }
+
+    /// The rest from each element that a slice of this start, end and step picks, in its order (RFC 9535, 2.3.4).
+    #[cycle(walk)]
+    fn pick_slice(
+        &self,
+        slice: (Option<i64>, Option<i64>, Option<i64>),
+        rest: &'s [Segment],
+        at: &'a T,
+        trail: &mut Trail<'a, 's, T>,
+        sink: &mut Sink<'a, T>,
+    ) -> Walked<bool>
+        requires stands { Stands T.tree T.is_whole T.custom self.now at.now trail.old.way.steps.items trail.old.cache }
+        requires part { StandIn (query_of self.now) (segments_patterns (segments_in rest.now)) }
+        ensures gave { IfOk result (λ b. Took (seen T.tree T.is_whole sink.old)
+            (flat_map (through (segments_in rest.now) (document T.tree T.custom self.now))
+            (sliced slice.0 slice.1 slice.2 (node_of T.tree trail.old.way.steps.items at.now)))
+            (seen T.tree T.is_whole sink.new) b) }
+        ensures returns { OnOk result (Returns T.tree T.is_whole T.custom self.now trail.old trail.new) }
+        ensures refused { IfErr result (IsHalt (query_of self.now) (document T.tree T.custom self.now)) }
+    {
+        let Some(items) = at.as_array() else {
+            return Ok(true);
+        };
+        for position in slice_places(slice.0, slice.1, slice.2, items.len()) {
+            let step = StepRef::Index(position);
+            let value = &items[position];
+            if !self.at_child(Action::All, rest, Child { step, value }, trail, sink)? {
                 return Ok(false);
             }
         }
+        Ok(true)
     }
-    Ok(true)
-}
 
-/// The action at a child, a step from here.
-#[cycle(walk)]
-#[inline(always)]
-pub fn at_child<'a: 's, 's, T: Queryable>(
-    task: &Task<'a, 's, T>,
-    action: Action<'s>,
-    rest: &'s [Segment],
-    step: StepRef<'s>,
-    child: &'a T,
-    way: &mut Way<'s>,
-    cache: &mut Cache<'a, 's, T>,
-    sink: &mut Sink<'a, T>,
-) -> Queried<bool>
-    requires whole { IsTrue (T.is_whole child.now) }
-    requires within { size (T.tree child.now) ≤ size (T.tree task.now.root.now) }
-    requires here { LeadTo T.tree (way.old.steps.items ++ step ∷ []) task.now.root.now child.now }
-    requires part { StandIn (query_of task.now) (action_patterns action ++ segments_patterns (segments_in rest.now)) }
-    requires ready { IsReady T.tree T.is_whole T.custom task.now cache.old }
-    ensures gave { IfOk result (λ b. Took (seen T.tree T.is_whole sink.old)
-        (flat_map (through (segments_in rest.now) (document T.tree T.custom task.now))
-        (acted action.entry (document T.tree T.custom task.now) (below (map step_of way.old.steps.items) (step_of step.entry) (T.tree child.now))))
-        (seen T.tree T.is_whole sink.new) b) }
-    ensures same { OnOk result (way.new.steps.items ≡ way.old.steps.items) }
-    ensures keeps { OnOk result (IsReady T.tree T.is_whole T.custom task.now cache.new) }
-    ensures refused { IfErr result (IsStop (query_of task.now) (document T.tree T.custom task.now)) }
-{
-    way.push(step)?;
-    let goes_on = act(task, action, rest, child, way, cache, sink)?;
-    way.pop();
-    Ok(goes_on)
-}
-
-/// Does the action at this value, and gives the rest from each node that it makes of it.
-#[cycle(walk)]
-#[inline(always)]
-fn act<'a: 's, 's, T: Queryable>(
-    task: &Task<'a, 's, T>,
-    action: Action<'s>,
-    rest: &'s [Segment],
-    at: &'a T,
-    way: &mut Way<'s>,
-    cache: &mut Cache<'a, 's, T>,
-    sink: &mut Sink<'a, T>,
-) -> Queried<bool>
-    requires whole { IsTrue (T.is_whole at.now) }
-    requires within { size (T.tree at.now) ≤ size (T.tree task.now.root.now) }
-    requires here { LeadTo T.tree way.old.steps.items task.now.root.now at.now }
-    requires part { StandIn (query_of task.now) (action_patterns action ++ segments_patterns (segments_in rest.now)) }
-    requires ready { IsReady T.tree T.is_whole T.custom task.now cache.old }
-    ensures gave { IfOk result (λ b. Took (seen T.tree T.is_whole sink.old)
-        (flat_map (through (segments_in rest.now) (document T.tree T.custom task.now))
-        (acted action.entry (document T.tree T.custom task.now) (node_of T.tree way.old.steps.items at.now)))
-        (seen T.tree T.is_whole sink.new) b) }
-    ensures same { OnOk result (way.new.steps.items ≡ way.old.steps.items) }
-    ensures keeps { OnOk result (IsReady T.tree T.is_whole T.custom task.now cache.new) }
-    ensures refused { IfErr result (IsStop (query_of task.now) (document T.tree T.custom task.now)) }
-{
-    match action {
-        Action::All => walk(task, rest, at, way, cache, sink),
-        Action::If(filter) => {
-            if filter_holds(task, filter, at, way, cache)? {
-                walk(task, rest, at, way, cache, sink)
-            } else {
-                Ok(true)
+    /// The action at each child, in walk order.
+    #[cycle(walk)]
+    fn each_child(
+        &self,
+        action: Action<'s>,
+        rest: &'s [Segment],
+        at: &'a T,
+        trail: &mut Trail<'a, 's, T>,
+        sink: &mut Sink<'a, T>,
+    ) -> Walked<bool>
+        requires stands { Stands T.tree T.is_whole T.custom self.now at.now trail.old.way.steps.items trail.old.cache }
+        requires part { StandIn (query_of self.now) (action_patterns action ++ segments_patterns (segments_in rest.now)) }
+        ensures gave { IfOk result (λ b. Took (seen T.tree T.is_whole sink.old)
+            (flat_map (through (segments_in rest.now) (document T.tree T.custom self.now))
+            (flat_map (acted action.entry (document T.tree T.custom self.now)) (children (node_of T.tree trail.old.way.steps.items at.now))))
+            (seen T.tree T.is_whole sink.new) b) }
+        ensures returns { OnOk result (Returns T.tree T.is_whole T.custom self.now trail.old trail.new) }
+        ensures refused { IfErr result (IsHalt (query_of self.now) (document T.tree T.custom self.now)) }
+    {
+        if let Some(items) = at.as_array() {
+            for (i, value) in items.iter().enumerate() {
+                let step = StepRef::Index(i);
+                if !self.at_child(action, rest, Child { step, value }, trail, sink)? {
+                    return Ok(false);
+                }
+            }
+        } else if let Some(members) = at.as_object(self.alloc)? {
+            for member in &members {
+                let step = StepRef::Name(member.0);
+                let value = member.1;
+                if !self.at_child(action, rest, Child { step, value }, trail, sink)? {
+                    return Ok(false);
+                }
             }
         }
-        Action::Below(segment) => {
-            if is_leaf(at) {
-                return Ok(true);
+        Ok(true)
+    }
+
+    /// The action at a child, a step from here.
+    #[cycle(walk)]
+    #[inline(always)]
+    fn at_child(
+        &self,
+        action: Action<'s>,
+        rest: &'s [Segment],
+        child: Child<'a, 's, T>,
+        trail: &mut Trail<'a, 's, T>,
+        sink: &mut Sink<'a, T>,
+    ) -> Walked<bool>
+        requires stands { Stands T.tree T.is_whole T.custom self.now child.value.now (trail.old.way.steps.items ++ child.step ∷ []) trail.old.cache }
+        requires part { StandIn (query_of self.now) (action_patterns action ++ segments_patterns (segments_in rest.now)) }
+        ensures gave { IfOk result (λ b. Took (seen T.tree T.is_whole sink.old)
+            (flat_map (through (segments_in rest.now) (document T.tree T.custom self.now))
+            (acted action.entry (document T.tree T.custom self.now) (below (map step_of trail.old.way.steps.items) (step_of child.entry.step) (T.tree child.entry.value.now))))
+            (seen T.tree T.is_whole sink.new) b) }
+        ensures returns { OnOk result (Returns T.tree T.is_whole T.custom self.now trail.old trail.new) }
+        ensures refused { IfErr result (IsHalt (query_of self.now) (document T.tree T.custom self.now)) }
+    {
+        trail.way.push(child.step)?;
+        let goes_on = self.act(action, rest, child.value, trail, sink)?;
+        trail.way.pop();
+        Ok(goes_on)
+    }
+
+    /// Does the action at this value, and gives the rest from each node that it makes of it.
+    #[cycle(walk)]
+    #[inline(always)]
+    fn act(
+        &self,
+        action: Action<'s>,
+        rest: &'s [Segment],
+        at: &'a T,
+        trail: &mut Trail<'a, 's, T>,
+        sink: &mut Sink<'a, T>,
+    ) -> Walked<bool>
+        requires stands { Stands T.tree T.is_whole T.custom self.now at.now trail.old.way.steps.items trail.old.cache }
+        requires part { StandIn (query_of self.now) (action_patterns action ++ segments_patterns (segments_in rest.now)) }
+        ensures gave { IfOk result (λ b. Took (seen T.tree T.is_whole sink.old)
+            (flat_map (through (segments_in rest.now) (document T.tree T.custom self.now))
+            (acted action.entry (document T.tree T.custom self.now) (node_of T.tree trail.old.way.steps.items at.now)))
+            (seen T.tree T.is_whole sink.new) b) }
+        ensures returns { OnOk result (Returns T.tree T.is_whole T.custom self.now trail.old trail.new) }
+        ensures refused { IfErr result (IsHalt (query_of self.now) (document T.tree T.custom self.now)) }
+    {
+        match action {
+            Action::All => self.walk(rest, at, trail, sink),
+            Action::If(filter) => {
+                if self.filter_holds(filter, at, trail)? {
+                    self.walk(rest, at, trail, sink)
+                } else {
+                    Ok(true)
+                }
             }
-            if pass(task, segment, rest, at, way, cache, sink)? {
-                each_child(task, action, rest, at, way, cache, sink)
-            } else {
-                Ok(false)
+            Action::Below(segment) => {
+                if is_leaf(at) {
+                    return Ok(true);
+                }
+                if self.pass(segment, rest, at, trail, sink)? {
+                    self.each_child(action, rest, at, trail, sink)
+                } else {
+                    Ok(false)
+                }
             }
         }
     }

@@ -1,12 +1,13 @@
 //! The way from the root to the value at hand, and what is spelled of its Normalized Path (RFC 9535, 2.7).
 ghost use Rattle.std.specs.Prelude.{◌≡◌, List, [], ◌∷◌, ◌++◌, length, map, IfOk, IfErr, OnOk, OnErr, string_bytes};
 ghost use Rattle.jsonpath_parser.specs.Normal.{normal, step_text};
-ghost use Rattle.jsonpath_parser.specs.declared.errors.JsonPathError.TheVariants.{OutOfMemory};
+ghost use Rattle.jsonpath_rust.specs.declared.query.halt.Halt.TheVariants.{Memory};
 ghost use Rattle.jsonpath_rust.specs.inner.Walking.{step_of};
 ghost use Rattle.jsonpath_rust.specs.inner.Way.{spelled, IsSpelled};
 ghost use Rattle.jsonpath_rust.specs.declared.query.way.StepRef.{StepRef};
 
-use crate::query::{Queried, QueryPath};
+use crate::query::QueryPath;
+use crate::query::halt::Walked;
 use jsonpath_base::step::{add_index, add_name};
 use std::alloc::Global;
 
@@ -45,9 +46,9 @@ impl<'s> Way<'s> {
 
     /// A step further.
     #[inline(always)]
-    pub fn push(&mut self, step: StepRef<'s>) -> Queried<()>
+    pub fn push(&mut self, step: StepRef<'s>) -> Walked<()>
         ensures steps { OnOk result (self.new.steps.items ≡ self.old.steps.items ++ step.entry ∷ []) }
-        ensures memory { IfErr result (λ e. e ≡ OutOfMemory) }
+        ensures memory { IfErr result (λ h. h ≡ Memory) }
     {
         self.steps.push(step)?;
         Ok(())
@@ -67,10 +68,10 @@ impl<'s> Way<'s> {
     }
 
     /// The Normalized Path.
-    pub fn path(&mut self, alloc: Global) -> Queried<QueryPath>
+    pub fn path(&mut self, alloc: Global) -> Walked<QueryPath>
         ensures value { IfOk result (λ path. string_bytes path ≡ normal (map step_of self.old.steps.items)) }
         ensures same { self.new.steps.items ≡ self.old.steps.items }
-        ensures memory { IfErr result (λ e. e ≡ OutOfMemory) }
+        ensures memory { IfErr result (λ h. h ≡ Memory) }
     {
         spell(alloc, &self.steps, &mut self.text, &mut self.starts)?;
         let mut path = String::with_capacity(alloc, self.text.len().saturating_add(1))?;
@@ -86,11 +87,11 @@ fn spell(
     steps: &Vec<StepRef<'_>>,
     text: &mut String,
     starts: &mut Vec<usize>,
-) -> Queried<()>
+) -> Walked<()>
     requires { IsSpelled steps.now.items starts.old.items (string_bytes text.old) }
     ensures right { IsSpelled steps.now.items starts.new.items (string_bytes text.new) }
     ensures all { OnOk result (string_bytes text.new ≡ spelled steps.now.items) }
-    ensures memory { IfErr result (λ e. e ≡ OutOfMemory) }
+    ensures memory { IfErr result (λ h. h ≡ Memory) }
 {
     while starts.len() < steps.len() {
         let step = steps[starts.len()];
@@ -105,12 +106,12 @@ fn spell_next(
     step: StepRef<'_>,
     text: &mut String,
     starts: &mut Vec<usize>,
-) -> Queried<()>
+) -> Walked<()>
     ensures text { OnOk result (string_bytes text.new ≡ string_bytes text.old ++ step_text (step_of step.entry)) }
     ensures starts { OnOk result (starts.new.items ≡ starts.old.items ++ length (string_bytes text.old) ∷ []) }
     ensures same_text { OnErr result (string_bytes text.new ≡ string_bytes text.old) }
     ensures same_starts { OnErr result (starts.new.items ≡ starts.old.items) }
-    ensures memory { IfErr result (λ e. e ≡ OutOfMemory) }
+    ensures memory { IfErr result (λ h. h ≡ Memory) }
 {
     starts.push(text.len())?;
     match add_step(alloc, text, step) {
@@ -124,13 +125,13 @@ fn spell_next(
 
 /// Follows a text by a step. Where memory is refused, the text stays as it was.
 #[inline(always)]
-fn add_step(alloc: Global, text: &mut String, step: StepRef<'_>) -> Queried<()>
+fn add_step(alloc: Global, text: &mut String, step: StepRef<'_>) -> Walked<()>
     ensures value { OnOk result (string_bytes text.new ≡ string_bytes text.old ++ step_text (step_of step.entry)) }
     ensures same { OnErr result (string_bytes text.new ≡ string_bytes text.old) }
-    ensures memory { IfErr result (λ e. e ≡ OutOfMemory) }
+    ensures memory { IfErr result (λ h. h ≡ Memory) }
 {
     match step {
-        StepRef::Name(name) => add_name(alloc, text, name),
-        StepRef::Index(index) => add_index(alloc, text, index),
+        StepRef::Name(name) => Ok(add_name(alloc, text, name)?),
+        StepRef::Index(index) => Ok(add_index(alloc, text, index)?),
     }
 }

@@ -7,7 +7,11 @@ use Rattle.jsonpath_rust.specs.inner.Walking.{segments_in, through, node_of}
 use Rattle.jsonpath_rust.specs.declared.query.way.StepRef.{StepRef}
 use Rattle.jsonpath_rust.proofs.Sinks.{result_as}
 use Rattle.jsonpath_rust.proofs.Nodelist.{nodelist-through}
+use Rattle.jsonpath_rust.proofs.Standing.{at_root}
 use Rattle.jsonpath_rust.proofs.query.walk.give_from_root.Goals as goal
+
+pub walk-requires-clause-stands : goal.walk-requires-clause-stands
+walk-requires-clause-stands g c = at_root c.new-way.ensures (record { root = c.requires; nodelists = c.new-cache.ensures (document_of g.T.Queryable.tree g.T.Queryable.custom c.args.root.now) })
 
 pub returns-clause-gave : goal.returns-clause-gave
 returns-clause-gave g c =

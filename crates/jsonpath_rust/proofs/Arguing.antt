@@ -1,0 +1,52 @@
+-- What is read of an argument inside the evaluator is what the meaning makes of it.
+use Rattle.std.proofs.Common.{◌≡◌, List, [], ◌∷◌, refl, sym, ◌∙◌, ap, subst, Bool, Option, Some, None, option_map, IsTrue, IfSome, Bor}
+use Rattle.jsonpath_base.specs.Tree.{Tree}
+use Rattle.jsonpath_rust.specs.Functions.{Evaluated, of_value, of_nodes, as_value, as_nodes, as_trees, as_truth, count_of, only_value}
+use Rattle.jsonpath_rust.specs.inner.Arguing.{Held, holding, value_held, only_held, count_held, trees_held, truth_held, OnlyIsWhole, HeldAreWhole}
+use Rattle.jsonpath_rust.specs.inner.Sinks.{Seen, nothing, give, only_in}
+use Rattle.jsonpath_rust.specs.declared.query.sink.Wanted.TheVariants.{Any, Count, Only, Values}
+use Rattle.jsonpath_rust.proofs.Sinks.{any_given, counted_all, only_all, only_whole, values_all}
+use Rattle.jsonpath_rust.proofs.Parts.{values_are_whole}
+
+pub as_value_held : (e : Evaluated) → value_held (holding Only e) ≡ as_value e
+as_value_held (of_value o) = refl
+as_value_held (of_nodes ns) = only_all ns
+
+pub as_only_held : (e : Evaluated) → only_held (holding Only e) ≡ only_value (as_nodes e)
+as_only_held (of_value o) = refl
+as_only_held (of_nodes ns) = only_all ns
+
+pub as_count_held : (e : Evaluated) → count_held (holding Count e) ≡ count_of (as_nodes e)
+as_count_held (of_value o) = refl
+as_count_held (of_nodes ns) = counted_all ns
+
+pub as_trees_held : (e : Evaluated) → trees_held (holding Values e) ≡ as_trees e
+as_trees_held (of_value o) = refl
+as_trees_held (of_nodes ns) = values_all ns
+
+pub as_truth_held : (e : Evaluated) → truth_held (holding Any e) ≡ as_truth e
+as_truth_held (of_value o) = refl
+as_truth_held (of_nodes ns) = any_given ns
+
+some_if : {X : Type 0} (P : X → Type 0) (o : Option X) → ((x : X) → o ≡ Some x → P x) → IfSome o P
+some_if P None h = tt
+some_if P (Some x) h = h x refl
+
+pub only_is_whole : (e : Evaluated) → OnlyIsWhole (holding Only e)
+only_is_whole (of_value o) = tt
+only_is_whole (of_nodes ns) = some_if (λ p. IsTrue p.0) (only_in (give nothing ns)) (only_whole ns)
+
+pub held_are_whole : (e : Evaluated) → HeldAreWhole (holding Values e)
+held_are_whole (of_value o) = tt
+held_are_whole (of_nodes ns) = values_are_whole _ ns refl
+
+-- the only value that a sink was given
+pub lent_is_whole : {A : Type 0} (tree : A → Tree) (whole : A → Bool) (o : Option (Bor A)) (s : Seen) → option_map (λ v. (whole v.now, tree v.now)) o ≡ only_in s → IfSome (only_in s) (λ p. IsTrue p.0) → IfSome o (λ v. IsTrue (whole v.now))
+lent_is_whole tree whole None s e h = tt
+lent_is_whole tree whole (Some v) s e h =
+    let P : Option (Bool × Tree) → Type 0 = λ q. IfSome q (λ p. IsTrue p.0) in
+    subst P (sym e) h
+
+pub lent_is_tree : {A : Type 0} (tree : A → Tree) (whole : A → Bool) (o : Option (Bor A)) (s : Seen) → option_map (λ v. (whole v.now, tree v.now)) o ≡ only_in s → option_map (λ v. tree v.now) o ≡ option_map (λ p. p.1) (only_in s)
+lent_is_tree tree whole None s e = ap (λ (q : Option (Bool × Tree)). option_map (λ p. p.1) q) e
+lent_is_tree tree whole (Some v) s e = ap (λ (q : Option (Bool × Tree)). option_map (λ p. p.1) q) e
