@@ -1,8 +1,7 @@
 -- What a run tells of its end, from what its parts tell.
-use Rattle.std.proofs.Common.{◌≡◌, inr, ℕ, List, IsTrue, Option, None, Some, Result, Ok, Err, OnOk, OnErr, IfErr, IfSome, refl}
+use Rattle.std.proofs.Common.{◌≡◌, inr, ℕ, List, IsTrue, Option, None, Some, Result, Ok, Err, OnOk, IfSome, refl}
 use Rattle.std.proofs.lemmas.Bool.{and_parts}
 use Rattle.std.specs.Io.KnownBytes.{Appends}
-use Rattle.std.specs.Result.{IsErrOf, IsErrAnd}
 use Rattle.serde_json.specs.View.{view}
 use Rattle.serde_json.specs.declared.value.Value.{Value}
 use Rattle.jsonpath_parser.specs.Derives.{Derives}
@@ -57,13 +56,3 @@ pub no_answer : (words : List (List ℕ)) (input : Option (List ℕ)) (a : Asked
 no_answer words input a q v (Query e) asked derived json whole h = inr (h.0, (a, q, view v, asked, derived, whole_json input v json whole, h.1))
 no_answer words input a q v Memory asked derived json whole h = rw asked refl
 no_answer words input a q v _ asked derived json whole h = absurd h
-
--- what holds where an error came
-pub at_err : {A E : Type 0} (r : Result A E) (x : E) (P : Type 0) → IsErrOf r x → OnErr r P → P
-at_err (Ok v) x P is h = absurd (cc)
-at_err (Err e) x P is h = h
-
--- an error that a `?` passes on
-pub passed_on : {A E : Type 0} (r : Result A E) (Q P : E → Type 0) → IsErrAnd r Q → ((y : E) → Q y → P y) → IfErr r P
-passed_on (Ok v) Q P is h = tt
-passed_on (Err e) Q P is h = h e is

@@ -5,25 +5,21 @@ use Rattle.jsonpath_parser.specs.declared.errors.JsonPathError.TheVariants.{Inva
 use Rattle.jpath.specs.declared.fault.Fault as fault
 use Rattle.jpath.specs.declared.fault.Fault.TheVariants.{Usage, Query, NotJson, NotWhole, Io, Memory}
 
-abbrev pub status_of : fault.Fault → ℕ
-status_of (Query _) = 1
-status_of Usage = 2
-status_of NotJson = 3
-status_of NotWhole = 4
-status_of Io = 5
-status_of Memory = 6
+-- the line of a query that was refused
+abbrev pub query_line : JsonPathError → List ℕ
+query_line (InvalidNumber _) = codes "jpath: a literal is no whole number of 64 bits"
+query_line (MaxNestingDepthExceeded depth) = codes "jpath: nesting deeper than " ++ decimal depth
+query_line (InvalidJsonPath _) = codes "jpath: a pattern is too large"
+query_line _ = codes "jpath: not a query"
 
--- without the newline
-abbrev pub line_of : fault.Fault → List ℕ
-line_of (Query (InvalidNumber _)) = codes "jpath: a literal is no whole number of 64 bits"
-line_of (Query (MaxNestingDepthExceeded depth)) = codes "jpath: nesting deeper than " ++ decimal depth
-line_of (Query (InvalidJsonPath _)) = codes "jpath: a pattern is too large"
-line_of (Query _) = codes "jpath: not a query"
-line_of Usage = codes "jpath: usage: jpath nodes, values, paths or delete, then a query"
-line_of NotJson = codes "jpath: input is not JSON"
-line_of NotWhole = codes "jpath: the document holds a number that is no whole number of 64 bits"
-line_of Io = codes "jpath: reading or writing failed"
-line_of Memory = codes "jpath: out of memory"
+-- each fault's exit status, and its line without the newline
+abbrev pub ending : fault.Fault → ℕ × List ℕ
+ending (Query e) = (1, query_line e)
+ending Usage = (2, codes "jpath: usage: jpath nodes, values, paths or delete, then a query")
+ending NotJson = (3, codes "jpath: input is not JSON")
+ending NotWhole = (4, codes "jpath: the document holds a number that is no whole number of 64 bits")
+ending Io = (5, codes "jpath: reading or writing failed")
+ending Memory = (6, codes "jpath: out of memory")
 
 -- how a refusal of the parser or of a query ends a run
 abbrev pub fault_of : JsonPathError → fault.Fault

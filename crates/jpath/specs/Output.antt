@@ -48,26 +48,19 @@ abbrev pub value_text : Option Tree → List ℕ
 value_text None = []
 value_text (Some t) = json_text t
 
--- a path, a tab, the value as JSON, a newline
-abbrev pub line : List ℕ → List ℕ → List ℕ
-line path value = path ++ (codes "\t" ++ (value ++ codes "\n"))
+-- the line of a node, by its path and the text of its value
+abbrev pub line : Command → List ℕ → List ℕ → List ℕ
+line Nodes path value = path ++ (codes "\t" ++ (value ++ codes "\n"))
+line Values path value = value ++ codes "\n"
+line Paths path value = path ++ codes "\n"
 
--- the line of a location: its Normalized Path (RFC 9535, 2.7), and the value there
-abbrev pub node_line : Document → Location → List ℕ
-node_line doc l = line (normal l) (value_text (at l doc.root))
-
--- its value alone, and its path alone
-abbrev pub value_line : Document → Location → List ℕ
-value_line doc l = value_text (at l doc.root) ++ codes "\n"
-
-abbrev pub path_line : Location → List ℕ
-path_line l = normal l ++ codes "\n"
+-- the line of a location: by its Normalized Path (RFC 9535, 2.7), and the value there
+abbrev pub location_line : Command → Document → Location → List ℕ
+location_line command doc l = line command (normal l) (value_text (at l doc.root))
 
 -- what a command prints of the nodes that a query selects in a document, in their order
 abbrev pub printed : Command → syntax.Query → Document → List ℕ
-printed Nodes q doc = flat_map (node_line doc) (selected q doc)
-printed Values q doc = flat_map (value_line doc) (selected q doc)
-printed Paths q doc = flat_map path_line (selected q doc)
+printed command q doc = flat_map (location_line command doc) (selected q doc)
 
 -- The words ask for a query, of brackets no deeper than they say; the bytes are JSON of whole numbers; and the output is what the command prints.
 pub record IsOutput (words : List (List ℕ)) (bytes out : List ℕ) : Type 0 where

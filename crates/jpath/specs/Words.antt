@@ -29,11 +29,11 @@ depth_of word = if is_depth word then Some (digits_value 10 word) else None
 abbrev pub option_of : List ℕ → List ℕ → Option ℕ
 option_of option word = if bytes_eq option (codes "--depth") then depth_of word else None
 
-abbrev pub asked : List ℕ → Option ℕ → List ℕ → Option Asked
-asked command depth query = option_and_then (λ d. option_map (λ c. record { command = c; depth = d; query = query }) (command_of command)) depth
+abbrev pub request : List ℕ → Option ℕ → List ℕ → Option Asked
+request command depth query = option_and_then (λ d. option_map (λ c. record { command = c; depth = d; query = query }) (command_of command)) depth
 
 -- a command and a query, which may be any text, and between them perhaps `--depth` and a depth; nothing else
 abbrev pub asked_by : List (List ℕ) → Option Asked
-asked_by (command ∷ query ∷ []) = asked command (Some 128) query
-asked_by (command ∷ option ∷ depth ∷ query ∷ []) = asked command (option_of option depth) query
+asked_by (command ∷ query ∷ []) = request command (Some 128) query
+asked_by (command ∷ option ∷ depth ∷ query ∷ []) = request command (option_of option depth) query
 asked_by _ = None

@@ -1,6 +1,6 @@
 //! Why a run ends early.
 ghost use Rattle.std.specs.Prelude.{◌≡◌};
-ghost use Rattle.jpath.specs.Fault.{status_of};
+ghost use Rattle.jpath.specs.Fault.{ending};
 
 use jsonpath_parser::errors::JsonPathError;
 use std::alloc::{AllocError, AllocFailed};
@@ -27,7 +27,7 @@ pub enum Fault {
 impl Fault {
     /// The exit status.
     pub fn status(&self) -> u8
-        ensures { result ≡ status_of self.now }
+        ensures { result ≡ (ending self.now).0 }
     {
         match self {
             Fault::Query(_) => 1,
@@ -42,9 +42,9 @@ impl Fault {
 
 impl fmt::Display for Fault {
     ghost use Rattle.std.specs.Prelude.{Some};
-    ghost use Rattle.jpath.specs.Fault.{line_of};
+    ghost use Rattle.jpath.specs.Fault.{ending};
 
-    ghost output = { λ f. Some (line_of f) };
+    ghost output = { λ f. Some (ending f).1 };
 
     fn fmt<W: Write>(&self, f: &mut fmt::Formatter<W>) -> fmt::Result {
         match self {

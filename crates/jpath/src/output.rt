@@ -32,21 +32,26 @@ pub fn printed(
     ensures refused { IfErr result (IsNoAnswer (query_view query.now) (document_of value_tree set_function document.now)) }
 {
     match command {
-        Command::Nodes => nodes_printed(alloc, query, document),
         Command::Values => values_printed(alloc, query, document),
-        Command::Paths => paths_printed(alloc, query, document),
+        Command::Nodes | Command::Paths => nodes_printed(alloc, command, query, document),
     }
 }
 
-fn nodes_printed(alloc: Global, query: &JpQuery, document: &Value) -> Result<String, Fault>
+fn nodes_printed(
+    alloc: Global,
+    command: Command,
+    query: &JpQuery,
+    document: &Value,
+) -> Result<String, Fault>
     requires { IsTrue (value_is_whole document.now) }
-    ensures text { IfOk result (λ text. string_bytes text ≡ output.printed Command.Nodes (query_view query.now) (document_of value_tree set_function document.now)) }
+    ensures text { IfOk result (λ text. string_bytes text ≡ output.printed command (query_view query.now) (document_of value_tree set_function document.now)) }
     ensures refused { IfErr result (IsNoAnswer (query_view query.now) (document_of value_tree set_function document.now)) }
 {
     let nodes = js_path_process(alloc, query, document)?;
-    Ok(nodes_text(alloc, nodes.as_slice())?)
+    Ok(nodes_text(alloc, command, nodes.as_slice())?)
 }
 
+/// The values alone, for which no path is made.
 fn values_printed(alloc: Global, query: &JpQuery, document: &Value) -> Result<String, Fault>
     requires { IsTrue (value_is_whole document.now) }
     ensures text { IfOk result (λ text. string_bytes text ≡ output.printed Command.Values (query_view query.now) (document_of value_tree set_function document.now)) }
@@ -56,28 +61,23 @@ fn values_printed(alloc: Global, query: &JpQuery, document: &Value) -> Result<St
     Ok(values_text(alloc, values.as_slice())?)
 }
 
-fn paths_printed(alloc: Global, query: &JpQuery, document: &Value) -> Result<String, Fault>
-    requires { IsTrue (value_is_whole document.now) }
-    ensures text { IfOk result (λ text. string_bytes text ≡ output.printed Command.Paths (query_view query.now) (document_of value_tree set_function document.now)) }
-    ensures refused { IfErr result (IsNoAnswer (query_view query.now) (document_of value_tree set_function document.now)) }
-{
-    let nodes = js_path_process(alloc, query, document)?;
-    Ok(paths_text(alloc, nodes.as_slice())?)
-}
-
-/// A line for each node: its path, a tab, its value as compact JSON.
-fn nodes_text(alloc: Global, nodes: &[QueryRef<'_, Value>]) -> Result<String, AllocError>
+/// A line for each node.
+fn nodes_text(
+    alloc: Global,
+    command: Command,
+    nodes: &[QueryRef<'_, Value>],
+) -> Result<String, AllocError>
     requires { All (λ r. IsTrue (value_is_whole r.val.now)) nodes.now }
-    ensures { IfOk result (λ text. string_bytes text ≡ flat_map (λ p. line p.0 (json_text p.1)) (shown value_tree nodes.now)) }
+    ensures { IfOk result (λ text. string_bytes text ≡ flat_map (λ p. line command p.0 (json_text p.1)) (shown value_tree nodes.now)) }
 {
     let mut text = String::new(alloc);
     for node in nodes {
-        push_node(alloc, &mut text, node)?;
+        push_node(alloc, command, &mut text, node)?;
     }
     Ok(text)
 }
 
-/// A line for each value, as compact JSON.
+/// A line for each value.
 fn values_text(alloc: Global, values: &[&Value]) -> Result<String, AllocError>
     requires { All (λ v. IsTrue (value_is_whole v.now)) values.now }
     ensures { IfOk result (λ text. string_bytes text ≡ flat_map (λ t. json_text t ++ codes "\n") (map (λ v. value_tree v.now) values.now)) }
@@ -90,27 +90,26 @@ fn values_text(alloc: Global, values: &[&Value]) -> Result<String, AllocError>
     Ok(text)
 }
 
-/// A line for each node: its path.
-fn paths_text(alloc: Global, nodes: &[QueryRef<'_, Value>]) -> Result<String, AllocError>
-    ensures { IfOk result (λ text. string_bytes text ≡ flat_map (λ p. p.0 ++ codes "\n") (shown value_tree nodes.now)) }
-{
-    let mut text = String::new(alloc);
-    for node in nodes {
-        text.push_str(node.path.as_str())?;
-        text.push('\n')?;
-    }
-    Ok(text)
-}
-
 /// Appends the line of one node.
-fn push_node(alloc: Global, text: &mut String, node: &QueryRef<'_, Value>) -> Result<(), AllocError>
+fn push_node(
+    alloc: Global,
+    command: Command,
+    text: &mut String,
+    node: &QueryRef<'_, Value>,
+) -> Result<(), AllocError>
     requires { IsTrue (value_is_whole node.now.val.now) }
     ensures { OnOk result (string_bytes text.new ≡ string_bytes text.old
-        ++ line (string_bytes node.now.path) (json_text (value_tree node.now.val.now))) }
+        ++ line command (string_bytes node.now.path) (json_text (value_tree node.now.val.now))) }
 {
-    text.push_str(node.path.as_str())?;
-    text.push('\t')?;
-    push_value(alloc, text, node.val)?;
+    match command {
+        Command::Nodes => {
+            text.push_str(node.path.as_str())?;
+            text.push('\t')?;
+            push_value(alloc, text, node.val)?;
+        }
+        Command::Values => push_value(alloc, text, node.val)?,
+        Command::Paths => text.push_str(node.path.as_str())?,
+    }
     text.push('\n')
 }
 

@@ -39,14 +39,3 @@ only_is_whole (of_nodes ns) = some_if (λ p. IsTrue p.0) (only_in (give nothing 
 pub held_are_whole : (e : Evaluated) → HeldAreWhole (holding Values e)
 held_are_whole (of_value o) = tt
 held_are_whole (of_nodes ns) = values_are_whole _ ns refl
-
--- the only value that a sink was given
-pub lent_is_whole : {A : Type 0} (tree : A → Tree) (whole : A → Bool) (o : Option (Bor A)) (s : Seen) → option_map (λ v. (whole v.now, tree v.now)) o ≡ only_in s → IfSome (only_in s) (λ p. IsTrue p.0) → IfSome o (λ v. IsTrue (whole v.now))
-lent_is_whole tree whole None s e h = tt
-lent_is_whole tree whole (Some v) s e h =
-    let P : Option (Bool × Tree) → Type 0 = λ q. IfSome q (λ p. IsTrue p.0) in
-    subst P (sym e) h
-
-pub lent_is_tree : {A : Type 0} (tree : A → Tree) (whole : A → Bool) (o : Option (Bor A)) (s : Seen) → option_map (λ v. (whole v.now, tree v.now)) o ≡ only_in s → option_map (λ v. tree v.now) o ≡ option_map (λ p. p.1) (only_in s)
-lent_is_tree tree whole None s e = ap (λ (q : Option (Bool × Tree)). option_map (λ p. p.1) q) e
-lent_is_tree tree whole (Some v) s e = ap (λ (q : Option (Bool × Tree)). option_map (λ p. p.1) q) e

@@ -55,10 +55,6 @@ pub ok_through : {A B E : Type 0} (r : Result A E) (f : A → B) (x y : B) → x
 ok_through (Ok a) f x y e h = h ∙ e
 ok_through (Err k) f x y e h = tt
 
-pub on_ok_as : {A B E : Type 0} (r : Result A E) (w x y : B) → x ≡ y → OnOk r (w ≡ x) → OnOk r (w ≡ y)
-on_ok_as (Ok a) w x y e h = h ∙ e
-on_ok_as (Err k) w x y e h = tt
-
 -- an error that a `?` passes on
 pub passed_on : {A E : Type 0} (r : Result A E) (Q P : E → Type 0) → IsErrAnd r Q → ((y : E) → Q y → P y) → IfErr r P
 passed_on (Ok v) Q P is h = tt
@@ -82,17 +78,6 @@ pub kept_false : (rest : Node → List Node) (f : Node → Bool) (n : Node) → 
 kept_false rest f n e = ap (λ v. flat_map rest (cond v (n ∷ []) [])) e
 
 -- ---- what a query inside a filter gave
-
-pub only_is_whole : {A : Type 0} (tree : A → Tree) (whole : A → Bool) (o : Option (Bor A)) (s : Seen) (ns : List Node) → option_map (λ v. (whole v.now, tree v.now)) o ≡ only_in s → s ≡ give nothing ns → IfSome o (λ v. IsTrue (whole v.now))
-only_is_whole tree whole None s ns h e = tt
-only_is_whole tree whole (Some v) s ns h e = only_whole ns (whole v.now, tree v.now) (sym (h ∙ ap only_in e))
-
-trees_only : {A : Type 0} (tree : A → Tree) (whole : A → Bool) (o : Option (Bor A)) → option_map (λ v. tree v.now) o ≡ option_map (λ (p : Bool × Tree). p.1) (option_map (λ v. (whole v.now, tree v.now)) o)
-trees_only tree whole None = refl
-trees_only tree whole (Some v) = refl
-
-pub only_is_tree : {A : Type 0} (tree : A → Tree) (whole : A → Bool) (o : Option (Bor A)) (s : Seen) (ns : List Node) → option_map (λ v. (whole v.now, tree v.now)) o ≡ only_in s → s ≡ give nothing ns → option_map (λ v. tree v.now) o ≡ only_value ns
-only_is_tree tree whole o s ns h e = trees_only tree whole o ∙ ap (λ q. option_map (λ (p : Bool × Tree). p.1) q) (h ∙ ap only_in e) ∙ only_all ns
 
 pub values_are_whole : (s : Seen) (ns : List Node) → s ≡ give (values [] []) ns → ValuesAreWhole s
 values_are_whole s ns e =

@@ -39,7 +39,3 @@ on r k = record { same = k.same ∙ r.same; ready = k.ready }
 pub on_ok : {A B E : Type 0} {tree : A → Tree} {whole : A → Bool} {custom : List ℕ → List Tree → Tree} {task : Task A} {old mid : Trail A} (new : Trail A) (result : Result B E) → Returns tree whole custom task old mid → OnOk result (Returns tree whole custom task mid new) → OnOk result (Returns tree whole custom task old new)
 on_ok new (Ok b) r k = on r k
 on_ok new (Err e) r k = tt
-
--- what a caller is told of a halt
-pub stop_of : (q : Query) (doc : Document) (halt : Halt) (e : JsonPathError) → IsHalt q doc halt → (halt ≡ Memory → e ≡ OutOfMemory) → ((e ≡ OutOfMemory → ⊥) → IsInvalid e) → IsStop q doc e
-stop_of q doc halt e h memory pattern other = (pattern other, h (λ m. other (memory m)))
