@@ -1,9 +1,8 @@
 -- What is read of an argument inside the evaluator is what the meaning makes of it.
-use Rattle.std.proofs.Common.{◌≡◌, List, [], ◌∷◌, refl, sym, ◌∙◌, ap, subst, Bool, Option, Some, None, option_map, IsTrue, IfSome, Bor}
-use Rattle.jsonpath_base.specs.Tree.{Tree}
+use Rattle.std.proofs.Common.{◌≡◌, refl, Option, Some, None, IsTrue, IfSome}
 use Rattle.jsonpath_rust.specs.Functions.{Evaluated, of_value, of_nodes, as_value, as_nodes, as_trees, as_truth, count_of, only_value}
-use Rattle.jsonpath_rust.specs.inner.Arguing.{Held, holding, value_held, only_held, count_held, trees_held, truth_held, OnlyIsWhole, HeldAreWhole}
-use Rattle.jsonpath_rust.specs.inner.Sinks.{Seen, nothing, give, only_in}
+use Rattle.jsonpath_rust.specs.inner.Arguing.{holding, value_held, only_held, count_held, trees_held, truth_held, OnlyIsWhole, HeldAreWhole}
+use Rattle.jsonpath_rust.specs.inner.Sinks.{nothing, give, only_in}
 use Rattle.jsonpath_rust.specs.declared.query.sink.Wanted.TheVariants.{Any, Count, Only, Values}
 use Rattle.jsonpath_rust.proofs.Sinks.{any_given, counted_all, only_all, only_whole, values_all}
 use Rattle.jsonpath_rust.proofs.Parts.{values_are_whole}

@@ -1,17 +1,16 @@
 -- Lists of parts of a query: each part is no more than all, and what a loop over them finds.
-use Rattle.std.proofs.Common.{◌≡◌, ℕ, zero, suc, ◌+◌, ◌<◌, ◌≤◌, List, [], ◌∷◌, ◌++◌, length, get_or, drop, drop-cons, add-one, append_assoc, append-nil, refl, sym, ◌∙◌, ap, subst, arith, Bool, true, false, not, cond, filter, ◌||◌, ◌&&◌, Result, Ok, Err, IfOk, IfErr, OnOk, Option, Some, None, option_map, IfSome, IsTrue, All, Bor}
+use Rattle.std.proofs.Common.{◌≡◌, ℕ, zero, suc, ◌+◌, ◌<◌, ◌≤◌, List, [], ◌∷◌, ◌++◌, length, get_or, drop, drop-cons, add-one, append_assoc, append-nil, refl, sym, ◌∙◌, ap, subst, arith, Bool, true, false, not, cond, filter, ◌||◌, ◌&&◌, Result, Ok, Err, IfOk, IfErr, IsTrue, All}
 use Rattle.std.specs.Bool.{beq}
 use Rattle.std.specs.List.{flat_map}
 use Rattle.std.specs.Result.{IsErrAnd}
 use Rattle.jsonpath_base.specs.Tree.{Tree}
 use Rattle.jsonpath_rust.specs.Node.{Node}
-use Rattle.jsonpath_rust.specs.Functions.{only_value}
 use Rattle.jsonpath_rust.specs.Meaning.{turned}
-use Rattle.jsonpath_rust.specs.inner.Sinks.{Seen, values, nothing, give, only_in, values_whole, ValuesAreWhole}
+use Rattle.jsonpath_rust.specs.inner.Sinks.{Seen, values, give, values_whole, ValuesAreWhole}
 use Rattle.jsonpath_rust.specs.inner.Keeping.{IsReady, nodelists_of, AreRight, document}
 use Rattle.jsonpath_rust.specs.declared.query.cache.Cache.{Cache}
 use Rattle.jsonpath_rust.specs.declared.query.walk.Task.{Task}
-use Rattle.jsonpath_rust.proofs.Sinks.{only_all, only_whole, give-values, trues}
+use Rattle.jsonpath_rust.proofs.Sinks.{give-values, trues}
 use Rattle.std.proofs.lemmas.List.{at_drop_all}
 
 pub part_of : {X : Type 0} (f : X → ℕ) (all : List X → ℕ) → ((x : X) (xs : List X) → all (x ∷ xs) ≡ f x + all xs) → (xs : List X) (i : ℕ) (x : X) → i < length xs → x ≡ get_or xs i x → f x ≤ all xs

@@ -1,16 +1,9 @@
 -- Where a walk stands, and how it comes back, one call after another.
-use Rattle.std.proofs.Common.{◌≡◌, ℕ, List, [], arith, refl, sym, ◌∙◌, subst, Bool, IsTrue, Result, Ok, Err, OnOk}
-use Rattle.jsonpath_parser.specs.Syntax.{Query}
-use Rattle.jsonpath_parser.specs.declared.errors.JsonPathError.{JsonPathError}
-use Rattle.jsonpath_parser.specs.declared.errors.JsonPathError.TheVariants.{OutOfMemory}
+use Rattle.std.proofs.Common.{◌≡◌, ℕ, List, [], arith, refl, ◌∙◌, Bool, Result, Ok, Err, OnOk}
 use Rattle.jsonpath_base.specs.Tree.{Tree}
-use Rattle.jsonpath_rust.specs.Document.{Document}
-use Rattle.jsonpath_rust.specs.Patterns.{IsInvalid, IsStop}
 use Rattle.jsonpath_rust.specs.inner.Keeping.{IsReady}
-use Rattle.jsonpath_rust.specs.inner.Standing.{Stands, Returns, IsHalt}
+use Rattle.jsonpath_rust.specs.inner.Standing.{Stands, Returns}
 use Rattle.jsonpath_rust.specs.declared.query.cache.Cache.{Cache}
-use Rattle.jsonpath_rust.specs.declared.query.halt.Halt.{Halt}
-use Rattle.jsonpath_rust.specs.declared.query.halt.Halt.TheVariants.{Memory}
 use Rattle.jsonpath_rust.specs.declared.query.trail.Trail.{Trail}
 use Rattle.jsonpath_rust.specs.declared.query.walk.Task.{Task}
 use Rattle.jsonpath_rust.specs.declared.query.way.StepRef.{StepRef}

@@ -1,5 +1,5 @@
 -- What an argument or a test is inside the evaluator, for its contracts alone: the definitions here are no part of what a query means.
-use Rattle.std.specs.Prelude.{◌≡◌, List, [], Bool, Option, Some, None, option_map, option_to_list, IsTrue, IfSome}
+use Rattle.std.specs.Prelude.{List, Bool, Option, Some, None, option_map, option_to_list, IsTrue, IfSome}
 use Rattle.jsonpath_base.specs.Tree.{Tree}
 use Rattle.jsonpath_rust.specs.Functions.{count_value, is_true, Evaluated, of_value, of_nodes}
 use Rattle.jsonpath_rust.specs.inner.Keeping.{gathered, IsGathered}

@@ -42,10 +42,16 @@ impl<'a: 's, 's, T: Queryable> Task<'a, 's, T> {
             TestFunction::Custom(name, args) => self.custom(name, args, at, trail),
             TestFunction::Length(arg) => self.value(arg, at, trail)?.length(self.alloc),
             TestFunction::Value(arg) => {
-                Ok(self.argument(arg, Wanted::Only, at, trail)?.only(&trail.cache))
+                Ok(
+                    self.argument(arg, Wanted::Only, at, trail)?
+                        .only(&trail.cache),
+                )
             }
             TestFunction::Count(arg) => {
-                Ok(self.argument(arg, Wanted::Count, at, trail)?.count(&trail.cache))
+                Ok(
+                    self.argument(arg, Wanted::Count, at, trail)?
+                        .count(&trail.cache),
+                )
             }
             TestFunction::Search(text, pattern) => {
                 self.match_or_search((text, pattern), Extent::Substring, at, trail)
@@ -78,7 +84,9 @@ impl<'a: 's, 's, T: Queryable> Task<'a, 's, T> {
         let is_literal = matches!(args.1, FnArg::Literal(_));
         let text = self.value(args.0, at, trail)?;
         let pattern = self.value(args.1, at, trail)?;
-        let found = trail.cache.is_matched(self.alloc, &text, &pattern, extent, is_literal)?;
+        let found = trail
+            .cache
+            .is_matched(self.alloc, &text, &pattern, extent, is_literal)?;
         Ok(Operand::Plain(Scalar::Truth(found)))
     }
 

@@ -6,9 +6,9 @@ ghost use Rattle.jsonpath_rust.specs.Node.{Node};
 ghost use Rattle.jsonpath_rust.specs.inner.Sinks.{Took, seen, seen_only, start, any_in, count_in, only_in, nodes_in, nodes_whole, values_in, values_whole, paths_in};
 ghost use Rattle.jsonpath_rust.specs.inner.Walking.{node_of};
 
+use crate::query::halt::Walked;
 use crate::query::queryable::Queryable;
 use crate::query::way::Way;
-use crate::query::halt::Walked;
 use crate::query::{QueryPath, QueryRef};
 use std::alloc::Global;
 

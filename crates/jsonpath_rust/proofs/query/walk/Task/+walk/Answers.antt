@@ -6,24 +6,24 @@ use Rattle.std.proofs.lemmas.List.Elements.{All-head, All-tail, All-nil}
 use Rattle.std.specs.List.{flat_map}
 use Rattle.jsonpath_parser.specs.Location.{name, index}
 use Rattle.jsonpath_parser.specs.Syntax.{descendant}
-use Rattle.jsonpath_parser.specs.View.{segment_view, selector_view, filter_view, atom_view, test_view, comparison_view, comparable_view, call_view, argument_view, query_view, operator_view}
+use Rattle.jsonpath_parser.specs.View.{segment_view, selector_view, filter_view, atom_view, test_view, comparison_view, comparable_view, call_view, argument_view, operator_view}
 use Rattle.jsonpath_parser.specs.declared.model.Segment.{Segment}
 use Rattle.jsonpath_parser.specs.declared.model.Selector.{Selector}
 use Rattle.jsonpath_parser.proofs.ViewEquations.{segment_view-Descendant, segment_view-Selector, segment_view-Selectors, selector_view-Name, selector_view-Wildcard, selector_view-Index, selector_view-Slice, selector_view-Filter, comparable_view-Literal, comparable_view-Function, comparable_view-SingularQuery, filter_view-Or, filter_view-And, filter_view-Atom, atom_view-Filter, atom_view-Test, atom_view-Comparison, test_view-RelQuery, test_view-AbsQuery, test_view-Function, argument_view-Literal, argument_view-Test, argument_view-Filter, call_view-Custom, call_view-Length, call_view-Value, call_view-Count, call_view-Search, call_view-Match, query_view-segments}
 use Rattle.jsonpath_base.specs.Tree.{get, truth}
 use Rattle.jsonpath_base.specs.Slice.{slice_of}
-use Rattle.jsonpath_rust.specs.Node.{below, children, subtree, has_node}
+use Rattle.jsonpath_rust.specs.Node.{below, children, subtree}
 use Rattle.jsonpath_rust.specs.Meaning.{picks, all_pick, replaced, indexed, element, holds, some_holds, each_holds, atom_holds, comparison_holds, value_of, answer, turned, nodelist, all_trees, argued, tested}
 use Rattle.jsonpath_rust.proofs.Weight.{action_weight, segment_weight, selectors_weight, selector_weight, segments_weight, filter_weight, filters_weight, atom_weight, test_weight, comparison_weight, comparable_weight, call_weight, argument_weight, arguments_weight}
 use Rattle.jsonpath_rust.specs.Patterns.{segments_patterns, segment_patterns, selectors_patterns, selector_patterns, filter_patterns, filters_patterns, atom_patterns, test_patterns, comparison_patterns, comparable_patterns, call_patterns, argument_patterns, arguments_patterns}
 use Rattle.jsonpath_rust.specs.inner.Walking.{action_patterns, segments_in, selectors_in, through, node_of, step_of, acted, filters_in, arguments_in}
 use Rattle.jsonpath_rust.specs.inner.Sinks.{seen, give, start}
-use Rattle.jsonpath_rust.specs.inner.Keeping.{document, query_of, gathered}
+use Rattle.jsonpath_rust.specs.inner.Keeping.{document, query_of}
 use Rattle.jsonpath_rust.specs.declared.query.way.StepRef.TheVariants.{Name, Index}
 use Rattle.jsonpath_rust.proofs.Sinks.{took_none, took_as, took_stop, result_as, result_then, true_false}
 use Rattle.jsonpath_rust.proofs.Walks.{down, down_tree, turn_next, turn_stop, turn_end, selector_turns, element_turns, member_turns, place_next, place_stop, below_more, flat_map-alone, flat_map-filter}
 use Rattle.jsonpath_rust.proofs.Leaves.{replaced-none}
-use Rattle.jsonpath_rust.proofs.NodesAt.{leads_as, leads_below, leads_indexed, member_there}
+use Rattle.jsonpath_rust.proofs.NodesAt.{leads_below, leads_indexed, member_there}
 use Rattle.jsonpath_rust.proofs.Patterns.{part_as, part_left, part_right, part_both, part_at, part_rest, pattern_asked}
 use Rattle.jsonpath_rust.proofs.Trees.{child_there, all_at, element_size, pair_size, member_size, element_at, sliced-list, named_some, named_none}
 use Rattle.jsonpath_rust.proofs.Parts.{part_of, kept_true, kept_false, some_found, some_next, each_failed, each_next, parts_end, ok_as, ok_through, differs, passed_on, joined_next, ready_as}
@@ -32,12 +32,12 @@ use Rattle.jsonpath_parser.specs.declared.model.Test.{Test}
 use Rattle.jsonpath_parser.specs.declared.model.Comparison.{Comparison}
 use Rattle.jsonpath_parser.specs.declared.model.TestFunction.{TestFunction}
 use Rattle.jsonpath_rust.specs.Comparing.{compares}
-use Rattle.jsonpath_rust.specs.Functions.{length_of, as_value, as_nodes, as_trees, as_truth, is_matched}
+use Rattle.jsonpath_rust.specs.Functions.{length_of, as_value, as_trees, as_truth, is_matched}
 use Rattle.jsonpath_rust.specs.inner.Operands.{operand_tree, arg_trees, AreWhole, is_entire}
 use Rattle.jsonpath_rust.proofs.Nodelist.{through-applied, nodelist-through}
 use Rattle.jsonpath_parser.specs.declared.model.FnArg.{FnArg}
 use Rattle.jsonpath_rust.specs.declared.query.way.StepRef.{StepRef}
-use Rattle.jsonpath_rust.specs.inner.Arguing.{Held, value, nodes, held, holding, value_held, only_held, count_held, trees_held, truth_held, OnlyIsWhole, HeldAreWhole}
+use Rattle.jsonpath_rust.specs.inner.Arguing.{value, nodes, held, holding, value_held, only_held, count_held, trees_held, truth_held, OnlyIsWhole, HeldAreWhole}
 use Rattle.jsonpath_rust.proofs.Arguing.{as_value_held, as_only_held, as_count_held, as_trees_held, as_truth_held, only_is_whole, held_are_whole}
 use Rattle.jsonpath_rust.specs.inner.Standing.{IsHalt}
 use Rattle.jsonpath_rust.proofs.Standing.{still, stands_as, stays, at_root, on, on_ok}
