@@ -1,13 +1,13 @@
 -- Filters and arguments that are spelled are read, where the text after them cannot continue them.
-use Rattle.std.proofs.Common.{◌≡◌, ℕ, zero, suc, ◌+◌, ◌-◌, ◌<◌, ◌≤◌, Bool, true, false, ◌==◌, ℤ, List, [], ◌∷◌, ◌++◌, length, codes, Option, Some, refl, sym, ap, ◌∙◌, append_assoc, length-append, arith}
+use Rattle.std.proofs.Common.{◌≡◌, ℕ, suc, ◌+◌, ◌-◌, ◌<◌, ◌≤◌, Bool, true, false, ◌==◌, ℤ, List, [], ◌∷◌, ◌++◌, length, drop, codes, Option, Some, refl, ap, ◌∙◌, append_assoc, length-append, arith}
 use Rattle.std.proofs.lemmas.Bool.Decides.{nat_tests}
 use Rattle.jsonpath_parser.specs.Grammar.{Between, IsNoBareTest, SpellsLogical, SpellsConjunction, SpellsMoreOr, SpellsMoreAnd, SpellsBasic, SpellsComparison, SpellsTest, SpellsArgument}
 use Rattle.jsonpath_parser.specs.Lexical.{is_blank}
 use Rattle.jsonpath_parser.specs.inner.Reading.{Read, first, skip_blank}
-use Rattle.jsonpath_parser.specs.inner.ReadingGrammar.{is_int_first, push_filter, comparable_of, filter_of, is_operator_first, is_twice, operator_at, logical_at, operand_at, group_at, negated_at, compared_at, plain_at, basic_at, ands_at, conjunction_at, ors_at, disjunction_at}
+use Rattle.jsonpath_parser.specs.inner.ReadingGrammar.{is_int_first, operand_behind, comparable_of, filter_of, is_operator_first, is_twice, operator_at, logical_at, operand_at, group_at, negated_at, compared_at, plain_at, basic_at, ands_at, conjunction_at, ors_at, disjunction_at}
 use Rattle.jsonpath_parser.specs.Syntax.{Operator, Filter, or, and, atom, Filters, no_filters, filter_then, Atom, group, test, comparison, Comparison, compare, Comparable, Test, Argument, literal_argument, test_argument, filter_argument}
 use Rattle.jsonpath_parser.proofs.Fronts.{skip_over}
-use Rattle.jsonpath_parser.proofs.Joins.{join_filters, filters_push, filters_none}
+use Rattle.jsonpath_parser.proofs.Turns.{many_end, many_read, operand_read}
 use Rattle.jsonpath_parser.proofs.NumberComplete.{EndsNumber}
 use Rattle.jsonpath_parser.proofs.CompleteParts.{ends_logical, ends_conjunction, ends_basic, ends_operand, EndsLogical, EndsConjunction, EndsBasic, EndsOperand, logical_ends, conjunction_ends, basic_ends, follows, front_other}
 use Rattle.jsonpath_parser.proofs.CompleteStarts.{starts_operand, operand_other, basic_other, literal_start, comparable_start, test_start, basic_start, conjunction_start, logical_start}
@@ -201,30 +201,15 @@ module _ (Number : Option ℤ → List ℕ → Type 0) (number_first : (v : Opti
 
   -- ---- `&&`
 
-  ands_end : (k : ℕ) (found : Filters) (text : List ℕ) → 0 < k → is_twice 38 (skip_blank text) ≡ false → ands_at literal_at argument_at k found text ≡ Some (found, text)
-  unfolding ands_at
-  ands_end zero found text some other = absurd (omega arith)
-  ands_end (suc k) found text some other = rw other refl
-
-  ands_next : (k : ℕ) (found : Filters) (text behind start rest end : List ℕ) (x : Argument) (f : Filter) (fs : Filters) → 0 < k → skip_blank text ≡ 38 ∷ 38 ∷ behind → skip_blank behind ≡ start
-      → basic_at literal_at argument_at start ≡ Some (x, rest) → filter_of x ≡ Some f
-      → ands_at literal_at argument_at (k - 1) (push_filter found f) rest ≡ Some (join_filters (push_filter found f) fs, end) → ands_at literal_at argument_at k found text ≡ Some (join_filters found (filter_then f fs), end)
-  unfolding ands_at
-  ands_next zero found text behind start rest end x f fs some mark skipped read is more = absurd (omega arith)
-  ands_next (suc k) found text behind start rest end x f fs some mark skipped read is more =
-      let less : suc k - 1 ≡ k = omega arith in
-      let later = rw less at more in
-      rw (mark, skipped, read, is, later, filters_push found f fs) refl
-
-  -- the rest of the operands of `&&`, after those found
-  complete_ands : (fs : Filters) (k : ℕ) (found : Filters) (r more : List ℕ) → SpellsMoreAnd Number fs r → EndsConjunction more → length (r ++ more) ≤ n → length (r ++ more) < k
-      → ands_at literal_at argument_at k found (r ++ more) ≡ Some (join_filters found fs, more)
-  complete_ands no_filters k found r more h stop fits room =
+  -- the operands of `&&` behind the first one
+  complete_ands : (fs : Filters) (k : ℕ) (r more : List ℕ) → SpellsMoreAnd Number fs r → EndsConjunction more → length (r ++ more) ≤ n → length (r ++ more) < k
+      → ands_at literal_at argument_at k (r ++ more) ≡ Some (fs, more)
+  complete_ands no_filters k r more h stop fits room =
       let other : is_twice 38 (skip_blank more) ≡ false = once 38 (skip_blank more) (no_and (first (skip_blank more)) stop) in
-      rw h (ands_end k found more (omega (arith, room)) other ∙ ap (λ v. Some (v, more)) (sym (filters_none found)))
-  complete_ands (filter_then (or gs) fs) k found r more h stop fits room = let (b, c, a, d, hb, hc, ha, hd, e) = h in absurd ha
-  complete_ands (filter_then (and gs) fs) k found r more h stop fits room = let (b, c, a, d, hb, hc, ha, hd, e) = h in absurd ha
-  complete_ands (filter_then (atom y) fs) k found r more h stop fits room =
+      rw h (many_end filter_then no_filters (operand_behind (basic_at literal_at argument_at)) (λ t. is_twice 38 (skip_blank t)) k more (omega (arith, room)) other)
+  complete_ands (filter_then (or gs) fs) k r more h stop fits room = let (b, c, a, d, hb, hc, ha, hd, e) = h in absurd ha
+  complete_ands (filter_then (and gs) fs) k r more h stop fits room = let (b, c, a, d, hb, hc, ha, hd, e) = h in absurd ha
+  complete_ands (filter_then (atom y) fs) k r more h stop fits room =
       let (b, c, a, d, hb, hc, ha, hd, e) = h in
       let rest : List ℕ = d ++ more in
       let start : List ℕ = a ++ rest in
@@ -235,15 +220,15 @@ module _ (Number : Option ℤ → List ℕ → Type 0) (number_first : (v : Opti
       omega (arith, ap length text, length-append b (38 ∷ 38 ∷ (c ++ start)), length-append c start, length-append a rest) in
       let small : length start ≤ n = omega (arith, fits, size, length-append a rest) in
       let read = complete_basic y a rest ha (and_ends Number fs d more hd stop) small in
-      ands_next k found (r ++ more) (c ++ start) start rest more (as_argument (atom y)) (atom y) fs (omega (arith, room)) mark skipped read (filter_back (atom y))
-      (complete_ands fs (k - 1) (push_filter found (atom y)) d more hd stop (omega (arith, fits, size)) (omega (arith, room, size)))
+      many_read filter_then no_filters (operand_behind (basic_at literal_at argument_at)) (λ t. is_twice 38 (skip_blank t)) k (r ++ more) (atom y) rest fs more (omega (arith, room)) (ap (is_twice 38) mark) (operand_read (basic_at literal_at argument_at) (r ++ more) (as_argument (atom y)) rest (atom y) (ap (λ t. basic_at literal_at argument_at (skip_blank (drop 2 t))) mark ∙ ap (basic_at literal_at argument_at) skipped ∙ read) (filter_back (atom y)))
+      (complete_ands fs (k - 1) d more hd stop (omega (arith, fits, size)) (omega (arith, room, size)))
 
   conjunction_alone : (text rest : List ℕ) (x : Argument) → basic_at literal_at argument_at text ≡ Some (x, rest) → is_twice 38 (skip_blank rest) ≡ false → conjunction_at literal_at argument_at text ≡ Some (x, rest)
   unfolding conjunction_at
   conjunction_alone text rest x read other = rw (read, other) refl
 
   conjunction_more : (text middle rest : List ℕ) (x : Argument) (f : Filter) (fs : Filters) → basic_at literal_at argument_at text ≡ Some (x, middle) → is_twice 38 (skip_blank middle) ≡ true → filter_of x ≡ Some f
-      → ands_at literal_at argument_at (suc (length middle)) (filter_then f no_filters) middle ≡ Some (fs, rest) → conjunction_at literal_at argument_at text ≡ Some (filter_argument (and fs), rest)
+      → ands_at literal_at argument_at (suc (length middle)) middle ≡ Some (fs, rest) → conjunction_at literal_at argument_at text ≡ Some (filter_argument (and (filter_then f fs)), rest)
   unfolding conjunction_at
   conjunction_more text middle rest x f fs read mark is more_read = rw (read, mark, is, more_read) refl
 
@@ -263,8 +248,8 @@ module _ (Number : Option ℤ → List ℕ → Type 0) (number_first : (v : Opti
       let size : length (x ++ middle) ≤ n = rw text at fits in
       let size_middle : length middle ≤ n = omega (arith, size, length-append x middle) in
       let read = complete_basic y x middle hx (and_ends Number (filter_then g gs) r more hr stop) size in
-      rw text (conjunction_more (x ++ middle) middle more (as_argument (atom y)) (atom y) (filter_then (atom y) (filter_then g gs)) read (and_twice g gs r more hr) (filter_back (atom y))
-      (complete_ands (filter_then g gs) (suc (length middle)) (filter_then (atom y) no_filters) r more hr stop size_middle (omega arith)))
+      rw text (conjunction_more (x ++ middle) middle more (as_argument (atom y)) (atom y) (filter_then g gs) read (and_twice g gs r more hr) (filter_back (atom y))
+      (complete_ands (filter_then g gs) (suc (length middle)) r more hr stop size_middle (omega arith)))
 
   -- an operand of `||`
   pub complete_conjunction : (f : Filter) (a more : List ℕ) → SpellsConjunction Number f a → EndsConjunction more → length (a ++ more) ≤ n → conjunction_at literal_at argument_at (a ++ more) ≡ Some (as_argument f, more)
@@ -279,28 +264,13 @@ module _ (Number : Option ℤ → List ℕ → Type 0) (number_first : (v : Opti
 
   -- ---- `||`
 
-  ors_end : (k : ℕ) (found : Filters) (text : List ℕ) → 0 < k → is_twice 124 (skip_blank text) ≡ false → ors_at literal_at argument_at k found text ≡ Some (found, text)
-  unfolding ors_at
-  ors_end zero found text some other = absurd (omega arith)
-  ors_end (suc k) found text some other = rw other refl
-
-  ors_next : (k : ℕ) (found : Filters) (text behind start rest end : List ℕ) (x : Argument) (f : Filter) (fs : Filters) → 0 < k → skip_blank text ≡ 124 ∷ 124 ∷ behind → skip_blank behind ≡ start
-      → conjunction_at literal_at argument_at start ≡ Some (x, rest) → filter_of x ≡ Some f
-      → ors_at literal_at argument_at (k - 1) (push_filter found f) rest ≡ Some (join_filters (push_filter found f) fs, end) → ors_at literal_at argument_at k found text ≡ Some (join_filters found (filter_then f fs), end)
-  unfolding ors_at
-  ors_next zero found text behind start rest end x f fs some mark skipped read is more = absurd (omega arith)
-  ors_next (suc k) found text behind start rest end x f fs some mark skipped read is more =
-      let less : suc k - 1 ≡ k = omega arith in
-      let later = rw less at more in
-      rw (mark, skipped, read, is, later, filters_push found f fs) refl
-
-  -- the rest of the operands of `||`, after those found
-  complete_ors : (fs : Filters) (k : ℕ) (found : Filters) (r more : List ℕ) → SpellsMoreOr Number fs r → EndsLogical more → length (r ++ more) ≤ n → length (r ++ more) < k
-      → ors_at literal_at argument_at k found (r ++ more) ≡ Some (join_filters found fs, more)
-  complete_ors no_filters k found r more h stop fits room =
+  -- the operands of `||` behind the first one
+  complete_ors : (fs : Filters) (k : ℕ) (r more : List ℕ) → SpellsMoreOr Number fs r → EndsLogical more → length (r ++ more) ≤ n → length (r ++ more) < k
+      → ors_at literal_at argument_at k (r ++ more) ≡ Some (fs, more)
+  complete_ors no_filters k r more h stop fits room =
       let other : is_twice 124 (skip_blank more) ≡ false = once 124 (skip_blank more) (no_or (first (skip_blank more)) stop) in
-      rw h (ors_end k found more (omega (arith, room)) other ∙ ap (λ v. Some (v, more)) (sym (filters_none found)))
-  complete_ors (filter_then f fs) k found r more h stop fits room =
+      rw h (many_end filter_then no_filters (operand_behind (conjunction_at literal_at argument_at)) (λ t. is_twice 124 (skip_blank t)) k more (omega (arith, room)) other)
+  complete_ors (filter_then f fs) k r more h stop fits room =
       let (b, c, a, d, hb, hc, ha, hd, e) = h in
       let rest : List ℕ = d ++ more in
       let start : List ℕ = a ++ rest in
@@ -311,8 +281,8 @@ module _ (Number : Option ℤ → List ℕ → Type 0) (number_first : (v : Opti
       omega (arith, ap length text, length-append b (124 ∷ 124 ∷ (c ++ start)), length-append c start, length-append a rest) in
       let small : length start ≤ n = omega (arith, fits, size, length-append a rest) in
       let read = complete_conjunction f a rest ha (or_ends Number fs d more hd stop) small in
-      ors_next k found (r ++ more) (c ++ start) start rest more (as_argument f) f fs (omega (arith, room)) mark skipped read (filter_back f)
-      (complete_ors fs (k - 1) (push_filter found f) d more hd stop (omega (arith, fits, size)) (omega (arith, room, size)))
+      many_read filter_then no_filters (operand_behind (conjunction_at literal_at argument_at)) (λ t. is_twice 124 (skip_blank t)) k (r ++ more) f rest fs more (omega (arith, room)) (ap (is_twice 124) mark) (operand_read (conjunction_at literal_at argument_at) (r ++ more) (as_argument f) rest f (ap (λ t. conjunction_at literal_at argument_at (skip_blank (drop 2 t))) mark ∙ ap (conjunction_at literal_at argument_at) skipped ∙ read) (filter_back f))
+      (complete_ors fs (k - 1) d more hd stop (omega (arith, fits, size)) (omega (arith, room, size)))
 
   disjunction_alone : (text rest : List ℕ) (x : Argument) → conjunction_at literal_at argument_at text ≡ Some (x, rest) → is_twice 124 (skip_blank rest) ≡ false
       → disjunction_at literal_at argument_at text ≡ Some (x, rest)
@@ -320,7 +290,7 @@ module _ (Number : Option ℤ → List ℕ → Type 0) (number_first : (v : Opti
   disjunction_alone text rest x read other = rw (read, other) refl
 
   disjunction_more : (text middle rest : List ℕ) (x : Argument) (f : Filter) (fs : Filters) → conjunction_at literal_at argument_at text ≡ Some (x, middle) → is_twice 124 (skip_blank middle) ≡ true → filter_of x ≡ Some f
-      → ors_at literal_at argument_at (suc (length middle)) (filter_then f no_filters) middle ≡ Some (fs, rest) → disjunction_at literal_at argument_at text ≡ Some (filter_argument (or fs), rest)
+      → ors_at literal_at argument_at (suc (length middle)) middle ≡ Some (fs, rest) → disjunction_at literal_at argument_at text ≡ Some (filter_argument (or (filter_then f fs)), rest)
   unfolding disjunction_at
   disjunction_more text middle rest x f fs read mark is more_read = rw (read, mark, is, more_read) refl
 
@@ -346,8 +316,8 @@ module _ (Number : Option ℤ → List ℕ → Type 0) (number_first : (v : Opti
       let size : length (x ++ middle) ≤ n = rw text at fits in
       let size_middle : length middle ≤ n = omega (arith, size, length-append x middle) in
       let read = complete_conjunction f x middle hx (or_ends Number (filter_then g gs) r more hr stop) size in
-      rw text (disjunction_more (x ++ middle) middle more (as_argument f) f (filter_then f (filter_then g gs)) read (or_twice g gs r more hr) (filter_back f)
-      (complete_ors (filter_then g gs) (suc (length middle)) (filter_then f no_filters) r more hr stop size_middle (omega arith)))
+      rw text (disjunction_more (x ++ middle) middle more (as_argument f) f (filter_then g gs) read (or_twice g gs r more hr) (filter_back f)
+      (complete_ors (filter_then g gs) (suc (length middle)) r more hr stop size_middle (omega arith)))
   complete_disjunction (and fs) a more h stop fits = complete_lone (and fs) a more h stop fits
   complete_disjunction (atom y) a more h stop fits = complete_lone (atom y) a more h stop fits
 

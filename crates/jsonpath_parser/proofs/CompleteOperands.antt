@@ -1,15 +1,15 @@
 -- Literals, queries and calls that are spelled are read, where the text after them cannot continue them.
-use Rattle.std.proofs.Common.{◌≡◌, ℕ, zero, suc, ◌+◌, ◌-◌, ◌<◌, ◌≤◌, true, false, ◌==◌, ℤ, List, [], ◌∷◌, ◌++◌, length, codes, Option, Some, refl, sym, ap, ◌∙◌, inl, inr, append_assoc, append-nil, length-append, arith}
+use Rattle.std.proofs.Common.{◌≡◌, ℕ, suc, ◌+◌, ◌-◌, ◌<◌, ◌≤◌, true, false, ◌==◌, ℤ, List, [], ◌∷◌, ◌++◌, length, codes, Option, Some, refl, sym, ap, ◌∙◌, inl, inr, append_assoc, append-nil, length-append, arith}
 use Rattle.std.proofs.lemmas.Bool.Decides.{nat_tests}
 use Rattle.jsonpath_parser.specs.Grammar.{SpellsSingularStep, SpellsSingularSteps, SpellsCalled, SpellsLiteral, SpellsSegment, SpellsSegments, SpellsComparable, SpellsTest, SpellsCall, SpellsArgument, SpellsArguments, SpellsMoreArguments}
 use Rattle.jsonpath_parser.specs.Lexical.{is_function_first, IsBlank, IsFunctionName, is_quote}
 use Rattle.jsonpath_parser.specs.inner.Reading.{Read, first, skip_blank}
-use Rattle.jsonpath_parser.specs.inner.ReadingGrammar.{is_int_first, push_argument, steps_of, comparable_of, word_at, word_literal, all_segments_at, arguments_at, all_arguments_at, called_at, word_operand_at, operand_at}
+use Rattle.jsonpath_parser.specs.inner.ReadingGrammar.{is_int_first, steps_of, comparable_of, word_at, word_literal, all_segments_at, arguments_at, all_arguments_at, called_at, word_operand_at, operand_at}
 use Rattle.jsonpath_parser.specs.inner.ReadingStrings.{string_at}
 use Rattle.jsonpath_parser.specs.Syntax.{Literal, number, string, bool, null, SingularStep, name_step, index_step, current, root, name, index, Segment, one, Segments, no_segments, segment, Comparable, literal, function, singular, Test, relative, absolute, call, Call, custom_call, length_call, value_call, count_call, search_call, match_call, Argument, literal_argument, test_argument, Arguments, no_arguments, argument}
 use Rattle.jsonpath_parser.specs.Typing.{call_of}
 use Rattle.jsonpath_parser.proofs.Fronts.{skip_over}
-use Rattle.jsonpath_parser.proofs.Joins.{join_arguments, arguments_push, arguments_push_end}
+use Rattle.jsonpath_parser.proofs.Turns.{separated_end, separated_read}
 use Rattle.jsonpath_parser.proofs.NumberComplete.{EndsNumber}
 use Rattle.jsonpath_parser.proofs.StringComplete.{complete_string}
 use Rattle.jsonpath_parser.proofs.CompleteParts.{EndsLogical, EndsOperand, EndsSegments, stops, ends_segments, skip_more, follows}
@@ -107,33 +107,16 @@ module _ (Number : Option ℤ → List ℕ → Type 0) (number_first : (v : Opti
     (oracle : (x : Argument) (a more : List ℕ) → SpellsArgument Number x a → EndsLogical more → length (a ++ more) < n → argument_at (a ++ more) ≡ Some (x, more)) where
   -- ---- arguments of calls
 
-  -- one argument is read, and the loop ends
-  arguments_last : (k : ℕ) (found : Arguments) (text rest : List ℕ) (x : Argument) → 0 < k → argument_at text ≡ Some (x, rest) → (first (skip_blank rest) == 44) ≡ false
-      → arguments_at literal_at argument_at k found text ≡ Some (push_argument found x, rest)
-  unfolding arguments_at
-  arguments_last zero found text rest x some read other = absurd (omega arith)
-  arguments_last (suc k) found text rest x some read other = rw (read, other) refl
-
-  -- or goes on behind a comma
-  arguments_next : (k : ℕ) (found : Arguments) (text rest behind next end : List ℕ) (x : Argument) (xs : Arguments) → 0 < k → argument_at text ≡ Some (x, rest) → skip_blank rest ≡ 44 ∷ behind → skip_blank behind ≡ next
-      → arguments_at literal_at argument_at (k - 1) (push_argument found x) next ≡ Some (join_arguments (push_argument found x) xs, end) → arguments_at literal_at argument_at k found text ≡ Some (join_arguments found (argument x xs), end)
-  unfolding arguments_at
-  arguments_next zero found text rest behind next end x xs some read comma skipped more = absurd (omega arith)
-  arguments_next (suc k) found text rest behind next end x xs some read comma skipped more =
-      let less : suc k - 1 ≡ k = omega arith in
-      let later = rw less at more in
-      rw (read, comma, skipped, later, arguments_push found x xs) refl
-
-  -- all arguments up to `)`, after those found
-  complete_arguments : (x : Argument) (xs : Arguments) (k : ℕ) (found : Arguments) (s r more behind : List ℕ) → SpellsArgument Number x s → SpellsMoreArguments Number xs r → skip_blank more ≡ 41 ∷ behind
-      → length (s ++ (r ++ more)) < n → length (s ++ (r ++ more)) < k → arguments_at literal_at argument_at k found (s ++ (r ++ more)) ≡ Some (join_arguments found (argument x xs), more)
-  complete_arguments x no_arguments k found s r more behind hs hr close fits room =
+  -- all arguments up to `)`
+  complete_arguments : (x : Argument) (xs : Arguments) (k : ℕ) (s r more behind : List ℕ) → SpellsArgument Number x s → SpellsMoreArguments Number xs r → skip_blank more ≡ 41 ∷ behind
+      → length (s ++ (r ++ more)) < n → length (s ++ (r ++ more)) < k → arguments_at literal_at argument_at k (s ++ (r ++ more)) ≡ Some (argument x xs, more)
+  complete_arguments x no_arguments k s r more behind hs hr close fits room =
       let text : s ++ (r ++ more) ≡ s ++ more = rw hr refl in
       let size : length (s ++ more) < n = rw text at fits in
       let stop : EndsLogical more = rw close refl in
       let other : (first (skip_blank more) == 44) ≡ false = rw close refl in
-      rw text (arguments_last k found (s ++ more) more x (omega (arith, room)) (oracle x s more hs stop size) other ∙ ap (λ v. Some (v, more)) (arguments_push_end found x))
-  complete_arguments x (argument y ys) k found s r more behind hs hr close fits room =
+      rw text (separated_end argument no_arguments argument_at k (s ++ more) x more (omega (arith, room)) (oracle x s more hs stop size) other)
+  complete_arguments x (argument y ys) k s r more behind hs hr close fits room =
       let (b, c, s', r', hb, hc, hy, hys, e) = hr in
       let next : List ℕ = s' ++ (r' ++ more) in
       let after : r ++ more ≡ b ++ (44 ∷ (c ++ next)) = rw e (behind_mark b c s' r' more 44) in
@@ -142,14 +125,14 @@ module _ (Number : Option ℤ → List ℕ → Type 0) (number_first : (v : Opti
       let start : skip_blank (c ++ next) ≡ next = skip_over c next hc (basic_other (first next) (argument_start Number number_first y s' (r' ++ more) hy)).0 in
       let size : length (s ++ (r ++ more)) ≡ length s + (length b + (1 + (length c + length next))) =
       omega (arith, length-append s (r ++ more), ap length after, length-append b (44 ∷ (c ++ next)), length-append c next) in
-      arguments_next k found (s ++ (r ++ more)) (r ++ more) (c ++ next) next more x (argument y ys) (omega (arith, room)) (oracle x s (r ++ more) hs stop fits) skipped start
-      (complete_arguments y ys (k - 1) (push_argument found x) s' r' more behind hy hys close (omega (arith, size, fits)) (omega (arith, size, room)))
+      separated_read argument no_arguments argument_at k (s ++ (r ++ more)) x (r ++ more) (c ++ next) next (argument y ys) more (omega (arith, room)) (oracle x s (r ++ more) hs stop fits) skipped start
+      (complete_arguments y ys (k - 1) s' r' more behind hy hys close (omega (arith, size, fits)) (omega (arith, size, room)))
 
   none_reads : (text : List ℕ) → (first text == 41) ≡ true → all_arguments_at literal_at argument_at text ≡ Some (no_arguments, text)
   unfolding all_arguments_at
   none_reads text close = rw close refl
 
-  some_read : (text rest : List ℕ) (xs : Arguments) → (first text == 41) ≡ false → arguments_at literal_at argument_at (suc (length text)) no_arguments text ≡ Some (xs, rest)
+  some_read : (text rest : List ℕ) (xs : Arguments) → (first text == 41) ≡ false → arguments_at literal_at argument_at (suc (length text)) text ≡ Some (xs, rest)
       → all_arguments_at literal_at argument_at text ≡ Some (xs, rest)
   unfolding all_arguments_at
   some_read text rest xs other read = rw (other, read) refl
@@ -176,7 +159,7 @@ module _ (Number : Option ℤ → List ℕ → Type 0) (number_first : (v : Opti
       let skipped : skip_blank (b ++ start) ≡ start = skip_over b start hb facts.0 in
       let close : skip_blank tail ≡ 41 ∷ more = follows d more 41 hd refl in
       let size : length start < n = omega (arith, fits, ap length inner, length-append b start) in
-      let read = complete_arguments x xs (suc (length start)) no_arguments s r tail more hs hr close size (omega arith) in
+      let read = complete_arguments x xs (suc (length start)) s r tail more hs hr close size (omega arith) in
       rw inner (called_reads w (b ++ start) start tail more (argument x xs) c skipped (some_read start tail (argument x xs) facts.1 read) close is)
 
   -- ---- words

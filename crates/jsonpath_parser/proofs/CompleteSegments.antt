@@ -1,16 +1,16 @@
 -- Selectors and segments that are spelled are read, where the text after them cannot continue them.
 --
 -- That arguments of shorter texts are read is assumed: the law of arguments closes the circle.
-use Rattle.std.proofs.Common.{◌≡◌, ℕ, zero, suc, ◌+◌, ◌-◌, ◌<◌, ◌≤◌, true, false, ◌==◌, ℤ, List, [], ◌∷◌, ◌++◌, length, codes, Option, Some, refl, sym, ap, ◌∙◌, subst, inl, inr, append_assoc, length-append, arith}
+use Rattle.std.proofs.Common.{◌≡◌, ℕ, suc, ◌+◌, ◌-◌, ◌<◌, ◌≤◌, true, false, ◌==◌, ℤ, List, [], ◌∷◌, ◌++◌, length, codes, Option, Some, refl, sym, ap, ◌∙◌, subst, inl, inr, append_assoc, length-append, arith}
 use Rattle.std.proofs.lemmas.Bool.Decides.{nat_tests}
 use Rattle.jsonpath_parser.specs.Grammar.{Between, IsSeveral, SpellsSelector, SpellsSelectors, SpellsMoreSelectors, SpellsSegment, SpellsSegments, SpellsLogical, SpellsArgument, SpellsTest}
 use Rattle.jsonpath_parser.specs.Lexical.{is_name_byte, IsBlank, is_quote}
 use Rattle.jsonpath_parser.specs.inner.Reading.{Read, first, skip_blank}
-use Rattle.jsonpath_parser.specs.inner.ReadingGrammar.{is_int_first, push_segment, push_selector, selection_of, filter_of, numbered_at, shorthand_at, logical_at, selector_at, selectors_at, selection_at, descendant_at, segment_at, segments_at, all_segments_at}
+use Rattle.jsonpath_parser.specs.inner.ReadingGrammar.{is_int_first, selection_of, filter_of, starts_segment, numbered_at, shorthand_at, logical_at, selector_at, selectors_at, selection_at, descendant_at, segment_at, segments_at, all_segments_at}
 use Rattle.jsonpath_parser.specs.inner.ReadingStrings.{string_at}
 use Rattle.jsonpath_parser.specs.Syntax.{Selector, name, wildcard, index, slice, filter, Selectors, no_selectors, selector, Segment, one, several, descendant, Segments, no_segments, segment, Filter, or, and, atom, group, test, comparison, Argument, test_argument, filter_argument}
 use Rattle.jsonpath_parser.proofs.Fronts.{skip_over}
-use Rattle.jsonpath_parser.proofs.Joins.{join_segments, segments_push, segments_none, join_selectors, selectors_push, selectors_push_end}
+use Rattle.jsonpath_parser.proofs.Turns.{many_end, many_read, separated_end, separated_read}
 use Rattle.jsonpath_parser.proofs.StringComplete.{complete_string}
 use Rattle.jsonpath_parser.proofs.CompleteParts.{EndsLogical, EndsSegments, follows, complete_shorthand, shorthand_start}
 use Rattle.jsonpath_parser.proofs.CompleteSlices.{Taken, starts_numbered, numbered_other, index_start, slice_start, complete_index, complete_slice}
@@ -107,36 +107,18 @@ module _ (Number : Option ℤ → List ℕ → Type 0) (number_first : (v : Opti
       let size : length (r ++ more) < n = omega (arith, fits, ap length text, length-append b (r ++ more)) in
       (more, rw text (selector_filter (b ++ (r ++ more)) more f (rw skipped (complete_logical f r more hr stop size))), refl)
 
-  -- one selector is read, and the loop ends
-  selectors_last : (k : ℕ) (found : Selectors) (text rest : List ℕ) (x : Selector) → 0 < k → selector_at literal_at argument_at text ≡ Some (x, rest) → (first (skip_blank rest) == 44) ≡ false
-      → selectors_at literal_at argument_at k found text ≡ Some (push_selector found x, rest)
-  unfolding selectors_at
-  selectors_last zero found text rest x some read other = absurd (omega arith)
-  selectors_last (suc k) found text rest x some read other = rw (read, other) refl
-
-  -- or goes on behind a comma
-  selectors_next : (k : ℕ) (found : Selectors) (text rest behind next end : List ℕ) (x : Selector) (xs : Selectors) → 0 < k → selector_at literal_at argument_at text ≡ Some (x, rest)
-      → skip_blank rest ≡ 44 ∷ behind → skip_blank behind ≡ next
-      → selectors_at literal_at argument_at (k - 1) (push_selector found x) next ≡ Some (join_selectors (push_selector found x) xs, end) → selectors_at literal_at argument_at k found text ≡ Some (join_selectors found (selector x xs), end)
-  unfolding selectors_at
-  selectors_next zero found text rest behind next end x xs some read comma skipped more = absurd (omega arith)
-  selectors_next (suc k) found text rest behind next end x xs some read comma skipped more =
-      let less : suc k - 1 ≡ k = omega arith in
-      let later = rw less at more in
-      rw (read, comma, skipped, later, selectors_push found x xs) refl
-
-  -- all selectors up to a bracket, after those found
-  complete_selectors : (x : Selector) (xs : Selectors) (k : ℕ) (found : Selectors) (s r more behind : List ℕ) → SpellsSelector Number x s → SpellsMoreSelectors Number xs r → skip_blank more ≡ 93 ∷ behind
+  -- all selectors up to a bracket
+  complete_selectors : (x : Selector) (xs : Selectors) (k : ℕ) (s r more behind : List ℕ) → SpellsSelector Number x s → SpellsMoreSelectors Number xs r → skip_blank more ≡ 93 ∷ behind
       → length (s ++ (r ++ more)) ≤ n → length (s ++ (r ++ more)) < k
-      → (rest : List ℕ) × (selectors_at literal_at argument_at k found (s ++ (r ++ more)) ≡ Some (join_selectors found (selector x xs), rest)) × (skip_blank rest ≡ skip_blank more)
-  complete_selectors x no_selectors k found s r more behind hs hr close fits room =
+      → (rest : List ℕ) × (selectors_at literal_at argument_at k (s ++ (r ++ more)) ≡ Some (selector x xs, rest)) × (skip_blank rest ≡ skip_blank more)
+  complete_selectors x no_selectors k s r more behind hs hr close fits room =
       let text : s ++ (r ++ more) ≡ s ++ more = rw hr refl in
       let size : length (s ++ more) ≤ n = rw text at fits in
       let stop : EndsLogical more = rw close refl in
       let (rest, read, left) = complete_selector x s more hs stop size in
       let other : (first (skip_blank rest) == 44) ≡ false = rw (left, close) refl in
-      (rest, rw text (selectors_last k found (s ++ more) rest x (omega (arith, room)) read other ∙ ap (λ v. Some (v, rest)) (selectors_push_end found x)), left)
-  complete_selectors x (selector y ys) k found s r more behind hs hr close fits room =
+      (rest, rw text (separated_end selector no_selectors (selector_at literal_at argument_at) k (s ++ more) x rest (omega (arith, room)) read other), left)
+  complete_selectors x (selector y ys) k s r more behind hs hr close fits room =
       let (b, c, s', r', hb, hc, hy, hys, e) = hr in
       let next : List ℕ = s' ++ (r' ++ more) in
       let after : r ++ more ≡ b ++ (44 ∷ (c ++ next)) = rw e (behind_mark b c s' r' more 44) in
@@ -146,10 +128,10 @@ module _ (Number : Option ℤ → List ℕ → Type 0) (number_first : (v : Opti
       let start : skip_blank (c ++ next) ≡ next = skip_over c next hc (selector_start Number y s' (r' ++ more) hy) in
       let size : length (s ++ (r ++ more)) ≡ length s + (length b + (1 + (length c + length next))) =
       omega (arith, length-append s (r ++ more), ap length after, length-append b (44 ∷ (c ++ next)), length-append c next) in
-      let (rest', read', left') = complete_selectors y ys (k - 1) (push_selector found x) s' r' more behind hy hys close (omega (arith, size, fits)) (omega (arith, size, room)) in
-      (rest', selectors_next k found (s ++ (r ++ more)) rest (c ++ next) next rest' x (selector y ys) (omega (arith, room)) read (left ∙ skipped) start read', left')
+      let (rest', read', left') = complete_selectors y ys (k - 1) s' r' more behind hy hys close (omega (arith, size, fits)) (omega (arith, size, room)) in
+      (rest', separated_read selector no_selectors (selector_at literal_at argument_at) k (s ++ (r ++ more)) x rest (c ++ next) next (selector y ys) rest' (omega (arith, room)) read (left ∙ skipped) start read', left')
 
-  selection_reads : (inner start rest behind : List ℕ) (ss : Selectors) → skip_blank inner ≡ start → selectors_at literal_at argument_at (suc (length inner)) no_selectors start ≡ Some (ss, rest)
+  selection_reads : (inner start rest behind : List ℕ) (ss : Selectors) → skip_blank inner ≡ start → selectors_at literal_at argument_at (suc (length inner)) start ≡ Some (ss, rest)
       → skip_blank rest ≡ 93 ∷ behind
       → selection_at literal_at argument_at (91 ∷ inner) ≡ Some (selection_of ss, behind)
   unfolding selection_at
@@ -164,7 +146,7 @@ module _ (Number : Option ℤ → List ℕ → Type 0) (number_first : (v : Opti
       let close : skip_blank tail ≡ 93 ∷ more = follows c more 93 hc refl in
       let skipped : skip_blank (b ++ start) ≡ start = skip_over b start hb (selector_start Number x s (r ++ tail) hs) in
       let size : length (b ++ start) ≡ length b + length start = length-append b start in
-      let (rest, read, left) = complete_selectors x xs (suc (length (b ++ start))) no_selectors s r tail more hs hr close (omega (arith, size, fits)) (omega (arith, size)) in
+      let (rest, read, left) = complete_selectors x xs (suc (length (b ++ start))) s r tail more hs hr close (omega (arith, size, fits)) (omega (arith, size)) in
       selection_reads (b ++ start) start rest more (selector x xs) skipped read (left ∙ close)
 
   -- one between brackets
@@ -235,33 +217,21 @@ module _ (Number : Option ℤ → List ℕ → Type 0) (number_first : (v : Opti
       rw text (dots_read (s ++ more) ∙ descendant_bracket (s ++ more) more (several xs) (between_start (SpellsSelectors Number xs) s more hs).1 (complete_several xs s more some hs size))
   complete_segment (descendant (descendant g)) a more h stop fits = absurd h
 
-  -- one segment is read, and the loop goes on
-  segments_step : (k : ℕ) (found : Segments) (b x rest : List ℕ) (g : Segment) → 0 < k → IsBlank b → SpellsSegment Number g x → segment_at literal_at argument_at (x ++ rest) ≡ Some (g, rest)
-      → segments_at literal_at argument_at k found (b ++ (x ++ rest)) ≡ segments_at literal_at argument_at (k - 1) (push_segment found g) rest
-  unfolding segments_at
-  segments_step zero found b x rest g some hb hx read = absurd (omega arith)
-  segments_step (suc k) found b x rest g some hb hx read =
-      let less : suc k - 1 ≡ k = omega arith in
-      let start = segment_start Number g x rest hx in
-      rw (skip_over b (x ++ rest) hb start.1, start.0, read, less) refl
-
-  -- all segments, after those found
-  complete_segments : (gs : Segments) (k : ℕ) (found : Segments) (a more : List ℕ) → SpellsSegments Number gs a → EndsSegments more → length (a ++ more) ≤ n → length (a ++ more) < k
-      → segments_at literal_at argument_at k found (a ++ more) ≡ Some (join_segments found gs, more)
-  unfolding segments_at
-  complete_segments no_segments zero found a more h stop fits room = absurd (omega arith)
-  complete_segments no_segments (suc k) found a more h stop fits room = rw (h, stop.0) (ap (λ v. Some (v, more)) (sym (segments_none found)))
-  complete_segments (segment g gs) k found a more h stop fits room =
+  -- all segments
+  complete_segments : (gs : Segments) (k : ℕ) (a more : List ℕ) → SpellsSegments Number gs a → EndsSegments more → length (a ++ more) ≤ n → length (a ++ more) < k → segments_at literal_at argument_at k (a ++ more) ≡ Some (gs, more)
+  complete_segments no_segments k a more h stop fits room = rw h (many_end segment no_segments (λ t. segment_at literal_at argument_at (skip_blank t)) (λ t. starts_segment (skip_blank t)) k more (omega (arith, room)) stop.0)
+  complete_segments (segment g gs) k a more h stop fits room =
       let (b, x, c, hb, hx, hc, e) = h in
       let text : a ++ more ≡ b ++ (x ++ (c ++ more)) = rw e (regroup b x c more) in
       let size : length (a ++ more) ≡ length b + (length x + length (c ++ more)) = omega (arith, ap length text, length-append b (x ++ (c ++ more)), length-append x (c ++ more)) in
       let some : 0 < length x = segment_some Number g x hx in
+      let start = segment_start Number g x (c ++ more) hx in
+      let skipped : skip_blank (b ++ (x ++ (c ++ more))) ≡ x ++ (c ++ more) = skip_over b (x ++ (c ++ more)) hb start.1 in
       let read = complete_segment g x (c ++ more) hx (name_ends Number gs c more hc stop.1) (omega (arith, fits, size, length-append x (c ++ more))) in
-      rw text (segments_step k found b x (c ++ more) g (omega (arith, room)) hb hx read)
-      ∙ complete_segments gs (k - 1) (push_segment found g) c more hc stop (omega (arith, fits, size)) (omega (arith, size, room, some))
-      ∙ ap (λ v. Some (v, more)) (segments_push found g gs)
+      rw text (many_read segment no_segments (λ t. segment_at literal_at argument_at (skip_blank t)) (λ t. starts_segment (skip_blank t)) k (b ++ (x ++ (c ++ more))) g (c ++ more) gs more (omega (arith, room)) (ap starts_segment skipped ∙ start.0) (ap (segment_at literal_at argument_at) skipped ∙ read)
+      (complete_segments gs (k - 1) c more hc stop (omega (arith, fits, size)) (omega (arith, size, room, some))))
 
   -- the segments of a query, up to what is none
   pub complete_all_segments : (gs : Segments) (a more : List ℕ) → SpellsSegments Number gs a → EndsSegments more → length (a ++ more) ≤ n → all_segments_at literal_at argument_at (a ++ more) ≡ Some (gs, more)
   unfolding all_segments_at
-  complete_all_segments gs a more h stop fits = complete_segments gs (suc (length (a ++ more))) no_segments a more h stop fits (omega arith)
+  complete_all_segments gs a more h stop fits = complete_segments gs (suc (length (a ++ more))) a more h stop fits (omega arith)

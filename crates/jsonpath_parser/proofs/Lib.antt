@@ -11,7 +11,6 @@ pub mod Depths
 pub mod Equality
 pub mod Fronts
 pub mod Ints
-pub mod Joins
 pub mod NormalLemmas
 pub mod NumberComplete
 pub mod NumberPowers
@@ -23,6 +22,7 @@ pub mod PartSelectors
 pub mod Runs
 pub mod Sound
 pub mod SoundFilters
+pub mod SoundLists
 pub mod SoundParts
 pub mod SoundSegments
 pub mod StringComplete

@@ -1,19 +1,20 @@
 -- What is read is spelled so: calls, operands, comparisons, groups, and what `&&` and `||` join.
 --
 -- What an argument of a call reads is taken as a premise, so no law is mutual.
-use Rattle.std.proofs.Common.{◌≡◌, ℕ, zero, suc, ◌<◌, Bool, true, false, ◌==◌, bytes_eq, ℤ, List, [], ◌∷◌, ◌++◌, length, drop, codes, Option, Some, option_map, refl, sym, ap, ◌∙◌, subst, inl, inr, append_assoc, append-nil, arith}
+use Rattle.std.proofs.Common.{◌≡◌, ℕ, suc, ◌<◌, Bool, true, false, ◌==◌, bytes_eq, ℤ, List, [], ◌∷◌, ◌++◌, length, drop, codes, Option, Some, option_map, refl, sym, ap, ◌∙◌, subst, inl, inr, append_assoc, append-nil, arith}
 use Rattle.std.proofs.lemmas.Bool.{and_parts}
 use Rattle.jsonpath_parser.specs.Grammar.{Between, Behind, Then, IsNothing, IsNoBareTest, SpellsNot, SpellsCalled, SpellsLiteral, SpellsConjunction, SpellsOperand, SpellsMoreOr, SpellsMoreAnd, SpellsComparable, SpellsTest, SpellsCall, SpellsArgument, SpellsArguments, SpellsMoreArguments}
 use Rattle.jsonpath_parser.specs.Lexical.{IsBlank, IsFunctionName, is_quote}
 use Rattle.jsonpath_parser.specs.inner.Reading.{Read, first, after_byte, skip_blank}
-use Rattle.jsonpath_parser.specs.inner.ReadingGrammar.{push_filter, push_argument, steps_of, comparable_of, filter_of, negated_of, is_int_first, word_at, word_literal, is_operator_first, operator_at, is_twice, logical_at, all_segments_at, arguments_at, all_arguments_at, called_at, word_operand_at, operand_at, group_at, negated_at, compared_at, plain_at, basic_at, ands_at, conjunction_at, ors_at, disjunction_at}
+use Rattle.jsonpath_parser.specs.inner.ReadingGrammar.{operand_behind, steps_of, comparable_of, filter_of, negated_of, is_int_first, word_at, word_literal, is_operator_first, operator_at, is_twice, logical_at, all_segments_at, all_arguments_at, called_at, word_operand_at, operand_at, group_at, negated_at, compared_at, plain_at, basic_at, ands_at, conjunction_at, ors_at, disjunction_at}
+use Rattle.jsonpath_parser.specs.inner.ReadingLists.{found_then}
 use Rattle.jsonpath_parser.specs.inner.ReadingStrings.{string_at}
 use Rattle.jsonpath_parser.specs.Syntax.{number, string, current, root, Filter, or, and, atom, Filters, no_filters, filter_then, group, test, comparison, compare, Comparable, literal, function, singular, relative, absolute, call, Call, custom_call, length_call, value_call, count_call, search_call, match_call, Argument, literal_argument, test_argument, filter_argument, Arguments, no_arguments, argument}
 use Rattle.jsonpath_parser.specs.Typing.{one_argument, two_arguments, call_of, is_table_name}
 use Rattle.jsonpath_parser.proofs.Fronts.{skip_split}
-use Rattle.jsonpath_parser.proofs.Joins.{join_filters, filters_push, filters_none, join_arguments, arguments_push, arguments_push_end}
+use Rattle.jsonpath_parser.proofs.SoundLists.{sound_many, many_some, sound_separated}
 use Rattle.jsonpath_parser.proofs.SoundParts.{bind_ok, map_ok, chosen, at_front, two_front, byte_read, Spelled, same_parts, moved, glue, same_word, word_sound, sound_operator, word_spelled}
-use Rattle.jsonpath_parser.proofs.SoundSegments.{behind, gathered, steps_spelled, sound_logical, sound_all_segments}
+use Rattle.jsonpath_parser.proofs.SoundSegments.{gathered, steps_spelled, sound_logical, sound_all_segments}
 use Rattle.jsonpath_parser.proofs.StringSound.{sound_string}
 
 -- a byte twice at the front
@@ -21,8 +22,12 @@ twice_front : (b : ℕ) (text : List ℕ) → is_twice b text ≡ true → 0 < b
 twice_front b text e some = let (here, next) = and_parts _ _ e in two_front text b b here next some some
 
 -- the pieces of what stands behind a mark
-marked : (mark text t1 t2 t3 t4 rest b c a d : List ℕ) → text ≡ b ++ t1 → t1 ≡ mark ++ t2 → t2 ≡ c ++ t3 → t3 ≡ a ++ t4 → t4 ≡ d ++ rest → text ≡ (b ++ (mark ++ (c ++ (a ++ d)))) ++ rest
-marked mark text t1 t2 t3 t4 rest b c a d e1 e2 e3 e4 e5 = rw (e1, e2, e3, e4, e5) (simp append_assoc)
+marked : (mark text t1 t2 t3 rest b c a : List ℕ) → text ≡ b ++ t1 → t1 ≡ mark ++ t2 → t2 ≡ c ++ t3 → t3 ≡ a ++ rest → text ≡ (b ++ (mark ++ (c ++ a))) ++ rest
+marked mark text t1 t2 t3 rest b c a e1 e2 e3 e4 = rw (e1, e2, e3, e4) (simp append_assoc)
+
+-- and others behind them
+marked_others : (mark b c a r : List ℕ) → (b ++ (mark ++ (c ++ a))) ++ r ≡ b ++ (mark ++ (c ++ (a ++ r)))
+marked_others mark b c a r = simp append_assoc
 
 -- the pieces of a call
 call_pieces : (called inner t2 t3 t4 rest b a c : List ℕ) → inner ≡ b ++ t2 → t2 ≡ a ++ t3 → t3 ≡ c ++ t4 → t4 ≡ 41 ∷ rest → called ++ (40 ∷ inner) ≡ ((called ++ 40 ∷ []) ++ (b ++ (a ++ (c ++ 41 ∷ [])))) ++ rest
@@ -200,40 +205,13 @@ module _ (Number : Option ℤ → List ℕ → Type 0)
     (oracle : (x : Argument) (text rest : List ℕ) → argument_at text ≡ Some (x, rest) → Spelled (SpellsArgument Number) x text rest) where
   -- ---- operands
 
-  -- arguments that are read, after those found
-  sound_arguments : (k : ℕ) (found xs : Arguments) (text rest : List ℕ) → arguments_at number_literal_at argument_at k found text ≡ Some (xs, rest)
-      → (x : Argument) × (more : Arguments) × (a r : List ℕ) × (xs ≡ join_arguments found (argument x more)) × SpellsArgument Number x a × SpellsMoreArguments Number more r × (text ≡ a ++ (r ++ rest))
-  unfolding arguments_at
-  sound_arguments zero found xs text rest e = absurd (cc)
-  sound_arguments (suc k) found xs text rest e =
-      let (x, read, e1) = bind_ok _ (argument_at text) _ e in
-      let (a, ha, ea) = oracle x.0 text x.1 read in
-      let (b, hb, eb) = skip_split x.1 in
-      elim (chosen (first (skip_blank x.1) == 44) _ _ _ e1) [
-        | inl comma ↦ (
-            let (c, hc, ec) = skip_split (drop 1 (skip_blank x.1)) in
-            let (y, more, z, r, same, hy, hr, er) = sound_arguments k (push_argument found x.0) xs (skip_blank (drop 1 (skip_blank x.1))) rest comma.1 in (
-              x.0,
-              argument y more,
-              a,
-              b ++ (44 ∷ (c ++ (z ++ r))),
-              same ∙ arguments_push found x.0 (argument y more),
-              ha,
-              (b, c, z, r, hb, hc, hy, hr, refl),
-              behind (44 ∷ []) text x.1 (skip_blank x.1) (drop 1 (skip_blank x.1)) (skip_blank (drop 1 (skip_blank x.1))) rest a b c z r ea eb (at_front (skip_blank x.1) 44 comma.0 (omega arith)) ec er,
-            ))
-        | inr stop ↦ (
-            let (same, after) = same_parts (push_argument found x.0) xs x.1 rest stop.1 in
-            (x.0, no_arguments, a, [], sym same ∙ arguments_push_end found x.0, ha, refl, ea ∙ ap (λ v. a ++ v) after))
-      ]
-
   -- all of them, perhaps none
   sound_all_arguments : (xs : Arguments) (text rest : List ℕ) → all_arguments_at number_literal_at argument_at text ≡ Some (xs, rest) → Spelled (SpellsArguments Number) xs text rest
   unfolding all_arguments_at
   sound_all_arguments xs text rest e = elim (chosen (first text == 41) _ _ _ e) [
     | inl none ↦ moved (SpellsArguments Number) no_arguments xs text text rest none.1 ([], refl, refl)
     | inr some ↦ (
-        let (x, more, a, r, same, ha, hr, er) = sound_arguments (suc (length text)) no_arguments xs text rest some.1 in
+        let (x, more, a, r, same, ha, hr, er) = sound_separated argument no_arguments argument_at (SpellsArgument Number) (SpellsMoreArguments Number) oracle refl (λ y ys t h. h) (suc (length text)) xs text rest some.1 in
         (a ++ r, subst (λ v. SpellsArguments Number v (a ++ r)) (sym same) (a, r, ha, hr, refl), gathered text a r rest er))
   ]
 
@@ -373,33 +351,28 @@ module _ (Number : Option ℤ → List ℕ → Type 0)
 
   -- ---- `&&` and `||`
 
-  -- operands of `&&` that are read, after those found; where `&&` stands in front, there is one
-  sound_ands : (k : ℕ) (found fs : Filters) (text rest : List ℕ) → ands_at number_literal_at argument_at k found text ≡ Some (fs, rest)
-      → (gs : Filters) × (fs ≡ join_filters found gs) × (is_twice 38 (skip_blank text) ≡ true → IsSome Number gs) × Spelled (SpellsMoreAnd Number) gs text rest
-  unfolding ands_at
-  sound_ands zero found fs text rest e = absurd (cc)
-  sound_ands (suc k) found fs text rest e = elim (chosen (is_twice 38 (skip_blank text)) _ _ _ e) [
-    | inl go ↦ (
-        let (x, read, e1) = bind_ok _ (basic_at number_literal_at argument_at (skip_blank (drop 2 (skip_blank text)))) _ go.1 in
-        let (f, is, e2) = bind_ok _ (filter_of x.0) _ e1 in
-        let (b, hb, eb) = skip_split text in
-        let (c, hc, ec) = skip_split (drop 2 (skip_blank text)) in
-        let (a, ha, ea) = sound_basic x.0 (skip_blank (drop 2 (skip_blank text))) x.1 read in
-        let (gs, same, some, spelled) = sound_ands k (push_filter found f) fs x.1 rest e2 in
-        let (d, hd, ed) = spelled in (
-          filter_then f gs,
-          same ∙ filters_push found f gs,
-          λ t. tt,
-          (
-            b ++ (38 ∷ 38 ∷ (c ++ (a ++ d))),
-            (b, c, a, d, hb, hc, basic_operand Number x.0 f a ha is, hd, refl),
-            marked (38 ∷ 38 ∷ []) text (skip_blank text) (drop 2 (skip_blank text)) (skip_blank (drop 2 (skip_blank text))) x.1 rest b c a d eb (twice_front 38 (skip_blank text) go.0 (omega arith)) ec ea ed,
-          ),
-        ))
-    | inr stop ↦ (
-        let (same, after) = same_parts found fs text rest stop.1 in
-        (no_filters, sym same ∙ sym (filters_none found), λ t. absurd (cc), ([], refl, after)))
-  ]
+  -- an operand of `&&` behind one
+  abbrev SpellsNextAnd : Filter → List ℕ → Type 0
+  SpellsNextAnd f text = (b c a : List ℕ) × IsBlank b × IsBlank c × SpellsOperand Number f a × (text ≡ b ++ (38 ∷ 38 ∷ (c ++ a)))
+
+  sound_next_and : (f : Filter) (text rest : List ℕ) → is_twice 38 (skip_blank text) ≡ true → operand_behind (basic_at number_literal_at argument_at) text ≡ Some (f, rest) → Spelled SpellsNextAnd f text rest
+  sound_next_and f text rest go e =
+      let (x, read, e1) = bind_ok _ (basic_at number_literal_at argument_at (skip_blank (drop 2 (skip_blank text)))) _ e in
+      let (g, is, e2) = bind_ok _ (filter_of x.0) _ e1 in
+      let (b, hb, eb) = skip_split text in
+      let (c, hc, ec) = skip_split (drop 2 (skip_blank text)) in
+      let (a, ha, ea) = sound_basic x.0 (skip_blank (drop 2 (skip_blank text))) x.1 read in
+      moved SpellsNextAnd g f text x.1 rest e2 (b ++ (38 ∷ 38 ∷ (c ++ a)), (b, c, a, hb, hc, basic_operand Number x.0 g a ha is, refl), marked (38 ∷ 38 ∷ []) text (skip_blank text) (drop 2 (skip_blank text)) (skip_blank (drop 2 (skip_blank text))) x.1 b c a eb (twice_front 38 (skip_blank text) go (omega arith)) ec ea)
+
+  next_ands : (f : Filter) (fs : Filters) (a r : List ℕ) → SpellsNextAnd f a → SpellsMoreAnd Number fs r → SpellsMoreAnd Number (filter_then f fs) (a ++ r)
+  next_ands f fs a r h hr = let (b, c, x, hb, hc, hx, e) = h in (b, c, x, r, hb, hc, hx, hr, ap (λ v. v ++ r) e ∙ marked_others (38 ∷ 38 ∷ []) b c x r)
+
+  -- operands of `&&` that are read behind the first one; where `&&` stands in front, there is one
+  sound_ands : (k : ℕ) (gs : Filters) (text rest : List ℕ) → ands_at number_literal_at argument_at k text ≡ Some (gs, rest) → (is_twice 38 (skip_blank text) ≡ true → IsSome Number gs) × Spelled (SpellsMoreAnd Number) gs text rest
+  sound_ands k gs text rest e = (
+    λ go. let (f, fs, same) = many_some filter_then no_filters (operand_behind (basic_at number_literal_at argument_at)) (λ t. is_twice 38 (skip_blank t)) k gs text rest e go in rw same tt,
+    sound_many filter_then no_filters (operand_behind (basic_at number_literal_at argument_at)) (λ t. is_twice 38 (skip_blank t)) SpellsNextAnd (SpellsMoreAnd Number) sound_next_and refl next_ands k gs text rest e,
+  )
 
   -- an operand of `||` that is read
   pub sound_conjunction : (x : Argument) (text rest : List ℕ) → conjunction_at number_literal_at argument_at text ≡ Some (x, rest) → Spelled (SpellsConjunctionArgument Number) x text rest
@@ -410,41 +383,38 @@ module _ (Number : Option ℤ → List ℕ → Type 0)
       elim (chosen (is_twice 38 (skip_blank y.1)) _ _ _ e1) [
         | inl go ↦ (
             let (f, is, e2) = bind_ok _ (filter_of y.0) _ go.1 in
-            let (fs, more, e3) = bind_ok _ (ands_at number_literal_at argument_at (suc (length y.1)) (filter_then f no_filters) y.1) _ e2 in
-            let (gs, same, some, spelled) = sound_ands (suc (length y.1)) (filter_then f no_filters) fs.0 y.1 fs.1 more in
+            let (fs, more, e3) = bind_ok _ (found_then filter_then (f ∷ []) (ands_at number_literal_at argument_at (suc (length y.1)) y.1)) _ e2 in
+            let (gs, read_more, e4) = bind_ok _ (ands_at number_literal_at argument_at (suc (length y.1)) y.1) _ more in
+            let (same, left) = same_parts (filter_then f gs.0) fs.0 gs.1 fs.1 e4 in
+            let (some, spelled) = sound_ands (suc (length y.1)) gs.0 y.1 gs.1 read_more in
             let (r, hr, er) = spelled in
             moved (SpellsConjunctionArgument Number) (filter_argument (and fs.0)) x text fs.1 rest e3
-            (a ++ r, ands_spelled Number fs.0 f gs a r same (some go.0) (basic_operand Number y.0 f a ha is) hr, glue text a y.1 r fs.1 ea er))
+            (a ++ r, ands_spelled Number fs.0 f gs.0 a r (sym same) (some go.0) (basic_operand Number y.0 f a ha is) hr, glue text a y.1 r fs.1 ea (er ∙ ap (λ v. r ++ v) left)))
         | inr stop ↦ moved (SpellsConjunctionArgument Number) y.0 x text y.1 rest stop.1 (a, basic_conjunction Number y.0 a ha, ea)
       ]
 
-  -- operands of `||` that are read, after those found; where `||` stands in front, there is one
-  sound_ors : (k : ℕ) (found fs : Filters) (text rest : List ℕ) → ors_at number_literal_at argument_at k found text ≡ Some (fs, rest)
-      → (gs : Filters) × (fs ≡ join_filters found gs) × (is_twice 124 (skip_blank text) ≡ true → IsSome Number gs) × Spelled (SpellsMoreOr Number) gs text rest
-  unfolding ors_at
-  sound_ors zero found fs text rest e = absurd (cc)
-  sound_ors (suc k) found fs text rest e = elim (chosen (is_twice 124 (skip_blank text)) _ _ _ e) [
-    | inl go ↦ (
-        let (x, read, e1) = bind_ok _ (conjunction_at number_literal_at argument_at (skip_blank (drop 2 (skip_blank text)))) _ go.1 in
-        let (f, is, e2) = bind_ok _ (filter_of x.0) _ e1 in
-        let (b, hb, eb) = skip_split text in
-        let (c, hc, ec) = skip_split (drop 2 (skip_blank text)) in
-        let (a, ha, ea) = sound_conjunction x.0 (skip_blank (drop 2 (skip_blank text))) x.1 read in
-        let (gs, same, some, spelled) = sound_ors k (push_filter found f) fs x.1 rest e2 in
-        let (d, hd, ed) = spelled in (
-          filter_then f gs,
-          same ∙ filters_push found f gs,
-          λ t. tt,
-          (
-            b ++ (124 ∷ 124 ∷ (c ++ (a ++ d))),
-            (b, c, a, d, hb, hc, conjunction_operand Number x.0 f a ha is, hd, refl),
-            marked (124 ∷ 124 ∷ []) text (skip_blank text) (drop 2 (skip_blank text)) (skip_blank (drop 2 (skip_blank text))) x.1 rest b c a d eb (twice_front 124 (skip_blank text) go.0 (omega arith)) ec ea ed,
-          ),
-        ))
-    | inr stop ↦ (
-        let (same, after) = same_parts found fs text rest stop.1 in
-        (no_filters, sym same ∙ sym (filters_none found), λ t. absurd (cc), ([], refl, after)))
-  ]
+  -- an operand of `||` behind one
+  abbrev SpellsNextOr : Filter → List ℕ → Type 0
+  SpellsNextOr f text = (b c a : List ℕ) × IsBlank b × IsBlank c × SpellsConjunction Number f a × (text ≡ b ++ (124 ∷ 124 ∷ (c ++ a)))
+
+  sound_next_or : (f : Filter) (text rest : List ℕ) → is_twice 124 (skip_blank text) ≡ true → operand_behind (conjunction_at number_literal_at argument_at) text ≡ Some (f, rest) → Spelled SpellsNextOr f text rest
+  sound_next_or f text rest go e =
+      let (x, read, e1) = bind_ok _ (conjunction_at number_literal_at argument_at (skip_blank (drop 2 (skip_blank text)))) _ e in
+      let (g, is, e2) = bind_ok _ (filter_of x.0) _ e1 in
+      let (b, hb, eb) = skip_split text in
+      let (c, hc, ec) = skip_split (drop 2 (skip_blank text)) in
+      let (a, ha, ea) = sound_conjunction x.0 (skip_blank (drop 2 (skip_blank text))) x.1 read in
+      moved SpellsNextOr g f text x.1 rest e2 (b ++ (124 ∷ 124 ∷ (c ++ a)), (b, c, a, hb, hc, conjunction_operand Number x.0 g a ha is, refl), marked (124 ∷ 124 ∷ []) text (skip_blank text) (drop 2 (skip_blank text)) (skip_blank (drop 2 (skip_blank text))) x.1 b c a eb (twice_front 124 (skip_blank text) go (omega arith)) ec ea)
+
+  next_ors : (f : Filter) (fs : Filters) (a r : List ℕ) → SpellsNextOr f a → SpellsMoreOr Number fs r → SpellsMoreOr Number (filter_then f fs) (a ++ r)
+  next_ors f fs a r h hr = let (b, c, x, hb, hc, hx, e) = h in (b, c, x, r, hb, hc, hx, hr, ap (λ v. v ++ r) e ∙ marked_others (124 ∷ 124 ∷ []) b c x r)
+
+  -- operands of `||` that are read behind the first one; where `||` stands in front, there is one
+  sound_ors : (k : ℕ) (gs : Filters) (text rest : List ℕ) → ors_at number_literal_at argument_at k text ≡ Some (gs, rest) → (is_twice 124 (skip_blank text) ≡ true → IsSome Number gs) × Spelled (SpellsMoreOr Number) gs text rest
+  sound_ors k gs text rest e = (
+    λ go. let (f, fs, same) = many_some filter_then no_filters (operand_behind (conjunction_at number_literal_at argument_at)) (λ t. is_twice 124 (skip_blank t)) k gs text rest e go in rw same tt,
+    sound_many filter_then no_filters (operand_behind (conjunction_at number_literal_at argument_at)) (λ t. is_twice 124 (skip_blank t)) SpellsNextOr (SpellsMoreOr Number) sound_next_or refl next_ors k gs text rest e,
+  )
 
   -- an argument that is read, one turn of the recursion
   pub sound_disjunction : (x : Argument) (text rest : List ℕ) → disjunction_at number_literal_at argument_at text ≡ Some (x, rest) → Spelled (SpellsArgument Number) x text rest
@@ -455,10 +425,12 @@ module _ (Number : Option ℤ → List ℕ → Type 0)
       elim (chosen (is_twice 124 (skip_blank y.1)) _ _ _ e1) [
         | inl go ↦ (
             let (f, is, e2) = bind_ok _ (filter_of y.0) _ go.1 in
-            let (fs, more, e3) = bind_ok _ (ors_at number_literal_at argument_at (suc (length y.1)) (filter_then f no_filters) y.1) _ e2 in
-            let (gs, same, some, spelled) = sound_ors (suc (length y.1)) (filter_then f no_filters) fs.0 y.1 fs.1 more in
+            let (fs, more, e3) = bind_ok _ (found_then filter_then (f ∷ []) (ors_at number_literal_at argument_at (suc (length y.1)) y.1)) _ e2 in
+            let (gs, read_more, e4) = bind_ok _ (ors_at number_literal_at argument_at (suc (length y.1)) y.1) _ more in
+            let (same, left) = same_parts (filter_then f gs.0) fs.0 gs.1 fs.1 e4 in
+            let (some, spelled) = sound_ors (suc (length y.1)) gs.0 y.1 gs.1 read_more in
             let (r, hr, er) = spelled in
             moved (SpellsArgument Number) (filter_argument (or fs.0)) x text fs.1 rest e3
-            (a ++ r, ors_spelled Number fs.0 f gs a r same (some go.0) (conjunction_operand Number y.0 f a ha is) hr, glue text a y.1 r fs.1 ea er))
+            (a ++ r, ors_spelled Number fs.0 f gs.0 a r (sym same) (some go.0) (conjunction_operand Number y.0 f a ha is) hr, glue text a y.1 r fs.1 ea (er ∙ ap (λ v. r ++ v) left)))
         | inr stop ↦ moved (SpellsArgument Number) y.0 x text y.1 rest stop.1 (a, conjunction_argument Number y.0 a ha, ea)
       ]

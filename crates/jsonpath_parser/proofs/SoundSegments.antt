@@ -1,25 +1,21 @@
 -- What is read is spelled so: selectors, segments and the steps of a singular query.
 --
 -- What an argument of a call reads is taken as a premise, so no law is mutual.
-use Rattle.std.proofs.Common.{◌≡◌, ℕ, zero, suc, false, ◌==◌, ℤ, List, [], ◌∷◌, ◌++◌, length, drop, slice_index, codes, Option, Some, refl, sym, ap, ◌∙◌, subst, ◌⊎◌, inl, inr, append_assoc, append-nil, arith}
+use Rattle.std.proofs.Common.{◌≡◌, ℕ, suc, true, false, ◌==◌, ℤ, List, [], ◌∷◌, ◌++◌, length, drop, slice_index, codes, Option, Some, refl, sym, ap, ◌∙◌, subst, ◌⊎◌, inl, inr, append_assoc, append-nil, arith}
 use Rattle.jsonpath_parser.specs.Grammar.{Between, IsSeveral, SpellsSelector, SpellsSelectors, SpellsMoreSelectors, SpellsShorthand, SpellsSegment, SpellsSegments, SpellsLogical, SpellsArgument, SpellsSingularStep, SpellsSingularSteps}
 use Rattle.jsonpath_parser.specs.Lexical.{IsBlank, is_quote}
 use Rattle.jsonpath_parser.specs.inner.Reading.{Read, first, after_byte, skip_blank}
-use Rattle.jsonpath_parser.specs.inner.ReadingGrammar.{push_segment, push_selector, selection_of, step_of_segment, steps_of, filter_of, shorthand_at, starts_segment, logical_at, selector_at, selectors_at, selection_at, descendant_at, segment_at, segments_at, all_segments_at}
+use Rattle.jsonpath_parser.specs.inner.ReadingGrammar.{selection_of, step_of_segment, steps_of, filter_of, shorthand_at, starts_segment, logical_at, selector_at, selectors_at, selection_at, descendant_at, segment_at, all_segments_at}
 use Rattle.jsonpath_parser.specs.inner.ReadingStrings.{string_at}
 use Rattle.jsonpath_parser.specs.Syntax.{SingularStep, name_step, index_step, Selector, name, wildcard, index, slice, filter, Selectors, no_selectors, selector, Segment, one, several, descendant, Segments, no_segments, segment, Filter, atom, test, Argument, literal_argument, test_argument, filter_argument}
 use Rattle.jsonpath_parser.proofs.Fronts.{skip_split}
-use Rattle.jsonpath_parser.proofs.Joins.{join_segments, segments_push, segments_none, join_selectors, selectors_push, selectors_push_end}
-use Rattle.jsonpath_parser.proofs.SoundParts.{bind_ok, chosen, at_front, two_front, byte_read, Spelled, same_parts, moved, glue, sound_shorthand, sound_numbered}
+use Rattle.jsonpath_parser.proofs.SoundLists.{sound_many, sound_separated}
+use Rattle.jsonpath_parser.proofs.SoundParts.{bind_ok, chosen, at_front, two_front, byte_read, Spelled, moved, glue, sound_shorthand, sound_numbered}
 use Rattle.jsonpath_parser.proofs.StringSound.{sound_string}
 
 -- the pieces of a text between two others
 pub between : (before after text t1 t2 t3 t4 rest b a c : List ℕ) → text ≡ before ++ t1 → t1 ≡ b ++ t2 → t2 ≡ a ++ t3 → t3 ≡ c ++ t4 → t4 ≡ after ++ rest → text ≡ (before ++ (b ++ (a ++ (c ++ after)))) ++ rest
 between before after text t1 t2 t3 t4 rest b a c e e1 e2 e3 e4 = rw (e, e1, e2, e3, e4) (simp append_assoc)
-
--- and of one with more behind a mark
-pub behind : (mark text t1 t2 t3 t4 rest x b c y r : List ℕ) → text ≡ x ++ t1 → t1 ≡ b ++ t2 → t2 ≡ mark ++ t3 → t3 ≡ c ++ t4 → t4 ≡ y ++ (r ++ rest) → text ≡ x ++ ((b ++ (mark ++ (c ++ (y ++ r)))) ++ rest)
-behind mark text t1 t2 t3 t4 rest x b c y r e1 e2 e3 e4 e5 = rw (e1, e2, e3, e4, e5) (simp append_assoc)
 
 -- a first part and others are one
 pub gathered : (text a r rest : List ℕ) → text ≡ a ++ (r ++ rest) → text ≡ (a ++ r) ++ rest
@@ -118,43 +114,21 @@ module _ (Number : Option ℤ → List ℕ → Type 0)
     ]
   ]
 
-  -- selectors that are read, after those found
-  sound_selectors : (k : ℕ) (found ss : Selectors) (text rest : List ℕ) → selectors_at number_literal_at argument_at k found text ≡ Some (ss, rest)
-      → (s : Selector) × (more : Selectors) × (a r : List ℕ) × (ss ≡ join_selectors found (selector s more)) × SpellsSelector Number s a × SpellsMoreSelectors Number more r × (text ≡ a ++ (r ++ rest))
-  unfolding selectors_at
-  sound_selectors zero found ss text rest e = absurd (cc)
-  sound_selectors (suc k) found ss text rest e =
-      let (s, read, e1) = bind_ok _ (selector_at number_literal_at argument_at text) _ e in
-      let (a, ha, ea) = sound_selector s.0 text s.1 read in
-      let (b, hb, eb) = skip_split s.1 in
-      elim (chosen (first (skip_blank s.1) == 44) _ _ _ e1) [
-        | inl comma ↦ (
-            let (c, hc, ec) = skip_split (drop 1 (skip_blank s.1)) in
-            let (x, more, y, r, same, hx, hr, er) = sound_selectors k (push_selector found s.0) ss (skip_blank (drop 1 (skip_blank s.1))) rest comma.1 in (
-              s.0,
-              selector x more,
-              a,
-              b ++ (44 ∷ (c ++ (y ++ r))),
-              same ∙ selectors_push found s.0 (selector x more),
-              ha,
-              (b, c, y, r, hb, hc, hx, hr, refl),
-              behind (44 ∷ []) text s.1 (skip_blank s.1) (drop 1 (skip_blank s.1)) (skip_blank (drop 1 (skip_blank s.1))) rest a b c y r ea eb (at_front (skip_blank s.1) 44 comma.0 (omega arith)) ec er,
-            ))
-        | inr stop ↦ (
-            let (same, after) = same_parts (push_selector found s.0) ss s.1 rest stop.1 in
-            (s.0, no_selectors, a, [], sym same ∙ selectors_push_end found s.0, ha, refl, ea ∙ ap (λ v. a ++ v) after))
-      ]
+  -- selectors that are read
+  sound_selectors : (k : ℕ) (ss : Selectors) (text rest : List ℕ) → selectors_at number_literal_at argument_at k text ≡ Some (ss, rest)
+      → (s : Selector) × (more : Selectors) × (a r : List ℕ) × (ss ≡ selector s more) × SpellsSelector Number s a × SpellsMoreSelectors Number more r × (text ≡ a ++ (r ++ rest))
+  sound_selectors k ss text rest e = sound_separated selector no_selectors (selector_at number_literal_at argument_at) (SpellsSelector Number) (SpellsMoreSelectors Number) sound_selector refl (λ x xs r h. h) k ss text rest e
 
   -- brackets that are read
   pub sound_selection : (g : Segment) (text rest : List ℕ) → selection_at number_literal_at argument_at text ≡ Some (g, rest) → Spelled (SpellsSelection Number) g text rest
   unfolding selection_at
   sound_selection g text rest e =
       let (inner, open_, e1) = bind_ok _ (after_byte 91 text) _ e in
-      let (ss, read, e2) = bind_ok _ (selectors_at number_literal_at argument_at (suc (length inner)) no_selectors (skip_blank inner)) _ e1 in
+      let (ss, read, e2) = bind_ok _ (selectors_at number_literal_at argument_at (suc (length inner)) (skip_blank inner)) _ e1 in
       let (end, close, e3) = bind_ok _ (after_byte 93 (skip_blank ss.1)) _ e2 in
       let (b, hb, eb) = skip_split inner in
       let (c, hc, ec) = skip_split ss.1 in
-      let (s, more, a, r, same, ha, hr, er) = sound_selectors (suc (length inner)) no_selectors ss.0 (skip_blank inner) ss.1 read in
+      let (s, more, a, r, same, ha, hr, er) = sound_selectors (suc (length inner)) ss.0 (skip_blank inner) ss.1 read in
       moved (SpellsSelection Number) (selection_of ss.0) g text end rest e3 (
         91 ∷ (b ++ ((a ++ r) ++ (c ++ 93 ∷ []))),
         selection_is Number ss.0 s more b a r c same hb ha hr hc,
@@ -193,31 +167,20 @@ module _ (Number : Option ℤ → List ℕ → Type 0)
         (a, selection_segment Number g a ha, ea))
   ]
 
-  -- segments that are read, after those found
-  sound_segments : (k : ℕ) (found gs : Segments) (text rest : List ℕ) → segments_at number_literal_at argument_at k found text ≡ Some (gs, rest)
-      → (ys : Segments) × (gs ≡ join_segments found ys) × Spelled (SpellsSegments Number) ys text rest
-  unfolding segments_at
-  sound_segments zero found gs text rest e = absurd (cc)
-  sound_segments (suc k) found gs text rest e = elim (chosen (starts_segment (skip_blank text)) _ _ _ e) [
-    | inl go ↦ (
-        let (g, read, e1) = bind_ok _ (segment_at number_literal_at argument_at (skip_blank text)) _ go.1 in
-        let (b, hb, eb) = skip_split text in
-        let (a, ha, ea) = sound_segment g.0 (skip_blank text) g.1 read in
-        let (ys, same, spelled) = sound_segments k (push_segment found g.0) gs g.1 rest e1 in
-        let (c, hc, ec) = spelled in (
-          segment g.0 ys,
-          same ∙ segments_push found g.0 ys,
-          (b ++ (a ++ c), (b, a, c, hb, ha, hc, refl), eb ∙ ap (λ v. b ++ v) (ea ∙ ap (λ v. a ++ v) ec) ∙ sym (simp append_assoc)),
-        ))
-    | inr stop ↦ (
-        let (same, after) = same_parts found gs text rest stop.1 in
-        (no_segments, sym same ∙ sym (segments_none found), ([], refl, after)))
-  ]
+  -- blanks and a segment
+  abbrev SpellsNext : Segment → List ℕ → Type 0
+  SpellsNext g text = (b a : List ℕ) × IsBlank b × SpellsSegment Number g a × (text ≡ b ++ a)
+
+  sound_next : (g : Segment) (text rest : List ℕ) → starts_segment (skip_blank text) ≡ true → segment_at number_literal_at argument_at (skip_blank text) ≡ Some (g, rest) → Spelled SpellsNext g text rest
+  sound_next g text rest go e =
+      let (b, hb, eb) = skip_split text in
+      let (a, ha, ea) = sound_segment g (skip_blank text) rest e in
+      (b ++ a, (b, a, hb, ha, refl), glue text b (skip_blank text) a rest eb ea)
+
+  next_segments : (g : Segment) (gs : Segments) (a r : List ℕ) → SpellsNext g a → SpellsSegments Number gs r → SpellsSegments Number (segment g gs) (a ++ r)
+  next_segments g gs a r h hr = let (b, x, hb, hx, e) = h in (b, x, r, hb, hx, hr, ap (λ v. v ++ r) e ∙ append_assoc b x r)
 
   -- all the segments that are read
   pub sound_all_segments : (gs : Segments) (text rest : List ℕ) → all_segments_at number_literal_at argument_at text ≡ Some (gs, rest) → Spelled (SpellsSegments Number) gs text rest
   unfolding all_segments_at
-  sound_all_segments gs text rest e =
-      let (ys, same, spelled) = sound_segments (suc (length text)) no_segments gs text rest e in
-      let (a, ha, ea) = spelled in
-      (a, subst (λ v. SpellsSegments Number v a) (sym same) ha, ea)
+  sound_all_segments gs text rest e = sound_many segment no_segments (λ t. segment_at number_literal_at argument_at (skip_blank t)) (λ t. starts_segment (skip_blank t)) SpellsNext (SpellsSegments Number) sound_next refl next_segments (suc (length text)) gs text rest e

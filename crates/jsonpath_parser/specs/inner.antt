@@ -1,5 +1,6 @@
 -- What the parser's own contracts and proofs say. The laws of proofs/ join it to the grammar, so a user need not believe it.
 pub mod Reading
+pub mod ReadingLists
 pub mod ReadingStrings
 pub mod ReadingNumbers
 pub mod ReadingGrammar

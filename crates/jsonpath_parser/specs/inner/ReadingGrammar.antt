@@ -5,6 +5,7 @@ use Rattle.std.specs.Prelude.{ℕ, zero, suc, Bool, true, false, ◌&&◌, ◌||
 use Rattle.std.specs.Char.{is_ascii_digit}
 use Rattle.jsonpath_parser.specs.Lexical.{is_function_first, is_function_byte, is_quote}
 use Rattle.jsonpath_parser.specs.inner.Reading.{Read, ◌>>=◌, split_while, skip_blank, first, after_byte, int_at, name_at}
+use Rattle.jsonpath_parser.specs.inner.ReadingLists.{found_then, many_at, separated_at}
 use Rattle.jsonpath_parser.specs.inner.ReadingNumbers.{number_at}
 use Rattle.jsonpath_parser.specs.inner.ReadingStrings.{string_at}
 use Rattle.jsonpath_parser.specs.declared.grammar.literals.Numbers.{Numbers}
@@ -20,23 +21,6 @@ number_reading Valued text = number_at text >>= (λ n. n.0 >>= (λ v. Some (Some
 number_reading Any text = number_at text >>= (λ n. Some (Some (unwrap_or n.0 (pos 0)), n.1))
 
 -- ---- what a part becomes
-
--- one more at the end
-abbrev pub push_segment : Segments → Segment → Segments
-push_segment no_segments g = segment g no_segments
-push_segment (segment h gs) g = segment h (push_segment gs g)
-
-abbrev pub push_selector : Selectors → Selector → Selectors
-push_selector no_selectors s = selector s no_selectors
-push_selector (selector t ss) s = selector t (push_selector ss s)
-
-abbrev pub push_filter : Filters → Filter → Filters
-push_filter no_filters f = filter_then f no_filters
-push_filter (filter_then g fs) f = filter_then g (push_filter fs f)
-
-abbrev pub push_argument : Arguments → Argument → Arguments
-push_argument no_arguments x = argument x no_arguments
-push_argument (argument y xs) x = argument y (push_argument xs x)
 
 -- one selector alone, or several
 abbrev pub selection_of : Selectors → Segment
@@ -147,6 +131,10 @@ operator_at text =
 abbrev pub is_twice : ℕ → List ℕ → Bool
 is_twice b text = first text == b && slice_index text 1 == b
 
+-- an operand behind two of a mark, as a logical expression
+abbrev pub operand_behind : (List ℕ → Read Argument) → List ℕ → Read Filter
+operand_behind part_at text = part_at (skip_blank (drop 2 (skip_blank text))) >>= (λ x. filter_of x.0 >>= (λ f. Some (f, x.1)))
+
 -- ---- the rest, over how a number literal and an argument are read
 
 module _ (number_literal_at : List ℕ → Read (Option ℤ)) (argument_at : List ℕ → Read Argument) where
@@ -162,19 +150,15 @@ module _ (number_literal_at : List ℕ → Read (Option ℤ)) (argument_at : Lis
       else (if is_quote (first text) then string_at text >>= (λ n. Some (name n.0, n.1))
       else numbered_at text))
 
-  -- selectors up to what is no comma, of fewer than k, after those found
-  unfoldable pub selectors_at : ℕ → Selectors → List ℕ → Read Selectors
-  selectors_at zero found text = None
-  selectors_at (suc k) found text =
-      selector_at text >>= (λ s.
-      if first (skip_blank s.1) == 44 then selectors_at k (push_selector found s.0) (skip_blank (drop 1 (skip_blank s.1)))
-      else Some (push_selector found s.0, s.1))
+  -- selectors up to what is no comma
+  abbrev pub selectors_at : ℕ → List ℕ → Read Selectors
+  selectors_at k text = separated_at selector no_selectors selector_at k text
 
   -- selectors between brackets
   unfoldable pub selection_at : List ℕ → Read Segment
   selection_at text =
       after_byte 91 text >>= (λ inner.
-      selectors_at (suc (length inner)) no_selectors (skip_blank inner) >>= (λ ss.
+      selectors_at (suc (length inner)) (skip_blank inner) >>= (λ ss.
       after_byte 93 (skip_blank ss.1) >>= (λ rest. Some (selection_of ss.0, rest))))
 
   -- behind `..`
@@ -191,28 +175,21 @@ module _ (number_literal_at : List ℕ → Read (Option ℤ)) (argument_at : Lis
       else shorthand_at (drop 1 text) >>= (λ s. Some (one s.0, s.1)))
       else selection_at text
 
-  -- the rest of the segments, of fewer than k, after those found; blanks that no segment follows are not read
-  unfoldable pub segments_at : ℕ → Segments → List ℕ → Read Segments
-  segments_at zero found text = None
-  segments_at (suc k) found text =
-      if starts_segment (skip_blank text) then segment_at (skip_blank text) >>= (λ g. segments_at k (push_segment found g.0) g.1)
-      else Some (found, text)
+  -- segments; blanks that no segment follows are not read
+  abbrev pub segments_at : ℕ → List ℕ → Read Segments
+  segments_at k text = many_at segment no_segments (λ t. segment_at (skip_blank t)) (λ t. starts_segment (skip_blank t)) k text
 
   -- all of them
   unfoldable pub all_segments_at : List ℕ → Read Segments
-  all_segments_at text = segments_at (suc (length text)) no_segments text
+  all_segments_at text = segments_at (suc (length text)) text
 
-  -- arguments up to what is no comma, of fewer than k, after those found
-  unfoldable pub arguments_at : ℕ → Arguments → List ℕ → Read Arguments
-  arguments_at zero found text = None
-  arguments_at (suc k) found text =
-      argument_at text >>= (λ x.
-      if first (skip_blank x.1) == 44 then arguments_at k (push_argument found x.0) (skip_blank (drop 1 (skip_blank x.1)))
-      else Some (push_argument found x.0, x.1))
+  -- arguments up to what is no comma
+  abbrev pub arguments_at : ℕ → List ℕ → Read Arguments
+  arguments_at k text = separated_at argument no_arguments argument_at k text
 
   -- perhaps none, up to `)`
   unfoldable pub all_arguments_at : List ℕ → Read Arguments
-  all_arguments_at text = if first text == 41 then Some (no_arguments, text) else arguments_at (suc (length text)) no_arguments text
+  all_arguments_at text = if first text == 41 then Some (no_arguments, text) else arguments_at (suc (length text)) text
 
   -- the call of this name, behind its `(`
   unfoldable pub called_at : List ℕ → List ℕ → Read Call
@@ -272,14 +249,9 @@ module _ (number_literal_at : List ℕ → Read (Option ℤ)) (argument_at : Lis
       else (if first text == 40 then group_at false text
       else plain_at text)
 
-  -- the rest of the operands of `&&`, of fewer than k, after those found
-  unfoldable pub ands_at : ℕ → Filters → List ℕ → Read Filters
-  ands_at zero found text = None
-  ands_at (suc k) found text =
-      if is_twice 38 (skip_blank text) then
-      basic_at (skip_blank (drop 2 (skip_blank text))) >>= (λ x.
-      filter_of x.0 >>= (λ f. ands_at k (push_filter found f) x.1))
-      else Some (found, text)
+  -- the operands of `&&` behind the first one
+  abbrev pub ands_at : ℕ → List ℕ → Read Filters
+  ands_at k text = many_at filter_then no_filters (operand_behind basic_at) (λ t. is_twice 38 (skip_blank t)) k text
 
   -- an operand of `||`, or a literal
   unfoldable pub conjunction_at : List ℕ → Read Argument
@@ -287,17 +259,12 @@ module _ (number_literal_at : List ℕ → Read (Option ℤ)) (argument_at : Lis
       basic_at text >>= (λ x.
       if is_twice 38 (skip_blank x.1) then
       filter_of x.0 >>= (λ f.
-      ands_at (suc (length x.1)) (filter_then f no_filters) x.1 >>= (λ fs. Some (filter_argument (and fs.0), fs.1)))
+      found_then filter_then (f ∷ []) (ands_at (suc (length x.1)) x.1) >>= (λ fs. Some (filter_argument (and fs.0), fs.1)))
       else Some (x.0, x.1))
 
-  -- the rest of the operands of `||`, of fewer than k, after those found
-  unfoldable pub ors_at : ℕ → Filters → List ℕ → Read Filters
-  ors_at zero found text = None
-  ors_at (suc k) found text =
-      if is_twice 124 (skip_blank text) then
-      conjunction_at (skip_blank (drop 2 (skip_blank text))) >>= (λ x.
-      filter_of x.0 >>= (λ f. ors_at k (push_filter found f) x.1))
-      else Some (found, text)
+  -- the operands of `||` behind the first one
+  abbrev pub ors_at : ℕ → List ℕ → Read Filters
+  ors_at k text = many_at filter_then no_filters (operand_behind conjunction_at) (λ t. is_twice 124 (skip_blank t)) k text
 
   -- an argument, one turn of the recursion
   unfoldable pub disjunction_at : List ℕ → Read Argument
@@ -305,7 +272,7 @@ module _ (number_literal_at : List ℕ → Read (Option ℤ)) (argument_at : Lis
       conjunction_at text >>= (λ x.
       if is_twice 124 (skip_blank x.1) then
       filter_of x.0 >>= (λ f.
-      ors_at (suc (length x.1)) (filter_then f no_filters) x.1 >>= (λ fs. Some (filter_argument (or fs.0), fs.1)))
+      found_then filter_then (f ∷ []) (ors_at (suc (length x.1)) x.1) >>= (λ fs. Some (filter_argument (or fs.0), fs.1)))
       else Some (x.0, x.1))
 
 module _ (number_literal_at : List ℕ → Read (Option ℤ)) where

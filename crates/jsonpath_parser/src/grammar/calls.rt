@@ -3,7 +3,6 @@ ghost use Rattle.std.specs.Prelude.{◌≡◌, ℕ, ◌<◌, ◌≤◌, length, 
 ghost use Rattle.jsonpath_parser.specs.inner.Reading.{Reads};
 ghost use Rattle.jsonpath_parser.specs.inner.ReadingGrammar as spec;
 ghost use Rattle.jsonpath_parser.specs.inner.ReadingGrammar.{number_reading};
-ghost use Rattle.jsonpath_parser.specs.Syntax.{no_arguments};
 ghost use Rattle.jsonpath_parser.specs.View.{call_view, arguments_view};
 
 use super::filters::argument;
@@ -16,9 +15,9 @@ use std::alloc::Global;
 
 /// Arguments with commas between them.
 #[cycle(reading)]
-#[tactic(auto, unfolding(crate::specs::inner::ReadingGrammar::arguments_at))]
+#[tactic(auto, unfolding(crate::specs::inner::ReadingLists::separated_at))]
 fn some_arguments(alloc: Global, numbers: Numbers, s: &str) -> Result<(Vec<FnArg>, &str), Stop>
-    ensures value { (n k : ℕ) → length s.now < n → length s.now < k → Reads arguments_view result (spec.arguments_at (number_reading numbers) (spec.argument_at (number_reading numbers) n) k no_arguments s.now) }
+    ensures value { (n k : ℕ) → length s.now < n → length s.now < k → Reads arguments_view result (spec.arguments_at (number_reading numbers) (spec.argument_at (number_reading numbers) n) k s.now) }
     ensures shorter { IfOk result (λ p. length p.1.now < length s.now) }
 {
     let mut found = Vec::new(alloc);

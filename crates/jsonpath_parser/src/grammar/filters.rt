@@ -1,9 +1,10 @@
 //! Logical expressions, and the arguments of calls, which are the widest production (RFC 9535, 2.3.5.1 and 2.4).
-ghost use Rattle.std.specs.Prelude.{◌≡◌, ℕ, ◌<◌, ◌≤◌, length, IfOk};
+ghost use Rattle.std.specs.Prelude.{◌≡◌, ℕ, ◌<◌, ◌≤◌, [], ◌∷◌, length, IfOk};
 ghost use Rattle.jsonpath_parser.specs.inner.Reading.{Reads};
 ghost use Rattle.jsonpath_parser.specs.inner.ReadingGrammar as spec;
 ghost use Rattle.jsonpath_parser.specs.inner.ReadingGrammar.{number_reading};
-ghost use Rattle.jsonpath_parser.specs.Syntax.{filter_then, no_filters};
+ghost use Rattle.jsonpath_parser.specs.inner.ReadingLists.{found_then};
+ghost use Rattle.jsonpath_parser.specs.Syntax.{filter_then};
 ghost use Rattle.jsonpath_parser.specs.View.{argument_view, filter_view, filters_view};
 
 use super::literals::Numbers;
@@ -94,14 +95,14 @@ pub fn basic(alloc: Global, numbers: Numbers, s: &str) -> Result<(FnArg, &str), 
 
 /// The operands of `&&` from the first one on.
 #[cycle(reading)]
-#[tactic(auto, unfolding(crate::specs::inner::ReadingGrammar::ands_at))]
+#[tactic(auto, unfolding(crate::specs::inner::ReadingLists::many_at))]
 fn ands(
     alloc: Global,
     numbers: Numbers,
     first_part: Filter,
     s: &str,
 ) -> Result<(Vec<Filter>, &str), Stop>
-    ensures value { (n k : ℕ) → length s.now ≤ n → length s.now < k → Reads filters_view result (spec.ands_at (number_reading numbers) (spec.argument_at (number_reading numbers) n) k (filter_then (filter_view first_part) no_filters) s.now) }
+    ensures value { (n k : ℕ) → length s.now ≤ n → length s.now < k → Reads filters_view result (found_then filter_then (filter_view first_part ∷ []) (spec.ands_at (number_reading numbers) (spec.argument_at (number_reading numbers) n) k s.now)) }
     ensures within { IfOk result (λ p. length p.1.now ≤ length s.now) }
 {
     let mut found = Vec::new(alloc);
@@ -135,14 +136,14 @@ pub fn conjunction(alloc: Global, numbers: Numbers, s: &str) -> Result<(FnArg, &
 
 /// The operands of `||` from the first one on.
 #[cycle(reading)]
-#[tactic(auto, unfolding(crate::specs::inner::ReadingGrammar::ors_at))]
+#[tactic(auto, unfolding(crate::specs::inner::ReadingLists::many_at))]
 fn ors(
     alloc: Global,
     numbers: Numbers,
     first_part: Filter,
     s: &str,
 ) -> Result<(Vec<Filter>, &str), Stop>
-    ensures value { (n k : ℕ) → length s.now ≤ n → length s.now < k → Reads filters_view result (spec.ors_at (number_reading numbers) (spec.argument_at (number_reading numbers) n) k (filter_then (filter_view first_part) no_filters) s.now) }
+    ensures value { (n k : ℕ) → length s.now ≤ n → length s.now < k → Reads filters_view result (found_then filter_then (filter_view first_part ∷ []) (spec.ors_at (number_reading numbers) (spec.argument_at (number_reading numbers) n) k s.now)) }
     ensures within { IfOk result (λ p. length p.1.now ≤ length s.now) }
 {
     let mut found = Vec::new(alloc);

@@ -54,7 +54,7 @@ fn starts_segment(s: &str) -> bool
 
 /// Segments, each perhaps after blanks. Blanks that no segment follows are not read.
 #[cycle(reading)]
-#[tactic(auto, unfolding(crate::specs::inner::ReadingGrammar::all_segments_at, crate::specs::inner::ReadingGrammar::segments_at))]
+#[tactic(auto, unfolding(crate::specs::inner::ReadingGrammar::all_segments_at, crate::specs::inner::ReadingLists::many_at))]
 pub fn segments(alloc: Global, numbers: Numbers, s: &str) -> Result<(Vec<Segment>, &str), Stop>
     ensures value { (n : ℕ) → length s.now ≤ n → Reads segments_view result (spec.all_segments_at (number_reading numbers) (spec.argument_at (number_reading numbers) n) s.now) }
     ensures within { IfOk result (λ p. length p.1.now ≤ length s.now) }

@@ -3,7 +3,6 @@ ghost use Rattle.std.specs.Prelude.{◌≡◌, ℕ, ◌<◌, ◌≤◌, length, 
 ghost use Rattle.jsonpath_parser.specs.inner.Reading.{Reads};
 ghost use Rattle.jsonpath_parser.specs.inner.ReadingGrammar as spec;
 ghost use Rattle.jsonpath_parser.specs.inner.ReadingGrammar.{number_reading};
-ghost use Rattle.jsonpath_parser.specs.Syntax.{no_selectors};
 ghost use Rattle.jsonpath_parser.specs.View.{selector_view, selectors_view, segment_view};
 
 use super::filters::logical;
@@ -38,9 +37,9 @@ pub fn selector(alloc: Global, numbers: Numbers, s: &str) -> Result<(Selector, &
 
 /// Selectors with commas between them.
 #[cycle(reading)]
-#[tactic(auto, unfolding(crate::specs::inner::ReadingGrammar::selectors_at))]
+#[tactic(auto, unfolding(crate::specs::inner::ReadingLists::separated_at))]
 fn selectors(alloc: Global, numbers: Numbers, s: &str) -> Result<(Vec<Selector>, &str), Stop>
-    ensures value { (n k : ℕ) → length s.now ≤ n → length s.now < k → Reads selectors_view result (spec.selectors_at (number_reading numbers) (spec.argument_at (number_reading numbers) n) k no_selectors s.now) }
+    ensures value { (n k : ℕ) → length s.now ≤ n → length s.now < k → Reads selectors_view result (spec.selectors_at (number_reading numbers) (spec.argument_at (number_reading numbers) n) k s.now) }
     ensures shorter { IfOk result (λ p. length p.1.now < length s.now) }
 {
     let mut found = Vec::new(alloc);

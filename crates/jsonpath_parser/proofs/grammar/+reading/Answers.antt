@@ -1,8 +1,11 @@
-use Rattle.std.proofs.Common.{◌≡◌, ◌==◌, ◌-◌, ◌≤◌, true, false, length, drop, le_refl, ◌∙◌, rules, arith}
+use Rattle.std.proofs.Common.{◌≡◌, suc, ◌==◌, ◌-◌, ◌≤◌, true, false, map, length, drop, Some, le_refl, sym, ap, ◌∙◌, rules, arith}
 use Rattle.std.proofs.lemmas.Grind.{common_steps}
 use Rattle.jsonpath_parser.specs.inner.Reading.{first, skip_blank}
-use Rattle.jsonpath_parser.specs.inner.ReadingGrammar.{starts_segment, is_twice}
-use Rattle.jsonpath_parser.proofs.Turns.{segments_end, segments_none, segments_next, selectors_none, selectors_end, selectors_next, arguments_none, arguments_end, arguments_next, ands_end, ands_none, ands_other, ands_next, ors_end, ors_none, ors_other, ors_next, argument_turn, segments_push, selectors_push, filters_push, arguments_push, gives_err}
+use Rattle.jsonpath_parser.specs.inner.ReadingGrammar.{number_reading, starts_segment, is_twice, basic_at, conjunction_at, argument_at}
+use Rattle.jsonpath_parser.specs.inner.ReadingLists.{found_then}
+use Rattle.jsonpath_parser.specs.Syntax.{selector, no_selectors, segment, filter_then, argument, no_arguments}
+use Rattle.jsonpath_parser.specs.View.{segment_view, selector_view, filter_view, argument_view}
+use Rattle.jsonpath_parser.proofs.Turns.{many_end, many_none, many_next, separated_none, separated_end, separated_next, operand_none, operand_other, operand_read, all_segments, argument_turn, found_none, found_push, gives_err}
 use Rattle.jsonpath_parser.proofs.grammar.+reading.Goals as goal
 
 pub segments::segments-returns-then-not-starts_segment-clause-value : goal.segments::segments-returns-then-not-starts_segment-clause-value
@@ -10,7 +13,7 @@ segments::segments-returns-then-not-starts_segment-clause-value t c n h =
     let l = c.segments in
     let (m, room, loop) = l.invariant.2 n h in
     let stop : starts_segment (skip_blank l.rest.now) ≡ false = grind (arith, common_steps) in
-    loop ∙ segments_end _ _ m _ _ (omega arith) stop
+    loop ∙ ap (found_then segment (map segment_view l.found.items)) (many_end _ _ _ _ m _ (omega arith) stop)
 
 pub segments::segments-returns-in_err-one-clause-value : goal.segments::segments-returns-in_err-one-clause-value
 segments::segments-returns-in_err-one-clause-value t c n h =
@@ -20,7 +23,7 @@ segments::segments-returns-in_err-one-clause-value t c n h =
     let go : starts_segment (skip_blank l.rest.now) ≡ true = grind (arith, common_steps) in
     let fits : length c.skip_blank-start.result.now ≤ n = omega (arith, l.invariant.1, c.skip_blank-start.ensures.within) in
     gives_err _ c.from_residual.result _ c.in_err-one.field-0.0 _ c.from_residual.ensures.1 (λ y p. p) λ refused.
-    loop ∙ segments_none _ _ m _ _ (omega arith) go (rw start_is at (c.in_err-one.ensures.value n fits refused))
+    loop ∙ ap (found_then segment (map segment_view l.found.items)) (many_none _ _ _ _ m _ (omega arith) go (rw start_is at (c.in_err-one.ensures.value n fits refused)))
 
 pub segments::segments-segments-preserved : goal.segments::segments-segments-preserved
 segments::segments-segments-preserved t c =
@@ -35,12 +38,16 @@ segments::segments-segments-preserved t c =
           let (m, room, loop) = l.invariant.2 n h in
           let fits : length c.skip_blank-start.result.now ≤ n = omega (arith, l.invariant.1) in
           let one = rw start_is at (c.in_ok-one.ensures.value n fits) in
-          (m - 1, omega arith, rw (c.in_ok-push.ensures.items, segments_push l.found.items c.in_ok-one.one) (loop ∙ segments_next _ _ m _ _ _ _ (omega arith) go one)),
+          (m - 1, omega arith, rw c.in_ok-push.ensures.items (loop ∙ ap (found_then segment (map segment_view l.found.items)) (many_next _ _ _ _ m _ _ _ (omega arith) go one) ∙ found_push segment_view segment l.found.items c.in_ok-one.one _)),
     )
+
+pub segments::segments-segments-init : goal.segments::segments-segments-init
+segments::segments-segments-init t c =
+    (search rules, le_refl _, λ n h. (suc (length c.args.s.now), omega arith, rw c.new-found.ensures.items (all_segments _ _ _ ∙ sym (found_none segment _))))
 
 pub selectors::selectors-selectors-init : goal.selectors::selectors-selectors-init
 selectors::selectors-selectors-init t c =
-    (search rules, le_refl _, λ n k h1 h2. (k, h2, rw c.new-found.ensures.items))
+    (search rules, le_refl _, λ n k h1 h2. (k, h2, rw c.new-found.ensures.items (sym (found_none selector _))))
 
 pub selectors::selectors-returns-in_err-one-clause-value : goal.selectors::selectors-returns-in_err-one-clause-value
 selectors::selectors-returns-in_err-one-clause-value t c n k h1 h2 =
@@ -48,7 +55,7 @@ selectors::selectors-returns-in_err-one-clause-value t c n k h1 h2 =
     let (m, room, loop) = l.invariant.2 n k h1 h2 in
     let fits : length l.rest.now ≤ n = omega (arith, l.invariant.1) in
     gives_err _ c.from_residual.result _ c.in_err-one.field-0.0 _ c.from_residual.ensures.1 (λ y p. p) λ refused.
-    loop ∙ selectors_none _ _ m _ _ (omega arith) (c.in_err-one.ensures.value n fits refused)
+    loop ∙ ap (found_then selector (map selector_view l.found.items)) (separated_none _ _ _ m _ (omega arith) (c.in_err-one.ensures.value n fits refused))
 
 pub selectors::selectors-returns-then-first-ne44-clause-value : goal.selectors::selectors-returns-then-first-ne44-clause-value
 selectors::selectors-returns-then-first-ne44-clause-value t c n k h1 h2 =
@@ -56,7 +63,7 @@ selectors::selectors-returns-then-first-ne44-clause-value t c n k h1 h2 =
     let (m, room, loop) = l.invariant.2 n k h1 h2 in
     let fits : length l.rest.now ≤ n = omega (arith, l.invariant.1) in
     let stop : (first (skip_blank c.in_ok-one.after.now) == 44) ≡ false = grind (arith, common_steps) in
-    rw (c.in_ok-push.ensures.items, selectors_push l.found.items c.in_ok-one.one) (loop ∙ selectors_end _ _ m _ _ _ _ (omega arith) (c.in_ok-one.ensures.value n fits) stop)
+    rw c.in_ok-push.ensures.items (loop ∙ ap (found_then selector (map selector_view l.found.items)) (separated_end _ _ _ m _ _ _ (omega arith) (c.in_ok-one.ensures.value n fits) stop) ∙ found_push selector_view selector l.found.items c.in_ok-one.one (Some (no_selectors, c.in_ok-one.after.now)))
 
 pub selectors::selectors-selectors-preserved : goal.selectors::selectors-selectors-preserved
 selectors::selectors-selectors-preserved t c =
@@ -71,12 +78,12 @@ selectors::selectors-selectors-preserved t c =
       λ n k h1 h2.
           let (m, room, loop) = l.invariant.2 n k h1 h2 in
           let fits : length l.rest.now ≤ n = omega (arith, l.invariant.1) in
-          (m - 1, omega arith, rw (c.skip_blank-rest.ensures.rest, c.skip.ensures.rest, c.skip_blank-next.ensures.rest, c.in_ok-push.ensures.items, selectors_push l.found.items c.in_ok-one.one) (loop ∙ selectors_next _ _ m _ _ _ _ (omega arith) (c.in_ok-one.ensures.value n fits) go)),
+          (m - 1, omega arith, rw (c.skip_blank-rest.ensures.rest, c.skip.ensures.rest, c.skip_blank-next.ensures.rest, c.in_ok-push.ensures.items) (loop ∙ ap (found_then selector (map selector_view l.found.items)) (separated_next _ _ _ m _ _ _ (omega arith) (c.in_ok-one.ensures.value n fits) go) ∙ found_push selector_view selector l.found.items c.in_ok-one.one _)),
     )
 
 pub calls::some_arguments-arguments-init : goal.calls::some_arguments-arguments-init
 calls::some_arguments-arguments-init t c =
-    (search rules, le_refl _, λ n k h1 h2. (k, h2, rw c.new-found.ensures.items))
+    (search rules, le_refl _, λ n k h1 h2. (k, h2, rw c.new-found.ensures.items (sym (found_none argument _))))
 
 pub calls::some_arguments-returns-in_err-one-clause-value : goal.calls::some_arguments-returns-in_err-one-clause-value
 calls::some_arguments-returns-in_err-one-clause-value t c n k h1 h2 =
@@ -84,7 +91,7 @@ calls::some_arguments-returns-in_err-one-clause-value t c n k h1 h2 =
     let (m, room, loop) = l.invariant.2 n k h1 h2 in
     let fits : length l.rest.now ≤ n - 1 = omega (arith, l.invariant.1) in
     gives_err _ c.from_residual.result _ c.in_err-one.field-0.0 _ c.from_residual.ensures.1 (λ y p. p) λ refused.
-    loop ∙ arguments_none _ _ m _ _ (omega arith) (argument_turn _ n _ (omega arith) ∙ c.in_err-one.ensures.value (n - 1) fits refused)
+    loop ∙ ap (found_then argument (map argument_view l.found.items)) (separated_none _ _ _ m _ (omega arith) (argument_turn _ n _ (omega arith) ∙ c.in_err-one.ensures.value (n - 1) fits refused))
 
 pub calls::some_arguments-returns-then-first-ne44-clause-value : goal.calls::some_arguments-returns-then-first-ne44-clause-value
 calls::some_arguments-returns-then-first-ne44-clause-value t c n k h1 h2 =
@@ -92,7 +99,7 @@ calls::some_arguments-returns-then-first-ne44-clause-value t c n k h1 h2 =
     let (m, room, loop) = l.invariant.2 n k h1 h2 in
     let fits : length l.rest.now ≤ n - 1 = omega (arith, l.invariant.1) in
     let stop : (first (skip_blank c.in_ok-one.after.now) == 44) ≡ false = grind (arith, common_steps) in
-    rw (c.in_ok-push.ensures.items, arguments_push l.found.items c.in_ok-one.one) (loop ∙ arguments_end _ _ m _ _ _ _ (omega arith) (argument_turn _ n _ (omega arith) ∙ c.in_ok-one.ensures.value (n - 1) fits) stop)
+    rw c.in_ok-push.ensures.items (loop ∙ ap (found_then argument (map argument_view l.found.items)) (separated_end _ _ _ m _ _ _ (omega arith) (argument_turn _ n _ (omega arith) ∙ c.in_ok-one.ensures.value (n - 1) fits) stop) ∙ found_push argument_view argument l.found.items c.in_ok-one.one (Some (no_arguments, c.in_ok-one.after.now)))
 
 pub calls::some_arguments-arguments-preserved : goal.calls::some_arguments-arguments-preserved
 calls::some_arguments-arguments-preserved t c =
@@ -107,7 +114,7 @@ calls::some_arguments-arguments-preserved t c =
       λ n k h1 h2.
           let (m, room, loop) = l.invariant.2 n k h1 h2 in
           let fits : length l.rest.now ≤ n - 1 = omega (arith, l.invariant.1) in
-          (m - 1, omega arith, rw (c.skip_blank-rest.ensures.rest, c.skip.ensures.rest, c.skip_blank-next.ensures.rest, c.in_ok-push.ensures.items, arguments_push l.found.items c.in_ok-one.one) (loop ∙ arguments_next _ _ m _ _ _ _ (omega arith) (argument_turn _ n _ (omega arith) ∙ c.in_ok-one.ensures.value (n - 1) fits) go)),
+          (m - 1, omega arith, rw (c.skip_blank-rest.ensures.rest, c.skip.ensures.rest, c.skip_blank-next.ensures.rest, c.in_ok-push.ensures.items) (loop ∙ ap (found_then argument (map argument_view l.found.items)) (separated_next _ _ _ m _ _ _ (omega arith) (argument_turn _ n _ (omega arith) ∙ c.in_ok-one.ensures.value (n - 1) fits) go) ∙ found_push argument_view argument l.found.items c.in_ok-one.one _)),
     )
 
 pub filters::ands-ands-init : goal.filters::ands-ands-init
@@ -119,7 +126,7 @@ filters::ands-returns-then-not-is_twice-clause-value t c n k h1 h2 =
     let l = c.ands in
     let (m, room, loop) = l.invariant.2 n k h1 h2 in
     let stop : is_twice 38 (skip_blank l.rest.now) ≡ false = grind (arith, common_steps) in
-    loop ∙ ands_end _ _ m _ _ (omega arith) stop
+    loop ∙ ap (found_then filter_then (map filter_view l.found.items)) (many_end _ _ _ _ m _ (omega arith) stop)
 
 pub filters::ands-returns-in_err-one-clause-value : goal.filters::ands-returns-in_err-one-clause-value
 filters::ands-returns-in_err-one-clause-value t c n k h1 h2 =
@@ -129,7 +136,7 @@ filters::ands-returns-in_err-one-clause-value t c n k h1 h2 =
     let start_is : c.skip_blank.result.now ≡ skip_blank (drop 2 (skip_blank l.rest.now)) = rw (c.skip_blank.ensures.rest, c.skip.ensures.rest, c.skip_blank-next.ensures.rest) in
     let fits : length c.skip_blank.result.now ≤ n = omega (arith, l.invariant.1, c.skip_blank.ensures.within, c.skip.ensures.shorter, c.skip_blank-next.ensures.within) in
     gives_err _ c.from_residual-in_err-one.result _ c.in_err-one.field-0.0 _ c.from_residual-in_err-one.ensures.1 (λ y p. p) λ refused.
-    loop ∙ ands_none _ _ m _ _ (omega arith) go (rw start_is at (c.in_err-one.ensures.value n fits refused))
+    loop ∙ ap (found_then filter_then (map filter_view l.found.items)) (many_none _ _ _ _ m _ (omega arith) go (operand_none (basic_at (number_reading c.args.numbers) (argument_at (number_reading c.args.numbers) n)) l.rest.now (rw start_is at (c.in_err-one.ensures.value n fits refused))))
 
 pub filters::ands-returns-in_err-filter-clause-value : goal.filters::ands-returns-in_err-filter-clause-value
 filters::ands-returns-in_err-filter-clause-value t c n k h1 h2 =
@@ -140,7 +147,7 @@ filters::ands-returns-in_err-filter-clause-value t c n k h1 h2 =
     let fits : length c.skip_blank.result.now ≤ n = omega (arith, l.invariant.1, c.skip_blank.ensures.within, c.skip.ensures.shorter, c.skip_blank-next.ensures.within) in
     let one = rw start_is at (c.in_ok-one.ensures.value n fits) in
     gives_err _ c.from_residual-in_err-filter.result _ c.in_err-filter.field-0.0 _ c.from_residual-in_err-filter.ensures.1 (λ y p. p) λ refused.
-    loop ∙ ands_other _ _ m _ _ _ _ (omega arith) go one (c.in_err-filter.ensures.value refused)
+    loop ∙ ap (found_then filter_then (map filter_view l.found.items)) (many_none _ _ _ _ m _ (omega arith) go (operand_other (basic_at (number_reading c.args.numbers) (argument_at (number_reading c.args.numbers) n)) l.rest.now _ _ one (c.in_err-filter.ensures.value refused)))
 
 pub filters::ands-ands-preserved : goal.filters::ands-ands-preserved
 filters::ands-ands-preserved t c =
@@ -157,7 +164,7 @@ filters::ands-ands-preserved t c =
           let (m, room, loop) = l.invariant.2 n k h1 h2 in
           let fits : length c.skip_blank.result.now ≤ n = omega (arith, l.invariant.1) in
           let one = rw start_is at (c.in_ok-one.ensures.value n fits) in
-          (m - 1, omega arith, rw (c.in_ok-push-2.ensures.items, filters_push l.found.items c.in_ok-filter.field-0) (loop ∙ ands_next _ _ m _ _ _ _ _ (omega arith) go one c.in_ok-filter.ensures.value)),
+          (m - 1, omega arith, rw c.in_ok-push-2.ensures.items (loop ∙ ap (found_then filter_then (map filter_view l.found.items)) (many_next _ _ _ _ m _ _ _ (omega arith) go (operand_read (basic_at (number_reading c.args.numbers) (argument_at (number_reading c.args.numbers) n)) l.rest.now _ _ _ one c.in_ok-filter.ensures.value)) ∙ found_push filter_view filter_then l.found.items c.in_ok-filter.field-0 _)),
     )
 
 pub filters::ors-ors-init : goal.filters::ors-ors-init
@@ -169,7 +176,7 @@ filters::ors-returns-then-not-is_twice-clause-value t c n k h1 h2 =
     let l = c.ors in
     let (m, room, loop) = l.invariant.2 n k h1 h2 in
     let stop : is_twice 124 (skip_blank l.rest.now) ≡ false = grind (arith, common_steps) in
-    loop ∙ ors_end _ _ m _ _ (omega arith) stop
+    loop ∙ ap (found_then filter_then (map filter_view l.found.items)) (many_end _ _ _ _ m _ (omega arith) stop)
 
 pub filters::ors-returns-in_err-one-clause-value : goal.filters::ors-returns-in_err-one-clause-value
 filters::ors-returns-in_err-one-clause-value t c n k h1 h2 =
@@ -179,7 +186,7 @@ filters::ors-returns-in_err-one-clause-value t c n k h1 h2 =
     let start_is : c.skip_blank.result.now ≡ skip_blank (drop 2 (skip_blank l.rest.now)) = rw (c.skip_blank.ensures.rest, c.skip.ensures.rest, c.skip_blank-next.ensures.rest) in
     let fits : length c.skip_blank.result.now ≤ n = omega (arith, l.invariant.1, c.skip_blank.ensures.within, c.skip.ensures.shorter, c.skip_blank-next.ensures.within) in
     gives_err _ c.from_residual-in_err-one.result _ c.in_err-one.field-0.0 _ c.from_residual-in_err-one.ensures.1 (λ y p. p) λ refused.
-    loop ∙ ors_none _ _ m _ _ (omega arith) go (rw start_is at (c.in_err-one.ensures.value n fits refused))
+    loop ∙ ap (found_then filter_then (map filter_view l.found.items)) (many_none _ _ _ _ m _ (omega arith) go (operand_none (conjunction_at (number_reading c.args.numbers) (argument_at (number_reading c.args.numbers) n)) l.rest.now (rw start_is at (c.in_err-one.ensures.value n fits refused))))
 
 pub filters::ors-returns-in_err-filter-clause-value : goal.filters::ors-returns-in_err-filter-clause-value
 filters::ors-returns-in_err-filter-clause-value t c n k h1 h2 =
@@ -190,7 +197,7 @@ filters::ors-returns-in_err-filter-clause-value t c n k h1 h2 =
     let fits : length c.skip_blank.result.now ≤ n = omega (arith, l.invariant.1, c.skip_blank.ensures.within, c.skip.ensures.shorter, c.skip_blank-next.ensures.within) in
     let one = rw start_is at (c.in_ok-one.ensures.value n fits) in
     gives_err _ c.from_residual-in_err-filter.result _ c.in_err-filter.field-0.0 _ c.from_residual-in_err-filter.ensures.1 (λ y p. p) λ refused.
-    loop ∙ ors_other _ _ m _ _ _ _ (omega arith) go one (c.in_err-filter.ensures.value refused)
+    loop ∙ ap (found_then filter_then (map filter_view l.found.items)) (many_none _ _ _ _ m _ (omega arith) go (operand_other (conjunction_at (number_reading c.args.numbers) (argument_at (number_reading c.args.numbers) n)) l.rest.now _ _ one (c.in_err-filter.ensures.value refused)))
 
 pub filters::ors-ors-preserved : goal.filters::ors-ors-preserved
 filters::ors-ors-preserved t c =
@@ -207,5 +214,5 @@ filters::ors-ors-preserved t c =
           let (m, room, loop) = l.invariant.2 n k h1 h2 in
           let fits : length c.skip_blank.result.now ≤ n = omega (arith, l.invariant.1) in
           let one = rw start_is at (c.in_ok-one.ensures.value n fits) in
-          (m - 1, omega arith, rw (c.in_ok-push-2.ensures.items, filters_push l.found.items c.in_ok-filter.field-0) (loop ∙ ors_next _ _ m _ _ _ _ _ (omega arith) go one c.in_ok-filter.ensures.value)),
+          (m - 1, omega arith, rw c.in_ok-push-2.ensures.items (loop ∙ ap (found_then filter_then (map filter_view l.found.items)) (many_next _ _ _ _ m _ _ _ (omega arith) go (operand_read (conjunction_at (number_reading c.args.numbers) (argument_at (number_reading c.args.numbers) n)) l.rest.now _ _ _ one c.in_ok-filter.ensures.value)) ∙ found_push filter_view filter_then l.found.items c.in_ok-filter.field-0 _)),
     )

@@ -1,9 +1,10 @@
-use Rattle.std.proofs.Common.{◌≡◌, ℕ, ◌+◌, ◌*◌, ◌<◌, ◌≤◌, length}
+use Rattle.std.proofs.Common.{◌≡◌, ℕ, ◌+◌, ◌*◌, ◌<◌, ◌≤◌, [], ◌∷◌, map, length}
 use denote.Text.{Utf8}
 use denote.Shadow.{shadow}
 use Rattle.jsonpath_parser.specs.inner.ReadingGrammar.{number_reading, argument_at, selectors_at, segments_at, all_segments_at, arguments_at, ands_at, ors_at}
-use Rattle.jsonpath_parser.specs.Syntax.{no_selectors, no_arguments, no_filters, filter_then}
-use Rattle.jsonpath_parser.specs.View.{segments_view, selectors_view, filter_view, filters_view, arguments_view}
+use Rattle.jsonpath_parser.specs.inner.ReadingLists.{found_then}
+use Rattle.jsonpath_parser.specs.Syntax.{selector, segment, filter_then, argument}
+use Rattle.jsonpath_parser.specs.View.{segment_view, selector_view, filter_view, argument_view}
 use Rattle.jsonpath_parser.proofs.grammar.+reading.Given as goal
 
 abbrev pub decreases-calls::arguments : goal.decreases-calls::arguments
@@ -73,7 +74,7 @@ abbrev pub invariant-calls::some_arguments-arguments : goal.invariant-calls::som
 invariant-calls::some_arguments-arguments l =
     shadow (Utf8 l.rest) × (length l.rest ≤ length l.fn.s)
     × ((n k : ℕ) → length l.fn.s < n → length l.fn.s < k → (m : ℕ) × (length l.rest < m)
-    × (arguments_at (number_reading l.fn.numbers) (argument_at (number_reading l.fn.numbers) n) k no_arguments l.fn.s ≡ arguments_at (number_reading l.fn.numbers) (argument_at (number_reading l.fn.numbers) n) m (arguments_view l.found) l.rest))
+    × (arguments_at (number_reading l.fn.numbers) (argument_at (number_reading l.fn.numbers) n) k l.fn.s ≡ found_then argument (map argument_view l.found.items) (arguments_at (number_reading l.fn.numbers) (argument_at (number_reading l.fn.numbers) n) m l.rest)))
 
 abbrev pub decreases-calls::some_arguments-arguments : goal.decreases-calls::some_arguments-arguments
 decreases-calls::some_arguments-arguments l = length l.rest
@@ -82,7 +83,7 @@ abbrev pub invariant-filters::ands-ands : goal.invariant-filters::ands-ands
 invariant-filters::ands-ands l =
     shadow (Utf8 l.rest) × (length l.rest ≤ length l.fn.s)
     × ((n k : ℕ) → length l.fn.s ≤ n → length l.fn.s < k → (m : ℕ) × (length l.rest < m)
-    × (ands_at (number_reading l.fn.numbers) (argument_at (number_reading l.fn.numbers) n) k (filter_then (filter_view l.fn.first_part) no_filters) l.fn.s ≡ ands_at (number_reading l.fn.numbers) (argument_at (number_reading l.fn.numbers) n) m (filters_view l.found) l.rest))
+    × (found_then filter_then (filter_view l.fn.first_part ∷ []) (ands_at (number_reading l.fn.numbers) (argument_at (number_reading l.fn.numbers) n) k l.fn.s) ≡ found_then filter_then (map filter_view l.found.items) (ands_at (number_reading l.fn.numbers) (argument_at (number_reading l.fn.numbers) n) m l.rest)))
 
 abbrev pub decreases-filters::ands-ands : goal.decreases-filters::ands-ands
 decreases-filters::ands-ands l = length l.rest
@@ -91,7 +92,7 @@ abbrev pub invariant-filters::ors-ors : goal.invariant-filters::ors-ors
 invariant-filters::ors-ors l =
     shadow (Utf8 l.rest) × (length l.rest ≤ length l.fn.s)
     × ((n k : ℕ) → length l.fn.s ≤ n → length l.fn.s < k → (m : ℕ) × (length l.rest < m)
-    × (ors_at (number_reading l.fn.numbers) (argument_at (number_reading l.fn.numbers) n) k (filter_then (filter_view l.fn.first_part) no_filters) l.fn.s ≡ ors_at (number_reading l.fn.numbers) (argument_at (number_reading l.fn.numbers) n) m (filters_view l.found) l.rest))
+    × (found_then filter_then (filter_view l.fn.first_part ∷ []) (ors_at (number_reading l.fn.numbers) (argument_at (number_reading l.fn.numbers) n) k l.fn.s) ≡ found_then filter_then (map filter_view l.found.items) (ors_at (number_reading l.fn.numbers) (argument_at (number_reading l.fn.numbers) n) m l.rest)))
 
 abbrev pub decreases-filters::ors-ors : goal.decreases-filters::ors-ors
 decreases-filters::ors-ors l = length l.rest
@@ -100,7 +101,7 @@ abbrev pub invariant-segments::segments-segments : goal.invariant-segments::segm
 invariant-segments::segments-segments l =
     shadow (Utf8 l.rest) × (length l.rest ≤ length l.fn.s)
     × ((n : ℕ) → length l.fn.s ≤ n → (m : ℕ) × (length l.rest < m)
-    × (all_segments_at (number_reading l.fn.numbers) (argument_at (number_reading l.fn.numbers) n) l.fn.s ≡ segments_at (number_reading l.fn.numbers) (argument_at (number_reading l.fn.numbers) n) m (segments_view l.found) l.rest))
+    × (all_segments_at (number_reading l.fn.numbers) (argument_at (number_reading l.fn.numbers) n) l.fn.s ≡ found_then segment (map segment_view l.found.items) (segments_at (number_reading l.fn.numbers) (argument_at (number_reading l.fn.numbers) n) m l.rest)))
 
 abbrev pub decreases-segments::segments-segments : goal.decreases-segments::segments-segments
 decreases-segments::segments-segments l = length l.rest
@@ -109,7 +110,7 @@ abbrev pub invariant-selectors::selectors-selectors : goal.invariant-selectors::
 invariant-selectors::selectors-selectors l =
     shadow (Utf8 l.rest) × (length l.rest ≤ length l.fn.s)
     × ((n k : ℕ) → length l.fn.s ≤ n → length l.fn.s < k → (m : ℕ) × (length l.rest < m)
-    × (selectors_at (number_reading l.fn.numbers) (argument_at (number_reading l.fn.numbers) n) k no_selectors l.fn.s ≡ selectors_at (number_reading l.fn.numbers) (argument_at (number_reading l.fn.numbers) n) m (selectors_view l.found) l.rest))
+    × (selectors_at (number_reading l.fn.numbers) (argument_at (number_reading l.fn.numbers) n) k l.fn.s ≡ found_then selector (map selector_view l.found.items) (selectors_at (number_reading l.fn.numbers) (argument_at (number_reading l.fn.numbers) n) m l.rest)))
 
 abbrev pub decreases-selectors::selectors-selectors : goal.decreases-selectors::selectors-selectors
 decreases-selectors::selectors-selectors l = length l.rest
