@@ -6,7 +6,7 @@ use Rattle.std.specs.Char.{is_ascii_digit}
 use Rattle.jsonpath_parser.specs.Lexical.{IsRun}
 use Rattle.jsonpath_parser.specs.Numbers.{Exponent, raised, lowered, is_exponent_mark, IsDigits, SpellsSign, IsWholePart, SpellsFraction, SpellsExponent, signed, SpellsNumber}
 use Rattle.jsonpath_parser.specs.inner.Reading.{first, split_while}
-use Rattle.jsonpath_parser.specs.inner.ReadingNumbers.{digits_at, sign_at, whole_part_at, fraction_at, signed_digits_at, exponent_at, value_of, number_at}
+use Rattle.jsonpath_parser.specs.inner.ReadingNumbers.{digits_at, sign_at, whole_part_at, fraction_at, signed_digits_at, exponent_at, scaled_value, number_at}
 use Rattle.jsonpath_parser.specs.inner.ReadingGrammar.{is_int_first}
 use Rattle.jsonpath_parser.proofs.Fronts.{run_over}
 use Rattle.jsonpath_parser.proofs.NumberValues.{one_value, sound_value}
@@ -140,7 +140,7 @@ sign_over true a more h digit = rw h refl
 
 -- the parts of a text
 number_read : (text t1 t2 t3 rest w f : List ℕ) (minus : Bool) (x : Exponent) → sign_at text ≡ (minus, t1) → whole_part_at t1 ≡ Some (w, t2) → fraction_at t2 ≡ (f, t3) → exponent_at t3 ≡ (x, rest)
-    → number_at text ≡ Some (value_of minus (digits_value 10 (w ++ f)) (length f) x, rest)
+    → number_at text ≡ Some (scaled_value minus (digits_value 10 (w ++ f)) (length f) x, rest)
 unfolding number_at
 number_read text t1 t2 t3 rest w f minus x e1 e2 e3 e4 = rw (e1, e2, e3, e4) refl
 

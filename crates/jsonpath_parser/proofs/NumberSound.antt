@@ -8,7 +8,7 @@ use Rattle.std.specs.Char.{is_ascii_digit}
 use Rattle.jsonpath_parser.specs.Lexical.{IsRun}
 use Rattle.jsonpath_parser.specs.Numbers.{Exponent, raised, lowered, is_exponent_mark, IsDigits, SpellsSign, IsWholePart, SpellsFraction, SpellsExponent, signed, IsValue, SpellsNumber}
 use Rattle.jsonpath_parser.specs.inner.Reading.{first, split_while}
-use Rattle.jsonpath_parser.specs.inner.ReadingNumbers.{digits_at, sign_at, whole_part_at, fraction_at, signed_digits_at, exponent_at, value_of, number_at}
+use Rattle.jsonpath_parser.specs.inner.ReadingNumbers.{digits_at, sign_at, whole_part_at, fraction_at, signed_digits_at, exponent_at, scaled_value, number_at}
 use Rattle.jsonpath_parser.proofs.Fronts.{run_holds}
 use Rattle.jsonpath_parser.proofs.NumberValues.{sound_value}
 use Rattle.jsonpath_parser.proofs.SoundParts.{bind_ok, chosen, at_front}
@@ -166,7 +166,7 @@ sound_number v text rest e =
     let minus = (sign_at text).0 in
     let f : List ℕ × List ℕ = fraction_at w.1 in
     let x : Exponent × List ℕ = exponent_at f.1 in
-    let (value, after) = same_parts (value_of minus (digits_value 10 (w.0 ++ f.0)) (length f.0) x.0) v x.1 rest e2 in
+    let (value, after) = same_parts (scaled_value minus (digits_value 10 (w.0 ++ f.0)) (length f.0) x.0) v x.1 rest e2 in
     let (a, ha, ea) = sign_sound text in
     let (hw, ew) = whole_part_sound (sign_at text).1 w.0 w.1 read in
     let (b, hb, eb) = fraction_sound w.1 f.0 f.1 refl in

@@ -12,7 +12,7 @@ use Rattle.std.specs.Str.Parse.{digits_value, ParsesUnsigned}
 use Rattle.std.specs.Char.{is_ascii_digit}
 use Rattle.jsonpath_parser.specs.Lexical.{IsRun}
 use Rattle.jsonpath_parser.specs.Numbers.{Exponent, up, down, signed, IsWhole, IsLong, IsValue}
-use Rattle.jsonpath_parser.specs.inner.ReadingNumbers.{long_of, value_of, IsUnheld}
+use Rattle.jsonpath_parser.specs.inner.ReadingNumbers.{long_of, scaled_value, IsUnheld}
 use Rattle.jsonpath_parser.proofs.Ints.{numeral}
 use Rattle.jsonpath_parser.proofs.NumberPowers.{cancel, positive, unheld_scaled}
 
@@ -46,16 +46,16 @@ long_past true n past = let test : nat_le n (2 ^ 63) ≡ false = grind (arith, n
 quotient : (m t : ℕ) → m % t ≡ 0 → m / t * t ≡ m
 quotient m t none = omega (arith, mod-add-div' m t, none)
 
-pub value_some : (minus : Bool) (n number point : ℕ) (e : Exponent) → n * 10 ^ (point + down e) ≡ number * 10 ^ up e → value_of minus number point e ≡ long_of minus n
-unfolding value_of
+pub value_some : (minus : Bool) (n number point : ℕ) (e : Exponent) → n * 10 ^ (point + down e) ≡ number * 10 ^ up e → scaled_value minus number point e ≡ long_of minus n
+unfolding scaled_value
 value_some minus n number point e same =
     let t = 10 ^ (point + down e) in
     let none : (n * t) % t ≡ 0 = mul-mod_left n t in
     let test : ((n * t) % t == 0) ≡ true = grind (arith, nat_tests) in
     rw (← same) (rw (test, mul-div_cancel n (positive (point + down e))) refl)
 
-pub value_none : (minus : Bool) (number point : ℕ) (e : Exponent) → ((n : ℕ) → n < 2 ^ 64 → n * 10 ^ (point + down e) ≢ number * 10 ^ up e) → value_of minus number point e ≡ None
-unfolding value_of
+pub value_none : (minus : Bool) (number point : ℕ) (e : Exponent) → ((n : ℕ) → n < 2 ^ 64 → n * 10 ^ (point + down e) ≢ number * 10 ^ up e) → scaled_value minus number point e ≡ None
+unfolding scaled_value
 value_none minus number point e none =
     let t : ℕ = 10 ^ (point + down e) in
     let m : ℕ = number * 10 ^ up e in
@@ -69,11 +69,11 @@ value_none minus number point e none =
       | inr uneven ↦ rw (uneven.0) refl
     ]
 
-value_uneven : (minus : Bool) (number point : ℕ) (e : Exponent) → ((number * 10 ^ up e) % 10 ^ (point + down e) == 0) ≡ false → value_of minus number point e ≡ None
-unfolding value_of
+value_uneven : (minus : Bool) (number point : ℕ) (e : Exponent) → ((number * 10 ^ up e) % 10 ^ (point + down e) == 0) ≡ false → scaled_value minus number point e ≡ None
+unfolding scaled_value
 value_uneven minus number point e test = rw test refl
 
-pub value_unheld : (minus : Bool) (number point : ℕ) (e : Exponent) → IsUnheld number → value_of minus number point e ≡ None
+pub value_unheld : (minus : Bool) (number point : ℕ) (e : Exponent) → IsUnheld number → scaled_value minus number point e ≡ None
 value_unheld minus number point e none = value_none minus number point e (λ n fits. unheld_scaled n number (up e) (point + down e) none fits)
 
 -- the sign of a product
@@ -164,16 +164,16 @@ long_value minus n number point e None same is =
     λ v long whole. long_none minus n is (subst IsLong (only_whole (signed minus number) point e v (signed minus n) whole (whole_signed minus n number point e same)) long)
 
 -- what is computed is the value
-pub sound_value : (minus : Bool) (number point : ℕ) (e : Exponent) → IsValue (signed minus number) point e (value_of minus number point e)
+pub sound_value : (minus : Bool) (number point : ℕ) (e : Exponent) → IsValue (signed minus number) point e (scaled_value minus number point e)
 sound_value minus number point e =
     let t : ℕ = 10 ^ (point + down e) in
     let m : ℕ = number * 10 ^ up e in
     elim (divides m t) [
       | inl even ↦ (
           let whole : m / t * t ≡ m = quotient m t even.1 in
-          long_value minus (m / t) number point e (value_of minus number point e) whole (sym (value_some minus (m / t) number point e whole)))
+          long_value minus (m / t) number point e (scaled_value minus number point e) whole (sym (value_some minus (m / t) number point e whole)))
       | inr uneven ↦ (
-          let none : value_of minus number point e ≡ None = value_uneven minus number point e uneven.0 in
+          let none : scaled_value minus number point e ≡ None = value_uneven minus number point e uneven.0 in
           subst (IsValue (signed minus number) point e) (sym none)
           (λ v long whole. uneven.1 (ap (λ x. x % t) (sym (whole_size minus number point e v whole)) ∙ mul-mod_left (unsigned_abs v) t)))
     ]

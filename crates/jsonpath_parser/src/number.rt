@@ -160,7 +160,7 @@ fn value(minus: bool, whole: &str, fraction: &str, exponent: Exponent<'_>) -> Op
     requires fraction_run { IsRun is_ascii_digit fraction.now }
     requires exponent_run { IsRun is_ascii_digit exponent.digits.now }
     requires room { length whole.now + length fraction.now < 2 ^ 63 }
-    ensures { result ≡ spec.value_of minus (digits_value 10 (whole.now ++ fraction.now)) (length fraction.now) (exponent_view exponent.entry) }
+    ensures { result ≡ spec.scaled_value minus (digits_value 10 (whole.now ++ fraction.now)) (length fraction.now) (exponent_view exponent.entry) }
 {
     let start = Mantissa {
         digits: 0,

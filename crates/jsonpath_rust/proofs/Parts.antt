@@ -5,7 +5,7 @@ use Rattle.std.specs.List.{flat_map}
 use Rattle.std.specs.Result.{IsErrAnd}
 use Rattle.jsonpath_base.specs.Tree.{Tree}
 use Rattle.jsonpath_rust.specs.Node.{Node}
-use Rattle.jsonpath_rust.specs.Meaning.{turned}
+use Rattle.jsonpath_rust.specs.Meaning.{negated}
 use Rattle.jsonpath_rust.specs.inner.Sinks.{Seen, values, give, values_whole, ValuesAreWhole}
 use Rattle.jsonpath_rust.specs.inner.Keeping.{IsReady, nodelists_of, AreRight, document}
 use Rattle.jsonpath_rust.specs.declared.query.cache.Cache.{Cache}
@@ -59,7 +59,7 @@ pub passed_on : {A E : Type 0} (r : Result A E) (Q P : E → Type 0) → IsErrAn
 passed_on (Ok v) Q P is h = tt
 passed_on (Err e) Q P is h = h e is
 
-pub differs : (a b : Bool) → not (beq a b) ≡ turned b a
+pub differs : (a b : Bool) → not (beq a b) ≡ negated b a
 differs true true = refl
 differs true false = refl
 differs false true = refl

@@ -39,8 +39,8 @@ long_of false n = if nat_lt n (2 ^ 63) then Some (pos n) else None
 long_of true n = if nat_le n (2 ^ 63) then Some (neg_ℤ (pos n)) else None
 
 -- the value of the digits n with their sign, of which so many stand behind the point
-unfoldable pub value_of : Bool → ℕ → ℕ → Exponent → Option ℤ
-value_of minus n point e =
+unfoldable pub scaled_value : Bool → ℕ → ℕ → Exponent → Option ℤ
+scaled_value minus n point e =
     if (n * 10 ^ up e) % 10 ^ (point + down e) == 0 then long_of minus (n * 10 ^ up e / 10 ^ (point + down e))
     else None
 
@@ -50,7 +50,7 @@ number_at text =
     whole_part_at (sign_at text).1 >>= (λ w.
     let f = fraction_at w.1 in
     let e = exponent_at f.1 in
-    Some (value_of (sign_at text).0 (digits_value 10 (w.0 ++ f.0)) (length f.0) e.0, e.1))
+    Some (scaled_value (sign_at text).0 (digits_value 10 (w.0 ++ f.0)) (length f.0) e.0, e.1))
 
 -- the exponent that the code's value stands for
 abbrev pub exponent_view : CodeExponent → Exponent

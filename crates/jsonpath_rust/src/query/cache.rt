@@ -12,7 +12,7 @@ ghost use Rattle.jsonpath_rust.specs.inner.Sinks.{seen, start, give};
 ghost use Rattle.jsonpath_rust.specs.inner.Keeping.{seen_at, AreRight, nodelists_of, gathered, IsGathered};
 
 use crate::query::halt::Walked;
-use crate::query::patterns::Extent;
+use crate::query::patterns::{Extent, Origin};
 use crate::query::queryable::Queryable;
 use crate::query::sink::{Sink, Wanted};
 use crate::query::value::Operand;
@@ -124,7 +124,7 @@ impl<'a, 's, T: Queryable> Cache<'a, 's, T> {
         text: &Operand<'a, 's, T>,
         pattern: &Operand<'a, 's, T>,
         extent: Extent,
-        is_literal: bool,
+        origin: Origin,
     ) -> Walked<bool>
         requires text { IsTrue (operand_is_whole T.is_whole text.now) }
         requires pattern { IsTrue (operand_is_whole T.is_whole pattern.now) }
@@ -135,7 +135,7 @@ impl<'a, 's, T: Queryable> Cache<'a, 's, T> {
         let (Some(text), Some(pattern)) = (text.as_text(), pattern.as_text()) else {
             return Ok(false);
         };
-        if is_literal {
+        if let Origin::Query = origin {
             if let Some(found) = ask(&mut self.finders, &mut self.next, pattern, extent, text) {
                 return Ok(found);
             }

@@ -14,7 +14,7 @@ ghost use Rattle.jsonpath_rust.specs.inner.Walking.{node_of, arguments_in};
 use crate::query::argument::Argument;
 use crate::query::cache::Gathered;
 use crate::query::halt::Walked;
-use crate::query::patterns::Extent;
+use crate::query::patterns::{Extent, Origin};
 use crate::query::queryable::Queryable;
 use crate::query::sink::Wanted;
 use crate::query::trail::Trail;
@@ -81,12 +81,12 @@ impl<'a: 's, 's, T: Queryable> Task<'a, 's, T> {
         ensures returns { OnOk result (Returns T.tree T.is_whole T.custom self.now trail.old trail.new) }
         ensures refused { IfErr result (IsHalt (query_of self.now) (document T.tree T.custom self.now)) }
     {
-        let is_literal = matches!(args.1, FnArg::Literal(_));
+        let origin = Origin::of(args.1);
         let text = self.value(args.0, at, trail)?;
         let pattern = self.value(args.1, at, trail)?;
         let found = trail
             .cache
-            .is_matched(self.alloc, &text, &pattern, extent, is_literal)?;
+            .is_matched(self.alloc, &text, &pattern, extent, origin)?;
         Ok(Operand::Plain(Scalar::Truth(found)))
     }
 

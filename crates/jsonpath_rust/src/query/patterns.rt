@@ -33,6 +33,26 @@ impl Extent {
     }
 }
 
+/// Where a pattern comes from.
+#[derive(Clone, Copy)]
+pub enum Origin {
+    /// It stands in the query.
+    Query,
+    /// It is a value of the document.
+    Document,
+}
+
+impl Origin {
+    /// That of the pattern that this argument gives.
+    #[inline(always)]
+    pub fn of(arg: &FnArg) -> Self {
+        match arg {
+            FnArg::Literal(_) => Origin::Query,
+            _ => Origin::Document,
+        }
+    }
+}
+
 /// The patterns of a query in the order in which they stand there.
 pub fn patterns_of(alloc: Global, query: &JpQuery) -> Result<Vec<Pattern>, AllocError> {
     let mut reader = Reader {

@@ -13,7 +13,7 @@ use Rattle.jsonpath_parser.proofs.ViewEquations.{segment_view-Descendant, segmen
 use Rattle.jsonpath_base.specs.Tree.{get, truth}
 use Rattle.jsonpath_base.specs.Slice.{slice_of}
 use Rattle.jsonpath_rust.specs.Node.{below, children, subtree}
-use Rattle.jsonpath_rust.specs.Meaning.{picks, all_pick, replaced, indexed, element, holds, some_holds, each_holds, atom_holds, comparison_holds, value_of, answer, turned, nodelist, all_trees, argued, tested}
+use Rattle.jsonpath_rust.specs.Meaning.{picks, all_pick, replaced, indexed, element, holds, some_holds, each_holds, atom_holds, comparison_holds, value_of, answer, negated, nodelist, all_trees, argued, tested}
 use Rattle.jsonpath_rust.proofs.Weight.{action_weight, segment_weight, selectors_weight, selector_weight, segments_weight, filter_weight, filters_weight, atom_weight, test_weight, comparison_weight, comparable_weight, call_weight, argument_weight, arguments_weight}
 use Rattle.jsonpath_rust.specs.Patterns.{segments_patterns, segment_patterns, selectors_patterns, selector_patterns, filter_patterns, filters_patterns, atom_patterns, test_patterns, comparison_patterns, comparable_patterns, call_patterns, argument_patterns, arguments_patterns}
 use Rattle.jsonpath_rust.specs.inner.Walking.{action_patterns, segments_in, selectors_in, through, node_of, step_of, acted, filters_in, arguments_in}
@@ -599,7 +599,7 @@ atom_holds-returns-in_ok-filter_holds-in-Filter-clause-holds g t c =
     let d = document tree g.T.Queryable.custom c.args.self.now in
     let n = node_of tree c.args.trail.now.way.steps.items c.args.at.now in
     let e = ap atom_view c.in-Filter.is ∙ atom_view-Filter c.in-Filter.expr c.in-Filter.not in
-    differs _ _ ∙ ap (turned c.in-Filter.not) (c.in_ok-filter_holds-in-Filter.ensures.holds ∙ ap (λ (f : Filter). holds (filter_view f) d n) c.deref.ensures) ∙ sym (ap (λ a. atom_holds a d n) e)
+    differs _ _ ∙ ap (negated c.in-Filter.not) (c.in_ok-filter_holds-in-Filter.ensures.holds ∙ ap (λ (f : Filter). holds (filter_view f) d n) c.deref.ensures) ∙ sym (ap (λ a. atom_holds a d n) e)
 
 pub atom_holds-returns-in-Comparison-clause-holds : goal.atom_holds-returns-in-Comparison-clause-holds
 atom_holds-returns-in-Comparison-clause-holds g t c =
@@ -688,7 +688,7 @@ atom_holds-returns-in_ok-tested-in-Test-clause-holds g t c =
     let n = node_of tree c.args.trail.now.way.steps.items c.args.at.now in
     let e = ap atom_view c.in-Test.is ∙ atom_view-Test c.in-Test.expr c.in-Test.not in
     let seen = c.is_true.ensures ∙ ap truth_held c.in_ok-tested-in-Test.ensures.held ∙ as_truth_held (tested (test_view c.deref-in-Test.result.now) d n) ∙ ap (λ (q : Test). as_truth (tested (test_view q) d n)) c.deref-in-Test.ensures in
-    differs _ _ ∙ ap (turned c.in-Test.not) seen ∙ sym (ap (λ a. atom_holds a d n) e)
+    differs _ _ ∙ ap (negated c.in-Test.not) seen ∙ sym (ap (λ a. atom_holds a d n) e)
 
 pub comparison_holds-returns-clause-returns : goal.comparison_holds-returns-clause-returns
 comparison_holds-returns-clause-returns g t c = on c.in_ok-left.ensures.returns c.in_ok-right.ensures.returns
