@@ -12,6 +12,7 @@ pub mod Equality
 pub mod Fronts
 pub mod Ints
 pub mod NormalLemmas
+pub mod NormalQueries
 pub mod NumberComplete
 pub mod NumberPowers
 pub mod NumberSound

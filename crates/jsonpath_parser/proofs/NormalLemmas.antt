@@ -1,5 +1,5 @@
 -- A path's text is read back one step at a time.
-use Rattle.std.proofs.Common.{◌≡◌, ◌↔◌, ℕ, ◌+◌, ◌-◌, ◌*◌, ◌<◌, true, false, List, [], ◌∷◌, ◌++◌, map, Option, None, Some, sym, ap, ◌∙◌, refl, subst, arith, codes, ne_eqb, inl, inr, append_assoc, lit≤, lit<, zero-add, get_or}
+use Rattle.std.proofs.Common.{◌≡◌, ◌↔◌, ℕ, ◌+◌, ◌-◌, ◌*◌, ◌<◌, ◌≤◌, true, false, List, [], ◌∷◌, ◌++◌, map, Option, None, Some, sym, ap, ◌∙◌, refl, subst, arith, codes, ne_eqb, inl, inr, append_assoc, lit≤, lit<, zero-add, get_or}
 use Rattle.std.proofs.Math.Nat.{pos_of_ne-zero}
 use Rattle.std.proofs.lemmas.Bool.{cases_eq, cases_lt, cond-true, cond-false}
 use Rattle.std.proofs.lemmas.Bool.Decides.{nat_tests}
@@ -35,9 +35,6 @@ abbrev read_char : List ℕ → Option (ℕ × List ℕ)
 read_char [] = None
 read_char (c ∷ cs) = if c == 92 then escaped cs else Some (c, cs)
 
-abbrev Reads : List ℕ → ℕ → Type 0
-Reads x c = read_char (name_char c ++ x) ≡ Some (c, x)
-
 digit_back : (c : ℕ) → c < 16 → hex_value (digit_char c) ≡ c
 digit_back c small =
     elim (cases_lt c 10) [
@@ -58,63 +55,65 @@ is_plain c a b d e f g h =
     cond-false _ _ _ (ne_eqb c 8 a) ∙ cond-false _ _ _ (ne_eqb c 9 b) ∙ cond-false _ _ _ (ne_eqb c 10 d) ∙ cond-false _ _ _ (ne_eqb c 12 e)
     ∙ cond-false _ _ _ (ne_eqb c 13 f) ∙ cond-false _ _ _ (ne_eqb c 39 g) ∙ cond-false _ _ _ (ne_eqb c 92 h)
 
-read_plain : (c : ℕ) (x : List ℕ) → (c ≡ 92 → ⊥) → read_char (plain c ++ x) ≡ Some (c, x)
-read_plain c x h =
-    elim (cases_lt c 16) [
-      | inl low ↦
-          let a : nat_lt c 16 ≡ true = grind (arith, nat_tests) in
-          let e : plain c ≡ codes "\\u000" ++ digit_char c ∷ [] = cond-true _ _ _ a in
-          let back : (48 - 48) * 16 + hex_value (digit_char c) ≡ c = ap (λ n. 0 + n) (digit_back c low) ∙ zero-add c in
-          ap (λ t. read_char (t ++ x)) e ∙ ap (λ n. Some (n, x)) back
-      | inr above ↦
-          let a : nat_lt c 16 ≡ false = grind (arith, nat_tests) in
-          elim (cases_lt c 32) [
-            | inl low ↦
-                let b : nat_lt c 32 ≡ true = grind (arith, nat_tests) in
-                let e : plain c ≡ codes "\\u001" ++ digit_char (c - 16) ∷ [] = cond-false _ _ _ a ∙ cond-true _ _ _ b in
-                let sum : 16 + (c - 16) ≡ c = omega (arith, above) in
-                let back : (49 - 48) * 16 + hex_value (digit_char (c - 16)) ≡ c = ap (λ n. 16 + n) (digit_back (c - 16) (omega (arith, low))) ∙ sum in
-                ap (λ t. read_char (t ++ x)) e ∙ ap (λ n. Some (n, x)) back
-            | inr high ↦
-                let b : nat_lt c 32 ≡ false = grind (arith, nat_tests) in
-                let e : plain c ≡ c ∷ [] = cond-false _ _ _ a ∙ cond-false _ _ _ b in
-                ap (λ t. read_char (t ++ x)) e ∙ cond-false _ _ _ (ne_eqb c 92 h)
+-- A fact of characters and their spellings holds where it holds of those with a letter, of those with two hex digits, and of those that stand for themselves.
+module _ (P : ℕ → List ℕ → Type 0)
+    (at_8 : P 8 (codes "\\b")) (at_9 : P 9 (codes "\\t")) (at_10 : P 10 (codes "\\n")) (at_12 : P 12 (codes "\\f")) (at_13 : P 13 (codes "\\r"))
+    (at_39 : P 39 (codes "\\'")) (at_92 : P 92 (codes "\\\\"))
+    (low : (d : ℕ) → d < 16 → P d (codes "\\u000" ++ digit_char d ∷ []))
+    (high : (d : ℕ) → d < 16 → P (16 + d) (codes "\\u001" ++ digit_char d ∷ []))
+    (itself : (c : ℕ) → 32 ≤ c → (c ≡ 39 → ⊥) → (c ≡ 92 → ⊥) → P c (c ∷ [])) where
+  at_plain : (c : ℕ) → (c ≡ 39 → ⊥) → (c ≡ 92 → ⊥) → P c (plain c)
+  at_plain c quote slash =
+      elim (cases_lt c 16) [
+        | inl below ↦
+            let a : nat_lt c 16 ≡ true = grind (arith, nat_tests) in
+            subst (P c) (sym (cond-true _ _ _ a)) (low c below)
+        | inr above ↦
+            let a : nat_lt c 16 ≡ false = grind (arith, nat_tests) in
+            elim (cases_lt c 32) [
+              | inl below ↦
+                  let b : nat_lt c 32 ≡ true = grind (arith, nat_tests) in
+                  let sum : 16 + (c - 16) ≡ c = omega (arith, above) in
+                  subst (P c) (sym (cond-false _ _ _ a ∙ cond-true _ _ _ b)) (subst (λ n. P n (codes "\\u001" ++ digit_char (c - 16) ∷ [])) sum (high (c - 16) (omega (arith, below))))
+              | inr over ↦
+                  let b : nat_lt c 32 ≡ false = grind (arith, nat_tests) in
+                  subst (P c) (sym (cond-false _ _ _ a ∙ cond-false _ _ _ b)) (itself c over quote slash)
+            ]
+      ]
+
+  pub at_char : (c : ℕ) → P c (name_char c)
+  at_char c =
+      let at : (n : ℕ) → c ≡ n → P n (name_char n) → P c (name_char c) = λ n e h. subst (λ m. P m (name_char m)) (sym e) h in
+      elim (cases_eq c 8) [
+        | inl e ↦ at 8 e at_8
+        | inr a ↦ elim (cases_eq c 9) [
+          | inl e ↦ at 9 e at_9
+          | inr b ↦ elim (cases_eq c 10) [
+            | inl e ↦ at 10 e at_10
+            | inr d ↦ elim (cases_eq c 12) [
+              | inl e ↦ at 12 e at_12
+              | inr f ↦ elim (cases_eq c 13) [
+                | inl e ↦ at 13 e at_13
+                | inr g ↦ elim (cases_eq c 39) [
+                  | inl e ↦ at 39 e at_39
+                  | inr h ↦ elim (cases_eq c 92) [
+                    | inl e ↦ at 92 e at_92
+                    | inr i ↦ subst (P c) (sym (is_plain c a b d f g h i)) (at_plain c h i)
+                  ]
+                ]
+              ]
+            ]
           ]
-    ]
+        ]
+      ]
 
 -- the spelling of a character is read back, whatever stands after it
 pub char_read : (c : ℕ) (x : List ℕ) → read_char (name_char c ++ x) ≡ Some (c, x)
 char_read c x =
-    let at : (n : ℕ) → c ≡ n → Reads x n → Reads x c = λ n e r. subst (Reads x) (sym e) r in
-    elim (cases_eq c 8) [
-      | inl e ↦ at 8 e refl
-      | inr a ↦
-          elim (cases_eq c 9) [
-            | inl e ↦ at 9 e refl
-            | inr b ↦
-                elim (cases_eq c 10) [
-                  | inl e ↦ at 10 e refl
-                  | inr d ↦
-                      elim (cases_eq c 12) [
-                        | inl e ↦ at 12 e refl
-                        | inr f ↦
-                            elim (cases_eq c 13) [
-                              | inl e ↦ at 13 e refl
-                              | inr g ↦
-                                  elim (cases_eq c 39) [
-                                    | inl e ↦ at 39 e refl
-                                    | inr h ↦
-                                        elim (cases_eq c 92) [
-                                          | inl e ↦ at 92 e refl
-                                          | inr i ↦
-                                              ap (λ t. read_char (t ++ x)) (is_plain c a b d f g h i) ∙ read_plain c x i
-                                        ]
-                                  ]
-                            ]
-                      ]
-                ]
-          ]
-    ]
+    at_char (λ c t. read_char (t ++ x) ≡ Some (c, x)) refl refl refl refl refl refl refl
+    (λ d small. ap (λ n. Some (n, x)) (ap (λ n. 0 + n) (digit_back d small) ∙ zero-add d))
+    (λ d small. ap (λ n. Some (16 + n, x)) (digit_back d small))
+    (λ c above quote slash. cond-false _ _ _ (ne_eqb c 92 slash)) c
 
 same_char : (c d : ℕ) (x y : List ℕ) → name_char c ++ x ≡ name_char d ++ y → (c ≡ d) × (x ≡ y)
 same_char c d x y e =
@@ -187,20 +186,20 @@ low_index n =
 abbrev same_after : Step → Step → List ℕ → List ℕ → Type 0
 same_after s t x y = (s ≡ t) × (x ≡ y)
 
-quoted : (k x : List ℕ) → step_text (name k) ++ x ≡ 91 ∷ 39 ∷ (name_chars k ++ 39 ∷ 93 ∷ x)
+pub quoted : (k x : List ℕ) → step_text (name k) ++ x ≡ 91 ∷ 39 ∷ (name_chars k ++ 39 ∷ 93 ∷ x)
 quoted k x = append_assoc (codes "['" ++ name_chars k) (codes "']") x
 
-bracketed : (n : ℕ) (x : List ℕ) → step_text (index n) ++ x ≡ 91 ∷ (index_digits n ++ 93 ∷ x)
+pub bracketed : (n : ℕ) (x : List ℕ) → step_text (index n) ++ x ≡ 91 ∷ (index_digits n ++ 93 ∷ x)
 bracketed n x = append_assoc (codes "[" ++ index_digits n) (codes "]") x
 
-nonzero : (n : ℕ) → (n ≡ 0 → ⊥) → index_digits n ≡ map (λ d. 48 + d) (digits_of 10 n)
+pub nonzero : (n : ℕ) → (n ≡ 0 → ⊥) → index_digits n ≡ map (λ d. 48 + d) (digits_of 10 n)
 nonzero n some = cond-false _ _ _ (ne_eqb n 0 some)
 
 not_zero_digits : (ds : List ℕ) → 0 < get_or ds 0 0 → 48 ∷ [] ≡ map (λ d. 48 + d) ds → ⊥
 not_zero_digits [] h e = cc
 not_zero_digits (d ∷ ds) h e = let head : 48 ≡ 48 + d = cc in omega (arith, head, h)
 
-positive : (n : ℕ) → (n ≡ 0 → ⊥) → 0 < get_or (digits_of 10 n) 0 0
+pub positive : (n : ℕ) → (n ≡ 0 → ⊥) → 0 < get_or (digits_of 10 n) 0 0
 positive n some = first_digits_of 10 n (lit≤ tt) (pos_of_ne-zero some)
 
 same_index : (m n : ℕ) → index_digits m ≡ index_digits n → m ≡ n

@@ -119,7 +119,7 @@ magnitude_sound text rest n e =
     (digits, int_pos n digits run.0 test (sym value), omega (arith, facts.1), run.1 ∙ ap (λ v. digits ++ v) after)
 
 -- a number without a sign is in range
-pos_range : (n : ℕ) → n ≤ 9007199254740991 → IsInRange (pos n)
+pub pos_range : (n : ℕ) → n ≤ 9007199254740991 → IsInRange (pos n)
 pos_range n small = (omega (arith, ints), omega (arith, ints))
 
 -- behind `-`

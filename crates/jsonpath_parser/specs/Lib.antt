@@ -4,6 +4,7 @@ pub mod Lexical
 pub mod Strings
 pub mod Numbers
 pub mod Syntax
+pub mod Steps
 pub mod View
 pub mod Typing
 pub mod Grammar

@@ -7,6 +7,9 @@ ghost use Rattle.jsonpath_parser.specs.Derives.{Derives, Answers, IsRefusal};
 ghost use Rattle.jsonpath_parser.specs.Grammar.{Spells};
 ghost use Rattle.jsonpath_parser.specs.inner.ReadingQuery as reading;
 ghost use Rattle.jsonpath_parser.specs.inner.ReadingQuery.{IsTextRefusal, IsReadRefusal};
+ghost use Rattle.jsonpath_parser.specs.Location.{Location};
+ghost use Rattle.jsonpath_parser.specs.Normal.{IsNormal};
+ghost use Rattle.jsonpath_parser.specs.Steps.{steps_query, HasIndexesInRange};
 ghost use Rattle.jsonpath_parser.specs.Syntax.{Query};
 ghost use Rattle.jsonpath_parser.specs.Valueless.{IsValuelessIn};
 ghost use Rattle.jsonpath_parser.specs.Values.{IsAny};
@@ -92,6 +95,7 @@ fn read_within(alloc: Global, text: &str, depth: usize) -> Parsed<JpQuery>
 }
 
 /// The query that the text is, as RFC 9535, 2.1 spells it: nothing stands before `$`, and nothing after the last segment.
+/// A Normalized Path (2.7) is the query of its steps, one name or one index for each, where its indexes lie below 2^53.
 ///
 /// # Errors
 ///
@@ -112,6 +116,9 @@ pub fn parse_json_path(alloc: Global, text: &str) -> Parsed<JpQuery>
 
     // At Ok no other tree is spelled, whatever the values of its number literals.
     ensures one_tree { (t : Query) → Spells IsAny t text.now → IfOk result (λ q. query_view q ≡ t) }
+
+    // A Normalized Path is refused for want of memory alone.
+    ensures normal { (l : Location) → IsNormal l text.now → HasIndexesInRange l → Answers result (steps_query l) }
     ensures refused { IfErr result (IsRefusal MAX_NESTING_DEPTH text.now) }
     ensures too_deep { MAX_NESTING_DEPTH < spec.depth text.now → result ≡ Err (JsonPathError.MaxNestingDepthExceeded MAX_NESTING_DEPTH) }
 {
@@ -131,6 +138,7 @@ pub fn parse_json_path_within(alloc: Global, text: &str, depth: usize) -> Parsed
     ensures derived { IfOk result (λ q. Derives depth text.now (query_view q)) }
     ensures only { (t : Query) → Derives depth text.now t → Answers result t }
     ensures one_tree { (t : Query) → Spells IsAny t text.now → IfOk result (λ q. query_view q ≡ t) }
+    ensures normal { (l : Location) → IsNormal l text.now → HasIndexesInRange l → 1 ≤ depth → Answers result (steps_query l) }
     ensures refused { IfErr result (IsRefusal depth text.now) }
     ensures too_deep { depth < spec.depth text.now → result ≡ Err (JsonPathError.MaxNestingDepthExceeded depth) }
 {
