@@ -6,3 +6,14 @@ pub mod SameLaws
 pub mod SameWalks
 pub mod SliceLemmas
 pub mod TextOrder
+pub mod Placing
+pub mod PutLaws
+pub mod Putting
+pub mod Marking
+pub mod Removing
+pub mod Removed
+pub mod WithoutLaws
+pub mod Loans
+pub mod LoanTies
+pub mod LoanWords
+pub mod LoanOut

@@ -1,5 +1,9 @@
 pub mod Tree
 pub mod Places
+pub mod Steps
+pub mod Put
+pub mod Lending
+pub mod Without
 pub mod Values
 pub mod Pattern
 pub mod PatternViews

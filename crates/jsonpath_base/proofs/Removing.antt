@@ -1,0 +1,296 @@
+-- What each step of removal leaves of data.
+use Rattle.std.proofs.Common.{◌≡◌, ℕ, zero, suc, ◌+◌, ◌<◌, ◌≤◌, List, [], ◌∷◌, ◌++◌, length, take, drop, set, get_or, map, Bool, true, false, true≢false, cond, Option, Some, None, nat_eq, bytes_eq, String, Vec, BTreeMap, Global, Bor, string_bytes, string_cmp, nat_cmp, Ordering, Less, Equal, Greater, is_eq, ◌⊎◌, inl, inr, eq-or-lt_of_le, eqb-true, eq-eqb, ne_eqb, add-one, swap, unwrap_or, refl, sym, ap, ap₂, ◌∙◌, arith}
+use Rattle.std.proofs.lemmas.List.{take_more_set, take-set, take-set-le, drop-set-lt, drop_more, drop_all, length-set}
+use Rattle.std.proofs.lemmas.Map.{NonePasses, none_passes_from_lookup}
+use Rattle.std.proofs.lemmas.Map.Text.{is_eq-slice_cmp}
+use Rattle.std.proofs.lemmas.Slice.Eq.{bytes_eq-Decides}
+use Rattle.std.specs.BTreeMap.{is_at}
+use Rattle.std.specs.Cmp.Lexicographic.{slice_cmp}
+use Rattle.std.specs.List.{AllByRecursion}
+use Rattle.std.specs.List.Sorted.{IsStrictlySortedBy}
+use Rattle.std.specs.Map.{lookup, set_value, remove_entry, keys_of}
+use Rattle.serde_json.specs.Data.{Data, null, boolean, number, string, array, object, Items, no_items, item, Members, no_members, member}
+use Rattle.serde_json.specs.Find.{as_array, as_object}
+use Rattle.serde_json.specs.View.{view, items_view, members_view}
+use Rattle.serde_json.specs.declared.value.Value.{Value}
+use Rattle.serde_json.proofs.Views.{Entry}
+use Rattle.jsonpath_parser.specs.Location.{Step, name, index, Location}
+use Rattle.jsonpath_base.specs.Without.{is_step}
+use Rattle.jsonpath_base.specs.inner.Marks.{is_key, key_view, marked, marked_by, marked_below, HoldsNoneBelow}
+use Rattle.jsonpath_base.specs.inner.Thinning.{data_thinned, items_thinned, members_thinned, thinned_by, thinned_below, sieved}
+use Rattle.jsonpath_base.specs.declared.marks.Key.{Key}
+use Rattle.jsonpath_base.specs.declared.marks.Key.TheVariants.{Name, Index}
+use Rattle.jsonpath_base.specs.declared.marks.Marks.{Marks}
+
+-- ---- sets that say the same
+
+mutual
+  pub data_alike : (f g : Location → Bool) → ((s : Step) (l : Location) → f (s ∷ l) ≡ g (s ∷ l)) → (d : Data) → data_thinned f d ≡ data_thinned g d
+  data_alike f g h null = refl
+  data_alike f g h (boolean b) = refl
+  data_alike f g h (number n) = refl
+  data_alike f g h (string s) = refl
+  data_alike f g h (array ds) = ap array (items_alike f g (λ i l. h (index i) l) 0 ds)
+  data_alike f g h (object ms) = ap object (members_alike f g (λ k l. h (name k) l) ms)
+
+  pub items_alike : (f g : Location → Bool) → ((i : ℕ) (l : Location) → f (index i ∷ l) ≡ g (index i ∷ l)) → (i : ℕ) (ds : Items) → items_thinned f i ds ≡ items_thinned g i ds
+  items_alike f g h i no_items = refl
+  items_alike f g h i (item d ds) =
+      rw (h i [], data_alike (λ l. f (index i ∷ l)) (λ l. g (index i ∷ l)) (λ s l. h i (s ∷ l)) d, items_alike f g h (suc i) ds)
+
+  pub members_alike : (f g : Location → Bool) → ((k : List ℕ) (l : Location) → f (name k ∷ l) ≡ g (name k ∷ l)) → (ms : Members) → members_thinned f ms ≡ members_thinned g ms
+  members_alike f g h no_members = refl
+  members_alike f g h (member k d ms) =
+      rw (h k [], data_alike (λ l. f (name k ∷ l)) (λ l. g (name k ∷ l)) (λ s l. h k (s ∷ l)) d, members_alike f g h ms)
+
+-- the empty set
+mutual
+  pub data_kept : (d : Data) → data_thinned (λ l. false) d ≡ d
+  data_kept null = refl
+  data_kept (boolean b) = refl
+  data_kept (number n) = refl
+  data_kept (string s) = refl
+  data_kept (array ds) = ap array (items_kept 0 ds)
+  data_kept (object ms) = ap object (members_kept ms)
+
+  items_kept : (i : ℕ) (ds : Items) → items_thinned (λ l. false) i ds ≡ ds
+  items_kept i no_items = refl
+  items_kept i (item d ds) = rw (data_kept d, items_kept (suc i) ds)
+
+  members_kept : (ms : Members) → members_thinned (λ l. false) ms ≡ ms
+  members_kept no_members = refl
+  members_kept (member k d ms) = rw (data_kept d, members_kept ms)
+
+-- ---- by kind
+
+pub array_thinned : (f g : Location → Bool) (d : Data) (ds es : Items) → ((s : Step) (l : Location) → f (s ∷ l) ≡ g (s ∷ l)) → Some ds ≡ as_array d → es ≡ items_thinned f 0 ds → array es ≡ data_thinned g d
+array_thinned f g null ds es h is e = absurd cc
+array_thinned f g (boolean b) ds es h is e = absurd cc
+array_thinned f g (number n) ds es h is e = absurd cc
+array_thinned f g (string s) ds es h is e = absurd cc
+array_thinned f g (array xs) ds es h is e =
+    let same : ds ≡ xs = cc in
+    ap array (e ∙ ap (items_thinned f 0) same ∙ items_alike f g (λ i l. h (index i) l) 0 xs)
+array_thinned f g (object ms) ds es h is e = absurd cc
+
+pub object_thinned : (f g : Location → Bool) (d : Data) (ms es : Members) → ((s : Step) (l : Location) → f (s ∷ l) ≡ g (s ∷ l)) → Some ms ≡ as_object d → es ≡ members_thinned f ms → object es ≡ data_thinned g d
+object_thinned f g null ms es h is e = absurd cc
+object_thinned f g (boolean b) ms es h is e = absurd cc
+object_thinned f g (number n) ms es h is e = absurd cc
+object_thinned f g (string s) ms es h is e = absurd cc
+object_thinned f g (array xs) ms es h is e = absurd cc
+object_thinned f g (object xs) ms es h is e =
+    let same : ms ≡ xs = cc in
+    ap object (e ∙ ap (members_thinned f) same ∙ members_alike f g (λ k l. h (name k) l) xs)
+
+-- ---- a list: first below the elements
+
+none_below : (i : ℕ) (ds : Items) → thinned_below [] i ds ≡ ds
+none_below i no_items = refl
+none_below i (item d ds) = ap (item d) (none_below (suc i) ds)
+
+-- a name, or an index that is not here, changes nothing
+pub name_below : (k : Bor (List ℕ)) (m : Marks) (es : List (Key × Marks)) (i : ℕ) (ds : Items) → thinned_below ((Name k, m) ∷ es) i ds ≡ thinned_below es i ds
+name_below k m es i no_items = refl
+name_below k m es i (item d ds) = ap (item (thinned_by (lookup (is_key (index i)) es) d)) (name_below k m es (suc i) ds)
+
+past_below : (j : ℕ) (m : Marks) (es : List (Key × Marks)) (i : ℕ) (ds : Items) → j < i → thinned_below ((Index j, m) ∷ es) i ds ≡ thinned_below es i ds
+past_below j m es i no_items h = refl
+past_below j m es i (item d ds) h =
+    let other : nat_eq i j ≡ false = ne_eqb i j (λ e. omega (arith, h, e)) in
+    rw (other, past_below j m es (suc i) ds (omega (arith, h)))
+
+-- what is removed itself may stay as it is until then
+pub here_below : (j : ℕ) (m : Marks) (es : List (Key × Marks)) (i : ℕ) (ds : Items) → lookup (is_key (index j)) es ≡ None → marked m [] ≡ true → thinned_below ((Index j, m) ∷ es) i ds ≡ thinned_below es i ds
+here_below j m es i no_items none here = refl
+here_below j m es i (item d ds) none here = pick (nat_eq i j) refl (here_below j m es (suc i) ds none here)
+  where
+    pick : (b : Bool) → nat_eq i j ≡ b → thinned_below ((Index j, m) ∷ es) (suc i) ds ≡ thinned_below es (suc i) ds → thinned_below ((Index j, m) ∷ es) i (item d ds) ≡ thinned_below es i (item d ds)
+    pick true e more =
+        let same : i ≡ j = eqb-true i j e in
+        let none_here : lookup (is_key (index i)) es ≡ None = ap (λ k. lookup (is_key (index k)) es) same ∙ none in
+        rw (e, none_here, here, more)
+    pick false e more = rw (e, more)
+
+-- one element more is as its marks say
+pub write_below : (vs : List Value) (n i j : ℕ) (x w : Value) (m : Marks) (es : List (Key × Marks)) → j ≡ i + n → n < length vs → x ≡ get_or vs n x → lookup (is_key (index j)) es ≡ None
+    → marked m [] ≡ false → view w ≡ data_thinned (marked m) (view x) → thinned_below es i (items_view (set vs n w)) ≡ thinned_below ((Index j, m) ∷ es) i (items_view vs)
+write_below [] n i j x w m es at within read none here made = absurd (omega (arith, within))
+write_below (v ∷ vs) zero i j x w m es at within read none here made =
+    let same : i ≡ j = omega (arith, at) in
+    let test : nat_eq i j ≡ true = eq-eqb i j same in
+    let none_here : lookup (is_key (index i)) es ≡ None = ap (λ k. lookup (is_key (index k)) es) same ∙ none in
+    let is : view w ≡ data_thinned (marked m) (view v) = made ∙ ap (λ y. data_thinned (marked m) (view y)) read in
+    rw (test, none_here, here, is, past_below j m es (suc i) (items_view vs) (omega (arith, same)))
+write_below (v ∷ vs) (suc n) i j x w m es at within read none here made =
+    let test : nat_eq i j ≡ false = ne_eqb i j (λ e. omega (arith, at, e)) in
+    rw test (ap (item (thinned_by (lookup (is_key (index i)) es) (view v))) (write_below vs n (suc i) j x w m es (omega (arith, at)) (omega (arith, within)) read none here made))
+
+-- an index past the end
+pub beyond_below : (vs : List Value) (i j : ℕ) (m : Marks) (es : List (Key × Marks)) → i + length vs ≤ j → thinned_below ((Index j, m) ∷ es) i (items_view vs) ≡ thinned_below es i (items_view vs)
+beyond_below [] i j m es h = refl
+beyond_below (v ∷ vs) i j m es h =
+    let test : nat_eq i j ≡ false = ne_eqb i j (λ e. omega (arith, h, e)) in
+    rw (test, beyond_below vs (suc i) j m es (omega (arith, h)))
+
+-- then the elements
+sieve_one : (o : Option Marks) (d : Data) (es : List (Key × Marks)) (i : ℕ) (ds : Items) → lookup (is_key (index i)) es ≡ o → sieved es (suc i) (thinned_below es (suc i) ds) ≡ items_thinned (marked_below es) (suc i) ds
+    → sieved es i (thinned_below es i (item d ds)) ≡ items_thinned (marked_below es) i (item d ds)
+sieve_one None d es i ds e more = rw (e, more, data_kept d)
+sieve_one (Some m) d es i ds e more = pick (marked m []) refl
+  where
+    pick : (b : Bool) → marked m [] ≡ b → sieved es i (thinned_below es i (item d ds)) ≡ items_thinned (marked_below es) i (item d ds)
+    pick true here = rw (e, here, more)
+    pick false here = rw (e, here, more)
+
+sieve_all : (es : List (Key × Marks)) (i : ℕ) (ds : Items) → sieved es i (thinned_below es i ds) ≡ items_thinned (marked_below es) i ds
+sieve_all es i no_items = refl
+sieve_all es i (item d ds) = sieve_one (lookup (is_key (index i)) es) d es i ds refl (sieve_all es (suc i) ds)
+
+pub items_end : (es : List (Key × Marks)) (now old new : Items) → thinned_below [] 0 now ≡ thinned_below es 0 old → new ≡ sieved es 0 now → new ≡ items_thinned (marked_below es) 0 old
+items_end es now old new below is = is ∙ ap (sieved es 0) (sym (none_below 0 now) ∙ below) ∙ sieve_all es 0 old
+
+-- ---- the loop that drops elements
+
+abbrev pub joined : Items → Items → Items
+joined no_items es = es
+joined (item d ds) es = item d (joined ds es)
+
+-- the elements before the first that is held stay where they are
+pub sieved_from : (es : List (Key × Marks)) (first : ℕ) → HoldsNoneBelow es first → (xs : List Value) (i n : ℕ) → i + n ≡ first
+    → joined (items_view (take n xs)) (sieved es first (items_view (drop n xs))) ≡ sieved es i (items_view xs)
+sieved_from es first none xs i zero is = let e : first ≡ i = omega (arith, is) in ap (λ k. sieved es k (items_view xs)) e
+sieved_from es first none [] i (suc n) is = refl
+sieved_from es first none (x ∷ xs) i (suc n) is =
+    rw (none.each i (omega (arith, is))) (ap (item (view x)) (sieved_from es first none xs (suc i) n (omega (arith, is))))
+
+joined_push : (vs : List Value) (x : Value) (es : Items) → joined (items_view (vs ++ x ∷ [])) es ≡ joined (items_view vs) (item (view x) es)
+joined_push [] x es = refl
+joined_push (v ∷ vs) x es = ap (item (view v)) (joined_push vs x es)
+
+joined_none : (ds : Items) → joined ds no_items ≡ ds
+joined_none no_items = refl
+joined_none (item d ds) = ap (item d) (joined_none ds)
+
+take_swap : (xs : List Value) (d : Value) (kept i : ℕ) → kept ≤ i → i < length xs → take (kept + 1) (set (set xs kept (get_or xs i d)) i (get_or xs kept d)) ≡ take kept xs ++ get_or xs i d ∷ []
+take_swap xs d kept i le within = pick (eq-or-lt_of_le le)
+  where
+    pick : (kept ≡ i) ⊎ (kept < i) → take (kept + 1) (set (set xs kept (get_or xs i d)) i (get_or xs kept d)) ≡ take kept xs ++ get_or xs i d ∷ []
+    pick (inl e) =
+        rw e (take_more_set (set xs i (get_or xs i d)) i (get_or xs i d) (omega (arith, within, length-set xs i (get_or xs i d))) ∙ ap (λ ys. ys ++ get_or xs i d ∷ []) (take-set xs i (get_or xs i d)))
+    pick (inr l) = take-set-le (kept + 1) (set xs kept (get_or xs i d)) i (get_or xs kept d) (omega (arith, l)) ∙ take_more_set xs kept (get_or xs i d) (omega (arith, l, within))
+
+drop_swap : (xs : List Value) (d : Value) (kept i : ℕ) → kept ≤ i → drop (i + 1) (set (set xs kept (get_or xs i d)) i (get_or xs kept d)) ≡ drop (i + 1) xs
+drop_swap xs d kept i le = drop-set-lt (i + 1) (set xs kept (get_or xs i d)) i (get_or xs kept d) (omega arith) ∙ drop-set-lt (i + 1) xs kept (get_or xs i d) (omega (arith, le))
+
+-- one that stays goes behind those that stay
+pub keep_one : (es : List (Key × Marks)) (xs ys : List Value) (kept i : ℕ) (all : Items) → kept ≤ i → i < length xs → ys ≡ swap xs kept i → marked_by (lookup (is_key (index i)) es) [] ≡ false
+    → joined (items_view (take kept xs)) (sieved es i (items_view (drop i xs))) ≡ all → joined (items_view (take (kept + 1) ys)) (sieved es (i + 1) (items_view (drop (i + 1) ys))) ≡ all
+keep_one es [] ys kept i all le within is stays h = absurd (omega (arith, within))
+keep_one es (d ∷ more) ys kept i all le within is stays h =
+    let xs = d ∷ more in
+    let swapped : ys ≡ set (set xs kept (get_or xs i d)) i (get_or xs kept d) = is in
+    let front : take (kept + 1) ys ≡ take kept xs ++ get_or xs i d ∷ [] = ap (take (kept + 1)) swapped ∙ take_swap xs d kept i le within in
+    let back : drop (i + 1) ys ≡ drop (i + 1) xs = ap (drop (i + 1)) swapped ∙ drop_swap xs d kept i le in
+    let next : sieved es i (items_view (drop i xs)) ≡ item (view (get_or xs i d)) (sieved es (i + 1) (items_view (drop (i + 1) xs))) = ap (λ zs. sieved es i (items_view zs)) (drop_more xs i d within) ∙ rw (stays, add-one) in
+    ap₂ (λ a b. joined (items_view a) (sieved es (i + 1) (items_view b))) front back ∙ joined_push (take kept xs) (get_or xs i d) _ ∙ ap (joined (items_view (take kept xs))) (sym next) ∙ h
+
+pub drop_one : (es : List (Key × Marks)) (xs : List Value) (kept i : ℕ) (all : Items) → i < length xs → marked_by (lookup (is_key (index i)) es) [] ≡ true
+    → joined (items_view (take kept xs)) (sieved es i (items_view (drop i xs))) ≡ all → joined (items_view (take kept xs)) (sieved es (i + 1) (items_view (drop (i + 1) xs))) ≡ all
+drop_one es [] kept i all within goes h = absurd (omega (arith, within))
+drop_one es (d ∷ more) kept i all within goes h =
+    let xs = d ∷ more in
+    let next : sieved es i (items_view (drop i xs)) ≡ sieved es (i + 1) (items_view (drop (i + 1) xs)) = ap (λ zs. sieved es i (items_view zs)) (drop_more xs i d within) ∙ rw (goes, add-one) in
+    ap (joined (items_view (take kept xs))) (sym next) ∙ h
+
+pub none_left : (es : List (Key × Marks)) (xs : List Value) (kept i : ℕ) (all : Items) → length xs ≤ i → joined (items_view (take kept xs)) (sieved es i (items_view (drop i xs))) ≡ all → items_view (take kept xs) ≡ all
+none_left es xs kept i all past h = sym (joined_none _) ∙ ap (λ ys. joined (items_view (take kept xs)) (sieved es i (items_view ys))) (sym (drop_all i xs past)) ∙ h
+
+-- ---- objects
+
+abbrev pub is_entry : List ℕ → String Global → Bool
+is_entry k = is_at (λ l. slice_cmp nat_cmp k (string_bytes l))
+
+same_name : (k : List ℕ) (l : String Global) → is_entry k l ≡ true → k ≡ string_bytes l
+same_name k l h = (bytes_eq-Decides k (string_bytes l)).0 (sym (is_eq-slice_cmp k (string_bytes l)) ∙ h)
+
+other_name : (k : List ℕ) (l : String Global) → is_entry k l ≡ false → bytes_eq (string_bytes l) k ≡ false
+other_name k l h = pick (bytes_eq (string_bytes l) k) refl
+  where
+    pick : (b : Bool) → bytes_eq (string_bytes l) k ≡ b → b ≡ false
+    pick true e =
+        let back : bytes_eq k (string_bytes l) ≡ true = (bytes_eq-Decides k (string_bytes l)).1 (sym ((bytes_eq-Decides (string_bytes l) k).0 e)) in
+        sym back ∙ sym (is_eq-slice_cmp k (string_bytes l)) ∙ h
+    pick false e = refl
+
+-- a member of another name
+member_other : (k : Bor (List ℕ)) (m : Marks) (es : List (Key × Marks)) (l : String Global) → is_entry k.now l ≡ false → (x : Location) → marked_below ((Name k, m) ∷ es) (name (string_bytes l) ∷ x) ≡ marked_below es (name (string_bytes l) ∷ x)
+member_other k m es l h x = rw (other_name k.now l h)
+
+-- where no member has the name
+others_thinned : (k : Bor (List ℕ)) (m : Marks) (es : List (Key × Marks)) (ms : List Entry) → NonePasses (is_entry k.now) ms
+    → members_thinned (marked_below ((Name k, m) ∷ es)) (members_view ms) ≡ members_thinned (marked_below es) (members_view ms)
+others_thinned k m es [] h = refl
+others_thinned k m es (e ∷ ms) h =
+    let f = marked_below ((Name k, m) ∷ es) in let g = marked_below es in let n = name (string_bytes e.0) in
+    let inside : data_thinned (λ x. f (n ∷ x)) (view e.1) ≡ data_thinned (λ x. g (n ∷ x)) (view e.1) = data_alike (λ x. f (n ∷ x)) (λ x. g (n ∷ x)) (λ s x. member_other k m es e.0 h.0 (s ∷ x)) (view e.1) in
+    rw (member_other k m es e.0 h.0 [], inside, others_thinned k m es ms h.1)
+
+-- an index, or a name that no member has, changes nothing
+pub index_thinned : (i : ℕ) (m : Marks) (es : List (Key × Marks)) (ms : Members) → members_thinned (marked_below ((Index i, m) ∷ es)) ms ≡ members_thinned (marked_below es) ms
+index_thinned i m es ms = members_alike _ _ (λ k l. refl) ms
+
+pub absent_thinned : (k : Bor (List ℕ)) (m : Marks) (es : List (Key × Marks)) (ms : List Entry) → lookup (is_entry k.now) ms ≡ None
+    → members_thinned (marked_below ((Name k, m) ∷ es)) (members_view ms) ≡ members_thinned (marked_below es) (members_view ms)
+absent_thinned k m es ms h = others_thinned k m es ms (none_passes_from_lookup (is_entry k.now) ms h)
+
+none_after : (k : List ℕ) (e : Entry) (ms : List Entry) → is_entry k e.0 ≡ true → AllByRecursion (λ l. string_cmp e.0 l ≡ Less) (keys_of ms) → NonePasses (is_entry k) ms
+none_after k e [] same h = tt
+none_after k e (f ∷ ms) same h = (ap (λ x. is_eq (slice_cmp nat_cmp x (string_bytes f.0))) (same_name k e.0 same) ∙ ap is_eq h.0, none_after k e ms same h.1)
+
+-- the member goes
+pub removed_thinned : (k : Bor (List ℕ)) (m : Marks) (es : List (Key × Marks)) (ms : List Entry) → lookup (is_entry k.now) (remove_entry (is_entry k.now) ms) ≡ None → marked m [] ≡ true
+    → members_thinned (marked_below es) (members_view (remove_entry (is_entry k.now) ms)) ≡ members_thinned (marked_below ((Name k, m) ∷ es)) (members_view ms)
+removed_thinned k m es [] gone here = refl
+removed_thinned k m es (e ∷ ms) gone here = pick (is_entry k.now e.0) refl (λ later. removed_thinned k m es ms later here)
+  where
+    pick : (b : Bool) → is_entry k.now e.0 ≡ b
+        → (lookup (is_entry k.now) (remove_entry (is_entry k.now) ms) ≡ None → members_thinned (marked_below es) (members_view (remove_entry (is_entry k.now) ms)) ≡ members_thinned (marked_below ((Name k, m) ∷ es)) (members_view ms))
+        → members_thinned (marked_below es) (members_view (remove_entry (is_entry k.now) (e ∷ ms))) ≡ members_thinned (marked_below ((Name k, m) ∷ es)) (members_view (e ∷ ms))
+    pick true same more =
+        let test : bytes_eq (string_bytes e.0) k.now ≡ true = (bytes_eq-Decides (string_bytes e.0) k.now).1 (sym (same_name k.now e.0 same)) in
+        let rest : remove_entry (is_entry k.now) (e ∷ ms) ≡ ms = rw same in
+        let none : lookup (is_entry k.now) ms ≡ None = ap (lookup (is_entry k.now)) (sym rest) ∙ gone in
+        rw (same, test, here) (sym (absent_thinned k m es ms none))
+    pick false other more =
+        let f = marked_below ((Name k, m) ∷ es) in let g = marked_below es in let n = name (string_bytes e.0) in
+        let inside : data_thinned (λ x. f (n ∷ x)) (view e.1) ≡ data_thinned (λ x. g (n ∷ x)) (view e.1) = data_alike (λ x. f (n ∷ x)) (λ x. g (n ∷ x)) (λ s x. member_other k m es e.0 other (s ∷ x)) (view e.1) in
+        let rest : remove_entry (is_entry k.now) (e ∷ ms) ≡ e ∷ remove_entry (is_entry k.now) ms = rw other in
+        let later : lookup (is_entry k.now) (remove_entry (is_entry k.now) ms) ≡ None = sym (ap (lookup (is_entry k.now)) rest ∙ rw other) ∙ gone in
+        rw (other, member_other k m es e.0 other [], inside, more later)
+
+-- one member more is as its marks say
+pub written_thinned : (k : Bor (List ℕ)) (m : Marks) (es : List (Key × Marks)) (ms : List Entry) (x w : Value) → IsStrictlySortedBy string_cmp (keys_of ms) → lookup (is_entry k.now) ms ≡ Some x
+    → lookup (is_key (name k.now)) es ≡ None → marked m [] ≡ false → view w ≡ data_thinned (marked m) (view x)
+    → members_thinned (marked_below es) (members_view (set_value (is_entry k.now) ms w)) ≡ members_thinned (marked_below ((Name k, m) ∷ es)) (members_view ms)
+unfolding IsStrictlySortedBy
+written_thinned k m es [] x w ordered found none here made = refl
+written_thinned k m es (e ∷ ms) x w ordered found none here made = pick (is_entry k.now e.0) refl (λ later. written_thinned k m es ms x w ordered.1 later none here made)
+  where
+    pick : (b : Bool) → is_entry k.now e.0 ≡ b
+        → (lookup (is_entry k.now) ms ≡ Some x → members_thinned (marked_below es) (members_view (set_value (is_entry k.now) ms w)) ≡ members_thinned (marked_below ((Name k, m) ∷ es)) (members_view ms))
+        → members_thinned (marked_below es) (members_view (set_value (is_entry k.now) (e ∷ ms) w)) ≡ members_thinned (marked_below ((Name k, m) ∷ es)) (members_view (e ∷ ms))
+    pick true same more =
+        let test : bytes_eq (string_bytes e.0) k.now ≡ true = (bytes_eq-Decides (string_bytes e.0) k.now).1 (sym (same_name k.now e.0 same)) in
+        let none_here : lookup (is_key (name (string_bytes e.0))) es ≡ None = ap (λ n. lookup (is_key (name n)) es) (sym (same_name k.now e.0 same)) ∙ none in
+        let first : Some e.1 ≡ Some x = sym (rw same) ∙ found in
+        let is : view w ≡ data_thinned (marked m) (view e.1) = made ∙ ap (λ o. data_thinned (marked m) (view (unwrap_or o x))) (sym first) in
+        rw (same, test, none_here, here, data_kept (view w), is) (ap (member (string_bytes e.0) (data_thinned (marked m) (view e.1))) (sym (others_thinned k m es ms (none_after k.now e ms same ordered.0))))
+    pick false other more =
+        let f = marked_below ((Name k, m) ∷ es) in let g = marked_below es in let n = name (string_bytes e.0) in
+        let inside : data_thinned (λ x. f (n ∷ x)) (view e.1) ≡ data_thinned (λ x. g (n ∷ x)) (view e.1) = data_alike (λ x. f (n ∷ x)) (λ x. g (n ∷ x)) (λ s x. member_other k m es e.0 other (s ∷ x)) (view e.1) in
+        let later : lookup (is_entry k.now) ms ≡ Some x = sym (rw other) ∙ found in
+        rw (other, member_other k m es e.0 other [], inside, more later)
+
+pub members_end : (es : List (Key × Marks)) (now old : Members) → members_thinned (marked_below []) now ≡ members_thinned (marked_below es) old → now ≡ members_thinned (marked_below es) old
+members_end es now old h = sym (members_alike (marked_below []) (λ l. false) (λ k l. refl) now ∙ members_kept now) ∙ h

@@ -1,0 +1,74 @@
+//! The value at a location, lent for writing. All that is asked comes first, so that the functions that lend cannot fail: they
+//! go straight down, and count the steps that are left.
+ghost use Rattle.std.specs.Prelude.{◌≡◌, ◌<◌, ◌≤◌, IsSome, Some, is_some, length, option_map};
+ghost use Rattle.std.specs.Borrow.{sem};
+ghost use Rattle.std.specs.Map.{lookup};
+ghost use Rattle.jsonpath_base.specs.Lending.{LendsAt};
+ghost use Rattle.jsonpath_base.specs.Places as places;
+ghost use Rattle.jsonpath_base.specs.Steps.{location_view};
+ghost use Rattle.jsonpath_base.specs.Values.{value_tree};
+ghost use Rattle.jsonpath_base.specs.inner.Lent.{LendsFound, LendsRest, is_entry, name_in, next, rest};
+
+mod parts;
+
+use crate::place::at;
+use crate::step::Step;
+use parts::{is_index, item_at, list_mut, map_mut, member_by, take};
+use serde_json::{Map, Value};
+
+/// The value at the location of these steps, lent for writing; None where nothing is there (RFC 9535, 1.1). When the loan ends,
+/// what was written stands there, and nothing else has changed. It takes no memory, and time as twice `at`.
+pub fn at_mut<'v>(value: &'v mut Value, steps: &[Step]) -> Option<&'v mut Value>
+    ensures* writes_back { sem 𝓛 (LendsAt (location_view steps.now) value.entry result) }
+    ensures value { option_map (λ v. value_tree v.now) result ≡ places.at (location_view steps.now) (value_tree value.old) }
+{
+    let left = count(steps);
+    let found = is_there(value, steps);
+    if found {
+        return Some(place_mut(value, steps, left));
+    }
+    None
+}
+
+/// How many steps there are.
+fn count(steps: &[Step]) -> usize
+    ensures { result ≡ length steps.now }
+{
+    steps.len()
+}
+
+/// Whether something is there.
+fn is_there(value: &Value, steps: &[Step]) -> bool
+    ensures { result ≡ is_some (places.at (location_view steps.now) (value_tree value.now)) }
+{
+    at(value, steps).is_some()
+}
+
+/// The value where the steps that are left lead.
+#[cycle(place_mut)]
+fn place_mut<'v>(value: &'v mut Value, steps: &[Step], left: usize) -> &'v mut Value
+    requires { (left ≤ length steps.now) × IsSome (places.at (rest steps.now left) (value_tree value.old)) }
+    ensures* writes_back { sem 𝓛 (LendsRest steps.now left value.entry result) }
+    ensures value { Some (value_tree result.now) ≡ places.at (rest steps.now left) (value_tree value.old) }
+{
+    if left == 0 {
+        return value;
+    }
+    if is_index(steps, left) {
+        let list = list_mut(value);
+        let item = item_at(list, steps, left);
+        return place_mut(item, steps, left - 1);
+    }
+    let map = map_mut(value);
+    let member = member_at(map, steps, left);
+    place_mut(member, steps, left - 1)
+}
+
+/// The member of the next step's name, which is there.
+fn member_at<'v>(map: &'v mut Map<String, Value>, steps: &[Step], left: usize) -> &'v mut Value
+    requires { (0 < left) × (left ≤ length steps.now) × IsSome (lookup (is_entry (name_in (next steps.now left))) map.old.entries) }
+    ensures* writes_back { sem 𝓛 (LendsFound (name_in (next steps.now left)) map.entry result) }
+    ensures value { Some result.now ≡ lookup (is_entry (name_in (next steps.now left))) map.old.entries }
+{
+    take(member_by(map, steps, left))
+}

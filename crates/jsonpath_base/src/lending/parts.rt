@@ -1,0 +1,109 @@
+//! The parts of a value, lent for writing, and the steps that lead to them. Of the steps of a location, the last `left` ones
+//! are still to be taken.
+ghost use Rattle.std.specs.Prelude.{◌≡◌, ◌<◌, ◌≤◌, IsSome, Some, length, option_map, slice_index_or, vec_len};
+ghost use Rattle.std.specs.Borrow.{sem};
+ghost use Rattle.std.specs.Map.{lookup};
+ghost use Rattle.jsonpath_base.specs.inner.Lent.{LendsItem, LendsList, LendsMap, LendsMember, has_index, index_in, is_entry, name_in, next};
+ghost use Rattle.serde_json.specs.Find.{as_array, as_object};
+ghost use Rattle.serde_json.specs.View.{view, items_view, members_view};
+
+use crate::step::Step;
+use serde_json::{Map, Value};
+
+/// Whether the next step is an index.
+pub fn is_index(steps: &[Step], left: usize) -> bool
+    requires { (0 < left) × (left ≤ length steps.now) }
+    ensures { result ≡ has_index (next steps.now left) }
+{
+    match &steps[steps.len() - left] {
+        Step::Index(_) => true,
+        Step::Name(_) => false,
+    }
+}
+
+/// The next step's index, and 0 for a name.
+fn next_index(steps: &[Step], left: usize) -> usize
+    requires { (0 < left) × (left ≤ length steps.now) }
+    ensures { result ≡ index_in (next steps.now left) }
+{
+    match &steps[steps.len() - left] {
+        Step::Index(index) => *index,
+        Step::Name(_) => 0,
+    }
+}
+
+/// The next step's name, and the empty one for an index.
+fn next_name<'s>(steps: &'s [Step], left: usize) -> &'s str
+    requires { (0 < left) × (left ≤ length steps.now) }
+    ensures { result.now ≡ name_in (next steps.now left) }
+{
+    match &steps[steps.len() - left] {
+        Step::Name(name) => name.as_str(),
+        Step::Index(_) => "",
+    }
+}
+
+/// The elements of a list.
+pub fn list_mut(value: &mut Value) -> &mut Vec<Value>
+    requires { IsSome (as_array (view value.old)) }
+    ensures* writes_back { sem 𝓛 (LendsList value.entry result) }
+    ensures value { Some (items_view result.now.items) ≡ as_array (view value.old) }
+{
+    value.as_array_mut().unwrap()
+}
+
+/// The element at an index.
+fn item_mut(items: &mut Vec<Value>, index: usize) -> &mut Value
+    requires { index < vec_len items.old }
+    ensures* writes_back { sem 𝓛 (LendsItem index items.entry result) }
+    ensures value { result.now ≡ slice_index_or items.old.items index result.now }
+{
+    &mut items[index]
+}
+
+/// The element at the next step's index.
+pub fn item_at<'v>(items: &'v mut Vec<Value>, steps: &[Step], left: usize) -> &'v mut Value
+    requires { (0 < left) × (left ≤ length steps.now) × (index_in (next steps.now left) < vec_len items.old) }
+    ensures* writes_back { sem 𝓛 (LendsItem (index_in (next steps.now left)) items.entry result) }
+    ensures value { result.now ≡ slice_index_or items.old.items (index_in (next steps.now left)) result.now }
+{
+    item_mut(items, next_index(steps, left))
+}
+
+/// The members of an object.
+pub fn map_mut(value: &mut Value) -> &mut Map<String, Value>
+    requires { IsSome (as_object (view value.old)) }
+    ensures* writes_back { sem 𝓛 (LendsMap value.entry result) }
+    ensures value { Some (members_view result.now.entries) ≡ as_object (view value.old) }
+{
+    value.as_object_mut().unwrap()
+}
+
+/// The member of a name.
+fn member_mut<'v>(map: &'v mut Map<String, Value>, key: &str) -> Option<&'v mut Value>
+    ensures* writes_back { sem 𝓛 (LendsMember key.now map.entry result) }
+    ensures value { option_map (λ v. v.now) result ≡ lookup (is_entry key.now) map.old.entries }
+{
+    map.get_mut(key)
+}
+
+/// The member of the next step's name.
+pub fn member_by<'v>(
+    map: &'v mut Map<String, Value>,
+    steps: &[Step],
+    left: usize,
+) -> Option<&'v mut Value>
+    requires { (0 < left) × (left ≤ length steps.now) }
+    ensures* writes_back { sem 𝓛 (LendsMember (name_in (next steps.now left)) map.entry result) }
+    ensures value { option_map (λ v. v.now) result ≡ lookup (is_entry (name_in (next steps.now left))) map.old.entries }
+{
+    member_mut(map, next_name(steps, left))
+}
+
+/// What is there.
+pub fn take<'v>(found: Option<&'v mut Value>) -> &'v mut Value
+    requires { IsSome found }
+    ensures { Some result ≡ found.entry }
+{
+    found.unwrap()
+}

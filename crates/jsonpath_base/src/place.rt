@@ -1,0 +1,72 @@
+//! The value at a location, to be read and to be written.
+ghost use Rattle.std.specs.Prelude.{◌≡◌, option_map, is_some};
+ghost use Rattle.jsonpath_base.specs.Places as places;
+ghost use Rattle.jsonpath_base.specs.Put.{put, PutLeavesTheRest};
+ghost use Rattle.jsonpath_base.specs.Steps.{location_view, step_view};
+ghost use Rattle.jsonpath_base.specs.Values.{value_tree};
+
+use crate::step::Step;
+use serde_json::Value;
+use std::mem;
+
+/// The value at the location of these steps; None where nothing is there (RFC 9535, 1.1). It takes no memory, and time
+/// linear in the steps and in the names that they hold, times the logarithm of an object's members.
+#[cycle(at)]
+pub fn at<'v>(value: &'v Value, steps: &[Step]) -> Option<&'v Value>
+    ensures { option_map (λ v. value_tree v.now) result ≡ places.at (location_view steps.now) (value_tree value.now) }
+{
+    match steps.split_first() {
+        None => Some(value),
+        Some((step, rest)) => match child(value, step) {
+            Some(below) => at(below, rest),
+            None => None,
+        },
+    }
+}
+
+/// The child that a step leads to, or None.
+fn child<'v>(value: &'v Value, step: &Step) -> Option<&'v Value>
+    ensures { option_map (λ v. value_tree v.now) result ≡ places.child (step_view step.now) (value_tree value.now) }
+{
+    match step {
+        Step::Name(name) => value.get(name.as_str()),
+        Step::Index(index) => value.get(*index),
+    }
+}
+
+/// Puts a value at the location of these steps, in the place of the one there, and answers true; where nothing is there,
+/// it answers false and changes nothing, and the new value is dropped. It takes no memory, and time as `at`.
+#[cycle(put_at)]
+pub fn put_at(value: &mut Value, steps: &[Step], new: Value) -> bool
+    ensures value { value_tree value.new ≡ put (location_view steps.now) (value_tree new) (value_tree value.old) }
+    ensures found { result ≡ is_some (places.at (location_view steps.now) (value_tree value.old)) }
+{
+    let (step, rest) = match steps.split_first() {
+        Some((step, rest)) => (step, rest),
+        None => {
+            drop(mem::replace(value, new));
+            return true;
+        }
+    };
+    match step {
+        Step::Index(index) => match value.as_array_mut() {
+            Some(items) => match items.get_mut(*index) {
+                Some(item) => put_at(item, rest, new),
+                None => false,
+            },
+            None => false,
+        },
+        Step::Name(name) => match value.as_object_mut() {
+            Some(members) => match members.get_mut(name.as_str()) {
+                Some(member) => put_at(member, rest, new),
+                None => false,
+            },
+            None => false,
+        },
+    }
+}
+
+/// States a law and does nothing: a write changes no value but those inside its location and those above it.
+pub fn put_leaves_the_rest()
+    ensures { PutLeavesTheRest }
+{}
