@@ -1,10 +1,13 @@
 pub mod Answers
 pub mod Arguing
 pub mod Arguments
+pub mod Deleting
+pub mod Following
 pub mod Leaves
 pub mod Made
 pub mod Nodelist
 pub mod NodesAt
+pub mod NormalPaths
 pub mod Parts
 pub mod Patterns
 pub mod Sinks

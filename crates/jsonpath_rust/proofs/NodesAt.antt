@@ -49,7 +49,7 @@ alone : {A : Type 0} (o : Option A) → option_and_then (λ x. Some x) o ≡ o
 alone None = refl
 alone (Some x) = refl
 
-at-below : (l : Location) (s : Step) (doc t : Tree) → at l doc ≡ Some t → at (l ++ s ∷ []) doc ≡ child s t
+pub at-below : (l : Location) (s : Step) (doc t : Tree) → at l doc ≡ Some t → at (l ++ s ∷ []) doc ≡ child s t
 at-below l s doc t h = at-append l (s ∷ []) doc ∙ ap (option_and_then (at (s ∷ []))) h ∙ alone (child s t)
 
 -- ---- names

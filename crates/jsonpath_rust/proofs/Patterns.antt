@@ -3,13 +3,15 @@ use Rattle.std.proofs.Common.{◌≡◌, ℕ, zero, suc, ◌<◌, List, [], ◌�
 use Rattle.std.proofs.lemmas.List.Elements.{Contains-append_left, Contains-append_right, Contains-append_cases}
 use Rattle.std.specs.List.{Contains}
 use Rattle.jsonpath_parser.specs.Syntax.{Argument, Query}
+use Rattle.jsonpath_parser.specs.declared.errors.JsonPathError.{JsonPathError}
+use Rattle.jsonpath_parser.specs.declared.errors.JsonPathError.TheVariants.{OutOfMemory}
 use Rattle.jsonpath_base.specs.Tree.{Tree}
 use Rattle.jsonpath_rust.specs.Answer.{IsValueAt}
 use Rattle.jsonpath_rust.specs.Document.{Document}
 use Rattle.jsonpath_rust.specs.Functions.{as_value}
 use Rattle.jsonpath_rust.specs.Meaning.{argued}
 use Rattle.jsonpath_rust.specs.Node.{Node}
-use Rattle.jsonpath_rust.specs.Patterns.{segments_patterns, IsPattern, AsksPattern}
+use Rattle.jsonpath_rust.specs.Patterns.{segments_patterns, IsPattern, AsksPattern, IsStop}
 use Rattle.jsonpath_rust.specs.inner.Keeping.{StandIn}
 
 -- the same part in other words
@@ -44,3 +46,16 @@ part_at f all more q (y ∷ ys) (suc i) x h e k = part_at f all more q ys i x (o
 -- the query asks its first pattern at a node
 pub pattern_asked : (q : Query) (doc : Document) (entire : Bool) (pattern : Argument) (more : List (Bool × Argument)) (n : Node) (o : Option Tree) → StandIn q ((entire, pattern) ∷ more) → IsValueAt doc n.location n.tree → o ≡ as_value (argued pattern doc n) → IsPattern entire o → AsksPattern q doc
 pattern_asked q doc entire pattern more n o h here e k = record { entire = entire; pattern = pattern; stands = h.all (entire, pattern) (0, omega arith, refl); node = n; here = here; read = subst (IsPattern entire) e k }
+
+-- a query in which no pattern stands asks none
+none_asked : (q : Query) (doc : Document) → segments_patterns q ≡ [] → AsksPattern q doc → ⊥
+none_asked q doc none asks = by_patterns (segments_patterns q) none asks.stands
+  where
+    by_patterns : (ps : List (Bool × Argument)) → ps ≡ [] → Contains ps (asks.entire, asks.pattern) → ⊥
+    by_patterns [] e c = omega (arith, c.1)
+    by_patterns (p ∷ ps) e c = absurd cc
+
+-- so it is refused for memory alone
+pub stop_is_memory : (q : Query) (doc : Document) (e : JsonPathError) → segments_patterns q ≡ [] → IsStop q doc e → e ≡ OutOfMemory
+stop_is_memory q doc OutOfMemory none stop = refl
+stop_is_memory q doc _ none stop = absurd (none_asked q doc none (stop (λ m. cc)).1)

@@ -4,12 +4,13 @@ use Rattle.std.proofs.lemmas.List.Elements.{All-from_recursion}
 use Rattle.std.proofs.lemmas.Result.{IfOk-weaker}
 use Rattle.std.proofs.lemmas.Bool.{false≢true}
 use Rattle.std.specs.List.{AllByRecursion}
+use Rattle.jsonpath_parser.specs.Location.{Location}
 use Rattle.jsonpath_parser.specs.Normal.{normal}
 use Rattle.jsonpath_base.specs.Tree.{Tree, number}
 use Rattle.jsonpath_rust.specs.Node.{Node, has_node}
 use Rattle.jsonpath_rust.specs.Functions.{count_value, count_of, only_value}
 use Rattle.jsonpath_rust.specs.inner.Sinks as sinks
-use Rattle.jsonpath_rust.specs.inner.Sinks.{Seen, nodes, paths, values, any, count, nothing, one, several, add, give, full, any_in, only_in, nodes_in, nodes_whole, paths_in, values_in, values_whole, answer_of, Took}
+use Rattle.jsonpath_rust.specs.inner.Sinks.{Seen, nodes, paths, values, locations, any, count, nothing, one, several, add, give, full, any_in, only_in, nodes_in, nodes_whole, paths_in, locations_in, values_in, values_whole, answer_of, Took}
 
 pub give-append : (s : Seen) (xs ys : List Node) → give s (xs ++ ys) ≡ give (give s xs) ys
 give-append s [] ys = refl
@@ -19,6 +20,7 @@ add-full : (s : Seen) (n : Node) → full s ≡ true → add s n ≡ s
 add-full (nodes bs ns) n h = absurd (false≢true h)
 add-full (paths ps) n h = absurd (false≢true h)
 add-full (values bs ts) n h = absurd (false≢true h)
+add-full (locations ls) n h = absurd (false≢true h)
 add-full (any b) n h = ap any (sym h)
 add-full (count k) n h = absurd (false≢true h)
 add-full nothing n h = absurd (false≢true h)
@@ -93,6 +95,10 @@ give-paths : (ps : List (List ℕ)) (ns : List Node) → give (paths ps) ns ≡ 
 give-paths ps [] = ap paths (sym (append-nil ps))
 give-paths ps (n ∷ ns) = give-paths (ps ++ normal n.location ∷ []) ns ∙ ap paths (append_assoc ps (normal n.location ∷ []) (map (λ m. normal m.location) ns))
 
+give-locations : (ls : List Location) (ns : List Node) → give (locations ls) ns ≡ locations (ls ++ map (λ n. n.location) ns)
+give-locations ls [] = ap locations (sym (append-nil ls))
+give-locations ls (n ∷ ns) = give-locations (ls ++ n.location ∷ []) ns ∙ ap locations (append_assoc ls (n.location ∷ []) (map (λ m. m.location) ns))
+
 pub give-values : (bs : List Bool) (ts : List Tree) (ns : List Node) → give (values bs ts) ns ≡ values (bs ++ map (λ n. true) ns) (ts ++ map (λ n. n.tree) ns)
 give-values bs ts [] = ap (λ x. values x ts) (sym (append-nil bs)) ∙ ap (values (bs ++ [])) (sym (append-nil ts))
 give-values bs ts (n ∷ ns) =
@@ -124,6 +130,9 @@ given_nodes_whole w f xs z ns h e = ap nodes_whole (given_to_nodes w f xs z ns h
 
 pub given_paths : {X : Type 0} (f : X → List ℕ) (xs : List X) (z : Seen) (ns : List Node) → xs ≡ [] → z ≡ give (paths (map f xs)) ns → paths_in z ≡ map (λ n. normal n.location) ns
 given_paths f xs z ns h e = ap paths_in (e ∙ ap (λ ys. give (paths (map f ys)) ns) h ∙ give-paths [] ns)
+
+pub given_locations : {X : Type 0} (f : X → Location) (xs : List X) (z : Seen) (ns : List Node) → xs ≡ [] → z ≡ give (locations (map f xs)) ns → locations_in z ≡ map (λ n. n.location) ns
+given_locations f xs z ns h e = ap locations_in (e ∙ ap (λ ys. give (locations (map f ys)) ns) h ∙ give-locations [] ns)
 
 pub given_values : {X : Type 0} (w : X → Bool) (f : X → Tree) (xs : List X) (z : Seen) (ns : List Node) → xs ≡ [] → z ≡ give (values (map w xs) (map f xs)) ns → values_in z ≡ map (λ n. n.tree) ns
 given_values w f xs z ns h e = ap values_in (given_to_values w f xs z ns h e)

@@ -1,5 +1,5 @@
 -- What a query answers.
-use Rattle.std.specs.Prelude.{◌≡◌, ℕ, List, map, Some, string_bytes, String}
+use Rattle.std.specs.Prelude.{◌≡◌, ℕ, List, map, Some, option_to_list, string_bytes, String}
 use Rattle.std.specs.List.{AllZip}
 use Rattle.jsonpath_parser.specs.Location.{Location}
 use Rattle.jsonpath_parser.specs.Normal.{IsNormal, IsOnlyPath}
@@ -30,6 +30,10 @@ IsValueAt doc l t = at l doc.root ≡ Some t
 
 abbrev pub IsNodeAt : Document → Location → List ℕ × Tree → Type 0
 IsNodeAt doc l shown = IsPathAt doc l shown.0 × IsValueAt doc l shown.1
+
+-- what is shown of the node at the location, under this path: one node, or none where nothing is there
+abbrev pub node_there : Document → Location → List ℕ → List (List ℕ × Tree)
+node_there doc l path = map (λ t. (path, t)) (option_to_list (at l doc.root))
 
 -- The text is a query, no deeper than the limit, and the list has what is shown of each of its nodes in the document, in order: a path, a
 -- value, or both.

@@ -4,7 +4,9 @@ pub mod Comparing
 pub mod Functions
 pub mod Meaning
 pub mod Answer
+pub mod Deleting
 pub mod Args
 pub mod Defaults
 pub mod Patterns
+pub mod Referring
 pub mod inner

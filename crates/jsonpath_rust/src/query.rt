@@ -1,22 +1,27 @@
 //! Queries on a document.
-ghost use Rattle.std.specs.Prelude.{◌≡◌, map, All, IsTrue, IfOk, IfErr, MatchResult};
+ghost use Rattle.std.specs.Prelude.{◌≡◌, ◌≤◌, map, All, IsTrue, IfOk, IfErr, MatchResult};
 ghost use Rattle.std.specs.List.{AllZip};
 ghost use Rattle.jsonpath_parser.specs.Derives.{Derives};
+ghost use Rattle.jsonpath_parser.specs.Location.{Location};
+ghost use Rattle.jsonpath_parser.specs.Normal.{IsNormal};
+ghost use Rattle.jsonpath_parser.specs.Steps.{HasIndexesInRange};
 ghost use Rattle.jsonpath_parser.specs.Syntax.{Query};
 ghost use Rattle.jsonpath_parser.specs.View.{query_view};
 ghost use Rattle.jsonpath_rust.specs.Document.{document_of};
 ghost use Rattle.jsonpath_rust.specs.Meaning.{selected};
 ghost use Rattle.jsonpath_rust.specs.Patterns.{IsStop, IsQueryRefusal};
-ghost use Rattle.jsonpath_rust.specs.Answer.{IsNodeAt, IsPathAt, IsValueAt, Lists, shown, paths_of};
+ghost use Rattle.jsonpath_rust.specs.Answer.{IsNodeAt, IsPathAt, IsValueAt, Lists, shown, paths_of, node_there};
 
 mod argument;
 mod cache;
 mod comparison;
+mod deletion;
 mod filter;
 mod function;
 mod halt;
 mod patterns;
 pub mod queryable;
+mod reference;
 mod singular;
 mod sink;
 mod subquery;
@@ -25,7 +30,9 @@ mod value;
 mod walk;
 mod way;
 
+pub use crate::query::deletion::{delete_selected, delete_within};
 use crate::query::queryable::Queryable;
+pub use crate::query::reference::replace_by_path;
 use jsonpath_parser::errors::JsonPathError;
 use jsonpath_parser::model::JpQuery;
 use jsonpath_parser::{MAX_NESTING_DEPTH, let_go, parse_json_path, parse_json_path_within};
@@ -89,6 +96,11 @@ pub fn js_path<'a, T: Queryable>(
     ensures only { (q : Query) → Derives MAX_NESTING_DEPTH path.now q → MatchResult result
         (λ v. AllZip (IsNodeAt (document_of T.tree T.custom value.now)) (selected q (document_of T.tree T.custom value.now)) (shown T.tree v.items))
         (IsStop q (document_of T.tree T.custom value.now)) }
+
+    // A Normalized Path is refused for want of memory alone. It gives the node at its location, or none where nothing is there.
+    ensures normal { (l : Location) → IsNormal l path.now → HasIndexesInRange l → MatchResult result
+        (λ v. shown T.tree v.items ≡ node_there (document_of T.tree T.custom value.now) l path.now)
+        (λ e. e ≡ JsonPathError.OutOfMemory) }
     ensures whole { IfOk result (λ v. All (λ r. IsTrue (T.is_whole r.val.now)) v.items) }
     ensures refused { IfErr result (IsQueryRefusal MAX_NESTING_DEPTH path.now (document_of T.tree T.custom value.now)) }
 {
@@ -113,6 +125,11 @@ pub fn js_path_within<'a, T: Queryable>(
     ensures only { (q : Query) → Derives depth path.now q → MatchResult result
         (λ v. AllZip (IsNodeAt (document_of T.tree T.custom value.now)) (selected q (document_of T.tree T.custom value.now)) (shown T.tree v.items))
         (IsStop q (document_of T.tree T.custom value.now)) }
+
+    // A Normalized Path is refused for want of memory alone. It gives the node at its location, or none where nothing is there.
+    ensures normal { (l : Location) → IsNormal l path.now → HasIndexesInRange l → 1 ≤ depth → MatchResult result
+        (λ v. shown T.tree v.items ≡ node_there (document_of T.tree T.custom value.now) l path.now)
+        (λ e. e ≡ JsonPathError.OutOfMemory) }
     ensures whole { IfOk result (λ v. All (λ r. IsTrue (T.is_whole r.val.now)) v.items) }
     ensures refused { IfErr result (IsQueryRefusal depth path.now (document_of T.tree T.custom value.now)) }
 {

@@ -1,6 +1,8 @@
 -- What a walk gives to a sink, for the contracts of the walk alone: the definitions here are no part of what a query means.
 use Rattle.std.specs.Prelude.{◌≡◌, ℕ, suc, min, List, [], ◌∷◌, ◌++◌, map, Bool, true, false, Option, Some, None, IsTrue, All}
+use Rattle.jsonpath_parser.specs.Location.{Location}
 use Rattle.jsonpath_parser.specs.Normal.{normal}
+use Rattle.jsonpath_base.specs.Steps.{location_view}
 use Rattle.jsonpath_base.specs.Tree.{Tree}
 use Rattle.jsonpath_rust.specs.Node.{Node}
 use Rattle.jsonpath_rust.specs.Answer.{shown, paths_of}
@@ -21,6 +23,7 @@ pub data Seen : Type 0 where
   nodes : List Bool → List (List ℕ × Tree) → Seen
   paths : List (List ℕ) → Seen
   values : List Bool → List Tree → Seen
+  locations : List Location → Seen
   any : Bool → Seen
   count : ℕ → Seen
   nothing : Seen
@@ -36,6 +39,7 @@ abbrev pub seen : {A : Type 0} → (A → Tree) → (A → Bool) → Sink A → 
 seen tree whole (sink.Nodes refs) = nodes (map (λ r. whole r.val.now) refs.items) (shown tree refs.items)
 seen tree whole (sink.Paths ps) = paths (paths_of ps.items)
 seen tree whole (sink.Values vs) = values (map (λ v. whole v.now) vs.items) (map (λ v. tree v.now) vs.items)
+seen tree whole (sink.Locations ls) = locations (map (λ l. location_view l.items) ls.items)
 seen tree whole (sink.Any b) = any b
 seen tree whole (sink.Count n) = count n
 seen tree whole (sink.Only o) = seen_only tree whole o
@@ -52,6 +56,7 @@ abbrev pub add : Seen → Node → Seen
 add (nodes bs ns) n = nodes (bs ++ true ∷ []) (ns ++ answer_of n ∷ [])
 add (paths ps) n = paths (ps ++ normal n.location ∷ [])
 add (values bs ts) n = values (bs ++ true ∷ []) (ts ++ n.tree ∷ [])
+add (locations ls) n = locations (ls ++ n.location ∷ [])
 add (any b) n = any true
 add (count k) n = count (min (suc k) GREATEST_COUNT)
 add nothing n = one true n.tree
@@ -69,6 +74,7 @@ full several = true
 full (nodes bs ns) = false
 full (paths ps) = false
 full (values bs ts) = false
+full (locations ls) = false
 full (count k) = false
 full nothing = false
 full (one b t) = false
@@ -94,6 +100,10 @@ nodes_in _ = []
 abbrev pub paths_in : Seen → List (List ℕ)
 paths_in (paths ps) = ps
 paths_in _ = []
+
+abbrev pub locations_in : Seen → List Location
+locations_in (locations ls) = ls
+locations_in _ = []
 
 abbrev pub values_in : Seen → List Tree
 values_in (values bs ts) = ts

@@ -1,14 +1,12 @@
 //! The types that are documents.
-ghost use Rattle.std.specs.Prelude.{◌≡◌, ℕ, Bool, false, List, map, Option, Some, None, option_map, All, IsTrue, IfOk, IfErr, IfSome, OnErr};
-ghost use Rattle.std.specs.Result.{IsErrAnd};
+ghost use Rattle.std.specs.Prelude.{◌≡◌, ℕ, Bool, false, List, map, Option, Some, None, option_map, All, IsTrue, IfOk, IfErr, IfSome};
 ghost use Rattle.jsonpath_base.specs.Tree.{Tree, null, truth, number, text, get, as_list, as_members, as_text, as_int, as_bool, has_distinct_names};
 ghost use Rattle.jsonpath_base.specs.Same.{same};
 ghost use Rattle.jsonpath_parser.specs.declared.errors.JsonPathError.TheVariants.{OutOfMemory};
 ghost use Rattle.jsonpath_rust.specs.Args.{arg_value};
-ghost use Rattle.jsonpath_rust.specs.Defaults.{IsUnsupported};
 
 use crate::query::Queried;
-use jsonpath_parser::errors::JsonPathError;
+pub use crate::query::deletion::Deletable;
 use std::alloc::Global;
 use std::fmt::Debug;
 
@@ -35,7 +33,7 @@ impl<'a, T> Arg<'a, T> {
 }
 
 /// A document. A value that passes `is_whole` has one tree, and each call agrees with it; what the calls answer on any
-/// other value is left open. All calls but `delete_by_path` refuse by `OutOfMemory` alone.
+/// other value is left open. All calls refuse by `OutOfMemory` alone.
 pub trait Queryable: Sized + Debug + Drop {
     /// The tree of a value.
     ghost tree: { Self → Tree };
@@ -46,11 +44,8 @@ pub trait Queryable: Sized + Debug + Drop {
     /// What a custom function of that name answers, of the arguments' trees (RFC 9535, 2.4).
     ghost custom: { List ℕ → List Tree → Tree };
 
-    /// Whether `reference` and `reference_mut` look for a location. Where they do not, they answer None.
+    /// Whether `reference` looks for a location, and `reference_mut` may. Where they do not, they answer None.
     ghost refers: { Bool } = { false };
-
-    /// Whether `delete_by_path` removes anything. Where it does not, it refuses.
-    ghost deletes: { Bool } = { false };
 
     /// The member of that name.
     fn get(&self, key: &str) -> Option<&Self>
@@ -150,17 +145,6 @@ pub trait Queryable: Sized + Debug + Drop {
         ensures memory { IfErr result (λ e. e ≡ OutOfMemory) }
     {
         Ok(None)
-    }
-
-    /// Removes all locations that a query selects, and answers how many distinct ones there were; by default it refuses
-    /// by `InvalidJsonPath`. After any refusal the value has the tree it had.
-    fn delete_by_path(&mut self, alloc: Global, _path: &str) -> Queried<usize>
-        requires { IsTrue (is_whole self.old) }
-        ensures kept { OnErr result (tree self.new ≡ tree self.old) }
-        ensures whole { IsTrue (is_whole self.new) }
-        ensures refused { deletes ≡ false → IsErrAnd result IsUnsupported }
-    {
-        Err(JsonPathError::InvalidJsonPath(String::from_str(alloc, "Deletion not supported")?))
     }
 
     /// No object of a whole value has a name twice.

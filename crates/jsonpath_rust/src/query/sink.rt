@@ -1,15 +1,17 @@
 //! What is done with the nodes that a walk meets.
 ghost use Rattle.std.specs.Prelude.{◌≡◌, suc, min, ◌∷◌, [], map, option_map, IsTrue, IfOk, IfErr};
+ghost use Rattle.jsonpath_base.specs.Steps.{location_view};
 ghost use Rattle.jsonpath_rust.specs.declared.query.halt.Halt.TheVariants.{Memory};
 ghost use Rattle.jsonpath_rust.specs.Answer.{shown, paths_of};
 ghost use Rattle.jsonpath_rust.specs.Node.{Node};
-ghost use Rattle.jsonpath_rust.specs.inner.Sinks.{Took, seen, seen_only, start, any_in, count_in, only_in, nodes_in, nodes_whole, values_in, values_whole, paths_in};
+ghost use Rattle.jsonpath_rust.specs.inner.Sinks.{Took, seen, seen_only, start, any_in, count_in, only_in, nodes_in, nodes_whole, values_in, values_whole, paths_in, locations_in};
 ghost use Rattle.jsonpath_rust.specs.inner.Walking.{node_of};
 
 use crate::query::halt::Walked;
 use crate::query::queryable::Queryable;
 use crate::query::way::Way;
 use crate::query::{QueryPath, QueryRef};
+use jsonpath_base::Step;
 use std::alloc::Global;
 
 /// The only node of a list, if it has one alone.
@@ -42,6 +44,8 @@ pub enum Sink<'a, T> {
     Paths(Vec<QueryPath>),
     /// Keeps each node's value, and makes no path.
     Values(Vec<&'a T>),
+    /// Keeps each node's location, with names of its own.
+    Locations(Vec<Vec<Step>>),
     /// Whether a node came. It stops at the first.
     Any(bool),
     /// How many nodes came, up to [`GREATEST_COUNT`].
@@ -88,6 +92,11 @@ impl<'a, T: Queryable> Sink<'a, T> {
             }
             Sink::Values(values) => {
                 values.push(value)?;
+                Ok(true)
+            }
+            Sink::Locations(locations) => {
+                let location = way.location(alloc)?;
+                locations.push(location)?;
                 Ok(true)
             }
             Sink::Any(any) => {
@@ -144,6 +153,7 @@ impl<'a, T: Queryable> Sink<'a, T> {
             Sink::Nodes(nodes) => nodes,
             Sink::Paths(_paths) => Vec::new(alloc),
             Sink::Values(_values) => Vec::new(alloc),
+            Sink::Locations(_locations) => Vec::new(alloc),
             Sink::Any(_any) => Vec::new(alloc),
             Sink::Count(_count) => Vec::new(alloc),
             Sink::Only(_only) => Vec::new(alloc),
@@ -158,6 +168,22 @@ impl<'a, T: Queryable> Sink<'a, T> {
             Sink::Nodes(_nodes) => Vec::new(alloc),
             Sink::Paths(paths) => paths,
             Sink::Values(_values) => Vec::new(alloc),
+            Sink::Locations(_locations) => Vec::new(alloc),
+            Sink::Any(_any) => Vec::new(alloc),
+            Sink::Count(_count) => Vec::new(alloc),
+            Sink::Only(_only) => Vec::new(alloc),
+        }
+    }
+
+    /// The locations that a `Locations` was given.
+    pub fn into_locations(self, alloc: Global) -> Vec<Vec<Step>>
+        ensures { map (λ l. location_view l.items) result.items ≡ locations_in (seen T.tree T.is_whole self.entry) }
+    {
+        match self {
+            Sink::Nodes(_nodes) => Vec::new(alloc),
+            Sink::Paths(_paths) => Vec::new(alloc),
+            Sink::Values(_values) => Vec::new(alloc),
+            Sink::Locations(locations) => locations,
             Sink::Any(_any) => Vec::new(alloc),
             Sink::Count(_count) => Vec::new(alloc),
             Sink::Only(_only) => Vec::new(alloc),
@@ -173,6 +199,7 @@ impl<'a, T: Queryable> Sink<'a, T> {
             Sink::Nodes(_nodes) => Vec::new(alloc),
             Sink::Paths(_paths) => Vec::new(alloc),
             Sink::Values(values) => values,
+            Sink::Locations(_locations) => Vec::new(alloc),
             Sink::Any(_any) => Vec::new(alloc),
             Sink::Count(_count) => Vec::new(alloc),
             Sink::Only(_only) => Vec::new(alloc),

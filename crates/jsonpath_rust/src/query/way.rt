@@ -1,6 +1,7 @@
 //! The way from the root to the value at hand, and what is spelled of its Normalized Path (RFC 9535, 2.7).
 ghost use Rattle.std.specs.Prelude.{◌≡◌, List, [], ◌∷◌, ◌++◌, length, map, IfOk, IfErr, OnOk, OnErr, string_bytes};
 ghost use Rattle.jsonpath_parser.specs.Normal.{normal, step_text};
+ghost use Rattle.jsonpath_base.specs.Steps.{step_view, location_view};
 ghost use Rattle.jsonpath_rust.specs.declared.query.halt.Halt.TheVariants.{Memory};
 ghost use Rattle.jsonpath_rust.specs.inner.Walking.{step_of};
 ghost use Rattle.jsonpath_rust.specs.inner.Way.{spelled, IsSpelled};
@@ -8,7 +9,7 @@ ghost use Rattle.jsonpath_rust.specs.declared.query.way.StepRef.{StepRef};
 
 use crate::query::QueryPath;
 use crate::query::halt::Walked;
-use jsonpath_base::step::{add_index, add_name};
+use jsonpath_base::step::{Step, add_index, add_name};
 use std::alloc::Global;
 
 /// One step down, lent by the query or by the document.
@@ -78,6 +79,29 @@ impl<'s> Way<'s> {
         path.push('$')?;
         path.push_str(&self.text)?;
         Ok(path)
+    }
+
+    /// The location, with names of its own.
+    pub fn location(&self, alloc: Global) -> Walked<Vec<Step>>
+        ensures value { IfOk result (λ steps. location_view steps.items ≡ map step_of self.now.steps.items) }
+        ensures memory { IfErr result (λ h. h ≡ Memory) }
+    {
+        let mut steps = Vec::with_capacity(alloc, self.steps.len())?;
+        for step in &self.steps {
+            steps.push(owned(alloc, *step)?)?;
+        }
+        Ok(steps)
+    }
+}
+
+/// The step, with a name of its own.
+fn owned(alloc: Global, step: StepRef<'_>) -> Walked<Step>
+    ensures value { IfOk result (λ s. step_view s ≡ step_of step.entry) }
+    ensures memory { IfErr result (λ h. h ≡ Memory) }
+{
+    match step {
+        StepRef::Name(name) => Ok(Step::Name(String::from_str(alloc, name)?)),
+        StepRef::Index(index) => Ok(Step::Index(index)),
     }
 }
 

@@ -37,7 +37,7 @@ pub fn element<T: Queryable>(at: &T, index: i64) -> Option<(usize, &T)>
 
 /// The position from 0 that an index means in a list of this length: a negative one counts from the end.
 #[inline(always)]
-fn element_of(index: i64, length: usize) -> Option<usize>
+pub fn element_of(index: i64, length: usize) -> Option<usize>
     ensures { result ≡ meaning.element_of index length }
 {
     if index < 0 {

@@ -1,14 +1,17 @@
 //! Values of `serde_json` as documents.
-ghost use Rattle.std.specs.Prelude.{◌≡◌, All, IfOk, IfErr, IsTrue, Some, map};
+ghost use Rattle.std.specs.Prelude.{◌≡◌, All, IfOk, IfErr, IfSome, IsTrue, Some, map, option_map, true};
 ghost use Rattle.serde_json.specs.View.{view, members_view};
 ghost use Rattle.jsonpath_base.specs.Tree.{as_list, pairs};
 ghost use Rattle.jsonpath_base.specs.SetFunctions.{set_function};
 ghost use Rattle.jsonpath_base.specs.Values.{value_tree, value_is_whole, has_whole_numbers, members_of};
 ghost use Rattle.jsonpath_base.proofs.Views.{whole_distinct};
 ghost use Rattle.jsonpath_parser.specs.declared.errors.JsonPathError.TheVariants.{OutOfMemory};
+ghost use Rattle.jsonpath_rust.specs.Document.{document_of};
+ghost use Rattle.jsonpath_rust.specs.Referring.{IsReferred};
 
 use crate::query::Queried;
 use crate::query::queryable::{Arg, Queryable};
+use crate::query::reference::{referred, referred_mut};
 use serde_json::{Map, Value};
 use std::alloc::{AllocError, Global};
 
@@ -18,6 +21,8 @@ impl Queryable for Value {
     ghost is_whole = { value_is_whole };
 
     ghost custom = { set_function };
+
+    ghost refers = { true };
 
     fn get(&self, key: &str) -> Option<&Value> {
         self.get(key)
@@ -97,6 +102,24 @@ impl Queryable for Value {
             },
             _ => Ok(Value::Null),
         }
+    }
+
+    /// The value at the one location that a path of names and indexes means. Each other text gives None, and so does one
+    /// that is no query. The steps are followed down; the value is not walked.
+    fn reference(&self, alloc: Global, path: &str) -> Queried<Option<&Value>>
+        ensures value { IfOk result (λ o. IsReferred path.now (document_of value_tree set_function self.now) (option_map (λ v. value_tree v.now) o)) }
+        ensures whole { IsTrue (value_is_whole self.now) → IfOk result (λ o. IfSome o (λ v. IsTrue (value_is_whole v.now))) }
+        ensures memory { IfErr result (λ e. e ≡ OutOfMemory) }
+    {
+        referred(alloc, self, path)
+    }
+
+    /// The value that `reference` answers, lent for writing.
+    fn reference_mut(&mut self, alloc: Global, path: &str) -> Queried<Option<&mut Value>>
+        ensures value { IfOk result (λ o. IsReferred path.now (document_of value_tree set_function self.old) (option_map (λ v. value_tree v.now) o)) }
+        ensures memory { IfErr result (λ e. e ≡ OutOfMemory) }
+    {
+        referred_mut(alloc, self, path)
     }
 
     ghost distinct = { whole_distinct };

@@ -1,0 +1,19 @@
+-- What a deletion leaves, and what it answers.
+use Rattle.std.specs.Prelude.{◌≡◌, ℕ, List}
+use Rattle.jsonpath_parser.specs.Derives.{Derives}
+use Rattle.jsonpath_parser.specs.Syntax.{Query}
+use Rattle.jsonpath_base.specs.Tree.{Tree}
+use Rattle.jsonpath_base.specs.Without.{without, is_among, distinct_count}
+use Rattle.jsonpath_rust.specs.Document.{Document}
+use Rattle.jsonpath_rust.specs.Meaning.{selected}
+
+-- The tree left is the document without all locations that the query selects, removed at once; and so many distinct ones there are.
+pub record IsDeletion (q : Query) (doc : Document) (left : Tree) (count : ℕ) : Type 0 where
+  pub removed : left ≡ without (is_among (selected q doc)) doc.root
+  pub counted : count ≡ distinct_count (selected q doc)
+
+-- The text derives a query, at this depth, and what that selects is deleted.
+pub record Deletes (depth : ℕ) (text : List ℕ) (doc : Document) (left : Tree) (count : ℕ) : Type 0 where
+  pub query : Query
+  pub derived : Derives depth text query
+  pub deleted : IsDeletion query doc left count

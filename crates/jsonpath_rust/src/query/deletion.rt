@@ -1,0 +1,119 @@
+//! Deletion of what a query selects.
+ghost use Rattle.std.specs.Prelude.{◌≡◌, Bool, true, false, map, IsTrue, IfOk, IfErr, OnOk, OnErr, MatchResult};
+ghost use Rattle.std.specs.Result.{IsErrAnd};
+ghost use Rattle.jsonpath_parser.specs.Derives.{Derives};
+ghost use Rattle.jsonpath_parser.specs.Syntax.{Query};
+ghost use Rattle.jsonpath_parser.specs.View.{query_view};
+ghost use Rattle.jsonpath_base.specs.Steps.{location_view};
+ghost use Rattle.jsonpath_base.specs.SetFunctions.{set_function};
+ghost use Rattle.jsonpath_base.specs.Values.{value_tree, value_is_whole};
+ghost use Rattle.jsonpath_base.specs.Without.{without, is_among, distinct_count};
+ghost use Rattle.jsonpath_rust.specs.Defaults.{IsUnsupported};
+ghost use Rattle.jsonpath_rust.specs.Deleting.{IsDeletion, Deletes};
+ghost use Rattle.jsonpath_rust.specs.Document.{document_of};
+ghost use Rattle.jsonpath_rust.specs.Meaning.{selected};
+ghost use Rattle.jsonpath_rust.specs.Patterns.{IsStop, IsQueryRefusal};
+
+use crate::query::Queried;
+use crate::query::queryable::Queryable;
+use crate::query::sink::Sink;
+use crate::query::walk::give_nodes;
+use jsonpath_base::{Step, remove_all};
+use jsonpath_parser::errors::JsonPathError;
+use jsonpath_parser::model::JpQuery;
+use jsonpath_parser::{MAX_NESTING_DEPTH, let_go, parse_json_path_within};
+use serde_json::Value;
+use std::alloc::Global;
+
+/// A document from which the locations that a query selects can be removed.
+pub trait Deletable: Queryable {
+    /// Whether `delete_by_path` removes anything. Where it does not, it refuses.
+    ghost deletes: { Bool } = { false };
+
+    /// Removes all locations that a query selects, and answers how many distinct ones there were; by default it refuses
+    /// by `InvalidJsonPath`. After any refusal the value has the tree it had.
+    fn delete_by_path(&mut self, alloc: Global, _path: &str) -> Queried<usize>
+        requires { IsTrue (Self.is_whole self.old) }
+        ensures kept { OnErr result (Self.tree self.new ≡ Self.tree self.old) }
+        ensures whole { IsTrue (Self.is_whole self.new) }
+        ensures refused { deletes ≡ false → IsErrAnd result IsUnsupported }
+    {
+        Err(JsonPathError::InvalidJsonPath(String::from_str(alloc, "Deletion not supported")?))
+    }
+}
+
+impl Deletable for Value {
+    ghost deletes = { true };
+
+    /// As [`delete_within`], which this is at a depth of 128.
+    fn delete_by_path(&mut self, alloc: Global, path: &str) -> Queried<usize>
+        requires { IsTrue (value_is_whole self.old) }
+        ensures deleted { IfOk result (Deletes MAX_NESTING_DEPTH path.now (document_of value_tree set_function self.old) (value_tree self.new)) }
+
+        // Whatever query the text derives, what it selects is removed, unless memory ran out or a pattern was refused.
+        ensures only { (q : Query) → Derives MAX_NESTING_DEPTH path.now q → MatchResult result
+            (IsDeletion q (document_of value_tree set_function self.old) (value_tree self.new))
+            (IsStop q (document_of value_tree set_function self.old)) }
+        ensures kept { OnErr result (self.new ≡ self.old) }
+        ensures whole { IsTrue (value_is_whole self.new) }
+        ensures refused { IfErr result (IsQueryRefusal MAX_NESTING_DEPTH path.now (document_of value_tree set_function self.old)) }
+    {
+        delete_within(alloc, self, path, MAX_NESTING_DEPTH)
+    }
+}
+
+/// Removes all locations that a query text selects in a document, at once and each by its original place, and answers how
+/// many distinct ones there are, those inside other ones counted too. Where the root is selected, null is left.
+///
+/// All nodes are found, and all memory is taken, before anything is removed. Time as [`js_path_within`], n log n in the
+/// steps of the selected locations, and linear in each list that loses an element.
+///
+/// # Errors
+///
+/// As those of [`js_path_within`]; after any of them the document is as it was.
+///
+/// [`js_path_within`]: crate::query::js_path_within
+pub fn delete_within(alloc: Global, value: &mut Value, path: &str, depth: usize) -> Queried<usize>
+    requires { IsTrue (value_is_whole value.old) }
+    ensures deleted { IfOk result (Deletes depth path.now (document_of value_tree set_function value.old) (value_tree value.new)) }
+
+    // Whatever query the text derives, what it selects is removed, unless memory ran out or a pattern was refused.
+    ensures only { (q : Query) → Derives depth path.now q → MatchResult result
+        (IsDeletion q (document_of value_tree set_function value.old) (value_tree value.new))
+        (IsStop q (document_of value_tree set_function value.old)) }
+    ensures kept { OnErr result (value.new ≡ value.old) }
+    ensures whole { IsTrue (value_is_whole value.new) }
+    ensures refused { IfErr result (IsQueryRefusal depth path.now (document_of value_tree set_function value.old)) }
+{
+    let query = parse_json_path_within(alloc, path, depth)?;
+    let deleted = delete_selected(alloc, value, &query);
+    let_go(query);
+    deleted
+}
+
+/// Removes all locations that a query selects in a document, and answers how many distinct ones there are, as
+/// [`delete_within`] does. It refuses as [`js_path_process`] does, and then the document is as it was.
+///
+/// [`js_path_process`]: crate::query::js_path_process
+pub fn delete_selected(alloc: Global, value: &mut Value, query: &JpQuery) -> Queried<usize>
+    requires { IsTrue (value_is_whole value.old) }
+    ensures removed { OnOk result (value_tree value.new ≡ without (is_among (selected (query_view query.now) (document_of value_tree set_function value.old))) (value_tree value.old)) }
+    ensures count { IfOk result (λ n. n ≡ distinct_count (selected (query_view query.now) (document_of value_tree set_function value.old))) }
+    ensures kept { OnErr result (value.new ≡ value.old) }
+    ensures whole { IsTrue (value_is_whole value.new) }
+    ensures refused { IfErr result (IsStop (query_view query.now) (document_of value_tree set_function value.old)) }
+{
+    let locations = selected_locations(alloc, query, value)?;
+    remove_all(alloc, value, &locations)
+}
+
+/// The locations that a query selects, in order.
+fn selected_locations(alloc: Global, query: &JpQuery, value: &Value) -> Queried<Vec<Vec<Step>>>
+    requires { IsTrue (value_is_whole value.now) }
+    ensures locations { IfOk result (λ v. map (λ l. location_view l.items) v.items ≡ selected (query_view query.now) (document_of value_tree set_function value.now)) }
+    ensures refused { IfErr result (IsStop (query_view query.now) (document_of value_tree set_function value.now)) }
+{
+    let mut sink = Sink::Locations(Vec::new(alloc));
+    let _goes_on = give_nodes(alloc, query, value, &mut sink)?;
+    Ok(sink.into_locations(alloc))
+}
