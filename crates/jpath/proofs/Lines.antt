@@ -7,16 +7,16 @@ use Rattle.jsonpath_rust.specs.Document.{Document}
 use Rattle.jsonpath_rust.specs.Answer.{IsNodeAt, IsValueAt}
 use Rattle.jpath.specs.Json.{json_text}
 use Rattle.jpath.specs.Output.{line, location_line}
-use Rattle.jpath.specs.declared.words.Command.{Command}
-use Rattle.jpath.specs.declared.words.Command.TheVariants.{Values}
+use Rattle.jpath.specs.declared.words.Listing.{Listing}
+use Rattle.jpath.specs.declared.words.Listing.TheVariants.{Values}
 
 -- the lines of answered nodes are those of their locations
-pub lines-AllZip : (command : Command) (doc : Document) (ls : List Location) (ns : List (List ℕ × Tree)) → AllZip (IsNodeAt doc) ls ns →
-    flat_map (λ n. line command n.0 (json_text n.1)) ns ≡ flat_map (location_line command doc) ls
-lines-AllZip command doc [] [] h = refl
-lines-AllZip command doc [] (n ∷ ns) h = absurd h
-lines-AllZip command doc (l ∷ ls) [] h = absurd h
-lines-AllZip command doc (l ∷ ls) (n ∷ ns) h = rw (h.0.0.0, h.0.1, lines-AllZip command doc ls ns h.1)
+pub lines-AllZip : (listing : Listing) (doc : Document) (ls : List Location) (ns : List (List ℕ × Tree)) → AllZip (IsNodeAt doc) ls ns →
+    flat_map (λ n. line listing n.0 (json_text n.1)) ns ≡ flat_map (location_line listing doc) ls
+lines-AllZip listing doc [] [] h = refl
+lines-AllZip listing doc [] (n ∷ ns) h = absurd h
+lines-AllZip listing doc (l ∷ ls) [] h = absurd h
+lines-AllZip listing doc (l ∷ ls) (n ∷ ns) h = rw (h.0.0.0, h.0.1, lines-AllZip listing doc ls ns h.1)
 
 -- so are those of their values alone
 pub value_lines-AllZip : (doc : Document) (ls : List Location) (ts : List Tree) → AllZip (IsValueAt doc) ls ts →

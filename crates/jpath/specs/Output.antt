@@ -1,5 +1,5 @@
 -- What the program reads and writes.
-use Rattle.std.specs.Prelude.{◌≡◌, ◌≢◌, ◌⊎◌, ℕ, List, [], ◌++◌, take, codes, Option, Some, None, IsSome, IfSome, false, IsTrue, IsUtf8, ⊤}
+use Rattle.std.specs.Prelude.{◌≡◌, ◌≢◌, ◌⊎◌, ℕ, List, [], ◌++◌, take, codes, decimal, Option, Some, None, IsSome, IfSome, false, IsTrue, IsUtf8, ⊤}
 use Rattle.std.specs.List.{flat_map}
 use Rattle.std.specs.Io.KnownBytes.{Appends}
 use Rattle.serde_json.specs.Data.{Data}
@@ -13,6 +13,7 @@ use Rattle.jsonpath_parser.specs.declared.errors.JsonPathError.TheVariants.{OutO
 use Rattle.jsonpath_base.specs.Tree.{Tree}
 use Rattle.jsonpath_base.specs.Places.{at}
 use Rattle.jsonpath_base.specs.SetFunctions.{set_function}
+use Rattle.jsonpath_base.specs.Without.{without, is_among, distinct_count}
 use Rattle.jsonpath_base.specs.Values.{tree_of, has_whole_numbers}
 use Rattle.jsonpath_rust.specs.Document.{Document}
 use Rattle.jsonpath_rust.specs.Meaning.{selected}
@@ -20,7 +21,9 @@ use Rattle.jsonpath_rust.specs.Patterns.{IsInvalid, AsksPattern}
 use Rattle.jpath.specs.Json.{json_text}
 use Rattle.jpath.specs.Words.{Asked, asked_by}
 use Rattle.jpath.specs.declared.words.Command.{Command}
-use Rattle.jpath.specs.declared.words.Command.TheVariants.{Nodes, Values, Paths}
+use Rattle.jpath.specs.declared.words.Command.TheVariants.{Print, Delete}
+use Rattle.jpath.specs.declared.words.Listing.{Listing}
+use Rattle.jpath.specs.declared.words.Listing.TheVariants.{Nodes, Values, Paths}
 use Rattle.jpath.specs.declared.fault.Fault.{Fault}
 use Rattle.jpath.specs.declared.fault.Fault.TheVariants.{Usage, Query, NotJson, NotWhole, Io, Memory}
 
@@ -49,18 +52,27 @@ value_text None = []
 value_text (Some t) = json_text t
 
 -- the line of a node, by its path and the text of its value
-abbrev pub line : Command → List ℕ → List ℕ → List ℕ
+abbrev pub line : Listing → List ℕ → List ℕ → List ℕ
 line Nodes path value = path ++ (codes "\t" ++ (value ++ codes "\n"))
 line Values path value = value ++ codes "\n"
 line Paths path value = path ++ codes "\n"
 
 -- the line of a location: by its Normalized Path (RFC 9535, 2.7), and the value there
-abbrev pub location_line : Command → Document → Location → List ℕ
-location_line command doc l = line command (normal l) (value_text (at l doc.root))
+abbrev pub location_line : Listing → Document → Location → List ℕ
+location_line listing doc l = line listing (normal l) (value_text (at l doc.root))
 
--- what a command prints of the nodes that a query selects in a document, in their order
+-- the lines of the nodes that a query selects in a document, in their order
+abbrev pub listed : Listing → syntax.Query → Document → List ℕ
+listed listing q doc = flat_map (location_line listing doc) (selected q doc)
+
+-- how many locations were deleted, and the document that is left, each on a line
+abbrev pub deletion_text : ℕ → Tree → List ℕ
+deletion_text count left = decimal count ++ (codes "\n" ++ (json_text left ++ codes "\n"))
+
+-- what a command prints of what a query selects in a document; what is deleted goes all at once
 abbrev pub printed : Command → syntax.Query → Document → List ℕ
-printed command q doc = flat_map (location_line command doc) (selected q doc)
+printed (Print listing) q doc = listed listing q doc
+printed Delete q doc = deletion_text (distinct_count (selected q doc)) (without (is_among (selected q doc)) doc.root)
 
 -- The words ask for a query, of brackets no deeper than they say; the bytes are JSON of whole numbers; and the output is what the command prints.
 pub record IsOutput (words : List (List ℕ)) (bytes out : List ℕ) : Type 0 where

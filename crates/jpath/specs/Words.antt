@@ -3,7 +3,8 @@ use Rattle.std.specs.Prelude.{ℕ, List, [], ◌∷◌, length, nat_le, codes, B
 use Rattle.std.specs.Str.{bytes_eq, all_ascii_digits}
 use Rattle.std.specs.Str.Parse.{digits_value}
 use Rattle.jpath.specs.declared.words.Command.{Command}
-use Rattle.jpath.specs.declared.words.Command.TheVariants.{Nodes, Values, Paths}
+use Rattle.jpath.specs.declared.words.Command.TheVariants.{Print, Delete}
+use Rattle.jpath.specs.declared.words.Listing.TheVariants.{Nodes, Values, Paths}
 
 -- a command, how deep the brackets of a query may nest, and the text of the query
 pub record Asked : Type 0 where
@@ -13,9 +14,10 @@ pub record Asked : Type 0 where
 
 abbrev pub command_of : List ℕ → Option Command
 command_of word =
-    if bytes_eq word (codes "nodes") then Some Nodes
-    else (if bytes_eq word (codes "values") then Some Values
-    else (if bytes_eq word (codes "paths") then Some Paths else None))
+    if bytes_eq word (codes "nodes") then Some (Print Nodes)
+    else (if bytes_eq word (codes "values") then Some (Print Values)
+    else (if bytes_eq word (codes "paths") then Some (Print Paths)
+    else (if bytes_eq word (codes "delete") then Some Delete else None)))
 
 -- one to three ASCII digits
 abbrev pub is_depth : List ℕ → Bool

@@ -1,4 +1,4 @@
-//! One run: the words, the query, the document, the nodes, the output.
+//! One run: the words, the query, the document, what the query selects, the output.
 ghost use Rattle.std.specs.Prelude.{◌≡◌, ◌≢◌, ◌⊎◌, ◌↔◌, ℕ, ◌<◌, List, vec_len, Some, None, IsTrue, IfSome, IfOk, IfErr, OnOk, OnErr, IsErrOf, map, string_bytes};
 ghost use Rattle.std.specs.Io.KnownBytes.{Consumes, Appends, IsAtEnd};
 ghost use Rattle.serde_json.specs.View.{view};
@@ -15,7 +15,7 @@ use std::alloc::{AllocError, Global};
 use std::io::{Read, Write};
 
 /// Asks the query of these words, those behind the program's name, of the JSON that the reader gives to its end,
-/// and writes what it selects.
+/// and writes what it selects, or what is left of it when that is deleted.
 ///
 /// The words and the query are judged before anything is read, and nothing is written before the whole output
 /// stands. Each fault comes in the case that it names, the first that holds in the order of work: words, query,
@@ -47,14 +47,14 @@ pub fn run<R: Read, W: Write>(
         return Err(Fault::Usage);
     };
     let query = parse_json_path_within(alloc, request.query, request.depth)?;
-    let document = match read_document(alloc, reader) {
+    let mut document = match read_document(alloc, reader) {
         Ok(document) => document,
         Err(fault) => {
             let_go(query);
             return Err(fault);
         }
     };
-    let printed = printed(alloc, request.command, &query, &document);
+    let printed = printed(alloc, request.command, &query, &mut document);
     let_go(query);
     let output = printed?;
     write_out(writer, output.as_bytes())

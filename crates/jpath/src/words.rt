@@ -5,9 +5,9 @@ ghost use Rattle.jpath.specs.Words.{asked_by, command_of, depth_of, is_depth};
 
 use jsonpath_parser::MAX_NESTING_DEPTH;
 
-/// What is printed of the nodes that a query selects.
+/// What is printed of each node that a query selects.
 #[derive(Clone, Copy, Debug)]
-pub enum Command {
+pub enum Listing {
     /// The path and the value of each node.
     Nodes,
     /// The value of each node.
@@ -16,15 +16,25 @@ pub enum Command {
     Paths,
 }
 
+/// What is done with what a query selects.
+#[derive(Clone, Copy, Debug)]
+pub enum Command {
+    /// A line for each node is printed.
+    Print(Listing),
+    /// All of it is deleted at once; the count and the document that is left are printed.
+    Delete,
+}
+
 impl Command {
     /// The command of that word.
     pub fn of(word: &str) -> Option<Command>
         ensures { result ≡ command_of word.now }
     {
         match word {
-            "nodes" => Some(Command::Nodes),
-            "values" => Some(Command::Values),
-            "paths" => Some(Command::Paths),
+            "nodes" => Some(Command::Print(Listing::Nodes)),
+            "values" => Some(Command::Print(Listing::Values)),
+            "paths" => Some(Command::Print(Listing::Paths)),
+            "delete" => Some(Command::Delete),
             _ => None,
         }
     }

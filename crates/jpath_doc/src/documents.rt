@@ -6,7 +6,7 @@ ghost use Rattle.jpath_doc.specs.DocTree.{doc_tree, doc_is_whole, doc_custom};
 
 use crate::{Doc, copies, customs, kinds, sameness, walks};
 use jsonpath_rust::query::Queried;
-use jsonpath_rust::query::queryable::{Arg, Queryable};
+use jsonpath_rust::query::queryable::{Arg, Deletable, Queryable};
 use std::alloc::Global;
 
 impl Queryable for Doc {
@@ -100,3 +100,6 @@ impl Queryable for Doc {
 
     ghost distinct = { λ _ h. h };
 }
+
+/// It refuses every deletion.
+impl Deletable for Doc {}

@@ -1,7 +1,6 @@
 //! Documents through their trait alone, at `Value`, and the nodes of an answer.
 ghost use Rattle.std.specs.Prelude.{IsTrue, IfSome};
 
-use jsonpath_parser::errors::JsonPathError;
 use jsonpath_rust::query::QueryRef;
 use jsonpath_rust::query::queryable::{Arg, Queryable};
 use serde_json::Value;
@@ -135,37 +134,6 @@ fn custom_functions(rt: HostRuntime) {
             "{name}"
         );
     }
-}
-
-// ---- references and deletion
-
-fn refers_to_nothing<T: Queryable>(alloc: Global, document: &mut T) -> bool {
-    matches!(document.reference(alloc, "$").ok(), Some(None))
-        && matches!(document.reference_mut(alloc, "$").ok(), Some(None))
-}
-
-fn refuses_deletion<T: Queryable>(alloc: Global, document: &mut T) -> bool {
-    if !document.is_whole() {
-        return false;
-    }
-    let Some(error) = document.delete_by_path(alloc, "$").err() else {
-        return false;
-    };
-    let refused = match &error {
-        JsonPathError::InvalidJsonPath(said) => said.as_str() == "Deletion not supported",
-        _ => false,
-    };
-    drop(error);
-    refused
-}
-
-#[test]
-fn refers_and_deletes_nothing(rt: HostRuntime) {
-    let mut document = Value::Bool(true);
-    assert!(rt; refers_to_nothing(rt.alloc(), &mut document));
-    assert!(rt; refuses_deletion(rt.alloc(), &mut document));
-    assert_eq!(rt; document.as_bool(), Some(true));
-    drop(document);
 }
 
 // ---- nodes

@@ -225,6 +225,37 @@ static ROWS: [Row; 72] = [
     ),
 ];
 
+/// Deletions: the count, and what is left.
+static DELETIONS: [Row; 12] = [
+    Row(&["delete", "$[0,0]"], b"[1,2,3]", 0, "1\n[2,3]\n"),
+    Row(&["delete", "$..[0]"], b"[[1,2],[3]]", 0, "3\n[[]]\n"),
+    Row(
+        &["delete", "$.x"],
+        br#"{ "b" : 1, "a" : 2 }"#,
+        0,
+        "0\n{\"a\":2,\"b\":1}\n",
+    ),
+    Row(&["delete", "$"], br#"{"test":"value"}"#, 0, "1\nnull\n"),
+    Row(
+        &["delete", "$.a[3,0,::2]"],
+        br#"{"a":[0,1,2,3],"b":{"c":1}}"#,
+        0,
+        "3\n{\"a\":[1],\"b\":{\"c\":1}}\n",
+    ),
+    Row(&["delete", "$..*"], b"[[0,[1]],2]", 0, "5\n[]\n"),
+    Row(
+        &["delete", "--depth", "1", "$[0,0]"],
+        b"[1,2,3]",
+        0,
+        "1\n[2,3]\n",
+    ),
+    Row(&["delete", "$["], b"[1,2,3]", 1, NO_QUERY),
+    Row(&["delete", "--depth", "1", "$[?@[0]]"], b"[1]", 1, TOO_DEEP),
+    Row(&["delete", "$[0]"], b"[1", 3, NOT_JSON),
+    Row(&["delete", "$[0]"], b"[1,2.5]", 4, NOT_WHOLE),
+    Row(&["delete"], b"1", 2, USAGE),
+];
+
 fn holds(alloc: Global, row: &Row) -> Option<bool> {
     let Row(words, input, status, shown) = row;
     ends_so(alloc, &texts(alloc, words)?, input, (*status, shown))
@@ -233,6 +264,13 @@ fn holds(alloc: Global, row: &Row) -> Option<bool> {
 #[test]
 fn runs_by_their_words(rt: HostRuntime) {
     for row in &ROWS {
+        assert_eq!(rt; holds(rt.alloc(), row), Some(true), "{:?}", row.0);
+    }
+}
+
+#[test]
+fn deletions_by_their_words(rt: HostRuntime) {
+    for row in &DELETIONS {
         assert_eq!(rt; holds(rt.alloc(), row), Some(true), "{:?}", row.0);
     }
 }

@@ -1,6 +1,6 @@
 //! Documents asked by trees that no text spells.
 use crate::output::printed;
-use crate::words::Command;
+use crate::words::{Command, Listing};
 use jsonpath_base::whole;
 use jsonpath_parser::let_go;
 use jsonpath_parser::model::{JpQuery, Segment, Selector};
@@ -47,24 +47,24 @@ fn segment(alloc: Global, picks: Picks) -> Segment {
 }
 
 /// Whether the query of this segment selects the nodes of the document that are printed so.
-fn selects(alloc: Global, picks: Picks, document: &Value, wanted: &str) -> Option<bool> {
+fn selects(alloc: Global, picks: Picks, document: &mut Value, wanted: &str) -> Option<bool> {
     if !whole(document) {
         return None;
     }
     let mut segments = Vec::new(alloc);
     segments.push(segment(alloc, picks)).ok()?;
     let query = JpQuery::new(segments);
-    let text = printed(alloc, Command::Nodes, &query, document).ok();
+    let text = printed(alloc, Command::Print(Listing::Nodes), &query, document).ok();
     let_go(query);
     Some(text?.as_str() == wanted)
 }
 
 /// Whether the query of this segment selects so in the document `[1,2,3]`.
 fn is_asked(alloc: Global, picks: Picks, wanted: &str) -> bool {
-    let Some(document) = Value::from_str(alloc, "[1,2,3]").ok() else {
+    let Some(mut document) = Value::from_str(alloc, "[1,2,3]").ok() else {
         return false;
     };
-    let selected = selects(alloc, picks, &document, wanted);
+    let selected = selects(alloc, picks, &mut document, wanted);
     drop(document);
     selected == Some(true)
 }

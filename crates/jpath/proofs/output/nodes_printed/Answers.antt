@@ -7,4 +7,4 @@ use Rattle.jpath.proofs.output.nodes_printed.Goals as goal
 
 pub returns-clause-text : goal.returns-clause-text
 returns-clause-text c =
-    c.in_ok-nodes_text.ensures ∙ rw c.as_slice.ensures.value (lines-AllZip c.args.command (document_of value_tree set_function c.args.document.now) _ _ c.in_ok-nodes.ensures.nodes)
+    c.in_ok-nodes_text.ensures ∙ rw c.as_slice.ensures.value (lines-AllZip c.args.listing (document_of value_tree set_function c.args.document.now) _ _ c.in_ok-nodes.ensures.nodes)

@@ -8,4 +8,4 @@ use Rattle.jpath.proofs.output.nodes_text.Given as goal
 
 -- the lines of the first nodes
 abbrev pub invariant-loop-node : goal.invariant-loop-node
-invariant-loop-node l = string_bytes l.text ≡ flat_map (λ n. line l.command n.0 (json_text n.1)) (shown value_tree (take l.node-index l.nodes))
+invariant-loop-node l = string_bytes l.text ≡ flat_map (λ n. line l.listing n.0 (json_text n.1)) (shown value_tree (take l.node-index l.nodes))
