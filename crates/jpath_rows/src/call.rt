@@ -1,6 +1,6 @@
 //! Rows on the functions of `jsonpath_base`, and on those of a document type.
 use crate::members::{Types, has_only, list_at, string_at, types_of};
-use crate::{custom, pattern, slice, step, values};
+use crate::{custom, pattern, place, slice, step, values};
 use serde_json::Value;
 use std::alloc::Global;
 
@@ -38,6 +38,7 @@ fn answers(alloc: Global, name: &str, arguments: &[Value], answer: &Value) -> bo
         }
         "picked" => slice::are_picked(alloc, arguments, answer),
         "slice_places" => slice::are_places(arguments, answer),
+        "at" | "put_at" | "remove_all" => place::answers(alloc, name, arguments, answer),
         "found" => pattern::is_found(alloc, arguments, answer),
         "pattern" => pattern::is_found_by_pattern(alloc, arguments, answer),
         "finder" => pattern::are_found(alloc, arguments, answer),

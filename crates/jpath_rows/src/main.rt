@@ -8,14 +8,17 @@
 mod agreement;
 mod call;
 mod custom;
+mod deletion;
 mod document;
 mod maker;
 mod members;
 mod nodes;
 mod parse;
 mod pattern;
+mod place;
 mod production;
 mod query;
+mod reference;
 mod refusal;
 mod results;
 mod row;

@@ -1,4 +1,5 @@
 //! The members of a row.
+use jsonpath_parser::MAX_NESTING_DEPTH;
 use serde_json::Value;
 
 /// The text of that member.
@@ -48,6 +49,16 @@ fn is_among(name: &str, names: &[&str]) -> bool {
 pub enum Depth {
     Default,
     Limit(usize),
+}
+
+impl Depth {
+    /// As a limit.
+    pub fn limit(self) -> usize {
+        match self {
+            Depth::Default => MAX_NESTING_DEPTH,
+            Depth::Limit(depth) => depth,
+        }
+    }
 }
 
 /// The row's member `depth`, or None where that is no count.

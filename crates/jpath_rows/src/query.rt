@@ -1,13 +1,15 @@
 //! Rows on what a query selects in a document: `nodes`, `paths`.
 ghost use Rattle.std.specs.Prelude.{IsTrue};
+ghost use Rattle.jsonpath_base.specs.Values.{value_is_whole};
 
 use crate::agreement::{is_by_methods, is_by_text, is_by_tree, lead_back};
+use crate::deletion::is_one_by_one;
 use crate::document::Document;
 use crate::members::{Depth, Types, depth_of, has_only, list, types_of};
 use crate::nodes::{Part, are_wanted};
+use crate::reference::refer_back;
 use crate::text::{text_at, text_of};
 use jpath_doc::Doc;
-use jsonpath_parser::MAX_NESTING_DEPTH;
 use jsonpath_rust::query::js_path_within;
 use jsonpath_rust::query::queryable::Queryable;
 use serde_json::Value;
@@ -85,10 +87,23 @@ fn holds_of(alloc: Global, document: &Value, question: Question<'_>) -> bool {
 fn holds_of_value(alloc: Global, document: &Value, question: Question<'_>) -> bool {
     document.is_whole()
         && selects(alloc, document, question)
+        && is_read_and_deleted(alloc, document, question)
         && match question.depth {
             Depth::Default => is_by_methods(alloc, question.query, document),
             Depth::Limit(_) => true,
         }
+}
+
+/// Whether the paths of the nodes lead back by `reference`, and what is selected is deleted.
+fn is_read_and_deleted(alloc: Global, document: &Value, question: Question<'_>) -> bool
+    requires { IsTrue (value_is_whole document.now) }
+{
+    let depth = question.depth.limit();
+    let Some(nodes) = js_path_within(alloc, question.query, depth, document).ok() else {
+        return false;
+    };
+    refer_back(alloc, document, &nodes)
+        && is_one_by_one(alloc, question.query, depth, document, &nodes)
 }
 
 fn holds_of_doc(alloc: Global, document: &Value, question: Question<'_>) -> bool {
@@ -109,10 +124,7 @@ fn selects<T: Document>(alloc: Global, document: &T, question: Question<'_>) -> 
         wanted,
         ..
     } = question;
-    let depth = match question.depth {
-        Depth::Default => MAX_NESTING_DEPTH,
-        Depth::Limit(depth) => depth,
-    };
+    let depth = question.depth.limit();
     let Some(nodes) = js_path_within(alloc, query, depth, document).ok() else {
         return false;
     };

@@ -1,5 +1,5 @@
 //! One row: what it asks is told by its members.
-use crate::{call, maker, parse, production, query};
+use crate::{call, deletion, maker, parse, production, query, reference};
 use serde_json::Value;
 use std::alloc::Global;
 
@@ -14,6 +14,10 @@ pub fn holds(alloc: Global, line: &str) -> bool {
         maker::holds(alloc, &row)
     } else if row.get("call").is_some() {
         call::holds(alloc, &row)
+    } else if row.get("delete").is_some() {
+        deletion::holds(alloc, &row)
+    } else if row.get("reference").is_some() || row.get("replace").is_some() {
+        reference::holds(alloc, &row)
     } else if row.get("nodes").is_some() || row.get("paths").is_some() {
         query::holds(alloc, &row)
     } else {
