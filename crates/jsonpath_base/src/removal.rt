@@ -21,8 +21,8 @@ use std::mem;
 /// locations there are. One where nothing is counts, and changes nothing; where the root is one of them, null is left.
 ///
 /// It refuses for want of memory alone, and then the value is as it was: all locations are marked first, and from there
-/// on nothing is taken. Time n log n in the steps of the locations, and linear in the elements of each list that loses one,
-/// from the first that goes.
+/// on nothing is taken. Time n log n in the steps of the locations; in a list that loses an element, a look-up for each
+/// element from the first that goes.
 pub fn remove_all(alloc: Global, value: &mut Value, places: &[Vec<Step>]) -> Parsed<usize>
     ensures removed { OnOk result (value_tree value.new ≡ without (is_among (map (λ p. location_view p.items) places.now)) (value_tree value.old)) }
     ensures count { IfOk result (λ n. n ≡ distinct_count (map (λ p. location_view p.items) places.now)) }

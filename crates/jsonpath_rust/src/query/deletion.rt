@@ -65,8 +65,8 @@ impl Deletable for Value {
 /// Removes all locations that a query text selects in a document, at once and each by its original place, and answers how
 /// many distinct ones there are, those inside other ones counted too. Where the root is selected, null is left.
 ///
-/// All nodes are found, and all memory is taken, before anything is removed. Time as [`js_path_within`], n log n in the
-/// steps of the selected locations, and linear in each list that loses an element.
+/// All nodes are found, and all memory is taken, before anything is removed. Time as [`js_path_within`], and as
+/// `jsonpath_base::remove_all` of the selected locations.
 ///
 /// # Errors
 ///
