@@ -65,13 +65,13 @@ ruleset layers = (rules, the_lemmas, filter_variants.outs-Or', filter_variants.o
 
 -- a test of a tree by its one, two or three parts
 
-under : {S T : Type 0} (C : S → T) → ((s t : S) → C s ≡ C t → s ≡ t) → {u v : T} {s t : S} {r b : Bool} → Decides b (s ≡ t) → r ≡ b → u ≡ C s → v ≡ C t → Decides r (u ≡ v)
+pub under : {S T : Type 0} (C : S → T) → ((s t : S) → C s ≡ C t → s ≡ t) → {u v : T} {s t : S} {r b : Bool} → Decides b (s ≡ t) → r ≡ b → u ≡ C s → v ≡ C t → Decides r (u ≡ v)
 under C inj {s = s} {t = t} d e left right = (λ h. left ∙ ap C (d.0 (sym e ∙ h)) ∙ sym right, λ h. e ∙ d.1 (inj s t (sym left ∙ h ∙ right)))
 
 both : {A B : Type 0} {a c : A} {b d : B} → (a ≡ c) × (b ≡ d) → ◌≡◌ {A = A × B} (a, b) (c, d)
 both e = λ i. (e.0 i, e.1 i)
 
-under_two : {A B T : Type 0} (C : A → B → T) → ((a c : A) (b d : B) → C a b ≡ C c d → (a ≡ c) × (b ≡ d)) → {u v : T} {a c : A} {b d : B} {r p q : Bool}
+pub under_two : {A B T : Type 0} (C : A → B → T) → ((a c : A) (b d : B) → C a b ≡ C c d → (a ≡ c) × (b ≡ d)) → {u v : T} {a c : A} {b d : B} {r p q : Bool}
     → Decides p (a ≡ c) → Decides q (b ≡ d) → r ≡ (p && q) → u ≡ C a b → v ≡ C c d → Decides r (u ≡ v)
 under_two C inj {a = a} {c = c} {b = b} {d = d} {p = p} {q = q} m n e left right =
     let k = Decides-and p q m n in (
@@ -80,7 +80,7 @@ under_two C inj {a = a} {c = c} {b = b} {d = d} {p = p} {q = q} m n e left right
     )
 
 -- trees of two kinds
-differ : {T : Type 0} {u v : T} {r : Bool} → r ≡ false → (u ≡ v → ⊥) → Decides r (u ≡ v)
+pub differ : {T : Type 0} {u v : T} {r : Bool} → r ≡ false → (u ≡ v → ⊥) → Decides r (u ≡ v)
 differ e n = (λ h. absurd (true≢false (sym h ∙ e)), λ h. absurd (n h))
 
 bool_same : (a b : Bool) → Decides (beq a b) (a ≡ b)
@@ -89,7 +89,7 @@ bool_same true false = (λ h. absurd (true≢false (sym h)), λ h. absurd (true�
 bool_same false true = (λ h. absurd (true≢false (sym h)), λ h. absurd (true≢false (sym h)))
 bool_same false false = (λ _. refl, λ _. refl)
 
-string_same : (a b : String Global) → Decides (string_eq a b) (string_bytes a ≡ string_bytes b)
+pub string_same : (a b : String Global) → Decides (string_eq a b) (string_bytes a ≡ string_bytes b)
 string_same a b = bytes_decides (string_bytes a) (string_bytes b)
 
 -- a part of a slice

@@ -9,8 +9,10 @@ pub mod CompleteStarts
 pub mod CompleteWords
 pub mod Depths
 pub mod Equality
+pub mod ErrorEquality
 pub mod Fronts
 pub mod Ints
+pub mod Joined
 pub mod NormalLemmas
 pub mod NormalQueries
 pub mod NumberComplete
@@ -32,6 +34,7 @@ pub mod StringSound
 pub mod StringTurns
 pub mod Turns
 pub mod Typed
+pub mod Unambiguous
 pub mod ValuelessLaws
 pub mod ViewEquations
 pub mod Whole

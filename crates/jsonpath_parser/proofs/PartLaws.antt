@@ -4,6 +4,7 @@ use Rattle.std.proofs.Math.Seq.{drop-append_seam}
 use Rattle.std.proofs.lemmas.Str.{IsCharBoundary-from_drop}
 use Rattle.std.specs.Borrow.{Bor}
 use Rattle.std.specs.Str.{IsUtf8, IsCharBoundary}
+use Rattle.jsonpath_parser.specs.Numbers.{SpellsNumber}
 use Rattle.jsonpath_parser.specs.Parts.{text_of, rest_of, Spelling, IsPartRefusal, ReadsPart}
 use Rattle.jsonpath_parser.specs.inner.Reading.{Read, Gives, Reads}
 use Rattle.jsonpath_parser.specs.inner.ReadingParts.{IsCursorRefusal, taken_at, Takes, StaysInText, IsAnswer}
@@ -25,7 +26,7 @@ as_read Any = IsAny
 pub record Law {V : Type 0} (spells : Spelling V) (typed : V → Bool) (reading : Numbers → List ℕ → Read V) : Type 0 where
   pub sound : (numbers : Numbers) (v : V) (text rest : List ℕ) → reading numbers text ≡ Some (v, rest) → (a : List ℕ) × spells (as_read numbers) v a × (typed v ≡ true) × (text ≡ a ++ rest)
   pub complete : (numbers : Numbers) (v : V) (text : List ℕ) → spells (as_read numbers) v text → typed v ≡ true → reading numbers text ≡ Some (v, [])
-  pub one_tree : (v w : V) (text : List ℕ) → spells IsValued v text → spells IsAny w text → w ≡ v
+  pub one_tree : (v w : V) (text : List ℕ) → spells IsValued v text → spells SpellsNumber w text → w ≡ v
 
 -- two readings of one text
 both : {V : Type 0} (o : Read V) (v w : V) (s t : List ℕ) → o ≡ Some (v, s) → o ≡ Some (w, t) → (v ≡ w) × (s ≡ t)

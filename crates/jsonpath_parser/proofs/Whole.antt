@@ -5,24 +5,21 @@ use Rattle.jsonpath_parser.specs.Derives.{Derives, SpellsLoosely, IsRefusal}
 use Rattle.jsonpath_parser.specs.Grammar.{Spells}
 use Rattle.jsonpath_parser.specs.inner.ReadingGrammar.{whole_query, number_reading}
 use Rattle.jsonpath_parser.specs.inner.ReadingQuery.{typed_query, IsReadRefusal}
+use Rattle.jsonpath_parser.specs.Numbers.{SpellsNumber}
 use Rattle.jsonpath_parser.specs.Syntax.{Query}
 use Rattle.jsonpath_parser.specs.Typing.{Typed, is_typed}
-use Rattle.jsonpath_parser.specs.Values.{IsValued, IsAny}
+use Rattle.jsonpath_parser.specs.Values.{IsValued}
 use Rattle.jsonpath_parser.specs.declared.errors.JsonPathError.{JsonPathError}
 use Rattle.jsonpath_parser.specs.declared.errors.JsonPathError.TheVariants.{PestError, InvalidNumber, MaxNestingDepthExceeded, OutOfMemory}
 use Rattle.jsonpath_parser.specs.declared.grammar.literals.Numbers.TheVariants.{Valued, Any}
 use Rattle.jsonpath_parser.proofs.Complete.{complete_valued, complete_any}
 use Rattle.jsonpath_parser.proofs.Sound.{sound_valued, sound_any}
+use Rattle.jsonpath_parser.proofs.Unambiguous.{query_unambiguous}
 use Rattle.jsonpath_parser.proofs.Widening.{spells_wider}
 
--- a literal with a value is one that may have any
-pub any_value : (v : Option ℤ) (a : List ℕ) → IsValued v a → IsAny v a
-any_value (Some i) a h = (Some i, h.0, refl)
-any_value None a h = absurd (cc)
-
--- so a text that is spelled with values is spelled loosely
-pub loosely : (t : Query) (text : List ℕ) → Spells IsValued t text → Spells IsAny t text
-loosely t text h = spells_wider IsValued IsAny any_value t text h
+-- a literal with a value is one as it is written
+pub as_written : (v : Option ℤ) (a : List ℕ) → IsValued v a → SpellsNumber v a
+as_written v a h = h.0
 
 -- a tree that is read as typed was read, and is typed
 typed_parts : (o : Option Query) (t : Query) → option_and_then (λ q. cond (is_typed q) (Some q) None) o ≡ Some t → (o ≡ Some t) × Typed t
@@ -65,14 +62,12 @@ refused_only limit text (PestError place) t h d = absurd (unread_none limit text
 refused_only limit text OutOfMemory t h d = refl
 refused_only limit text _ t h d = absurd h
 
--- and no other tree is spelled, not even loosely
-pub read_one : (text : List ℕ) (t u : Query) → typed_query Valued text ≡ Some t → Spells IsAny u text → t ≡ u
+-- and no other tree is spelled, not even one whose number literals have no value
+pub read_one : (text : List ℕ) (t u : Query) → typed_query Valued text ≡ Some t → Spells SpellsNumber u text → t ≡ u
 unfolding typed_query
 read_one text t u read spelled =
     let (whole, typed) = typed_parts (whole_query (number_reading Valued) text) t read in
-    let mine = complete_any t text (loosely t text (sound_valued t text whole)) in
-    let other = complete_any u text spelled in
-    cc
+    query_unambiguous.written t u text (spells_wider IsValued SpellsNumber as_written t text (sound_valued t text whole)) spelled
 
 -- what is read loosely is spelled loosely
 pub read_loosely : (text : List ℕ) → is_some (typed_query Any text) ≡ true → (t : Query) × SpellsLoosely text t

@@ -1,3 +1,4 @@
+pub mod Errors
 pub mod Location
 pub mod Normal
 pub mod Lexical
@@ -13,5 +14,7 @@ pub mod Values
 pub mod Parts
 pub mod Depth
 pub mod Derives
+pub mod Unambiguous
 pub mod Making
+pub mod Shown
 pub mod inner

@@ -1,6 +1,7 @@
 -- What the grammar functions of a cursor answer: each reads one kind of tree at the cursor's place (RFC 9535, 2.1 to 2.5).
 use Rattle.std.specs.Prelude.{◌≡◌, ℕ, ◌≤◌, ◌-◌, Bool, true, ℤ, List, [], ◌++◌, length, codes, Option, Result, MatchResult, IfOk, IfErr, OnErr, string_bytes, ⊤}
 use Rattle.jsonpath_parser.specs.Grammar.{SpellsSlice, SpellsSingularSteps, SpellsSingularQuery, SpellsSegment, SpellsTest}
+use Rattle.jsonpath_parser.specs.Numbers.{SpellsNumber}
 use Rattle.jsonpath_parser.specs.Syntax.{SingularStep, SingularQuery, Segment, descendant, Segments, relative}
 use Rattle.jsonpath_parser.specs.Valueless.{IsValuelessIn}
 use Rattle.jsonpath_parser.specs.Values.{IsValued, IsAny}
@@ -47,12 +48,12 @@ SpellsSingular Number q text = SpellsSingularQuery q text
 abbrev pub always : {V : Type 0} → V → Bool
 always v = true
 
--- The part of the text from the old place to the new one spells the tree, each number literal as its value, and the tree is well-typed. The part spells no other tree, whatever the values of its number literals.
+-- The part of the text from the old place to the new one spells the tree, each number literal as its value, and the tree is well-typed. The part spells no other tree, each of its number literals with a value or without.
 pub record IsPart {V : Type 0} (spells : Spelling V) (typed : V → Bool) (v : V) (old new : Cursor) : Type 0 where
   pub part : List ℕ
   pub spelled : spells IsValued v part
   pub well_typed : typed v ≡ true
-  pub one_tree : (w : V) → spells IsAny w part → w ≡ v
+  pub one_tree : (w : V) → spells SpellsNumber w part → w ≡ v
   pub moved : rest_of old ≡ part ++ rest_of new
 
 -- The refusals, each with what it means: the rest would spell such a tree if its number literals without a value had one, and what is said is nothing, or a number literal without a value that stands in the rest; it spells none whatever values its number literals had, and the place is at most the text's length; memory ran out.

@@ -7,7 +7,9 @@ pub mod errors;
 mod grammar;
 pub mod model;
 mod number;
+mod one_tree;
 mod parse;
+mod release;
 mod stop;
 mod string;
 mod text;
@@ -18,5 +20,7 @@ pub use cursor::{
     logical_expr, logical_expr_and, rel_query, segment, segments, selector, singular_query,
     singular_query_segments, slice_selector, test,
 };
-pub use model::let_go;
+pub use errors::Parsed;
+pub use one_tree::{no_text_derives_two_trees, no_text_spells_two_trees};
 pub use parse::{MAX_NESTING_DEPTH, parse_json_path, parse_json_path_within};
+pub use release::let_go;

@@ -6,6 +6,8 @@ ghost use Rattle.jsonpath_parser.specs.View.{segment_view, selector_view, filter
 ghost use Rattle.jsonpath_parser.specs.declared.errors.JsonPathError.TheVariants.{OutOfMemory};
 
 pub(crate) mod call;
+mod clone;
+mod display;
 mod operator;
 mod refusal;
 
@@ -181,10 +183,6 @@ impl JpQuery {
         JpQuery { segments }
     }
 }
-
-/// Gives back the memory of the query's whole tree. A caller in another crate that hands its tree back here need not
-/// drop it itself.
-pub fn let_go(_query: JpQuery) {}
 
 impl Segment {
     /// The segment of one name.

@@ -9,10 +9,10 @@ ghost use Rattle.jsonpath_parser.specs.inner.ReadingQuery as reading;
 ghost use Rattle.jsonpath_parser.specs.inner.ReadingQuery.{IsTextRefusal, IsReadRefusal};
 ghost use Rattle.jsonpath_parser.specs.Location.{Location};
 ghost use Rattle.jsonpath_parser.specs.Normal.{IsNormal};
+ghost use Rattle.jsonpath_parser.specs.Numbers.{SpellsNumber};
 ghost use Rattle.jsonpath_parser.specs.Steps.{steps_query, HasIndexesInRange};
 ghost use Rattle.jsonpath_parser.specs.Syntax.{Query};
 ghost use Rattle.jsonpath_parser.specs.Valueless.{IsValuelessIn};
-ghost use Rattle.jsonpath_parser.specs.Values.{IsAny};
 ghost use Rattle.jsonpath_parser.specs.View.{query_view};
 ghost use Rattle.jsonpath_parser.specs.declared.grammar.literals.Numbers.TheVariants.{Valued};
 
@@ -114,8 +114,8 @@ pub fn parse_json_path(alloc: Global, text: &str) -> Parsed<JpQuery>
     // Every tree that the text derives is the one answered, unless memory ran out.
     ensures only { (t : Query) → Derives MAX_NESTING_DEPTH text.now t → Answers result t }
 
-    // At Ok no other tree is spelled, whatever the values of its number literals.
-    ensures one_tree { (t : Query) → Spells IsAny t text.now → IfOk result (λ q. query_view q ≡ t) }
+    // At Ok no other tree is spelled, each of its number literals with a value or without.
+    ensures one_tree { (t : Query) → Spells SpellsNumber t text.now → IfOk result (λ q. query_view q ≡ t) }
 
     // A Normalized Path is refused for want of memory alone.
     ensures normal { (l : Location) → IsNormal l text.now → HasIndexesInRange l → Answers result (steps_query l) }
@@ -137,7 +137,7 @@ pub fn parse_json_path(alloc: Global, text: &str) -> Parsed<JpQuery>
 pub fn parse_json_path_within(alloc: Global, text: &str, depth: usize) -> Parsed<JpQuery>
     ensures derived { IfOk result (λ q. Derives depth text.now (query_view q)) }
     ensures only { (t : Query) → Derives depth text.now t → Answers result t }
-    ensures one_tree { (t : Query) → Spells IsAny t text.now → IfOk result (λ q. query_view q ≡ t) }
+    ensures one_tree { (t : Query) → Spells SpellsNumber t text.now → IfOk result (λ q. query_view q ≡ t) }
     ensures normal { (l : Location) → IsNormal l text.now → HasIndexesInRange l → 1 ≤ depth → Answers result (steps_query l) }
     ensures refused { IfErr result (IsRefusal depth text.now) }
     ensures too_deep { depth < spec.depth text.now → result ≡ Err (JsonPathError.MaxNestingDepthExceeded depth) }

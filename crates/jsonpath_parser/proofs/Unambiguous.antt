@@ -1,0 +1,116 @@
+-- No text spells two trees: a query that is spelled is read, and reading is a function, so a query's text spells one; and each other kind of tree can stand in a query.
+use Rattle.std.proofs.Common.{◌≡◌, ℕ, true, false, ℤ, List, [], ◌++◌, codes, Option, Some, refl, sym, ap, inl, append-nil}
+use Rattle.jsonpath_parser.specs.Grammar.{Spells, SpellsSegments, SpellsSegment, SpellsSelector, SpellsLogical, SpellsConjunction, SpellsBasic, SpellsComparison, SpellsComparable, SpellsLiteral, SpellsTest, SpellsCall}
+use Rattle.jsonpath_parser.specs.Numbers.{SpellsNumber}
+use Rattle.jsonpath_parser.specs.Parts.{Spelling, SpellsRelative, SpellsChild, SpellsSliceParts, SpellsSteps, SpellsSingular}
+use Rattle.jsonpath_parser.specs.Syntax.{current, equal, slice, filter, one, descendant, no_segments, segment, Filter, or, and, atom, test, comparison, compare, literal, singular, relative, call}
+use Rattle.jsonpath_parser.specs.Unambiguous.{NoTextDerivesTwoTrees, SpellsOneTree, IsUnambiguous}
+use Rattle.jsonpath_parser.specs.Values.{IsValued, IsAny}
+use Rattle.jsonpath_parser.specs.inner.Reading.{Read, first}
+use Rattle.jsonpath_parser.specs.inner.ReadingGrammar.{number_reading, is_int_first}
+use Rattle.jsonpath_parser.specs.inner.ReadingNumbers.{number_at}
+use Rattle.jsonpath_parser.specs.inner.ReadingParts.{slice_in}
+use Rattle.jsonpath_parser.specs.declared.grammar.literals.Numbers.TheVariants.{Valued, Any}
+use Rattle.jsonpath_parser.proofs.Complete.{complete_query, valued_start, valued_over, any_start, any_over}
+use Rattle.jsonpath_parser.proofs.NumberComplete.{EndsNumber, number_start, complete_number}
+
+-- ---- queries
+
+query_one : (Number : Option ℤ → List ℕ → Type 0) → ((v : Option ℤ) (a more : List ℕ) → Number v a → is_int_first (first (a ++ more)) ≡ true)
+    → (literal_at : List ℕ → Read (Option ℤ)) → ((v : Option ℤ) (a more : List ℕ) → Number v a → EndsNumber more → literal_at (a ++ more) ≡ Some (v, more))
+    → SpellsOneTree Spells Number
+query_one Number number_first literal_at number_over t u text h k =
+    let mine = complete_query Number number_first literal_at number_over t text h in
+    let other = complete_query Number number_first literal_at number_over u text k in
+    cc
+
+pub query_unambiguous : IsUnambiguous Spells
+query_unambiguous = record {
+  valued = query_one IsValued valued_start (number_reading Valued) valued_over;
+  any = query_one IsAny any_start (number_reading Any) any_over;
+  written = query_one SpellsNumber number_start number_at complete_number;
+}
+
+-- no text derives two
+pub no_text_derives_two_trees : NoTextDerivesTwoTrees
+no_text_derives_two_trees m n text t u h k = query_unambiguous.valued t u text h.spelled k.spelled
+
+-- ---- kinds that stand in others
+
+-- what stands whole in a tree of another kind is the same where that tree is
+within : {V W : Type 0} (spells : Spelling V) (outer : Spelling W) (make : V → W) (around : List ℕ → List ℕ)
+    → ((v w : V) → make v ≡ make w → v ≡ w)
+    → ((Number : Option ℤ → List ℕ → Type 0) (v : V) (text : List ℕ) → spells Number v text → outer Number (make v) (around text))
+    → IsUnambiguous outer → IsUnambiguous spells
+within spells outer make around injective stands law = record {
+  valued = λ v w text h k. injective v w (law.valued (make v) (make w) (around text) (stands IsValued v text h) (stands IsValued w text k));
+  any = λ v w text h k. injective v w (law.any (make v) (make w) (around text) (stands IsAny v text h) (stands IsAny w text k));
+  written = λ v w text h k. injective v w (law.written (make v) (make w) (around text) (stands SpellsNumber v text h) (stands SpellsNumber w text k));
+}
+
+-- `$` before segments
+pub segments_unambiguous : IsUnambiguous SpellsSegments
+segments_unambiguous = within SpellsSegments Spells (λ gs. gs) (λ text. codes "$" ++ text) (λ v w e. e) (λ Number gs text h. (text, h, refl)) query_unambiguous
+
+-- a segment alone
+pub segment_unambiguous : IsUnambiguous SpellsSegment
+segment_unambiguous = within SpellsSegment SpellsSegments (λ g. segment g no_segments) (λ text. text) (λ v w e. cc) (λ Number g text h. ([], text, [], tt, h, refl, sym (append-nil text))) segments_unambiguous
+
+-- `..` before a child segment
+pub child_unambiguous : IsUnambiguous SpellsChild
+child_unambiguous = within SpellsChild SpellsSegment descendant (λ text. codes ".." ++ text) (λ v w e. cc) (λ Number g text h. h) segment_unambiguous
+
+-- brackets around a selector
+pub selector_unambiguous : IsUnambiguous SpellsSelector
+selector_unambiguous = within SpellsSelector SpellsSegment one (λ text. codes "[" ++ (text ++ codes "]")) (λ v w e. cc) (λ Number s text h. inl ([], text, [], tt, h, tt, refl)) segment_unambiguous
+
+-- start, end and step in a slice
+some_slice : (p q : Option ℤ × Option ℤ × Option ℤ) → slice p.0 p.1 p.2 ≡ slice q.0 q.1 q.2 → p ≡ q
+some_slice p q e = let same : Some p ≡ Some q = ap slice_in e in cc
+
+pub slice_unambiguous : IsUnambiguous SpellsSliceParts
+slice_unambiguous = within SpellsSliceParts SpellsSelector (λ p. slice p.0 p.1 p.2) (λ text. text) some_slice (λ Number p text h. h) selector_unambiguous
+
+-- `?` before a logical expression
+pub logical_unambiguous : IsUnambiguous SpellsLogical
+logical_unambiguous = within SpellsLogical SpellsSelector filter (λ text. codes "?" ++ text) (λ v w e. cc) (λ Number f text h. ([], text, tt, h, refl)) selector_unambiguous
+
+-- an operand of `||` alone
+conjunction_alone : (Number : Option ℤ → List ℕ → Type 0) (f : Filter) (text : List ℕ) → SpellsConjunction Number f text → SpellsLogical Number f text
+conjunction_alone Number (or fs) text h = absurd h
+conjunction_alone Number (and fs) text h = h
+conjunction_alone Number (atom x) text h = h
+
+pub conjunction_unambiguous : IsUnambiguous SpellsConjunction
+conjunction_unambiguous = within SpellsConjunction SpellsLogical (λ f. f) (λ text. text) (λ v w e. e) conjunction_alone logical_unambiguous
+
+-- an operand of `&&` alone
+pub basic_unambiguous : IsUnambiguous SpellsBasic
+basic_unambiguous = within SpellsBasic SpellsLogical atom (λ text. text) (λ v w e. cc) (λ Number x text h. h) logical_unambiguous
+
+pub comparison_unambiguous : IsUnambiguous SpellsComparison
+comparison_unambiguous = within SpellsComparison SpellsBasic comparison (λ text. text) (λ v w e. cc) (λ Number c text h. h) basic_unambiguous
+
+-- a side of `==`, compared with itself
+pub comparable_unambiguous : IsUnambiguous SpellsComparable
+comparable_unambiguous = within SpellsComparable SpellsComparison (λ c. compare equal c c) (λ text. text ++ (codes "==" ++ text)) (λ v w e. cc) (λ Number c text h. (text, [], codes "==", [], text, h, tt, refl, tt, h, refl)) comparison_unambiguous
+
+pub literal_unambiguous : IsUnambiguous SpellsLiteral
+literal_unambiguous = within SpellsLiteral SpellsComparable literal (λ text. text) (λ v w e. cc) (λ Number l text h. h) comparable_unambiguous
+
+pub singular_unambiguous : IsUnambiguous SpellsSingular
+singular_unambiguous = within SpellsSingular SpellsComparable singular (λ text. text) (λ v w e. cc) (λ Number q text h. h) comparable_unambiguous
+
+-- `@` before steps
+pub steps_unambiguous : IsUnambiguous SpellsSteps
+steps_unambiguous = within SpellsSteps SpellsSingular current (λ text. codes "@" ++ text) (λ v w e. cc) (λ Number ss text h. (text, h, refl)) singular_unambiguous
+
+-- a test without `!`
+pub test_unambiguous : IsUnambiguous SpellsTest
+test_unambiguous = within SpellsTest SpellsBasic (λ t. test false t) (λ text. text) (λ v w e. cc) (λ Number t text h. ([], text, refl, h, refl)) basic_unambiguous
+
+pub relative_unambiguous : IsUnambiguous SpellsRelative
+relative_unambiguous = within SpellsRelative SpellsTest relative (λ text. text) (λ v w e. cc) (λ Number gs text h. h) test_unambiguous
+
+pub call_unambiguous : IsUnambiguous SpellsCall
+call_unambiguous = within SpellsCall SpellsTest call (λ text. text) (λ v w e. cc) (λ Number c text h. h) test_unambiguous
