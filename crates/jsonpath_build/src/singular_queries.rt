@@ -1,0 +1,76 @@
+//! Queries of at most one node, and their steps (RFC 9535, 2.3.5.1).
+ghost use Rattle.std.specs.Prelude.{◌≡◌, [], ◌∷◌, map, IfOk, IfErr};
+ghost use Rattle.jsonpath_parser.specs.Syntax as tree;
+ghost use Rattle.jsonpath_parser.specs.View.{step_view, singular_view};
+ghost use Rattle.jsonpath_parser.specs.declared.errors.JsonPathError.TheVariants.{OutOfMemory};
+
+use jsonpath_parser::errors::Parsed;
+use jsonpath_parser::model::{SingularQuery, SingularQuerySegment};
+use std::alloc::Global;
+
+/// The step to the member of this name.
+///
+/// # Errors
+///
+/// `OutOfMemory` where a growth was refused.
+pub fn q_name(alloc: Global, name: &str) -> Parsed<SingularQuerySegment>
+    ensures made { IfOk result (λ s. step_view s ≡ tree.name_step name.now) }
+    ensures refused { IfErr result (λ e. e ≡ OutOfMemory) }
+{
+    Ok(SingularQuerySegment::Name(String::from_str(alloc, name)?))
+}
+
+/// The step to the element of this index, counted from the end where it is negative.
+pub fn q_index(index: i64) -> SingularQuerySegment
+    ensures { step_view result ≡ tree.index_step index }
+{
+    SingularQuerySegment::Index(index)
+}
+
+/// The steps of which there is this one.
+///
+/// # Errors
+///
+/// `OutOfMemory` where a growth was refused.
+pub fn q_segments_one(
+    alloc: Global,
+    step: SingularQuerySegment,
+) -> Parsed<Vec<SingularQuerySegment>>
+    ensures made { IfOk result (λ v. v.items ≡ step ∷ []) }
+    ensures refused { IfErr result (λ e. e ≡ OutOfMemory) }
+{
+    q_segments(alloc, step, Vec::new(alloc))
+}
+
+/// This step in front of the others.
+///
+/// # Errors
+///
+/// `OutOfMemory` where a growth was refused.
+///
+/// The time is linear in the others.
+pub fn q_segments(
+    _alloc: Global,
+    step: SingularQuerySegment,
+    mut rest: Vec<SingularQuerySegment>,
+) -> Parsed<Vec<SingularQuerySegment>>
+    ensures made { IfOk result (λ v. v.items ≡ step ∷ rest.items) }
+    ensures refused { IfErr result (λ e. e ≡ OutOfMemory) }
+{
+    rest.insert(0, step)?;
+    Ok(rest)
+}
+
+/// The query `@` and these steps.
+pub fn singular_current(steps: Vec<SingularQuerySegment>) -> SingularQuery
+    ensures { singular_view result ≡ tree.current (map step_view steps.items) }
+{
+    SingularQuery::Current(steps)
+}
+
+/// The query `$` and these steps.
+pub fn singular_root(steps: Vec<SingularQuerySegment>) -> SingularQuery
+    ensures { singular_view result ≡ tree.root (map step_view steps.items) }
+{
+    SingularQuery::Root(steps)
+}
