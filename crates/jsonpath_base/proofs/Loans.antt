@@ -8,7 +8,6 @@ use Rattle.serde_json.specs.View.{view, items_view, members_view}
 use Rattle.serde_json.specs.declared.value.Value.{Value}
 use Rattle.jsonpath_parser.specs.Location.{name, index, Location}
 use Rattle.jsonpath_base.specs.Places.{at, child}
-use Rattle.jsonpath_base.specs.Put.{put}
 use Rattle.jsonpath_base.specs.Steps.{location_view}
 use Rattle.jsonpath_base.specs.Tree.{Tree, null}
 use Rattle.jsonpath_base.specs.Values.{value_tree}

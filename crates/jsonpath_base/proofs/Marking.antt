@@ -1,18 +1,19 @@
 -- Marks beside the set of locations that they hold.
-use Rattle.std.proofs.Common.{◌≡◌, ◌≤◌, ◌<◌, ℕ, suc, ◌+◌, List, [], ◌∷◌, map, Bool, true, false, true≢false, cond, not, ◌&&◌, ◌||◌, Option, Some, None, option_map, Result, Ok, Err, IfOk, OnOk, Ordering, Less, Equal, Greater, is_eq, nat_cmp, nat_eq, bytes_eq, BTreeMap, Bor, Global, refl, sym, ap, ◌∙◌, subst, rules, arith, eqb-true}
-use Rattle.std.proofs.lemmas.Bool.{and_parts}
+use Rattle.std.proofs.Common.{◌≡◌, ◌≤◌, ◌<◌, ℕ, suc, ◌+◌, List, [], ◌∷◌, map, Bool, true, false, true≢false, cond, ◌&&◌, ◌||◌, Option, Some, None, option_map, Result, Ok, Err, OnOk, Ordering, Less, Equal, Greater, is_eq, nat_cmp, nat_eq, bytes_eq, BTreeMap, refl, sym, ap, ◌∙◌, subst, rules, arith, eqb-true, ne_eqb}
+use Rattle.std.proofs.Math.Dec.{ltb}
+use Rattle.std.proofs.lemmas.Bool.{ltb-true, ltb-false}
+use Rattle.std.proofs.lemmas.Cmp.{ranked}
 use Rattle.std.proofs.lemmas.Map.Text.{is_eq-slice_cmp}
 use Rattle.std.proofs.lemmas.Slice.Eq.{bytes_eq-Decides}
 use Rattle.std.specs.BTreeMap.{insert_entry, is_at}
 use Rattle.std.specs.Cmp.{nat_eq_equiv}
-use Rattle.std.specs.Cmp.Lexicographic.{slice_cmp}
 use Rattle.std.specs.List.{AllByRecursion}
 use Rattle.std.specs.List.Sorted.{IsStrictlySortedBy}
 use Rattle.std.specs.Map.{lookup, set_value, keys_of}
 use Rattle.std.specs.Ordering.{match_ordering}
 use Rattle.jsonpath_parser.specs.Location.{Step, name, index, Location}
 use Rattle.jsonpath_base.specs.Without.{is_step, is_location}
-use Rattle.jsonpath_base.specs.inner.Marks.{key_view, is_key, in_set, marked, marked_by, marked_below, HasAlso, HoldsNone, HoldsNoneBelow, total, marks_count}
+use Rattle.jsonpath_base.specs.inner.Marks.{key_view, is_key, in_set, marked, marked_by, marked_below, HasAlso, total, marks_count}
 use Rattle.jsonpath_base.specs.contracts.marks.KeyOrd.TheImpl as key_order
 use Rattle.jsonpath_base.specs.declared.marks.Key.{Key}
 use Rattle.jsonpath_base.specs.declared.marks.Key.TheVariants.{Name, Index}
@@ -212,35 +213,59 @@ next_keys all e es n is keys le =
 pub next_lighter : (all : List (Key × Marks)) (e : Key × Marks) (es : List (Key × Marks)) (n : ℕ) → all ≡ e ∷ es → marks_total all ≤ n → marks_count e.1 ≤ n
 next_lighter all e es n is le = let t = subst (λ xs. marks_total xs ≤ n) is le in omega (arith, t)
 
--- ---- the first index that is held
+-- ---- the indexes in their order
 
--- none below this one is held by all, if none is by those that are left
-pub record HoldsNoneYet (all left : List (Key × Marks)) (first : ℕ) : Type 0 where
-  pub each : (i : ℕ) → i < first → marked_by (lookup (is_key (index i)) left) [] ≡ false → marked_by (lookup (is_key (index i)) all) [] ≡ false
+later_key : (j : ℕ) (k : Key) → key_compare (Index j) k ≡ Less → (i : ℕ) → i ≤ j → is_key (index i) k ≡ false
+later_key j (Name n) h i le = refl
+later_key j (Index n) h i le = ne_eqb i n (λ e. omega (arith, e, le, less j n h))
+  where
+    less : (a b : ℕ) → key_compare (Index a) (Index b) ≡ Less → a < b
+    less a b h = let is : nat_cmp a b ≡ key_compare (Index a) (Index b) = search rules in ranked a b Less (sym (is ∙ h))
 
-pub none_yet_all : (all : List (Key × Marks)) (first : ℕ) → HoldsNoneYet all all first
-none_yet_all all first = record { each = λ i lt h. h }
+later_keys : (j : ℕ) (es : List (Key × Marks)) → AllByRecursion (λ l. key_compare (Index j) l ≡ Less) (keys_of es) → (i : ℕ) → i ≤ j → lookup (is_key (index i)) es ≡ None
+later_keys j [] h i le = refl
+later_keys j (e ∷ es) h i le = rw (later_key j e.0 h.0 i le) (later_keys j es h.1 i le)
 
-unheld : (b : Bool) (m : Marks) (r : Option Marks) → (b ≡ true → marked m [] ≡ false) → marked_by r [] ≡ false → marked_by (cond b (Some m) r) [] ≡ false
-unheld true m r apart more = apart refl
-unheld false m r apart more = more
+-- no index below this one is a key
+pub record IsFrom (es : List (Key × Marks)) (next : ℕ) : Type 0 where
+  pub each : (i : ℕ) → i < next → lookup (is_key (index i)) es ≡ None
 
-pub none_yet_next : (all : List (Key × Marks)) (k : Key) (m : Marks) (left : List (Key × Marks)) (first next : ℕ) → HoldsNoneYet all ((k, m) ∷ left) first → next ≤ first
-    → HoldsNone k m next → HoldsNoneYet all left next
-none_yet_next all k m left first next h le apart =
-    record { each = λ i lt none. h.each i (omega (arith, lt, le)) (unheld (is_key (index i) k) m (lookup (is_key (index i)) left) (apart.each i lt) none) }
+pub from_rest : (e : Key × Marks) (es : List (Key × Marks)) (next : ℕ) → IsFrom (e ∷ es) next → IsFrom es next
+from_rest e es next h = record { each = λ i lt. later (is_key (index i) e.0) (lookup (is_key (index i)) es) (h.each i lt) }
+  where
+    later : (b : Bool) (o : Option Marks) → cond b (Some e.1) o ≡ None → o ≡ None
+    later true o h = absurd cc
+    later false o h = h
 
-pub none_below : (all : List (Key × Marks)) (first : ℕ) → HoldsNoneYet all [] first → HoldsNoneBelow all first
-none_below all first h = record { each = λ i lt. h.each i lt refl }
+pub from_after : (j : ℕ) (m : Marks) (es : List (Key × Marks)) → IsStrictlySortedBy key_compare (keys_of ((Index j, m) ∷ es)) → IsFrom es (j + 1)
+unfolding IsStrictlySortedBy
+from_after j m es h = record { each = λ i lt. later_keys j es h.0 i (omega (arith, lt)) }
 
--- a name is no index
-pub names_hold_none : (k : Bor (List ℕ)) (m : Marks) (first : ℕ) → HoldsNone (Name k) m first
-names_hold_none k m first = record { each = λ i lt is. absurd (true≢false (sym is)) }
+pub rest_sorted : (e : Key × Marks) (es : List (Key × Marks)) → IsStrictlySortedBy key_compare (keys_of (e ∷ es)) → IsStrictlySortedBy key_compare (keys_of es)
+unfolding IsStrictlySortedBy
+rest_sorted e es h = h.1
 
--- an index that is held is not below itself
-pub index_holds_none : (j : ℕ) (m : Marks) (first : ℕ) → first ≤ j → HoldsNone (Index j) m first
-index_holds_none j m first le = record { each = λ i lt is. absurd (omega (arith, lt, le, eqb-true i j is)) }
+pub from_at_most : (j : ℕ) (m : Marks) (es : List (Key × Marks)) (next : ℕ) → IsFrom ((Index j, m) ∷ es) next → next ≤ j
+from_at_most j m es next h = pick (ltb j next) refl
+  where
+    pick : (b : Bool) → ltb j next ≡ b → next ≤ j
+    pick true e =
+        let test : nat_eq j j ≡ true = nat_eq_equiv.refl j in
+        let none : Some m ≡ None = sym (rw test) ∙ h.each j (ltb-true j next e) in
+        absurd cc
+    pick false e = ltb-false j next e
 
--- nor does an index hold that is not held itself
-pub unheld_holds_none : (k : Key) (m : Marks) (first : ℕ) → marked m [] ≡ false → HoldsNone k m first
-unheld_holds_none k m first h = record { each = λ i lt is. h }
+-- the marks hold no index below this one
+pub record HoldsNoneBelow (es : List (Key × Marks)) (next : ℕ) : Type 0 where
+  pub each : (i : ℕ) → i < next → marked_by (lookup (is_key (index i)) es) [] ≡ false
+
+pub none_held : (next : ℕ) → HoldsNoneBelow [] next
+none_held next = record { each = λ i lt. refl }
+
+pub none_before : (j : ℕ) (m : Marks) (es : List (Key × Marks)) → IsFrom es (j + 1) → HoldsNoneBelow ((Index j, m) ∷ es) j
+none_before j m es h = record { each = each }
+  where
+    each : (i : ℕ) → i < j → marked_by (lookup (is_key (index i)) ((Index j, m) ∷ es)) [] ≡ false
+    each i lt =
+        let other : nat_eq i j ≡ false = ne_eqb i j (λ e. omega (arith, lt, e)) in
+        rw (other, h.each i (omega (arith, lt)))

@@ -1,5 +1,5 @@
 -- A write to one child of a value, seen as a tree.
-use Rattle.std.proofs.Common.{◌≡◌, ℕ, zero, suc, ◌<◌, ◌≤◌, ℤ, List, [], ◌∷◌, length, set, get_or, Bool, true, false, cond, Option, Some, None, option_map, is_some, is_eq, nat_cmp, bytes_eq, String, Vec, BTreeMap, Global, string_bytes, unwrap_or, refl, sym, ap, ap₂, ◌∙◌, arith}
+use Rattle.std.proofs.Common.{◌≡◌, ℕ, zero, suc, ◌<◌, ◌≤◌, ℤ, List, [], ◌∷◌, length, set, get_or, Bool, true, false, Option, Some, None, is_some, nat_cmp, bytes_eq, String, Vec, BTreeMap, Global, string_bytes, unwrap_or, refl, sym, ap, ◌∙◌, arith}
 use Rattle.std.proofs.lemmas.Map.Text.{is_eq-slice_cmp}
 use Rattle.std.specs.BTreeMap.{is_at}
 use Rattle.std.specs.Cmp.Lexicographic.{slice_cmp}
@@ -15,7 +15,6 @@ use Rattle.jsonpath_base.specs.Places.{child, item_at, at}
 use Rattle.jsonpath_base.specs.Put.{with_element, with_member, with_child, put}
 use Rattle.jsonpath_base.specs.Tree.{Tree, tree, member, list, object, find, pairs}
 use Rattle.jsonpath_base.specs.Values.{value_tree, tree_of, tree_of_number, trees_of, members_of}
-use Rattle.jsonpath_base.proofs.Views.{find-members_of}
 
 -- ---- by kind
 

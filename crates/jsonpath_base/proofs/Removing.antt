@@ -1,5 +1,5 @@
 -- What each step of removal leaves of data.
-use Rattle.std.proofs.Common.{◌≡◌, ℕ, zero, suc, ◌+◌, ◌<◌, ◌≤◌, List, [], ◌∷◌, ◌++◌, length, take, drop, set, get_or, map, Bool, true, false, true≢false, cond, Option, Some, None, nat_eq, bytes_eq, String, Vec, BTreeMap, Global, Bor, string_bytes, string_cmp, nat_cmp, Ordering, Less, Equal, Greater, is_eq, ◌⊎◌, inl, inr, eq-or-lt_of_le, eqb-true, eq-eqb, ne_eqb, add-one, swap, unwrap_or, refl, sym, ap, ap₂, ◌∙◌, arith}
+use Rattle.std.proofs.Common.{◌≡◌, ℕ, zero, suc, ◌+◌, ◌<◌, ◌≤◌, List, [], ◌∷◌, ◌++◌, length, take, drop, set, get_or, Bool, true, false, Option, Some, None, nat_eq, bytes_eq, String, Global, Bor, string_bytes, string_cmp, nat_cmp, Less, is_eq, ◌⊎◌, inl, inr, eq-or-lt_of_le, eqb-true, eq-eqb, ne_eqb, add-one, swap, append_assoc, unwrap_or, refl, sym, ap, ap₂, ◌∙◌, arith}
 use Rattle.std.proofs.lemmas.List.{take_more_set, take-set, take-set-le, drop-set-lt, drop_more, drop_all, length-set}
 use Rattle.std.proofs.lemmas.Map.{NonePasses, none_passes_from_lookup}
 use Rattle.std.proofs.lemmas.Map.Text.{is_eq-slice_cmp}
@@ -15,9 +15,9 @@ use Rattle.serde_json.specs.View.{view, items_view, members_view}
 use Rattle.serde_json.specs.declared.value.Value.{Value}
 use Rattle.serde_json.proofs.Views.{Entry}
 use Rattle.jsonpath_parser.specs.Location.{Step, name, index, Location}
-use Rattle.jsonpath_base.specs.Without.{is_step}
-use Rattle.jsonpath_base.specs.inner.Marks.{is_key, key_view, marked, marked_by, marked_below, HoldsNoneBelow}
+use Rattle.jsonpath_base.specs.inner.Marks.{is_key, key_view, marked, marked_below, HoldsNone}
 use Rattle.jsonpath_base.specs.inner.Thinning.{data_thinned, items_thinned, members_thinned, thinned_by, thinned_below, sieved}
+use Rattle.jsonpath_base.proofs.Marking.{same_step, HoldsNoneBelow}
 use Rattle.jsonpath_base.specs.declared.marks.Key.{Key}
 use Rattle.jsonpath_base.specs.declared.marks.Key.TheVariants.{Name, Index}
 use Rattle.jsonpath_base.specs.declared.marks.Marks.{Marks}
@@ -156,17 +156,21 @@ abbrev pub joined : Items → Items → Items
 joined no_items es = es
 joined (item d ds) es = item d (joined ds es)
 
--- the elements before the first that is held stay where they are
-pub sieved_from : (es : List (Key × Marks)) (first : ℕ) → HoldsNoneBelow es first → (xs : List Value) (i n : ℕ) → i + n ≡ first
-    → joined (items_view (take n xs)) (sieved es first (items_view (drop n xs))) ≡ sieved es i (items_view xs)
-sieved_from es first none xs i zero is = let e : first ≡ i = omega (arith, is) in ap (λ k. sieved es k (items_view xs)) e
-sieved_from es first none [] i (suc n) is = refl
-sieved_from es first none (x ∷ xs) i (suc n) is =
-    rw (none.each i (omega (arith, is))) (ap (item (view x)) (sieved_from es first none xs (suc i) n (omega (arith, is))))
+-- a run of elements that are not held stays
+run_kept : (es : List (Key × Marks)) (end : ℕ) → HoldsNoneBelow es end → (run rest : List Value) (i : ℕ) → i + length run ≡ end → joined (items_view run) (sieved es end (items_view rest)) ≡ sieved es i (items_view (run ++ rest))
+run_kept es end none [] rest i is = let e : end ≡ i = omega (arith, is) in ap (λ k. sieved es k (items_view rest)) e
+run_kept es end none (x ∷ run) rest i is =
+    rw (none.each i (omega (arith, is))) (ap (item (view x)) (run_kept es end none run rest (suc i) (omega (arith, is))))
 
-joined_push : (vs : List Value) (x : Value) (es : Items) → joined (items_view (vs ++ x ∷ [])) es ≡ joined (items_view vs) (item (view x) es)
-joined_push [] x es = refl
-joined_push (v ∷ vs) x es = ap (item (view v)) (joined_push vs x es)
+-- and where such a run is moved to those that were kept before
+pub run_moved : (es : List (Key × Marks)) (end : ℕ) → HoldsNoneBelow es end → (front rest kept later : List Value) (i : ℕ) → front ++ rest ≡ kept ++ later → i + length front ≡ end + length kept → i ≤ end
+    → joined (items_view front) (sieved es end (items_view rest)) ≡ joined (items_view kept) (sieved es i (items_view later))
+run_moved es end none front rest [] later i same is le = run_kept es end none front rest i (omega (arith, is)) ∙ ap (λ vs. sieved es i (items_view vs)) same
+run_moved es end none [] rest (k ∷ kept) later i same is le = absurd (omega (arith, is, le))
+run_moved es end none (f ∷ front) rest (k ∷ kept) later i same is le =
+    let first : f ≡ k = cc in
+    let more : front ++ rest ≡ kept ++ later = cc in
+    ap₂ (λ v ds. item (view v) ds) first (run_moved es end none front rest kept later i more (omega (arith, is)) le)
 
 joined_none : (ds : Items) → joined ds no_items ≡ ds
 joined_none no_items = refl
@@ -183,25 +187,46 @@ take_swap xs d kept i le within = pick (eq-or-lt_of_le le)
 drop_swap : (xs : List Value) (d : Value) (kept i : ℕ) → kept ≤ i → drop (i + 1) (set (set xs kept (get_or xs i d)) i (get_or xs kept d)) ≡ drop (i + 1) xs
 drop_swap xs d kept i le = drop-set-lt (i + 1) (set xs kept (get_or xs i d)) i (get_or xs kept d) (omega arith) ∙ drop-set-lt (i + 1) xs kept (get_or xs i d) (omega (arith, le))
 
--- one that stays goes behind those that stay
-pub keep_one : (es : List (Key × Marks)) (xs ys : List Value) (kept i : ℕ) (all : Items) → kept ≤ i → i < length xs → ys ≡ swap xs kept i → marked_by (lookup (is_key (index i)) es) [] ≡ false
-    → joined (items_view (take kept xs)) (sieved es i (items_view (drop i xs))) ≡ all → joined (items_view (take (kept + 1) ys)) (sieved es (i + 1) (items_view (drop (i + 1) ys))) ≡ all
-keep_one es [] ys kept i all le within is stays h = absurd (omega (arith, within))
-keep_one es (d ∷ more) ys kept i all le within is stays h =
+-- an element that moves down leaves those in front and those behind as they were
+pub move_one : (xs ys : List Value) (kept i : ℕ) → kept ≤ i → i < length xs → ys ≡ swap xs kept i → take (kept + 1) ys ++ drop (i + 1) ys ≡ take kept xs ++ drop i xs
+move_one [] ys kept i le within is = absurd (omega (arith, within))
+move_one (d ∷ more) ys kept i le within is =
     let xs = d ∷ more in
     let swapped : ys ≡ set (set xs kept (get_or xs i d)) i (get_or xs kept d) = is in
     let front : take (kept + 1) ys ≡ take kept xs ++ get_or xs i d ∷ [] = ap (take (kept + 1)) swapped ∙ take_swap xs d kept i le within in
     let back : drop (i + 1) ys ≡ drop (i + 1) xs = ap (drop (i + 1)) swapped ∙ drop_swap xs d kept i le in
-    let next : sieved es i (items_view (drop i xs)) ≡ item (view (get_or xs i d)) (sieved es (i + 1) (items_view (drop (i + 1) xs))) = ap (λ zs. sieved es i (items_view zs)) (drop_more xs i d within) ∙ rw (stays, add-one) in
-    ap₂ (λ a b. joined (items_view a) (sieved es (i + 1) (items_view b))) front back ∙ joined_push (take kept xs) (get_or xs i d) _ ∙ ap (joined (items_view (take kept xs))) (sym next) ∙ h
+    ap₂ (λ a b. a ++ b) front back ∙ append_assoc (take kept xs) (get_or xs i d ∷ []) (drop (i + 1) xs) ∙ ap (λ vs. take kept xs ++ vs) (sym (drop_more xs i d within))
 
-pub drop_one : (es : List (Key × Marks)) (xs : List Value) (kept i : ℕ) (all : Items) → i < length xs → marked_by (lookup (is_key (index i)) es) [] ≡ true
-    → joined (items_view (take kept xs)) (sieved es i (items_view (drop i xs))) ≡ all → joined (items_view (take kept xs)) (sieved es (i + 1) (items_view (drop (i + 1) xs))) ≡ all
-drop_one es [] kept i all within goes h = absurd (omega (arith, within))
-drop_one es (d ∷ more) kept i all within goes h =
+-- the marks before an element hold nothing from it on
+past_sieved : (j : ℕ) (m : Marks) (es : List (Key × Marks)) (i : ℕ) (ds : Items) → j < i → sieved ((Index j, m) ∷ es) i ds ≡ sieved es i ds
+past_sieved j m es i no_items h = refl
+past_sieved j m es i (item d ds) h =
+    let other : nat_eq i j ≡ false = ne_eqb i j (λ e. omega (arith, h, e)) in
+    rw (other, past_sieved j m es (suc i) ds (omega (arith, h)))
+
+-- an element that is held goes
+pub one_gone : (j : ℕ) (m : Marks) (es : List (Key × Marks)) (xs : List Value) → marked m [] ≡ true → j < length xs
+    → sieved es (j + 1) (items_view (drop (j + 1) xs)) ≡ sieved ((Index j, m) ∷ es) j (items_view (drop j xs))
+one_gone j m es [] here within = absurd (omega (arith, within))
+one_gone j m es (d ∷ more) here within =
     let xs = d ∷ more in
-    let next : sieved es i (items_view (drop i xs)) ≡ sieved es (i + 1) (items_view (drop (i + 1) xs)) = ap (λ zs. sieved es i (items_view zs)) (drop_more xs i d within) ∙ rw (goes, add-one) in
-    ap (joined (items_view (take kept xs))) (sym next) ∙ h
+    let test : nat_eq j j ≡ true = eq-eqb j j refl in
+    let next : sieved ((Index j, m) ∷ es) j (items_view (drop j xs)) ≡ sieved es (j + 1) (items_view (drop (j + 1) xs)) =
+    ap (λ zs. sieved ((Index j, m) ∷ es) j (items_view zs)) (drop_more xs j d within) ∙ rw (test, here, add-one) (past_sieved j m es (suc j) (items_view (drop (suc j) xs)) (omega arith)) in
+    sym next
+
+-- a key that holds none of the elements
+pub unheld_sieved : (k : Key) (m : Marks) (es : List (Key × Marks)) (end : ℕ) → HoldsNone k m end → lookup (is_key (key_view k)) es ≡ None
+    → (vs : List Value) (i : ℕ) → i + length vs ≤ end → sieved ((k, m) ∷ es) i (items_view vs) ≡ sieved es i (items_view vs)
+unheld_sieved k m es end none absent [] i le = refl
+unheld_sieved k m es end none absent (v ∷ vs) i le = pick (is_key (index i) k) refl (unheld_sieved k m es end none absent vs (suc i) (omega (arith, le)))
+  where
+    pick : (b : Bool) → is_key (index i) k ≡ b → sieved ((k, m) ∷ es) (suc i) (items_view vs) ≡ sieved es (suc i) (items_view vs) → sieved ((k, m) ∷ es) i (items_view (v ∷ vs)) ≡ sieved es i (items_view (v ∷ vs))
+    pick true e more =
+        let same : index i ≡ key_view k = same_step (index i) (key_view k) e in
+        let later : lookup (is_key (index i)) es ≡ None = ap (λ s. lookup (is_key s) es) same ∙ absent in
+        rw (e, later, none.each i (omega (arith, le)) e, more)
+    pick false e more = rw (e, more)
 
 pub none_left : (es : List (Key × Marks)) (xs : List Value) (kept i : ℕ) (all : Items) → length xs ≤ i → joined (items_view (take kept xs)) (sieved es i (items_view (drop i xs))) ≡ all → items_view (take kept xs) ≡ all
 none_left es xs kept i all past h = sym (joined_none _) ∙ ap (λ ys. joined (items_view (take kept xs)) (sieved es i (items_view ys))) (sym (drop_all i xs past)) ∙ h

@@ -1,9 +1,9 @@
 -- A tree with another tree at a location (RFC 9535, 1.1).
-use Rattle.std.specs.Prelude.{◌≡◌, ℕ, zero, suc, List, [], ◌∷◌, Bool, if◌then◌else◌}
+use Rattle.std.specs.Prelude.{◌≡◌, ℕ, zero, suc, List, [], ◌∷◌, if◌then◌else◌}
 use Rattle.std.specs.Str.{bytes_eq}
 use Rattle.jsonpath_parser.specs.Location.{Step, name, index, Location, Begins}
 use Rattle.jsonpath_base.specs.Places.{at}
-use Rattle.jsonpath_base.specs.Tree.{Tree, null, truth, number, text, list, object, Trees, no_trees, tree, Members, no_members, member}
+use Rattle.jsonpath_base.specs.Tree.{Tree, list, object, Trees, no_trees, tree, Members, no_members, member}
 
 abbrev pub with_element : ℕ → (Tree → Tree) → Trees → Trees
 with_element i f no_trees = no_trees

@@ -1,13 +1,13 @@
 //! Removal of locations from a value, all at once.
-ghost use Rattle.std.specs.Prelude.{◌≡◌, ◌≤◌, IfOk, IfErr, OnOk, OnErr, IsTrue, map, []};
+ghost use Rattle.std.specs.Prelude.{◌≡◌, ◌<◌, ◌≤◌, ◌-◌, ◌++◌, [], take, drop, length, map, true, IfSome, IfNone, IfOk, IfErr, OnOk, OnErr, IsTrue};
+ghost use Rattle.std.specs.Vec.{vec_len};
 ghost use Rattle.serde_json.specs.View.{view, items_view, members_view};
 ghost use Rattle.jsonpath_base.specs.Steps.{location_view};
 ghost use Rattle.jsonpath_base.specs.Values.{value_tree, value_is_whole};
 ghost use Rattle.jsonpath_base.specs.Without.{without, is_among, distinct_count};
-ghost use Rattle.jsonpath_base.specs.inner.Marks.{marked, marked_by, marked_below, is_key, HoldsNone, HoldsNoneBelow};
+ghost use Rattle.jsonpath_base.specs.inner.Marks.{marked, marked_below, HoldsNone};
 ghost use Rattle.jsonpath_base.specs.inner.Thinning.{data_thinned, items_thinned, members_thinned, sieved};
-ghost use Rattle.std.specs.Map.{lookup};
-ghost use Rattle.jsonpath_parser.specs.Location as location;
+ghost use Rattle.jsonpath_base.specs.declared.marks.Key.TheVariants.{Index};
 
 use crate::marks::{Key, Marks, mark};
 use crate::step::Step;
@@ -21,8 +21,8 @@ use std::mem;
 /// locations there are. One where nothing is counts, and changes nothing; where the root is one of them, null is left.
 ///
 /// It refuses for want of memory alone, and then the value is as it was: all locations are marked first, and from there
-/// on nothing is taken. Time n log n in the steps of the locations; in a list that loses an element, a look-up for each
-/// element from the first that goes.
+/// on nothing is taken. Time n log n in the steps of the locations; in a list that loses elements, each element behind the
+/// first of them is moved once.
 pub fn remove_all(alloc: Global, value: &mut Value, places: &[Vec<Step>]) -> Parsed<usize>
     ensures removed { OnOk result (value_tree value.new ≡ without (is_among (map (λ p. location_view p.items) places.now)) (value_tree value.old)) }
     ensures count { IfOk result (λ n. n ≡ distinct_count (map (λ p. location_view p.items) places.now)) }
@@ -100,55 +100,52 @@ fn thin_members(members: &mut Map<String, Value>, marks: &BTreeMap<Key<'_>, Mark
     }
 }
 
-/// Removes the elements that the marks hold. Those before the first of them are not looked at.
+/// Removes the elements that the marks hold. No element is looked up: the marks are gone through in their order, and each
+/// run of elements between two of them is moved by itself.
 fn drop_marked(items: &mut Vec<Value>, marks: &BTreeMap<Key<'_>, Marks<'_>>)
     ensures { items_view items.new.items ≡ sieved marks.now.entries 0 (items_view items.old.items) }
 {
-    let first = first_held(marks, items.len());
-    let mut kept = first;
-    for i in first..items.len() {
-        if !holds(marks, i) {
-            items.swap(kept, i);
-            kept += 1;
+    let length = items.len();
+    let mut gone = 0;
+    let mut next = 0;
+    for (key, below) in marks.iter() {
+        if let Some(index) = held_index(key, below, length) {
+            move_down(items, gone, next, index);
+            gone += 1;
+            next = index + 1;
         }
     }
-    items.truncate(kept);
+    move_down(items, gone, next, length);
+    items.truncate(length - gone);
 }
 
-/// The first index below this length that the marks hold; where they hold none, the length.
-fn first_held(marks: &BTreeMap<Key<'_>, Marks<'_>>, length: usize) -> usize
-    ensures { HoldsNoneBelow marks.now.entries result }
-{
-    let mut first = length;
-    for (key, below) in marks.iter() {
-        first = first_of(first, key, below);
-    }
-    first
-}
-
-/// The lesser of the first index so far and of a key that the marks hold, where it is an index.
-fn first_of(first: usize, key: &Key<'_>, below: &Marks<'_>) -> usize
-    ensures lesser { result ≤ first }
-    ensures held { HoldsNone key.now below.now result }
+/// The index below this length that a key and the marks below it hold, if they hold one.
+fn held_index(key: &Key<'_>, below: &Marks<'_>, length: usize) -> Option<usize>
+    ensures held { IfSome result (λ i. (key.now ≡ Index i) × (i < length) × (marked below.now [] ≡ true)) }
+    ensures none { IfNone result (HoldsNone key.now below.now length) }
 {
     match key {
-        Key::Name(_) => first,
+        Key::Name(_) => None,
         Key::Index(index) => {
-            if below.here {
-                (*index).min(first)
+            if below.here && *index < length {
+                Some(*index)
             } else {
-                first
+                None
             }
         }
     }
 }
 
-/// Whether the marks hold this index.
-fn holds(marks: &BTreeMap<Key<'_>, Marks<'_>>, index: usize) -> bool
-    ensures { result ≡ marked_by (lookup (is_key (location.index index)) marks.now.entries) [] }
+/// Moves the elements from `start` up to `end` by this many places to the front, where they take the places of others.
+fn move_down(items: &mut Vec<Value>, places: usize, start: usize, end: usize)
+    requires { (places ≤ start) × (start ≤ end) × (end ≤ vec_len items.old) }
+    ensures moved { take (end - places) items.new.items ++ drop end items.new.items ≡ take (start - places) items.old.items ++ drop start items.old.items }
+    ensures length { length items.new.items ≡ length items.old.items }
 {
-    match marks.get(&Key::Index(index)) {
-        Some(below) => below.here,
-        None => false,
+    if places == 0 {
+        return;
+    }
+    for i in start..end {
+        items.swap(i - places, i);
     }
 }

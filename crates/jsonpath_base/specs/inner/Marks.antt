@@ -41,10 +41,6 @@ marked_below es (s ∷ l) = marked_by (lookup (is_key s) es) l
 pub record HoldsNone (k : Key) (m : Marks) (first : ℕ) : Type 0 where
   pub each : (i : ℕ) → i < first → is_key (index i) k ≡ true → marked m [] ≡ false
 
--- The marks hold no index below this one.
-pub record HoldsNoneBelow (es : List (Key × Marks)) (first : ℕ) : Type 0 where
-  pub each : (i : ℕ) → i < first → marked_by (lookup (is_key (index i)) es) [] ≡ false
-
 -- The set has this location too, and else what it had.
 pub record HasAlso (old : Location → Bool) (at : Location) (new : Location → Bool) : Type 0 where
   pub each : (l : Location) → new l ≡ (is_location at l || old l)

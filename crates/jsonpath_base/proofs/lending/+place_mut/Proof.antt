@@ -8,7 +8,6 @@ use Rattle.std.specs.Vec.{with_item}
 use Rattle.std.specs.Prelude.{⊤, vec_len, slice_index_or}
 use mathlib.Core.Option as maybe
 use denote.Follow.{follows_so}
-use denote.Plain.{uint_row_laws}
 use denote.Triple.Call.{calls_from}
 use Rattle.serde_json.specs.declared.value.Value.{Array, Object}
 use Rattle.serde_json.specs.Rows.{list_row as L, map_row as K}
@@ -22,7 +21,6 @@ use Rattle.jsonpath_base.specs.Values.{value_tree}
 use Rattle.std.specs.Option.{OnSome}
 use denote.Triple.Clauses.{Lasts}
 use denote.Builtin.{bool}
-use denote.Plain.{bool_vals}
 use Rattle.jsonpath_base.specs.inner.Lent.{LendsMember, is_entry, has_index, index_in, name_in, next, rest}
 use Rattle.jsonpath_base.specs.contracts.step.Step.{the_row as S}
 use Rattle.jsonpath_base.proofs.step.Step.TheLaws.{the_row_laws}
@@ -36,7 +34,7 @@ use Rattle.jsonpath_base.specs.contracts.lending.parts.list_mut as g₁
 use Rattle.jsonpath_base.proofs.lending.parts.list_mut.Met.{met as met₁}
 use Rattle.jsonpath_base.specs.contracts.lending.parts.item_at as g₂
 use Rattle.jsonpath_base.proofs.lending.parts.item_at.Met.{met as met₂}
-use Rattle.std.proofs.Common.{w64, suc, sym, ap, ◌∙◌}
+use Rattle.std.proofs.Common.{w64, sym, ap, ◌∙◌}
 use Rattle.std.proofs.VecSteps.Shapes.{after}
 use types.Kit.{at_ret, pick, some, later, await, rewrite, Sq}
 use base.Logic.{via, id⊢, emp}

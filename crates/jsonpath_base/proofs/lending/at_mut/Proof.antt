@@ -1,10 +1,10 @@
 -- `at_mut` asks whether something is there, through a `&` of its own, and then lends it or gives its reference up.
-use Rattle.jsonpath_base.proofs.LoanWords.{[], ◌∷◌, ◌≡◌, ◌≤◌, refl, lit<, proved, ftrue, flft, named, vint, fact, tables, ‵, raw, ◌⊛◌, ◌$◌, ◌∵◌, !, qed, done, move, keep, drop, use0, use1, use2, split, join, fjoin, suffices, frame, enter, addr, stop, returns, alloc_all, pass_all, free_all, look_at, get, lit, through, sets, lands_as, heard, uint_vals, uint_Tells, MutRef, MutBor, mut_vals, mut_Tells, usize, plain, nothing, no, yes, Stays, walk_of, stay_dropped, Goes-spent_ref, Goes-dropped, mut_ref_to, ends_at, says, calls_at, triple_of, lasts, framed, owned, peeks, shows, only, no_more, and_then, uint_Makes, id⊢, ap, sym, fsplit3, of_opd, first, branches, skips, exec, returns_within, env, bool, bool_vals, bool_Tells, fres}
+use Rattle.jsonpath_base.proofs.LoanWords.{[], ◌∷◌, ◌≡◌, ◌≤◌, refl, lit<, proved, ftrue, flft, named, fact, tables, ‵, raw, ◌⊛◌, ◌$◌, ◌∵◌, !, qed, done, move, keep, drop, use0, use1, use2, split, join, fjoin, suffices, frame, enter, addr, stop, returns, alloc_all, pass_all, free_all, look_at, get, lit, through, sets, lands_as, heard, uint_vals, MutRef, MutBor, mut_vals, mut_Tells, usize, plain, nothing, no, yes, Stays, walk_of, stay_dropped, Goes-spent_ref, Goes-dropped, mut_ref_to, ends_at, says, calls_at, triple_of, lasts, framed, owned, peeks, shows, only, no_more, and_then, uint_Makes, id⊢, ap, sym, fsplit3, of_opd, first, branches, skips, exec, returns_within, env, bool, fres}
 use Rattle.jsonpath_base.proofs.LoanTies.{so_weaker, so_none}
 use Rattle.jsonpath_base.proofs.Loans.{is_true, is_false, rest_all, no_tree}
 use Rattle.jsonpath_base.specs.contracts.step.Step.{the_row as S}
 use Rattle.std.proofs.VecSteps.Shapes.{after}
-use Rattle.std.proofs.Common.{w64, arith, IsSome, is_some, option_map, Some, None, length, ◌∙◌}
+use Rattle.std.proofs.Common.{w64, arith, IsSome, is_some, Some, None, length, ◌∙◌}
 use Rattle.std.specs.Prelude.{⊤}
 use Rattle.std.specs.contracts.option.Option as OP
 use Rattle.std.proofs.VecSteps.Element.{Some-of, none_of}
@@ -37,18 +37,18 @@ use Rattle.jsonpath_base.proofs.step.Step.TheLaws.{the_row_laws as S-laws}
 use Rattle.serde_json.proofs.value.Value.TheLaws.{the_row_laws as R-laws}
 use Rattle.std.proofs.Common.{Bool, List, ℕ}
 use base.Fraction.{full_share}
-use base.Fml.{GName, fdead}
+use base.Fml.{GName}
 use borrow.Rule.Reshare.{ref_Share}
 use borrow.Table.Owned as owned_as
 use denote.Lend.{LentAgain, lends_again, comes_back}
-use denote.Ref.{Bor, ShrRef}
+use denote.Ref.{Bor}
 use denote.Shares.{Shares-less}
 use denote.Slice.{shr_slice_copy}
 use denote.Triple.Clauses.{Lasts}
 use contract.BorrowLft.{meet_⊑_left}
 use mir.Syntax.{erased}
 use mir.Val.{Val}
-use types.Kit.{use3, fsplit, feq_l, feq_i}
+use types.Kit.{use3, feq_l, feq_i}
 use types.Tokens.{lft_new, lft_end}
 
 abbrev stayed : Stays f.ended.signature.params f.ended.kept

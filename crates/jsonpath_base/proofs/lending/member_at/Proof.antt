@@ -1,9 +1,9 @@
 -- `member_at` takes the one reference out of an `Option`.
 use base.Fml
 use denote.Triple.Clauses.{Lasts}
-use Rattle.jsonpath_base.proofs.LoanWords.{[], ◌∷◌, ◌≡◌, ◌≤◌, refl, List, arith, lit<, proved, ftrue, flft, named, vint, fact, tables, ‵, raw, ◌⊛◌, ◌$◌, ◌∵◌, !, qed, done, move, keep, drop, use0, use1, use2, split, join, fjoin, suffices, frame, enter, addr, stop, returns, alloc_all, pass_all, free_all, look_at, get, lit, through, sets, lands_as, heard, uint_vals, uint_Tells, uint_Makes, usize, owned, MutRef, MutBor, mut_vals, mut_Tells, plain, nothing, no, yes, Stays, walk_of, stay_dropped, Goes-spent_ref, Goes-dropped, mut_ref_to, ends_at, says, follows, calls_at, triple_of, lasts, framed, peeks, shows, only, no_more, and_then, id⊢, ap, ◌∙◌, sym, feq_l}
+use Rattle.jsonpath_base.proofs.LoanWords.{[], ◌∷◌, ◌≡◌, ◌≤◌, refl, List, lit<, proved, ftrue, flft, named, vint, fact, tables, ‵, raw, ◌⊛◌, ◌$◌, ◌∵◌, !, qed, done, move, keep, drop, use0, use1, use2, split, join, fjoin, suffices, frame, enter, addr, stop, returns, alloc_all, pass_all, free_all, look_at, get, through, sets, lands_as, heard, uint_vals, uint_Tells, usize, MutRef, MutBor, mut_vals, mut_Tells, plain, nothing, no, yes, Stays, walk_of, stay_dropped, Goes-spent_ref, Goes-dropped, mut_ref_to, ends_at, says, calls_at, triple_of, lasts, framed, peeks, shows, only, no_more, and_then, id⊢, ap, ◌∙◌, sym, feq_l}
 use Rattle.jsonpath_base.proofs.LoanOut.{Some-out, get_some}
-use Rattle.std.proofs.Common.{◌<◌, ◌-◌, w64, length, Some, Option, option_map, IsSome}
+use Rattle.std.proofs.Common.{◌<◌, w64, length, Some, Option, option_map, IsSome}
 use Rattle.std.specs.contracts.option.Option as OP
 use Rattle.std.proofs.VecSteps.Element.{Some-of}
 use types.Kit.{pick, some, later, await, rewrite}
@@ -24,7 +24,6 @@ use Rattle.jsonpath_base.specs.contracts.lending.parts.member_by as g₁
 use Rattle.jsonpath_base.proofs.lending.parts.member_by.Met.{met as met₁}
 use Rattle.jsonpath_base.specs.contracts.lending.parts.take as g₂
 use Rattle.jsonpath_base.proofs.lending.parts.take.Met.{met as met₂}
-use denote.RattleType.{RattleType}
 use Rattle.std.specs.Map.{lookup}
 
 abbrev stayed : Stays f.ended.signature.params f.ended.kept

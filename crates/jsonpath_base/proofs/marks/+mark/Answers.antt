@@ -1,12 +1,10 @@
-use Rattle.std.proofs.Common.{◌≡◌, ◌∷◌, Some, None, IfOk, OnOk, not, ◌||◌, option_map, refl, sym, ap, ◌∙◌, subst}
+use Rattle.std.proofs.Common.{◌≡◌, ◌∷◌, Some, None, IfOk, not, ◌||◌, sym, ap, ◌∙◌, subst}
 use Rattle.std.specs.Map.{lookup}
 use Rattle.std.specs.BTreeMap.{insert_entry}
-use Rattle.jsonpath_parser.specs.Location.{Step, Location}
-use Rattle.jsonpath_base.specs.Steps.{step_view, location_view}
+use Rattle.jsonpath_base.specs.Steps.{location_view}
 use Rattle.jsonpath_base.specs.Without.{is_location}
-use Rattle.jsonpath_base.specs.inner.Marks.{key_view, is_key, marked, marked_by, marked_below, HasAlso}
+use Rattle.jsonpath_base.specs.inner.Marks.{key_view, is_key, marked, marked_by, HasAlso}
 use Rattle.jsonpath_base.proofs.Marking.{marked_step, also_rolled, also_below, on_ok, lookup_key, set_found, set_apart, insert_found, insert_apart, key_compare}
-use Rattle.jsonpath_base.specs.declared.marks.Marks.TheViews.{out-Marks}
 use Rattle.jsonpath_base.proofs.marks.+mark.Goals as goal
 
 pub mark-returns-in-Some-clause-fresh : goal.mark-returns-in-Some-clause-fresh

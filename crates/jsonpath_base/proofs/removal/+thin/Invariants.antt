@@ -1,6 +1,4 @@
-use Rattle.std.proofs.Common.{◌≡◌, ◌≤◌, ◌+◌, ◌*◌, string_cmp}
-use Rattle.std.specs.Map.{keys_of}
-use Rattle.std.specs.List.Sorted.{IsStrictlySortedBy}
+use Rattle.std.proofs.Common.{◌≡◌, ◌≤◌, ◌+◌, ◌*◌}
 use Rattle.serde_json.specs.View.{items_view, members_view}
 use Rattle.jsonpath_base.specs.inner.Marks.{marked_below, marks_count}
 use Rattle.jsonpath_base.specs.inner.Thinning.{members_thinned, thinned_below}

@@ -1,37 +1,68 @@
-use Rattle.std.proofs.Common.{◌≡◌, ◌≤◌, ◌<◌, ◌+◌, length, take, drop, not, true, false, ℕ, Vec, Global, refl, le_of_eq, sym, ap, ap₂, ◌∙◌, arith}
-use Rattle.std.proofs.lemmas.List.Edits.{length-swap}
-use Rattle.serde_json.specs.declared.value.Value.{Value}
+use Rattle.std.proofs.Common.{◌≡◌, ◌≤◌, ◌<◌, ◌+◌, ◌-◌, ◌∷◌, [], length, take, drop, subst, sym, ap, ◌∙◌, arith}
+use Rattle.std.proofs.lemmas.List.{length-take-le, length-drop}
+use Rattle.std.specs.Map.{keys_of}
+use Rattle.std.specs.List.Sorted.{IsStrictlySortedBy}
 use Rattle.serde_json.specs.View.{items_view}
+use Rattle.jsonpath_base.specs.declared.marks.Key.TheVariants.{Index}
 use Rattle.jsonpath_base.specs.inner.Thinning.{sieved}
-use Rattle.jsonpath_base.proofs.Removing.{joined, sieved_from, keep_one, drop_one, none_left}
-use Rattle.jsonpath_base.proofs.removal.drop_marked.Goals.{then-not-holds, else-not-holds}
+use Rattle.jsonpath_base.proofs.Marking.{key_compare, are_keys, IsFrom, from_after, from_at_most, from_rest, rest_sorted, none_before, none_held}
+use Rattle.jsonpath_base.proofs.Removing.{joined, run_moved, one_gone, unheld_sieved, none_left}
 use Rattle.jsonpath_base.proofs.removal.drop_marked.Goals as goal
+
+pub move_down-requires : goal.move_down-requires
+move_down-requires c =
+    let l = c.loop-key in let held = c.in-Some-held_index.ensures.held in let j = c.in-Some-held_index.index in let m = c.in-Some.below.now in let es = c.next.new.self in
+    let all = c.in-Some.ensures.steps ∙ ap (λ k. (k, m) ∷ es) held.0 in
+    (l.invariant.3, from_at_most j m es l.next (subst (λ xs. IsFrom xs l.next) all l.invariant.2), omega (arith, held.1, c.len-length.ensures, c.args.items.now.ok.0, l.items.ok.0, l.invariant.5))
+
+pub loop-key-preserved-in-Some-held_index : goal.loop-key-preserved-in-Some-held_index
+loop-key-preserved-in-Some-held_index c =
+    let l = c.loop-key in let held = c.in-Some-held_index.ensures.held in let j = c.in-Some-held_index.index in let m = c.in-Some.below.now in let es = c.next.new.self in
+    let xs = l.items.items in let ys = c.move_down.new.items.items in let n = l.next in let g = l.gone in
+    let all = c.in-Some.ensures.steps ∙ ap (λ k. (k, m) ∷ es) held.0 in
+    let ordered = subst (λ zs. IsStrictlySortedBy key_compare (keys_of zs)) all l.invariant.1 in
+    let from = from_after j m es ordered in
+    let low : n ≤ j = from_at_most j m es n (subst (λ zs. IsFrom zs n) all l.invariant.2) in
+    let same : length ys ≡ length xs = c.move_down.ensures.length in
+    let within : j < length ys = omega (arith, held.1, c.len-length.ensures, c.args.items.now.ok.0, l.invariant.5, same) in
+    let front : length (take (j - g) ys) ≡ j - g = length-take-le (j - g) ys (omega (arith, within)) in
+    let kept : length (take (n - g) xs) ≡ n - g = length-take-le (n - g) xs (omega (arith, l.invariant.4)) in
+    let run = run_moved ((Index j, m) ∷ es) j (none_before j m es from) (take (j - g) ys) (drop j ys) (take (n - g) xs) (drop n xs) n c.move_down.ensures.moved (omega (arith, front, kept, low, l.invariant.3)) low in
+    let places : j + 1 - (g + 1) ≡ j - g = omega arith in (
+      ap (λ k. joined (items_view (take k ys)) (sieved es (j + 1) (items_view (drop (j + 1) ys)))) places
+          ∙ ap (joined (items_view (take (j - g) ys))) (one_gone j m es ys held.2 within)
+          ∙ run
+          ∙ ap (λ zs. joined (items_view (take (n - g) xs)) (sieved zs n (items_view (drop n xs)))) (sym all)
+          ∙ l.invariant.0,
+      rest_sorted (Index j, m) es ordered,
+      from,
+      omega (arith, low, l.invariant.3),
+      omega (arith, within),
+      same ∙ l.invariant.5,
+    )
+
+pub loop-key-preserved : goal.loop-key-preserved
+loop-key-preserved c =
+    let l = c.loop-key in let k = c.in-Some.key.now in let m = c.in-Some.below.now in let es = c.next.new.self in
+    let xs = l.items.items in let n = l.next in let all = c.in-Some.ensures.steps in
+    let ordered = subst (λ zs. IsStrictlySortedBy key_compare (keys_of zs)) all l.invariant.1 in
+    let rest : n + length (drop n xs) ≤ c.len-length.result = omega (arith, length-drop n xs, l.invariant.4, l.invariant.5, c.len-length.ensures, c.args.items.now.ok.0) in
+    let unheld = unheld_sieved k m es c.len-length.result c.in_default.ensures.none (are_keys ((k, m) ∷ es) ordered).0 (drop n xs) n rest in (
+      ap (joined (items_view (take (n - l.gone) xs))) (sym unheld ∙ ap (λ zs. sieved zs n (items_view (drop n xs))) (sym all)) ∙ l.invariant.0,
+      rest_sorted (k, m) es ordered,
+      from_rest (k, m) es n (subst (λ zs. IsFrom zs n) all l.invariant.2),
+      l.invariant.3,
+      l.invariant.4,
+      l.invariant.5,
+    )
 
 pub returns : goal.returns
 returns c =
-    let l = c.loop-i in
-    ap items_view c.truncate.ensures.items ∙ none_left c.args.marks.now.entries l.items.items l.kept l.i _ (omega (arith, c.loop-i-test.false, c.len-i-end.ensures, c.args.items.now.ok.0, l.invariant.2)) l.invariant.0
-
-pub loop-i-init : goal.loop-i-init
-loop-i-init c = (sieved_from c.args.marks.now.entries _ c.first_held-first.ensures c.args.items.now.items 0 c.first_held-first.result (omega arith), le_of_eq refl, refl)
-
-pub loop-i-preserved : goal.loop-i-preserved
-loop-i-preserved c =
-    let l = c.loop-i in let es = c.args.marks.now.entries in
-    let all = sieved es 0 (items_view c.args.items.now.items) in
-    let within : l.i < length l.items.items = omega (arith, c.loop-i-test.true, c.len-i-end.ensures, c.args.items.now.ok.0, l.invariant.2) in
-    let step = λ (v : Vec Value Global) (k : ℕ). joined (items_view (take k v.items)) (sieved es (l.i + 1) (items_view (drop (l.i + 1) v.items))) in
-    elim c.if-not-holds.branch [
-      | then-not-holds w ↦
-          let swapped = w.swap.ensures.items in let ends = sym c.holds.ensures ∙ w.if-not-holds.true in (
-            ap₂ step w.items-is w.kept-is ∙ keep_one es l.items.items w.swap.new.self.items l.kept l.i all l.invariant.1 within swapped ends l.invariant.0,
-            omega (arith, w.kept-is, l.invariant.1),
-            ap (λ (v : Vec Value Global). length v.items) w.items-is ∙ ap length swapped ∙ length-swap l.items.items l.kept l.i ∙ l.invariant.2,
-          )
-      | else-not-holds w ↦
-          let ends = sym c.holds.ensures ∙ w.if-not-holds.false in (
-            ap₂ step w.items-is w.kept-is ∙ drop_one es l.items.items l.kept l.i all within ends l.invariant.0,
-            omega (arith, w.kept-is, l.invariant.1),
-            ap (λ (v : Vec Value Global). length v.items) w.items-is ∙ l.invariant.2,
-          )
-    ]
+    let l = c.loop-key in let xs = l.items.items in let ys = c.move_down-2.new.items.items in let n = l.next in let g = l.gone in let end = c.len-length.result in
+    let same : length ys ≡ length xs = c.move_down-2.ensures.length in
+    let all : length xs ≡ end = omega (arith, l.invariant.5, c.len-length.ensures, c.args.items.now.ok.0) in
+    let front : length (take (end - g) ys) ≡ end - g = length-take-le (end - g) ys (omega (arith, same, all)) in
+    let kept : length (take (n - g) xs) ≡ n - g = length-take-le (n - g) xs (omega (arith, l.invariant.4)) in
+    let run = run_moved [] end (none_held end) (take (end - g) ys) (drop end ys) (take (n - g) xs) (drop n xs) n c.move_down-2.ensures.moved (omega (arith, front, kept, all, l.invariant.3, l.invariant.4)) (omega (arith, all, l.invariant.4)) in
+    ap items_view c.truncate.ensures.items
+    ∙ none_left [] ys (end - g) end _ (omega (arith, same, all)) (run ∙ ap (λ zs. joined (items_view (take (n - g) xs)) (sieved zs n (items_view (drop n xs)))) (sym c.in-None.ensures.steps.0) ∙ l.invariant.0)

@@ -1,5 +1,4 @@
-use Rattle.std.proofs.Common.{◌≡◌, ◌<◌, ◌∷◌, suc, ◌-◌, not, length, drop, map, Vec, Global, refl, sym, ap, ◌∙◌, subst, arith}
-use Rattle.jsonpath_parser.specs.Location.{Location}
+use Rattle.std.proofs.Common.{◌≡◌, ◌∷◌, suc, ◌-◌, not, drop, map, Vec, Global, sym, ap, ◌∙◌, subst, arith}
 use Rattle.jsonpath_base.specs.Steps.{location_view}
 use Rattle.jsonpath_base.specs.Without.{is_among, distinct_count}
 use Rattle.jsonpath_base.specs.inner.Marks.{marked, HasAlso}

@@ -1,4 +1,4 @@
-use Rattle.std.proofs.Common.{◌≡◌, refl, sym, ap, ◌∙◌}
+use Rattle.std.proofs.Common.{ap, ◌∙◌}
 use Rattle.serde_json.specs.View.{view}
 use Rattle.jsonpath_base.specs.inner.Marks.{marked}
 use Rattle.jsonpath_base.specs.Values.{tree_of, value_tree}

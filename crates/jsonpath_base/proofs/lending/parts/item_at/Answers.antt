@@ -1,4 +1,4 @@
-use Rattle.std.proofs.Common.{◌≡◌, refl, ap, ◌∙◌, slice_index_or}
+use Rattle.std.proofs.Common.{refl, ap, ◌∙◌, slice_index_or}
 use Rattle.std.specs.Vec.{with_item}
 use Rattle.jsonpath_base.proofs.lending.parts.item_at.Goals as goal
 
