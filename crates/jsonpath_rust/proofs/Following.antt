@@ -1,5 +1,5 @@
 -- A singular query selects what following its segments gives.
-use Rattle.std.proofs.Common.{◌≡◌, ℕ, ◌<◌, ℤ, List, [], ◌∷◌, ◌++◌, length, get_or, map, true, false, Option, Some, None, option_map, option_and_then, option_to_list, IsTrue, IfSome, IfOk, Result, Ok, Err, append-nil, refl, sym, ap, ◌∙◌, subst}
+use Rattle.std.proofs.Common.{◌≡◌, ℕ, ◌<◌, ℤ, List, [], ◌∷◌, ◌++◌, length, get_or, map, true, Option, Some, None, option_map, option_and_then, option_to_list, IsTrue, IfSome, IfOk, Result, Ok, Err, append-nil, refl, sym, ap, ◌∙◌, subst}
 use Rattle.std.proofs.lemmas.Bool.{and_parts, and_from, false≢true}
 use Rattle.std.specs.List.{flat_map}
 use Rattle.jsonpath_parser.specs.Derives.{Derives}

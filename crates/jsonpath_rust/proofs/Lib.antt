@@ -4,6 +4,7 @@ pub mod Arguments
 pub mod Deleting
 pub mod Following
 pub mod Leaves
+pub mod Lending
 pub mod Made
 pub mod Nodelist
 pub mod NodesAt

@@ -9,7 +9,7 @@ use Rattle.jsonpath_base.specs.Tree.{Tree}
 use Rattle.jsonpath_base.specs.Places.{at}
 use Rattle.jsonpath_rust.specs.Document.{Document}
 use Rattle.jsonpath_rust.specs.Meaning.{selected}
-use Rattle.jsonpath_rust.specs.declared.query.QueryRef.{QueryRef}
+use Rattle.jsonpath_rust.specs.declared.query.node.QueryRef.{QueryRef}
 use Rattle.std.specs.declared.alloc.Global.{Global}
 
 -- the path of each answered node, and the tree of its value

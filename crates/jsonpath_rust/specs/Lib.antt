@@ -9,4 +9,5 @@ pub mod Args
 pub mod Defaults
 pub mod Patterns
 pub mod Referring
+pub mod Lending
 pub mod inner

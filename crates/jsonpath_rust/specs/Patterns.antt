@@ -86,7 +86,7 @@ abbrev pub IsPattern : Bool → Option Tree → Type 0
 IsPattern entire (Some (tree.text s)) = IsSome (pattern_sought entire s)
 IsPattern entire _ = ⊥
 
--- A pattern that stands in the query and that it asks at a node of the document: its value there is one that `regex` reads.
+-- A pattern that stands in the query, and whose value at some node of the document is a text that `regex` reads.
 pub record AsksPattern (q : Query) (doc : Document) : Type 0 where
   pub entire : Bool
   pub pattern : Argument
@@ -99,10 +99,10 @@ abbrev pub IsInvalid : JsonPathError → Type 0
 IsInvalid (InvalidJsonPath _) = Unit {0}
 IsInvalid _ = ⊥
 
--- Memory ran out, or a pattern was refused that the query asks of the document.
+-- Memory ran out; or it is `InvalidJsonPath`, and there is such a pattern.
 abbrev pub IsStop : Query → Document → JsonPathError → Type 0
 IsStop q doc e = (e ≡ OutOfMemory → ⊥) → IsInvalid e × AsksPattern q doc
 
--- The text is no query, and refused as one; or it is one, and memory ran out or a pattern of it was refused.
+-- The text is no query, and refused as none; or it is one, and memory ran out or there is such a pattern.
 abbrev pub IsQueryRefusal : ℕ → List ℕ → Document → JsonPathError → Type 0
 IsQueryRefusal limit text doc e = IsRefusal limit text e ⊎ ((q : Query) × Derives limit text q × IsStop q doc e)

@@ -5,6 +5,7 @@ pub mod Keeping
 pub mod Operands
 pub mod Sinks
 pub mod Size
+pub mod Sought
 pub mod Standing
 pub mod Walking
 pub mod Way

@@ -1,8 +1,16 @@
 //! Queries as methods of a document.
-ghost use Rattle.std.specs.Prelude.{map, All, IsTrue, IfOk, IfErr};
+ghost use Rattle.std.specs.Prelude.{◌≡◌, map, All, IsTrue, IfOk, IfErr, MatchResult};
+ghost use Rattle.std.specs.List.{AllZip};
+ghost use Rattle.jsonpath_parser.specs.Derives.{Derives};
+ghost use Rattle.jsonpath_parser.specs.Location.{Location};
+ghost use Rattle.jsonpath_parser.specs.Normal.{IsNormal};
+ghost use Rattle.jsonpath_parser.specs.Steps.{HasIndexesInRange};
+ghost use Rattle.jsonpath_parser.specs.Syntax.{Query};
+ghost use Rattle.jsonpath_parser.specs.declared.errors.JsonPathError.TheVariants.{OutOfMemory};
 ghost use Rattle.jsonpath_rust.specs.Document.{document_of};
-ghost use Rattle.jsonpath_rust.specs.Patterns.{IsQueryRefusal};
-ghost use Rattle.jsonpath_rust.specs.Answer.{IsNodeAt, IsPathAt, IsValueAt, Lists, shown, paths_of};
+ghost use Rattle.jsonpath_rust.specs.Meaning.{selected};
+ghost use Rattle.jsonpath_rust.specs.Patterns.{IsStop, IsQueryRefusal};
+ghost use Rattle.jsonpath_rust.specs.Answer.{IsNodeAt, IsPathAt, IsValueAt, Lists, shown, paths_of, node_there};
 
 use crate::query::queryable::Queryable;
 use crate::query::{Queried, QueryPath, QueryRef, js_path, js_path_path, js_path_vals};
@@ -18,6 +26,16 @@ pub trait JsonPath: Queryable {
     fn query_with_path(&self, alloc: Global, path: &str) -> Queried<Vec<QueryRef<'_, Self>>>
         requires { IsTrue (Self.is_whole self.now) }
         ensures answered { IfOk result (λ v. Lists IsNodeAt MAX_NESTING_DEPTH path.now (document_of Self.tree Self.custom self.now) (shown Self.tree v.items)) }
+
+        // Whatever query the text derives, its nodes are answered, unless memory ran out or a pattern was refused.
+        ensures only { (q : Query) → Derives MAX_NESTING_DEPTH path.now q → MatchResult result
+            (λ v. AllZip (IsNodeAt (document_of Self.tree Self.custom self.now)) (selected q (document_of Self.tree Self.custom self.now)) (shown Self.tree v.items))
+            (IsStop q (document_of Self.tree Self.custom self.now)) }
+
+        // A Normalized Path is refused for want of memory alone. It gives the node at its location, or none where nothing is there.
+        ensures normal { (l : Location) → IsNormal l path.now → HasIndexesInRange l → MatchResult result
+            (λ v. shown Self.tree v.items ≡ node_there (document_of Self.tree Self.custom self.now) l path.now)
+            (λ e. e ≡ OutOfMemory) }
         ensures whole { IfOk result (λ v. All (λ r. IsTrue (Self.is_whole r.val.now)) v.items) }
         ensures refused { IfErr result (IsQueryRefusal MAX_NESTING_DEPTH path.now (document_of Self.tree Self.custom self.now)) }
     {
@@ -28,6 +46,11 @@ pub trait JsonPath: Queryable {
     fn query_only_path(&self, alloc: Global, path: &str) -> Queried<Vec<QueryPath>>
         requires { IsTrue (Self.is_whole self.now) }
         ensures answered { IfOk result (λ v. Lists IsPathAt MAX_NESTING_DEPTH path.now (document_of Self.tree Self.custom self.now) (paths_of v.items)) }
+
+        // Whatever query the text derives, its nodes' paths are answered, unless memory ran out or a pattern was refused.
+        ensures only { (q : Query) → Derives MAX_NESTING_DEPTH path.now q → MatchResult result
+            (λ v. AllZip (IsPathAt (document_of Self.tree Self.custom self.now)) (selected q (document_of Self.tree Self.custom self.now)) (paths_of v.items))
+            (IsStop q (document_of Self.tree Self.custom self.now)) }
         ensures refused { IfErr result (IsQueryRefusal MAX_NESTING_DEPTH path.now (document_of Self.tree Self.custom self.now)) }
     {
         js_path_path(alloc, path, self)
@@ -37,6 +60,11 @@ pub trait JsonPath: Queryable {
     fn query(&self, alloc: Global, path: &str) -> Queried<Vec<&Self>>
         requires { IsTrue (Self.is_whole self.now) }
         ensures answered { IfOk result (λ v. Lists IsValueAt MAX_NESTING_DEPTH path.now (document_of Self.tree Self.custom self.now) (map (λ x. Self.tree x.now) v.items)) }
+
+        // Whatever query the text derives, its nodes' values are answered, unless memory ran out or a pattern was refused.
+        ensures only { (q : Query) → Derives MAX_NESTING_DEPTH path.now q → MatchResult result
+            (λ v. AllZip (IsValueAt (document_of Self.tree Self.custom self.now)) (selected q (document_of Self.tree Self.custom self.now)) (map (λ x. Self.tree x.now) v.items))
+            (IsStop q (document_of Self.tree Self.custom self.now)) }
         ensures whole { IfOk result (λ v. All (λ x. IsTrue (Self.is_whole x.now)) v.items) }
         ensures refused { IfErr result (IsQueryRefusal MAX_NESTING_DEPTH path.now (document_of Self.tree Self.custom self.now)) }
     {

@@ -19,9 +19,12 @@ mod deletion;
 mod filter;
 mod function;
 mod halt;
+mod lending;
+mod node;
 mod patterns;
 pub mod queryable;
 mod reference;
+mod refusal;
 mod singular;
 mod sink;
 mod subquery;
@@ -31,49 +34,18 @@ mod walk;
 mod way;
 
 pub use crate::query::deletion::{delete_selected, delete_within};
+pub use crate::query::lending::referred_mut;
+pub use crate::query::node::{QueryPath, QueryRef};
 use crate::query::queryable::Queryable;
 pub use crate::query::reference::replace_by_path;
+pub use crate::query::refusal::not_a_reference;
 use jsonpath_parser::errors::JsonPathError;
 use jsonpath_parser::model::JpQuery;
 use jsonpath_parser::{MAX_NESTING_DEPTH, let_go, parse_json_path, parse_json_path_within};
 use std::alloc::Global;
 
-/// The text of a Normalized Path (RFC 9535, 2.7).
-pub type QueryPath = String;
-
 /// What a query answers.
 pub type Queried<T> = Result<T, JsonPathError>;
-
-/// A node that a query selects: the value in the document, and its Normalized Path.
-#[derive(Debug, Drop)]
-pub struct QueryRef<'a, T> {
-    pub val: &'a T,
-    pub path: QueryPath,
-}
-
-impl<'a, T: Queryable> QueryRef<'a, T> {
-    /// The value.
-    pub fn val(self) -> &'a T
-        ensures { result.now ≡ self.entry.val.now }
-    {
-        self.val
-    }
-
-    /// The Normalized Path.
-    pub fn path(self) -> QueryPath
-        ensures { result ≡ self.entry.path }
-    {
-        self.path
-    }
-}
-
-impl<'a, T: Queryable> From<(&'a T, QueryPath)> for QueryRef<'a, T> {
-    ghost from_gives = { λ pair r. (r.val ≡ pair.0) × (r.path ≡ pair.1) };
-
-    fn from((val, path): (&'a T, QueryPath)) -> Self {
-        QueryRef { val, path }
-    }
-}
 
 /// The nodes that a query text selects in a document, in order (RFC 9535, 2.1.2): their values and their Normalized
 /// Paths.
@@ -81,8 +53,8 @@ impl<'a, T: Queryable> From<(&'a T, QueryPath)> for QueryRef<'a, T> {
 /// # Errors
 ///
 /// - those of `parse_json_path`, where the text is no query.
-/// - `InvalidJsonPath` where a pattern that the query asks of a node of the document, by `match` or `search`, can be read
-///   by `regex` and is too large to be built.
+/// - `InvalidJsonPath` where `regex` refuses a pattern for its size: one that stands in the query, in a call of `match` or
+///   `search`, and whose value at some node of the document is a text that `regex` reads.
 /// - `OutOfMemory` where memory ran out.
 pub fn js_path<'a, T: Queryable>(
     alloc: Global,
@@ -193,8 +165,8 @@ fn process_paths<T: Queryable>(alloc: Global, query: &JpQuery, value: &T) -> Que
 }
 
 /// The nodes that a query selects in a document, in order (RFC 9535, 2.1.2): their values and their Normalized Paths.
-/// It refuses by `OutOfMemory`, and by `InvalidJsonPath` where a pattern that the query asks of a node of the document, by
-/// `match` or `search`, can be read by `regex` and is too large to be built.
+/// It refuses by `OutOfMemory`, and by `InvalidJsonPath` where `regex` refuses a pattern for its size: one that stands in
+/// the query, in a call of `match` or `search`, and whose value at some node of the document is a text that `regex` reads.
 ///
 /// The nodes are those of the meaning also for a tree that no text spells, with any index and any slice, and for one
 /// that the typing of RFC 9535, 2.4.3 refuses.

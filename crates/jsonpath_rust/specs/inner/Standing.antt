@@ -27,6 +27,6 @@ pub record Returns {A : Type 0} (tree : A → Tree) (is_whole : A → Bool) (cus
   pub same : new.way.steps.items ≡ old.way.steps.items
   pub ready : IsReady tree is_whole custom task new.cache
 
--- memory ran out, or a pattern was refused that the query asks of the document
+-- memory ran out, or a pattern stands in the query whose value at some node of the document is a text that `regex` reads
 abbrev pub IsHalt : Query → Document → Halt → Type 0
 IsHalt q doc halt = (halt ≡ Memory → ⊥) → AsksPattern q doc

@@ -12,7 +12,7 @@ use std::alloc::{AllocError, AllocFailed, Global};
 pub enum Halt {
     /// Memory ran out.
     Memory,
-    /// A pattern is too large to be built.
+    /// `regex` refused a pattern for its size.
     Pattern,
 }
 

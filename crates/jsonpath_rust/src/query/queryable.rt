@@ -111,9 +111,8 @@ pub trait Queryable: Sized + Debug + Drop {
 
     /// A value of the same tree. It refuses by `OutOfMemory` alone.
     fn try_clone(&self, alloc: Global) -> Queried<Self>
-        requires { IsTrue (is_whole self.now) }
-        ensures value { IfOk result (λ v. tree v ≡ tree self.now) }
-        ensures whole { IfOk result (λ v. IsTrue (is_whole v)) }
+        ensures value { IsTrue (is_whole self.now) → IfOk result (λ v. tree v ≡ tree self.now) }
+        ensures whole { IsTrue (is_whole self.now) → IfOk result (λ v. IsTrue (is_whole v)) }
         ensures memory { IfErr result (λ e. e ≡ OutOfMemory) };
 
     /// Whether two values are the same: of equal kinds and scalars, lists place by place, objects by name in any order

@@ -16,7 +16,7 @@ ghost use Rattle.jsonpath_rust.specs.inner.Walking.{segments_in};
 
 use crate::query::Queried;
 use crate::query::queryable::children::element_of;
-use jsonpath_base::{Step, at_mut, put_at};
+use jsonpath_base::{Step, put_at};
 use jsonpath_parser::errors::JsonPathError;
 use jsonpath_parser::model::{Segment, Selector};
 use jsonpath_parser::{let_go, parse_json_path};
@@ -65,23 +65,8 @@ pub fn referred<'v>(alloc: Global, value: &'v Value, path: &str) -> Queried<Opti
     }
 }
 
-/// As `referred`, lent for writing.
-pub fn referred_mut<'v>(
-    alloc: Global,
-    value: &'v mut Value,
-    path: &str,
-) -> Queried<Option<&'v mut Value>>
-    ensures value { IfOk result (λ o. IsReferred path.now (document_of value_tree set_function value.old) (option_map (λ v. value_tree v.now) o)) }
-    ensures memory { IfErr result (λ e. e ≡ OutOfMemory) }
-{
-    match steps_of(alloc, value, path)? {
-        Some(steps) => Ok(at_mut(value, &steps)),
-        None => Ok(None),
-    }
-}
-
 /// The steps to that value.
-fn steps_of(alloc: Global, value: &Value, path: &str) -> Queried<Option<Vec<Step>>>
+pub fn steps_of(alloc: Global, value: &Value, path: &str) -> Queried<Option<Vec<Step>>>
     ensures means { IfOk result (λ o. IsReference path.now (document_of value_tree set_function value.now) (option_map (λ v. location_view v.items) o)) }
     ensures there { IfOk result (λ o. IfSome o (λ v. IsSome (places.at (location_view v.items) (value_tree value.now)))) }
     ensures memory { IfErr result (λ e. e ≡ OutOfMemory) }

@@ -2,7 +2,7 @@ use Rattle.std.proofs.Common.{◌∙◌, string_bytes}
 use Rattle.jsonpath_parser.specs.View.{query_view}
 use Rattle.jsonpath_rust.specs.Document.{document_of}
 use Rattle.jsonpath_rust.specs.Meaning.{nodelist}
-use Rattle.jsonpath_rust.specs.declared.query.QueryRef.{QueryRef}
+use Rattle.jsonpath_rust.specs.declared.query.node.QueryRef.{QueryRef}
 use Rattle.jsonpath_rust.proofs.Sinks.{given_nodes, given_nodes_whole, all_whole}
 use Rattle.jsonpath_rust.proofs.Answers.{nodes_answered}
 use Rattle.jsonpath_rust.proofs.query.js_path_process.Goals as goal

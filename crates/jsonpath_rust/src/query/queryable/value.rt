@@ -1,5 +1,6 @@
 //! Values of `serde_json` as documents.
 ghost use Rattle.std.specs.Prelude.{◌≡◌, All, IfOk, IfErr, IfSome, IsTrue, Some, map, option_map, true};
+ghost use Rattle.std.specs.Borrow.{sem};
 ghost use Rattle.serde_json.specs.View.{view, members_view};
 ghost use Rattle.jsonpath_base.specs.Tree.{as_list, pairs};
 ghost use Rattle.jsonpath_base.specs.SetFunctions.{set_function};
@@ -7,11 +8,13 @@ ghost use Rattle.jsonpath_base.specs.Values.{value_tree, value_is_whole, has_who
 ghost use Rattle.jsonpath_base.proofs.Views.{whole_distinct};
 ghost use Rattle.jsonpath_parser.specs.declared.errors.JsonPathError.TheVariants.{OutOfMemory};
 ghost use Rattle.jsonpath_rust.specs.Document.{document_of};
+ghost use Rattle.jsonpath_rust.specs.Lending.{LendsReferred, lent_in};
 ghost use Rattle.jsonpath_rust.specs.Referring.{IsReferred};
 
 use crate::query::Queried;
+use crate::query::lending::referred_mut;
 use crate::query::queryable::{Arg, Queryable};
-use crate::query::reference::{referred, referred_mut};
+use crate::query::reference::referred;
 use serde_json::{Map, Value};
 use std::alloc::{AllocError, Global};
 
@@ -114,8 +117,10 @@ impl Queryable for Value {
         referred(alloc, self, path)
     }
 
-    /// The value that `reference` answers, lent for writing.
+    /// The value that `reference` answers, lent for writing. When the loan ends, what was written stands there, and nothing
+    /// else has changed. None and a refusal leave the value as it was.
     fn reference_mut(&mut self, alloc: Global, path: &str) -> Queried<Option<&mut Value>>
+        ensures* writes_back { sem 𝓛 (LendsReferred path.now self.entry (lent_in result)) }
         ensures value { IfOk result (λ o. IsReferred path.now (document_of value_tree set_function self.old) (option_map (λ v. value_tree v.now) o)) }
         ensures memory { IfErr result (λ e. e ≡ OutOfMemory) }
     {
