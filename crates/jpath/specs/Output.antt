@@ -99,13 +99,13 @@ AsksQuery words = (a : Asked) × (q : syntax.Query) × (asked_by words ≡ Some 
 abbrev pub RefusesQuery : List (List ℕ) → JsonPathError → Type 0
 RefusesQuery words e = (a : Asked) × (asked_by words ≡ Some a) × IsRefusal a.depth a.query e × (e ≢ OutOfMemory)
 
--- the words ask for a query that the grammar derives; the input is a document; and at one of its nodes the query asks a pattern that
--- `regex` can read
+-- the words ask for a query that the grammar derives; the input is a document; and a pattern stands in the query whose value at some
+-- node of it is a text that `regex` reads
 abbrev pub AsksPatternOf : List (List ℕ) → Option (List ℕ) → Type 0
 AsksPatternOf words input = (a : Asked) × (q : syntax.Query) × (d : Data) × (asked_by words ≡ Some a) × Derives a.depth a.query q
     × IfSome input (λ bytes. IsWholeJson bytes d) × AsksPattern q (queried d)
 
--- why a query is refused: by the parser; or, with the document read, as `InvalidJsonPath`, for a pattern that is too large
+-- why a query is refused: by the parser; or, with the document read, by `InvalidJsonPath`, and there is such a pattern
 abbrev pub IsFaultOfQuery : List (List ℕ) → Option (List ℕ) → JsonPathError → Type 0
 IsFaultOfQuery words input e = RefusesQuery words e ⊎ (IsInvalid e × AsksPatternOf words input)
 
@@ -131,7 +131,9 @@ IsOfWords Usage = ⊤
 IsOfWords (Query e) = IsInvalid e → ⊥
 IsOfWords _ = ⊥
 
--- a pattern is too large, which shows when all is read
-abbrev pub IsOfPattern : Fault → Type 0
-IsOfPattern (Query e) = IsInvalid e
-IsOfPattern _ = ⊥
+-- it comes when all is read: the input is no document of whole numbers, or a pattern was refused
+abbrev pub IsOfDocument : Fault → Type 0
+IsOfDocument (Query e) = IsInvalid e
+IsOfDocument NotJson = ⊤
+IsOfDocument NotWhole = ⊤
+IsOfDocument _ = ⊥

@@ -6,7 +6,8 @@ use Rattle.jsonpath_rust.specs.Patterns.{IsInvalid, AsksPattern}
 use Rattle.jpath.specs.declared.fault.Fault.{Fault}
 use Rattle.jpath.specs.declared.fault.Fault.TheVariants.{Query, Memory}
 
--- memory ran out, or a pattern that the query asks of the document is too large
+-- memory ran out; or it is `InvalidJsonPath`, and a pattern stands in the query whose value at some node of the document is a text that
+-- `regex` reads
 abbrev pub IsNoAnswer : syntax.Query → Document → Fault → Type 0
 IsNoAnswer q doc (Query e) = IsInvalid e × AsksPattern q doc
 IsNoAnswer q doc Memory = ⊤

@@ -12,7 +12,9 @@ use std::fmt::Write;
 pub enum Fault {
     /// The words are no command and query.
     Usage,
-    /// The query was refused.
+    /// The query was refused: by the parser, before anything is read; or, when all is read, by `InvalidJsonPath` for a
+    /// pattern: one stands in the query whose value at some node of the document is a text that `regex` reads, and `regex`
+    /// refused it for its size.
     Query(JsonPathError),
     /// The input is not JSON.
     NotJson,

@@ -4,7 +4,7 @@ ghost use Rattle.std.specs.Io.KnownBytes.{Consumes, Appends, IsAtEnd};
 ghost use Rattle.serde_json.specs.View.{view};
 ghost use Rattle.jsonpath_base.specs.Values.{value_is_whole};
 ghost use Rattle.jpath.specs.Words.{asked_by};
-ghost use Rattle.jpath.specs.Output.{IsJson, IsNoDocument, IsOutput, AppendsFront, AsksQuery, IsFaultOf, IsOfWords, IsOfPattern};
+ghost use Rattle.jpath.specs.Output.{IsJson, IsNoDocument, IsOutput, AppendsFront, AsksQuery, IsFaultOf, IsOfWords, IsOfDocument};
 
 use crate::fault::Fault;
 use crate::output::printed;
@@ -19,7 +19,8 @@ use std::io::{Read, Write};
 ///
 /// The words and the query are judged before anything is read, and nothing is written before the whole output
 /// stands. Each fault comes in the case that it names, the first that holds in the order of work: words, query,
-/// reading, JSON, whole numbers, a pattern that is too large, writing.
+/// reading, JSON, whole numbers, a pattern that `regex` refuses for its size, writing. `NotJson`, `NotWhole` and
+/// `Query(InvalidJsonPath)` come when all is read.
 #[tactic(auto, using(crate::proofs::Told::told, crate::proofs::Told::told_front, crate::proofs::Told::no_answer))]
 pub fn run<R: Read, W: Write>(
     alloc: Global,
@@ -35,7 +36,7 @@ pub fn run<R: Read, W: Write>(
     ensures usage { IsErrOf result Fault.Usage ↔ (asked_by (map string_bytes words.now) ≡ None) }
     ensures fault { IfErr result (IsFaultOf (map string_bytes words.now) (R.remaining reader.old)) }
     ensures unread { IfErr result (λ f. IsOfWords f → reader.new ≡ reader.old) }
-    ensures read { IfErr result (λ f. IsOfPattern f → IsAtEnd (R.remaining reader.new)) }
+    ensures read { IfErr result (λ f. IsOfDocument f → IsAtEnd (R.remaining reader.new)) }
     ensures unwritten { IfErr result (λ f. f ≢ Fault.Io → writer.new ≡ writer.old) }
 
     // Where a read failed, nothing was written.
@@ -66,6 +67,7 @@ fn read_document<R: Read>(alloc: Global, reader: &mut R) -> Result<Value, Fault>
     ensures whole { IfOk result (λ v. IsTrue (value_is_whole v)) }
     ensures end { OnOk result (IsAtEnd (R.remaining reader.new)) }
     ensures fault { IfErr result (IsNoDocument (R.remaining reader.old)) }
+    ensures read { IfErr result (λ f. IsOfDocument f → IsAtEnd (R.remaining reader.new)) }
 {
     let bytes = read_to_end(alloc, reader)?;
     document_of(alloc, bytes.as_slice())

@@ -1,7 +1,8 @@
-//! What the rows of `jpath_rows` cannot ask: runs and their streams, trees made by hand, documents through their trait, the
+//! What the rows of `jpath_rows` cannot ask: runs and their streams, trees and nodes made by hand, documents through their trait, the
 //! texts of errors, and a pattern that `regex` may refuse.
 mod documents;
 mod errors;
+mod nodes;
 mod patterns;
 mod runs;
 mod streams;

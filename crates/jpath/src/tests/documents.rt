@@ -1,7 +1,6 @@
-//! Documents through their trait alone, at `Value`, and the nodes of an answer.
+//! Documents through their trait alone, at `Value`.
 ghost use Rattle.std.specs.Prelude.{IsTrue, IfSome};
 
-use jsonpath_rust::query::QueryRef;
 use jsonpath_rust::query::queryable::{Arg, Queryable};
 use serde_json::Value;
 use std::alloc::Global;
@@ -134,22 +133,4 @@ fn custom_functions(rt: HostRuntime) {
             "{name}"
         );
     }
-}
-
-// ---- nodes
-
-/// The node of a document that stands alone.
-fn root(alloc: Global, document: &Value) -> Option<QueryRef<'_, Value>> {
-    Some(QueryRef::from((document, String::from_str(alloc, "$").ok()?)))
-}
-
-/// Whether a node gives back the value and the path that it was made of.
-fn has_its_parts(alloc: Global, document: &Value) -> Option<bool> {
-    let path = root(alloc, document)?.path();
-    Some(path.as_str() == "$" && root(alloc, document)?.val().is_null())
-}
-
-#[test]
-fn a_node_has_a_value_and_a_path(rt: HostRuntime) {
-    assert_eq!(rt; has_its_parts(rt.alloc(), &Value::Null), Some(true));
 }
