@@ -1,6 +1,7 @@
 //! Whether each call that asks a query answers the same nodes.
-ghost use Rattle.std.specs.Prelude.{IsTrue};
+ghost use Rattle.std.specs.Prelude.{◌≡◌, map, IsTrue, IfOk};
 ghost use Rattle.jsonpath_base.specs.Values.{value_is_whole};
+ghost use Rattle.jsonpath_rust.specs.Answer.{shown, paths_of};
 
 use crate::document::are_equal;
 use jsonpath_parser::{let_go, parse_json_path_within};
@@ -89,6 +90,35 @@ pub fn is_by_tree<T: Queryable>(
     agrees
 }
 
+/// What the three methods of a document answer to a query.
+#[derive(Drop)]
+struct Answers<'d, T> {
+    nodes: Vec<QueryRef<'d, T>>,
+    paths: Vec<QueryPath>,
+    values: Vec<&'d T>,
+}
+
+/// Asks the three methods of a document. Where none refuses, the three lists agree place by place; the contracts of the
+/// methods say so, and nothing else is known of them here.
+fn methods_answers<'d, T: JsonPath>(
+    alloc: Global,
+    query: &str,
+    document: &'d T,
+) -> Queried<Answers<'d, T>>
+    requires { IsTrue (T.is_whole document.now) }
+    ensures paths { IfOk result (λ a. paths_of a.paths.items ≡ map (λ n. n.0) (shown T.tree a.nodes.items)) }
+    ensures values { IfOk result (λ a. map (λ v. T.tree v.now) a.values.items ≡ map (λ n. n.1) (shown T.tree a.nodes.items)) }
+{
+    let nodes = document.query_with_path(alloc, query)?;
+    let paths = document.query_only_path(alloc, query)?;
+    let values = document.query(alloc, query)?;
+    Ok(Answers {
+        nodes,
+        paths,
+        values,
+    })
+}
+
 /// Whether the methods of a document, at the default depth, answer the same nodes as `js_path`.
 pub fn is_by_methods(alloc: Global, query: &str, document: &Value) -> bool
     requires { IsTrue (value_is_whole document.now) }
@@ -96,9 +126,21 @@ pub fn is_by_methods(alloc: Global, query: &str, document: &Value) -> bool
     let Some(nodes) = js_path(alloc, query, document).ok() else {
         return false;
     };
-    are_same(&nodes, document.query_with_path(alloc, query))
-        && are_values(&nodes, document.query(alloc, query))
-        && are_paths(&nodes, document.query_only_path(alloc, query))
+    match methods_answers(alloc, query, document) {
+        Ok(
+            Answers {
+                nodes: others,
+                paths,
+                values,
+            },
+        ) => {
+            let same = are_same(&nodes, Ok(others));
+            let with_paths = are_paths(&nodes, Ok(paths));
+            let with_values = are_values(&nodes, Ok(values));
+            same && with_paths && with_values
+        }
+        Err(_) => false,
+    }
 }
 
 /// Whether the path of each of these nodes of the document, asked as a query, gives that node alone.

@@ -6,6 +6,7 @@
 #![tactic(auto)]
 
 mod agreement;
+mod built;
 mod call;
 mod custom;
 mod deletion;

@@ -1,12 +1,14 @@
-//! Rows on the makers of trees: a maker, what it takes, and the tree that it makes or its refusal; and on what an argument is.
+//! Rows on the makers of trees: a maker, what it takes, and the tree that it makes, also as it is `shown`, or its refusal; and
+//! on what an argument is.
 use crate::members::{has_only, string_at};
-use crate::production::{Reading, beside};
+use crate::production::{Reading, beside, shown_beside};
 use jsonpath_parser::errors::{JsonPathError, Parsed};
 use jsonpath_parser::model::{
     Comparable, Comparison, Filter, FilterAtom, FnArg, JpQuery, Literal, Segment, Test,
     TestFunction, slice_from,
 };
 use jsonpath_parser::{Cursor, function_expr};
+use jsonpath_rust::build::{atom_test, cmp, comparable_lit, lit_int, test_rel};
 use serde_json::Value;
 use std::alloc::Global;
 
@@ -25,12 +27,14 @@ pub fn holds(alloc: Global, row: &Value) -> bool {
                 }
         }
         (Some(maker), of, arguments) => {
-            has_only(row, &["maker", "of", "arguments", "tree", "refused"])
-                && match made(alloc, row, (maker, of, arguments)) {
-                    Reading::Tree => row.get("refused").is_none(),
-                    Reading::Refusal => row.get("tree").is_none(),
-                    Reading::Other => false,
-                }
+            has_only(
+                row,
+                &["maker", "of", "arguments", "tree", "shown", "refused"],
+            ) && match made(alloc, row, (maker, of, arguments)) {
+                Reading::Tree => row.get("refused").is_none(),
+                Reading::Refusal => row.get("tree").is_none() && row.get("shown").is_none(),
+                Reading::Other => false,
+            }
         }
         _ => false,
     }
@@ -39,23 +43,37 @@ pub fn holds(alloc: Global, row: &Value) -> bool {
 /// What the maker makes, of an operator, or of a name and arguments as they are written, where it takes these.
 fn made(alloc: Global, row: &Value, maker: (&str, Option<&str>, Option<&str>)) -> Reading {
     match maker {
-        ("query", None, None) => beside(alloc, row, 0, query(alloc)),
-        ("slice", None, None) => { beside(alloc, row, 0, Ok(slice_from((None, Some(2), Some(3))))) }
+        ("query", None, None) => shown_beside(alloc, row, 0, query(alloc)),
+        ("slice", None, None) => {
+            shown_beside(alloc, row, 0, Ok(slice_from((None, Some(2), Some(3)))))
+        }
         ("group", None, None) => {
             let negated = FilterAtom::filter(alloc, Filter::Or(Vec::new(alloc)), true);
-            beside(alloc, row, 0, negated)
+            shown_beside(alloc, row, 0, negated)
         }
         ("test", None, None) => {
             let test = FilterAtom::test(alloc, Test::RelQuery(Vec::new(alloc)), false);
-            beside(alloc, row, 0, test)
+            shown_beside(alloc, row, 0, test)
         }
-        ("atom", Some(operator), None) => beside(alloc, row, 0, atom(alloc, operator)),
+        ("atom_test", None, None) => {
+            shown_beside(alloc, row, 0, atom_test(alloc, test_rel(Vec::new(alloc))))
+        }
+        ("cmp", Some(operator), None) => shown_beside(alloc, row, 0, compared(alloc, operator)),
+        ("atom", Some(operator), None) => shown_beside(alloc, row, 0, atom(alloc, operator)),
         ("comparison", Some(operator), None) => {
-            beside(alloc, row, 0, comparison(alloc, operator))
+            shown_beside(alloc, row, 0, comparison(alloc, operator))
         }
-        ("sides", Some(operator), None) => sides(alloc, row, operator),
+        // A pair has no `Display`.
+        ("sides", Some(operator), None) if row.get("shown").is_none() => {
+            sides(alloc, row, operator)
+        }
         ("call", Some(name), Some(text)) => match arguments(alloc, text) {
-            Some(arguments) => beside(alloc, row, 0, TestFunction::try_new(alloc, name, arguments)),
+            Some(arguments) => shown_beside(
+                alloc,
+                row,
+                0,
+                TestFunction::try_new(alloc, name, arguments),
+            ),
             None => Reading::Other,
         },
         _ => Reading::Other,
@@ -71,6 +89,16 @@ fn query(alloc: Global) -> Parsed<JpQuery> {
 fn comparison(alloc: Global, operator: &str) -> Parsed<Comparison> {
     let one = Comparable::Literal(Literal::Int(1));
     Comparison::try_new(alloc, operator, one, Comparable::Literal(Literal::Int(2)))
+}
+
+/// That comparison, made by `cmp`.
+fn compared(alloc: Global, operator: &str) -> Parsed<Comparison> {
+    cmp(
+        alloc,
+        comparable_lit(lit_int(1)),
+        operator,
+        comparable_lit(lit_int(2)),
+    )
 }
 
 /// That comparison as a basic expression.

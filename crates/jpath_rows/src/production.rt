@@ -1,4 +1,5 @@
-//! Rows on the grammar functions: what each reads from the start of a text, or `calls`, each where the one before it ended.
+//! Rows on the grammar functions: what each reads from the start of a text, or `calls`, each where the one before it ended;
+//! and how the tree is `shown`.
 use crate::members::{has_only, list_at, size, string_at};
 use crate::refusal::is_kind;
 use crate::text::{spells, text_at};
@@ -10,7 +11,7 @@ use jsonpath_parser::{
 };
 use serde_json::Value;
 use std::alloc::Global;
-use std::fmt::Debug;
+use std::fmt::{Debug, Display};
 
 /// Whether a row on a grammar function, on calls of several of them, or on the reading of a whole text, holds.
 pub fn holds(alloc: Global, row: &Value) -> bool {
@@ -51,8 +52,8 @@ pub enum Reading {
 
 /// Whether the whole text is read as the row tells.
 fn is_whole(alloc: Global, row: &Value, text: &str) -> bool {
-    match beside(alloc, row, text.len(), parse_json_path(alloc, text)) {
-        Reading::Tree => has_only(row, &["production", "text", "tree"]),
+    match shown_beside(alloc, row, text.len(), parse_json_path(alloc, text)) {
+        Reading::Tree => has_only(row, &["production", "text", "tree", "shown"]),
         Reading::Refusal => has_only(row, &["production", "text", "refused"]),
         Reading::Other => false,
     }
@@ -66,7 +67,7 @@ fn is_front(alloc: Global, row: &Value, cursor: &mut Cursor<'_>) -> bool {
     let start = cursor.at();
     match read(alloc, row, name, cursor) {
         Reading::Tree => {
-            has_only(row, &["production", "text", "tree", "end"]) && is_end(row, cursor)
+            has_only(row, &["production", "text", "tree", "shown", "end"]) && is_end(row, cursor)
         }
         Reading::Refusal => {
             has_only(row, &["production", "text", "refused"]) && cursor.at() == start
@@ -90,26 +91,56 @@ fn is_end(row: &Value, cursor: &Cursor<'_>) -> bool {
 fn read(alloc: Global, row: &Value, name: &str, cursor: &mut Cursor<'_>) -> Reading {
     let length = cursor.text().len();
     match name {
-        "jp_query" => beside(alloc, row, length, jp_query(alloc, cursor)),
+        "jp_query" => shown_beside(alloc, row, length, jp_query(alloc, cursor)),
+        "child_segment" => shown_beside(alloc, row, length, child_segment(alloc, cursor)),
+        "segment" => shown_beside(alloc, row, length, segment(alloc, cursor)),
+        "selector" => shown_beside(alloc, row, length, selector(alloc, cursor)),
+        "function_expr" => shown_beside(alloc, row, length, function_expr(alloc, cursor)),
+        "test" => shown_beside(alloc, row, length, test(alloc, cursor)),
+        "logical_expr" => shown_beside(alloc, row, length, logical_expr(alloc, cursor)),
+        "logical_expr_and" => shown_beside(alloc, row, length, logical_expr_and(alloc, cursor)),
+        "singular_query" => shown_beside(alloc, row, length, singular_query(alloc, cursor)),
+        "comp_expr" => shown_beside(alloc, row, length, comp_expr(alloc, cursor)),
+        "literal" => shown_beside(alloc, row, length, literal(alloc, cursor)),
+        "filter_atom" => shown_beside(alloc, row, length, filter_atom(alloc, cursor)),
+        "comparable" => shown_beside(alloc, row, length, comparable(alloc, cursor)),
+        // What these read has no `Display`.
+        _ if row.get("shown").is_some() => Reading::Other,
         "rel_query" => beside(alloc, row, length, rel_query(alloc, cursor)),
         "segments" => beside(alloc, row, length, segments(alloc, cursor)),
-        "child_segment" => beside(alloc, row, length, child_segment(alloc, cursor)),
-        "segment" => beside(alloc, row, length, segment(alloc, cursor)),
-        "selector" => beside(alloc, row, length, selector(alloc, cursor)),
-        "function_expr" => beside(alloc, row, length, function_expr(alloc, cursor)),
-        "test" => beside(alloc, row, length, test(alloc, cursor)),
-        "logical_expr" => beside(alloc, row, length, logical_expr(alloc, cursor)),
-        "logical_expr_and" => beside(alloc, row, length, logical_expr_and(alloc, cursor)),
         "singular_query_segments" => {
             beside(alloc, row, length, singular_query_segments(alloc, cursor))
         }
         "slice_selector" => beside(alloc, row, length, slice_selector(alloc, cursor)),
-        "singular_query" => beside(alloc, row, length, singular_query(alloc, cursor)),
-        "comp_expr" => beside(alloc, row, length, comp_expr(alloc, cursor)),
-        "literal" => beside(alloc, row, length, literal(alloc, cursor)),
-        "filter_atom" => beside(alloc, row, length, filter_atom(alloc, cursor)),
-        "comparable" => beside(alloc, row, length, comparable(alloc, cursor)),
         _ => Reading::Other,
+    }
+}
+
+/// What was read of a text of that length, beside the row: a tree is compared by its `Debug` text, and where the row tells
+/// what is `shown`, also by its `Display` text.
+pub fn shown_beside<T: Debug + Display + Drop>(
+    alloc: Global,
+    row: &Value,
+    length: usize,
+    read: Parsed<T>,
+) -> Reading {
+    let as_shown = match &read {
+        Ok(tree) => is_shown(alloc, row, tree),
+        Err(_) => true,
+    };
+    match beside(alloc, row, length, read) {
+        Reading::Tree if !as_shown => Reading::Other,
+        reading => reading,
+    }
+}
+
+fn is_shown<T: Display>(alloc: Global, row: &Value, tree: &T) -> bool {
+    let Some(wanted) = row.get("shown") else {
+        return true;
+    };
+    match format!(in alloc; "{tree}").ok() {
+        Some(shown) => spells(alloc, wanted, shown.as_str()),
+        None => false,
     }
 }
 
