@@ -34,7 +34,6 @@ mod walk;
 mod way;
 
 pub use crate::query::deletion::{delete_selected, delete_within};
-pub use crate::query::lending::referred_mut;
 pub use crate::query::node::{QueryPath, QueryRef};
 use crate::query::queryable::Queryable;
 pub use crate::query::reference::replace_by_path;
