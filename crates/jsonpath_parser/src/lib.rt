@@ -24,3 +24,4 @@ pub use errors::Parsed;
 pub use one_tree::{no_text_derives_two_trees, no_text_spells_two_trees};
 pub use parse::{MAX_NESTING_DEPTH, parse_json_path, parse_json_path_within};
 pub use release::let_go;
+pub use typing::is_typed;

@@ -8,8 +8,10 @@ use crate::model::{
     TestFunction,
 };
 
-/// Whether each call takes its arguments, a call as a test gives a truth, and a call in a comparison gives a value.
-/// The time is linear in the query.
+/// Whether a query tree is well-typed (RFC 9535, 2.4.3): each function takes its arguments, a function that stands as a
+/// test gives a truth, and one in a comparison gives a value. So `count(5)` is not, and `length(@.*)` is not.
+///
+/// A tree that was read from a text is well-typed; one that was made by hand may not be. The time is linear in the tree.
 pub fn is_typed(query: &JpQuery) -> bool
     ensures { result ≡ typing.is_typed (query_view query.now) }
 {
