@@ -23,11 +23,11 @@ use Rattle.jsonpath_rust.proofs.Trees.{subtree-children}
 
 -- ---- what holds of each element
 
-each-append : {A : Type 0} (P : A → Type 0) (xs ys : List A) → AllByRecursion P xs → AllByRecursion P ys → AllByRecursion P (xs ++ ys)
+pub each-append : {A : Type 0} (P : A → Type 0) (xs ys : List A) → AllByRecursion P xs → AllByRecursion P ys → AllByRecursion P (xs ++ ys)
 each-append P [] ys h k = k
 each-append P (x ∷ xs) ys h k = (h.0, each-append P xs ys h.1 k)
 
-each-flat_map : {A B : Type 0} (P : A → Type 0) (Q : B → Type 0) (f : A → List B) → ((x : A) → P x → AllByRecursion Q (f x)) → (xs : List A) → AllByRecursion P xs → AllByRecursion Q (flat_map f xs)
+pub each-flat_map : {A B : Type 0} (P : A → Type 0) (Q : B → Type 0) (f : A → List B) → ((x : A) → P x → AllByRecursion Q (f x)) → (xs : List A) → AllByRecursion P xs → AllByRecursion Q (flat_map f xs)
 each-flat_map P Q f k [] h = tt
 each-flat_map P Q f k (x ∷ xs) h = each-append Q (f x) (flat_map f xs) (k x h.0) (each-flat_map P Q f k xs h.1)
 
@@ -41,7 +41,7 @@ through_option : {A : Type 0} (f g h : A → Option A) → ((x : A) → f x ≡ 
 through_option f g h k None = refl
 through_option f g h k (Some x) = k x
 
-at-append : (l m : Location) (t : Tree) → at (l ++ m) t ≡ option_and_then (at m) (at l t)
+pub at-append : (l m : Location) (t : Tree) → at (l ++ m) t ≡ option_and_then (at m) (at l t)
 at-append [] m t = refl
 at-append (s ∷ l) m t = through_option (at (l ++ m)) (at m) (at l) (λ u. at-append l m u) (child s t)
 
@@ -117,9 +117,9 @@ pairs-found (m ∷ ms) h =
 -- ---- nodes
 
 -- the node is in the document, and its objects have distinct names
-record Stands (doc : Tree) (n : Node) : Type 0 where
-  there : at n.location doc ≡ Some n.tree
-  distinct : IsTrue (has_distinct_names n.tree)
+pub record Stands (doc : Tree) (n : Node) : Type 0 where
+  pub there : at n.location doc ≡ Some n.tree
+  pub distinct : IsTrue (has_distinct_names n.tree)
 
 stands-below : (doc : Tree) (l : Location) (t : Tree) (s : Step) (u : Tree) → Stands doc (record { location = l; tree = t }) → child s t ≡ Some u → Stands doc (below l s u)
 stands-below doc l t s u h e = record { there = at-below l s doc t h.there ∙ e; distinct = child-distinct s t u e h.distinct }
@@ -164,11 +164,11 @@ each-kept : {A : Type 0} (P : A → Type 0) (b : Bool) (x : A) (xs : List A) →
 each-kept P true x xs h k = (h, k)
 each-kept P false x xs h k = k
 
-each-filter : {A : Type 0} (P : A → Type 0) (f : A → Bool) (xs : List A) → AllByRecursion P xs → AllByRecursion P (filter f xs)
+pub each-filter : {A : Type 0} (P : A → Type 0) (f : A → Bool) (xs : List A) → AllByRecursion P xs → AllByRecursion P (filter f xs)
 each-filter P f [] h = tt
 each-filter P f (x ∷ xs) h = each-kept P (f x) x (filter f xs) h.0 (each-filter P f xs h.1)
 
-stands-picks : (s : Selector) (d : Document) (n : Node) → Stands d.root n → AllByRecursion (Stands d.root) (picks s d n)
+pub stands-picks : (s : Selector) (d : Document) (n : Node) → Stands d.root n → AllByRecursion (Stands d.root) (picks s d n)
 stands-picks (syntax.Selector.name k) d n h = stands-option d.root n.location n.tree (name k) (child (name k) n.tree) h refl
 stands-picks wildcard d n h = stands-children_at d.root n.location n.tree h
 stands-picks (syntax.Selector.index i) d n h = stands-indexed i d.root n h
@@ -208,7 +208,7 @@ children-smaller l (number k) n h = tt
 children-smaller l (text s) n h = tt
 
 -- each node below one that is in the document is in it too, by induction on the size
-stands-subtree : (doc : Tree) (n : ℕ) (l : Location) (t : Tree) → size t ≤ n → Stands doc (record { location = l; tree = t }) → AllByRecursion (Stands doc) (subtree_at l t)
+pub stands-subtree : (doc : Tree) (n : ℕ) (l : Location) (t : Tree) → size t ≤ n → Stands doc (record { location = l; tree = t }) → AllByRecursion (Stands doc) (subtree_at l t)
 stands-subtree doc zero l t bound h = absurd (omega (arith, bound, size_above t))
 stands-subtree doc (suc n) l t bound h =
     let here : AllByRecursion (Stands doc) (record { location = l; tree = t } ∷ flat_map subtree (children_at l t)) = (h, each-flat_map (λ m. Stands doc m × (size m.tree ≤ n)) (Stands doc) subtree (λ m k. stands-subtree doc n m.location m.tree k.1 k.0) (children_at l t) (each_both (Stands doc) (λ m. size m.tree ≤ n) (children_at l t) (stands-children_at doc l t h) (children-smaller l t n bound))) in
@@ -245,7 +245,7 @@ leads_indexed steps i k root t u distinct h e =
     let P : List Node → Type 0 = AllByRecursion (Stands root) in
     ap (λ l. at l root) (map-append step_of steps (Index k ∷ [])) ∙ (subst P (sym e) (stands-indexed i root n (record { there = h; distinct = distinct }))).0.there
 
-each_at : {X Y : Type 0} (P : Y → Type 0) (f : X → Y) (xs : List X) (i : ℕ) (x : X) → AllByRecursion P (map f xs) → i < length xs → x ≡ get_or xs i x → P (f x)
+pub each_at : {X Y : Type 0} (P : Y → Type 0) (f : X → Y) (xs : List X) (i : ℕ) (x : X) → AllByRecursion P (map f xs) → i < length xs → x ≡ get_or xs i x → P (f x)
 each_at P f [] i x h lt e = absurd (omega (arith, lt))
 each_at P f (y ∷ ys) zero x h lt e = subst (λ z. P (f z)) (sym e) h.0
 each_at P f (y ∷ ys) (suc i) x h lt e = each_at P f ys i x h.1 (omega (arith, lt)) e

@@ -90,7 +90,7 @@ object-size (truth b) ts h = cc
 object-size (number n) ts h = cc
 object-size (text s) ts h = cc
 
-sizes_at : {X Y : Type 0} (f : X → Y) (size_of : Y → ℕ) (xs : List X) (i : ℕ) (x : X) → i < length xs → x ≡ get_or xs i x → size_of (f x) ≤ total (map size_of (map f xs))
+pub sizes_at : {X Y : Type 0} (f : X → Y) (size_of : Y → ℕ) (xs : List X) (i : ℕ) (x : X) → i < length xs → x ≡ get_or xs i x → size_of (f x) ≤ total (map size_of (map f xs))
 sizes_at f size_of [] i x h e = absurd (omega (arith, h))
 sizes_at f size_of (y ∷ ys) zero x h e = omega (arith, ap (λ z. size_of (f z)) e)
 sizes_at f size_of (y ∷ ys) (suc i) x h e = omega (arith, sizes_at f size_of ys i x (omega (arith, h)) e)

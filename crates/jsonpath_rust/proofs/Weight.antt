@@ -1,8 +1,11 @@
--- How much work a part of a query is, for the measures of the walk.
+-- How much work a part of a query is, for the measures of the walk and of the plain evaluator.
 use Rattle.std.specs.Prelude.{ℕ, ◌+◌, ◌*◌}
 use Rattle.jsonpath_parser.specs.Syntax as syntax
 use Rattle.jsonpath_parser.specs.Syntax.{Selector, wildcard, slice, Selectors, no_selectors, selector, Segment, one, several, descendant, Segments, no_segments, segment, Filter, or, and, atom, Filters, no_filters, filter_then, Atom, group, test, comparison, Comparison, compare, Comparable, literal, function, singular, Test, relative, absolute, call, Call, custom_call, length_call, value_call, count_call, search_call, match_call, Argument, literal_argument, test_argument, filter_argument, Arguments, no_arguments, argument}
 use Rattle.jsonpath_parser.specs.View.{filter_view, segment_view}
+use Rattle.jsonpath_rust.specs.inner.Walking.{selectors_in}
+use Rattle.jsonpath_rust.specs.declared.query.evaluate.segments.Part.{Part}
+use Rattle.jsonpath_rust.specs.declared.query.evaluate.segments.Part.TheVariants.{Name, Wildcard, Index, Slice, Parents, Kept, Joined}
 use Rattle.jsonpath_rust.specs.declared.query.walk.Action.{Action}
 use Rattle.jsonpath_rust.specs.declared.query.walk.Action.TheVariants.{All, If, Below}
 
@@ -71,6 +74,15 @@ abbrev mutual
   pub arguments_weight : Arguments → ℕ
   arguments_weight no_arguments = 0
   arguments_weight (argument a rest) = argument_weight a + arguments_weight rest
+
+abbrev pub part_weight : Part → ℕ
+part_weight (Name s) = 1
+part_weight Wildcard = 1
+part_weight (Index i) = 1
+part_weight (Slice start end step) = 1
+part_weight Parents = 1
+part_weight (Kept f) = filter_weight (filter_view f.now) + 1
+part_weight (Joined ss) = selectors_weight (selectors_in ss.now) + 1
 
 abbrev pub action_weight : Action → ℕ
 action_weight All = 2

@@ -9,6 +9,8 @@ use Rattle.jsonpath_base.specs.Tree.{Tree}
 use Rattle.jsonpath_base.specs.Places.{at}
 use Rattle.jsonpath_rust.specs.Document.{Document}
 use Rattle.jsonpath_rust.specs.Meaning.{selected}
+use Rattle.jsonpath_rust.specs.Process.{segments_content}
+use Rattle.jsonpath_rust.specs.State.{places, root_content}
 use Rattle.jsonpath_rust.specs.declared.query.node.QueryRef.{QueryRef}
 use Rattle.std.specs.declared.alloc.Global.{Global}
 
@@ -34,6 +36,11 @@ IsNodeAt doc l shown = IsPathAt doc l shown.0 × IsValueAt doc l shown.1
 -- what is shown of the node at the location, under this path: one node, or none where nothing is there
 abbrev pub node_there : Document → Location → List ℕ → List (List ℕ × Tree)
 node_there doc l path = map (λ t. (path, t)) (option_to_list (at l doc.root))
+
+-- What is shown of each node that `process` of the query answers from the root: the text of its path, and its tree. On a tree that the
+-- typing of RFC 9535, 2.4.3 refuses this need not be what Meaning selects.
+abbrev pub processed : Query → Document → List (List ℕ × Tree)
+processed q doc = map (λ p. (p.path, p.tree)) (places (segments_content q doc (root_content doc)))
 
 -- The text is a query, no deeper than the limit, and the list has what is shown of each of its nodes in the document, in order: a path, a
 -- value, or both.

@@ -10,4 +10,7 @@ pub mod Defaults
 pub mod Patterns
 pub mod Referring
 pub mod Lending
+pub mod State
+pub mod Process
+pub mod Asking
 pub mod inner

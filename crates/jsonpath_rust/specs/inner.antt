@@ -9,3 +9,4 @@ pub mod Sought
 pub mod Standing
 pub mod Walking
 pub mod Way
+pub mod Evaluating

@@ -1,32 +1,40 @@
 //! Queries on a document.
-ghost use Rattle.std.specs.Prelude.{◌≡◌, ◌≤◌, map, All, IsTrue, IfOk, IfErr, MatchResult};
+ghost use Rattle.std.specs.Prelude.{◌≡◌, ◌≤◌, map, All, IsTrue, IsFalse, IfOk, IfErr, MatchResult};
 ghost use Rattle.std.specs.List.{AllZip};
 ghost use Rattle.jsonpath_parser.specs.Derives.{Derives};
 ghost use Rattle.jsonpath_parser.specs.Location.{Location};
 ghost use Rattle.jsonpath_parser.specs.Normal.{IsNormal};
 ghost use Rattle.jsonpath_parser.specs.Steps.{HasIndexesInRange};
 ghost use Rattle.jsonpath_parser.specs.Syntax.{Query};
+ghost use Rattle.jsonpath_parser.specs.Typing as typing;
 ghost use Rattle.jsonpath_parser.specs.View.{query_view};
 ghost use Rattle.jsonpath_rust.specs.Document.{document_of};
 ghost use Rattle.jsonpath_rust.specs.Meaning.{selected};
-ghost use Rattle.jsonpath_rust.specs.Patterns.{IsStop, IsQueryRefusal};
-ghost use Rattle.jsonpath_rust.specs.Answer.{IsNodeAt, IsPathAt, IsValueAt, Lists, shown, paths_of, node_there};
+ghost use Rattle.jsonpath_rust.specs.Asking.{IsProcessStop};
+ghost use Rattle.jsonpath_rust.specs.Patterns.{segments_patterns, IsStop, IsQueryRefusal};
+ghost use Rattle.jsonpath_rust.specs.State.{root_content};
+ghost use Rattle.jsonpath_rust.specs.Answer.{IsNodeAt, IsPathAt, IsValueAt, Lists, shown, paths_of, node_there, processed};
 
 mod argument;
 mod cache;
 mod comparison;
 mod deletion;
+mod evaluate;
 mod filter;
 mod function;
 mod halt;
 mod lending;
 mod node;
 mod patterns;
+mod process;
+mod processed;
 pub mod queryable;
 mod reference;
 mod refusal;
+pub mod selector;
 mod singular;
 mod sink;
+pub mod state;
 mod subquery;
 mod trail;
 mod value;
@@ -35,12 +43,16 @@ mod way;
 
 pub use crate::query::deletion::{delete_selected, delete_within};
 pub use crate::query::node::{QueryPath, QueryRef};
+pub use crate::query::process::{Query, apply};
+use crate::query::processed::{processed_nodes, processed_values};
 use crate::query::queryable::Queryable;
 pub use crate::query::reference::replace_by_path;
 pub use crate::query::refusal::not_a_reference;
 use jsonpath_parser::errors::JsonPathError;
 use jsonpath_parser::model::JpQuery;
-use jsonpath_parser::{MAX_NESTING_DEPTH, let_go, parse_json_path, parse_json_path_within};
+use jsonpath_parser::{
+    MAX_NESTING_DEPTH, is_typed, let_go, parse_json_path, parse_json_path_within,
+};
 use std::alloc::Global;
 
 /// What a query answers.
@@ -105,7 +117,7 @@ pub fn js_path_within<'a, T: Queryable>(
     ensures refused { IfErr result (IsQueryRefusal depth path.now (document_of T.tree T.custom value.now)) }
 {
     let query = parse_json_path_within(alloc, path, depth)?;
-    let nodes = js_path_process(alloc, &query, value);
+    let nodes = selected_nodes(alloc, &query, value);
     let_go(query);
     nodes
 }
@@ -128,7 +140,7 @@ pub fn js_path_vals<'a, T: Queryable>(
     ensures refused { IfErr result (IsQueryRefusal MAX_NESTING_DEPTH path.now (document_of T.tree T.custom value.now)) }
 {
     let query = parse_json_path(alloc, path)?;
-    let values = js_path_process_vals(alloc, &query, value);
+    let values = selected_values(alloc, &query, value);
     let_go(query);
     values
 }
@@ -145,49 +157,91 @@ pub fn js_path_path<T: Queryable>(alloc: Global, path: &str, value: &T) -> Queri
     ensures refused { IfErr result (IsQueryRefusal MAX_NESTING_DEPTH path.now (document_of T.tree T.custom value.now)) }
 {
     let query = parse_json_path(alloc, path)?;
-    let paths = process_paths(alloc, &query, value);
+    let paths = selected_paths(alloc, &query, value);
     let_go(query);
     paths
 }
 
-/// The Normalized Paths of the nodes that a query selects in a document, in order. It refuses as [`js_path_process`]
-/// does.
-fn process_paths<T: Queryable>(alloc: Global, query: &JpQuery, value: &T) -> Queried<Vec<QueryPath>>
-    requires { IsTrue (T.is_whole value.now) }
-    ensures paths { IfOk result (λ v. AllZip (IsPathAt (document_of T.tree T.custom value.now))
-        (selected (query_view query.now) (document_of T.tree T.custom value.now)) (paths_of v.items)) }
-    ensures refused { IfErr result (IsStop (query_view query.now) (document_of T.tree T.custom value.now)) }
-{
-    let mut sink = sink::Sink::Paths(Vec::new(alloc));
-    let _goes_on = walk::give_nodes(alloc, query, value, &mut sink)?;
-    Ok(sink.into_paths(alloc))
-}
-
 /// The nodes that a query selects in a document, in order (RFC 9535, 2.1.2): their values and their Normalized Paths.
-/// It refuses by `OutOfMemory`, and by `InvalidJsonPath` where `regex` refuses a pattern for its size: one that stands in
-/// the query, in a call of `match` or `search`, and whose value at some node of the document is a text that `regex` reads.
 ///
-/// The nodes are those of the meaning also for a tree that no text spells, with any index and any slice, and for one
-/// that the typing of RFC 9535, 2.4.3 refuses.
+/// That holds for each tree that [`is_typed`], with any index and any slice; a tree that was read from a text is one. A
+/// tree made by hand may be refused by the typing of RFC 9535, 2.4.3, as one with `length(@.*)`, where `length` is given
+/// nodes in place of a value. It selects nothing by the RFC; here it is asked all the same, and the nodes are those of
+/// [`Query::process`] from [`State::root`](state::State::root), which gives that `length` the number of the nodes.
+///
+/// # Errors
+///
+/// - `InvalidJsonPath` where `regex` refuses a pattern for its size: one that stands in the query, in a call of `match` or
+///   `search`, and whose value at some node of the document is a text that `regex` reads. Of a tree that is not typed, as
+///   [`Query::process`] refuses it.
+/// - `OutOfMemory` where memory ran out.
 pub fn js_path_process<'a, T: Queryable>(
     alloc: Global,
     path: &JpQuery,
     value: &'a T,
 ) -> Queried<Vec<QueryRef<'a, T>>>
     requires { IsTrue (T.is_whole value.now) }
-    ensures nodes { IfOk result (λ v. AllZip (IsNodeAt (document_of T.tree T.custom value.now))
+    ensures nodes { IsTrue (typing.is_typed (query_view path.now)) → IfOk result (λ v. AllZip (IsNodeAt (document_of T.tree T.custom value.now))
         (selected (query_view path.now) (document_of T.tree T.custom value.now)) (shown T.tree v.items)) }
+    ensures processed { IsFalse (typing.is_typed (query_view path.now)) → IfOk result (λ v. shown T.tree v.items ≡ processed (query_view path.now) (document_of T.tree T.custom value.now)) }
     ensures whole { IfOk result (λ v. All (λ r. IsTrue (T.is_whole r.val.now)) v.items) }
-    ensures refused { IfErr result (IsStop (query_view path.now) (document_of T.tree T.custom value.now)) }
+    ensures refused { IsTrue (typing.is_typed (query_view path.now)) → IfErr result (IsStop (query_view path.now) (document_of T.tree T.custom value.now)) }
+    ensures processing_refused { IsFalse (typing.is_typed (query_view path.now)) → IfErr result (IsProcessStop (segments_patterns (query_view path.now)) (document_of T.tree T.custom value.now)
+        (root_content (document_of T.tree T.custom value.now))) }
+{
+    if is_typed(path) {
+        selected_nodes(alloc, path, value)
+    } else {
+        processed_nodes(alloc, path, value)
+    }
+}
+
+/// The values of the nodes that [`js_path_process`] answers, in order. It refuses as that does, and of a tree that
+/// [`is_typed`] it makes no path.
+pub fn js_path_process_vals<'a, T: Queryable>(
+    alloc: Global,
+    query: &JpQuery,
+    value: &'a T,
+) -> Queried<Vec<&'a T>>
+    requires { IsTrue (T.is_whole value.now) }
+    ensures values { IsTrue (typing.is_typed (query_view query.now)) → IfOk result (λ v. AllZip (IsValueAt (document_of T.tree T.custom value.now))
+        (selected (query_view query.now) (document_of T.tree T.custom value.now)) (map (λ x. T.tree x.now) v.items)) }
+    ensures processed { IsFalse (typing.is_typed (query_view query.now)) → IfOk result (λ v. map (λ x. T.tree x.now) v.items
+        ≡ map (λ n. n.1) (processed (query_view query.now) (document_of T.tree T.custom value.now))) }
+    ensures whole { IfOk result (λ v. All (λ x. IsTrue (T.is_whole x.now)) v.items) }
+    ensures refused { IsTrue (typing.is_typed (query_view query.now)) → IfErr result (IsStop (query_view query.now) (document_of T.tree T.custom value.now)) }
+    ensures processing_refused { IsFalse (typing.is_typed (query_view query.now)) → IfErr result (IsProcessStop (segments_patterns (query_view query.now)) (document_of T.tree T.custom value.now)
+        (root_content (document_of T.tree T.custom value.now))) }
+{
+    if is_typed(query) {
+        selected_values(alloc, query, value)
+    } else {
+        processed_values(alloc, query, value)
+    }
+}
+
+/// The nodes that a query tree selects in a document, in order (RFC 9535, 2.1.2): what [`js_path_process`] answers of a
+/// tree that [`is_typed`], with no test of that. A tree that is not is asked in the same way: where it asks a query for
+/// a value, that is the value of its only node, and what is no query has no nodes. It refuses as [`js_path_process`] does
+/// of a tree that is typed.
+pub fn selected_nodes<'a, T: Queryable>(
+    alloc: Global,
+    query: &JpQuery,
+    value: &'a T,
+) -> Queried<Vec<QueryRef<'a, T>>>
+    requires { IsTrue (T.is_whole value.now) }
+    ensures nodes { IfOk result (λ v. AllZip (IsNodeAt (document_of T.tree T.custom value.now))
+        (selected (query_view query.now) (document_of T.tree T.custom value.now)) (shown T.tree v.items)) }
+    ensures whole { IfOk result (λ v. All (λ r. IsTrue (T.is_whole r.val.now)) v.items) }
+    ensures refused { IfErr result (IsStop (query_view query.now) (document_of T.tree T.custom value.now)) }
 {
     let mut sink = sink::Sink::Nodes(Vec::new(alloc));
-    let _goes_on = walk::give_nodes(alloc, path, value, &mut sink)?;
+    let _goes_on = walk::give_nodes(alloc, query, value, &mut sink)?;
     Ok(sink.into_nodes(alloc))
 }
 
-/// The values of the nodes that a query selects in a document, in order. It refuses as [`js_path_process`] does, and
-/// makes no path.
-pub fn js_path_process_vals<'a, T: Queryable>(
+/// The values of the nodes that [`selected_nodes`] answers, in order. It refuses as that does, and makes no path.
+pub fn selected_values<'a, T: Queryable>(
     alloc: Global,
     query: &JpQuery,
     value: &'a T,
@@ -201,4 +255,20 @@ pub fn js_path_process_vals<'a, T: Queryable>(
     let mut sink = sink::Sink::Values(Vec::new(alloc));
     let _goes_on = walk::give_nodes(alloc, query, value, &mut sink)?;
     Ok(sink.into_values(alloc))
+}
+
+/// The Normalized Paths of the nodes that [`selected_nodes`] answers, in order. It refuses as that does.
+fn selected_paths<T: Queryable>(
+    alloc: Global,
+    query: &JpQuery,
+    value: &T,
+) -> Queried<Vec<QueryPath>>
+    requires { IsTrue (T.is_whole value.now) }
+    ensures paths { IfOk result (λ v. AllZip (IsPathAt (document_of T.tree T.custom value.now))
+        (selected (query_view query.now) (document_of T.tree T.custom value.now)) (paths_of v.items)) }
+    ensures refused { IfErr result (IsStop (query_view query.now) (document_of T.tree T.custom value.now)) }
+{
+    let mut sink = sink::Sink::Paths(Vec::new(alloc));
+    let _goes_on = walk::give_nodes(alloc, query, value, &mut sink)?;
+    Ok(sink.into_paths(alloc))
 }

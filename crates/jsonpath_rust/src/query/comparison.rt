@@ -124,7 +124,10 @@ fn scalars_are_same(left: Scalar<'_>, right: Scalar<'_>) -> bool
 }
 
 /// Whether both are numbers or both are texts, and the left is less.
-fn is_below<'a, 's, T: Queryable>(left: &Operand<'a, 's, T>, right: &Operand<'a, 's, T>) -> bool
+pub(super) fn is_below<'a, 's, T: Queryable>(
+    left: &Operand<'a, 's, T>,
+    right: &Operand<'a, 's, T>,
+) -> bool
     requires left { IsTrue (operand_is_whole T.is_whole left.now) }
     requires right { IsTrue (operand_is_whole T.is_whole right.now) }
     ensures { result ≡ is_below (operand_tree T.tree left.now) (operand_tree T.tree right.now) }

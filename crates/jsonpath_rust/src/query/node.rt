@@ -5,6 +5,7 @@ ghost use Rattle.jsonpath_parser.specs.declared.errors.JsonPathError.TheVariants
 
 use crate::query::Queried;
 use crate::query::queryable::Queryable;
+use crate::query::state::Pointer;
 use std::alloc::Global;
 
 /// The text of a Normalized Path (RFC 9535, 2.7).
@@ -67,5 +68,17 @@ impl<'a, T: Queryable> From<(&'a T, QueryPath)> for QueryRef<'a, T> {
 
     fn from((val, path): (&'a T, QueryPath)) -> Self {
         QueryRef { val, path }
+    }
+}
+
+/// The value and the path of a pointer, whatever text that is.
+impl<'a, T: Queryable> From<Pointer<'a, T>> for QueryRef<'a, T> {
+    ghost from_gives = { λ pointer r. (r.val ≡ pointer.inner) × (r.path ≡ pointer.path) };
+
+    fn from(pointer: Pointer<'a, T>) -> Self {
+        QueryRef {
+            val: pointer.inner,
+            path: pointer.path,
+        }
     }
 }

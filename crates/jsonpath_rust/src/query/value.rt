@@ -120,8 +120,8 @@ impl<'a, 's, T: Queryable> Operand<'a, 's, T> {
         ensures memory { IfErr result (λ h. h ≡ Memory) }
     {
         match self {
-            Operand::Lent(value) => length_of(alloc, *value),
-            Operand::Made(value) => length_of(alloc, value),
+            Operand::Lent(value) => Ok(counted(length_of(alloc, *value)?)),
+            Operand::Made(value) => Ok(counted(length_of(alloc, value)?)),
             Operand::Plain(Scalar::Text(text)) => Ok(Operand::Plain(count_scalar(text_length(
                 text,
             )))),
@@ -185,7 +185,7 @@ pub fn push_values<'a, T: Queryable>(nodes: &Sink<'a, T>, args: &mut Vec<Arg<'a,
 }
 
 /// A value without parts, as a value of the document's type.
-fn made<T: Queryable>(alloc: Global, scalar: Scalar<'_>) -> Walked<T>
+pub(super) fn made<T: Queryable>(alloc: Global, scalar: Scalar<'_>) -> Walked<T>
     ensures value { IfOk result (λ v. T.tree v ≡ scalar_tree scalar.entry) }
     ensures whole { IfOk result (λ v. IsTrue (T.is_whole v)) }
     ensures memory { IfErr result (λ h. h ≡ Memory) }
@@ -198,21 +198,31 @@ fn made<T: Queryable>(alloc: Global, scalar: Scalar<'_>) -> Walked<T>
     }
 }
 
-/// The length of a value (RFC 9535, 2.4.4).
-fn length_of<'a, 's, T: Queryable>(alloc: Global, value: &T) -> Walked<Operand<'a, 's, T>>
+/// The length of a value, where it has one (RFC 9535, 2.4.4).
+pub(super) fn length_of<T: Queryable>(alloc: Global, value: &T) -> Walked<Option<usize>>
     requires { IsTrue (T.is_whole value.now) }
-    ensures value { IfOk result (λ o. operand_tree T.tree o ≡ length_of (Some (T.tree value.now))) }
-    ensures whole { IfOk result (λ o. IsTrue (operand_is_whole T.is_whole o)) }
+    ensures value { IfOk result (λ o. option_map count_value o ≡ length_of (Some (T.tree value.now))) }
     ensures memory { IfErr result (λ h. h ≡ Memory) }
 {
     if let Some(text) = value.as_str() {
-        return Ok(Operand::Plain(count_scalar(text_length(text))));
+        return Ok(Some(text_length(text)));
     }
     if let Some(items) = value.as_array() {
-        return Ok(Operand::Plain(count_scalar(items.len())));
+        return Ok(Some(items.len()));
     }
     match value.as_object(alloc)? {
-        Some(members) => Ok(Operand::Plain(count_scalar(members.len()))),
-        None => Ok(Operand::Absent),
+        Some(members) => Ok(Some(members.len())),
+        None => Ok(None),
+    }
+}
+
+/// A count, if there is one.
+fn counted<'a, 's, T: Queryable>(count: Option<usize>) -> Operand<'a, 's, T>
+    ensures value { operand_tree T.tree result ≡ option_map count_value count }
+    ensures whole { IsTrue (operand_is_whole T.is_whole result) }
+{
+    match count {
+        Some(count) => Operand::Plain(count_scalar(count)),
+        None => Operand::Absent,
     }
 }

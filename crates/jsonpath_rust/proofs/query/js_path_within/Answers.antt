@@ -8,4 +8,4 @@ pub returns-clause-normal : goal.returns-clause-normal
 returns-clause-normal g c l is small deep =
     let tree = g.T.Queryable.tree in
     let doc = document_of tree g.T.Queryable.custom c.args.value.now in
-    normal_answered (λ v. shown tree v.items) l doc (query_view c.in_ok-query.query) _ c.js_path_process-nodes.result is (c.in_ok-query.ensures.normal l is small deep) c.js_path_process-nodes.ensures.nodes c.js_path_process-nodes.ensures.refused
+    normal_answered (λ v. shown tree v.items) l doc (query_view c.in_ok-query.query) _ c.selected_nodes-nodes.result is (c.in_ok-query.ensures.normal l is small deep) c.selected_nodes-nodes.ensures.nodes c.selected_nodes-nodes.ensures.refused

@@ -4,7 +4,7 @@ use Rattle.jsonpath_rust.specs.Document.{document_of}
 use Rattle.jsonpath_rust.specs.Meaning.{nodelist}
 use Rattle.jsonpath_rust.proofs.Sinks.{given_paths}
 use Rattle.jsonpath_rust.proofs.Answers.{paths_answered}
-use Rattle.jsonpath_rust.proofs.query.process_paths.Goals as goal
+use Rattle.jsonpath_rust.proofs.query.selected_paths.Goals as goal
 
 pub returns-clause-paths : goal.returns-clause-paths
 returns-clause-paths g c =

@@ -4,7 +4,7 @@ use Rattle.jsonpath_rust.specs.Document.{document_of}
 use Rattle.jsonpath_rust.specs.Meaning.{nodelist}
 use Rattle.jsonpath_rust.proofs.Sinks.{given_values, given_values_whole, all_whole}
 use Rattle.jsonpath_rust.proofs.Answers.{values_answered}
-use Rattle.jsonpath_rust.proofs.query.js_path_process_vals.Goals as goal
+use Rattle.jsonpath_rust.proofs.query.selected_values.Goals as goal
 
 pub returns-clause-values : goal.returns-clause-values
 returns-clause-values g c =
