@@ -15,7 +15,7 @@ ghost use Rattle.jpath.specs.Refused.{IsNoAnswer};
 use crate::fault::Fault;
 use crate::words::{Command, Listing};
 use jsonpath_parser::model::JpQuery;
-use jsonpath_rust::query::{QueryRef, delete_selected, js_path_process, js_path_process_vals};
+use jsonpath_rust::query::{QueryRef, delete_selected, selected_nodes, selected_values};
 use serde_json::Value;
 use std::alloc::{AllocError, Global};
 use std::fmt::Write;
@@ -49,7 +49,7 @@ fn nodes_printed(
     ensures text { IfOk result (λ text. string_bytes text ≡ listed listing (query_view query.now) (document_of value_tree set_function document.now)) }
     ensures refused { IfErr result (IsNoAnswer (query_view query.now) (document_of value_tree set_function document.now)) }
 {
-    let nodes = js_path_process(alloc, query, document)?;
+    let nodes = selected_nodes(alloc, query, document)?;
     Ok(nodes_text(alloc, listing, nodes.as_slice())?)
 }
 
@@ -59,7 +59,7 @@ fn values_printed(alloc: Global, query: &JpQuery, document: &Value) -> Result<St
     ensures text { IfOk result (λ text. string_bytes text ≡ listed Listing.Values (query_view query.now) (document_of value_tree set_function document.now)) }
     ensures refused { IfErr result (IsNoAnswer (query_view query.now) (document_of value_tree set_function document.now)) }
 {
-    let values = js_path_process_vals(alloc, query, document)?;
+    let values = selected_values(alloc, query, document)?;
     Ok(values_text(alloc, values.as_slice())?)
 }
 
