@@ -1,0 +1,130 @@
+//! What states hold, as rows write it: `"nothing"`, `{"value": V}`, `{"ref": [PATH, V]}`, or `{"refs": [[PATH, V], ..]}`.
+ghost use Rattle.std.specs.Prelude.{IsTrue};
+ghost use Rattle.jsonpath_rust.specs.State.{DataIsWhole, PointersAreWhole};
+
+use crate::document::{Document, is_value};
+use crate::members::{list, list_at};
+use crate::text::{spells, text_of};
+use jsonpath_rust::query::queryable::Queryable;
+use jsonpath_rust::query::state::{Data, Pointer};
+use serde_json::Value;
+use std::alloc::Global;
+use std::slice;
+
+/// The nodes that the content writes, each a list of a path and a value. A value has none, and nothing has none.
+fn nodes_of(content: &Value) -> &[Value] {
+    match (content.get("ref"), content.get("refs")) {
+        (Some(node), None) => slice::from_ref(node),
+        (None, Some(nodes)) => list(nodes).unwrap_or(&[]),
+        _ => &[],
+    }
+}
+
+/// The values of the nodes that the content writes, in order, for pointers to borrow.
+pub fn values_of<T: Document>(alloc: Global, content: &Value) -> Option<Vec<T>> {
+    let mut values = Vec::new(alloc);
+    for node in nodes_of(content) {
+        let [_, value] = list(node)? else {
+            return None;
+        };
+        values.push(T::made(alloc, value)?).ok()?;
+    }
+    Some(values)
+}
+
+/// The content, whose pointers borrow the values of its nodes.
+pub fn data_of<'d, T: Document>(
+    alloc: Global,
+    content: &Value,
+    values: &'d [T],
+) -> Option<Data<'d, T>> {
+    if content.as_str() == Some("nothing") {
+        return Some(Data::Nothing);
+    }
+    if let Some(value) = content.get("value") {
+        return Some(Data::Value(T::made(alloc, value)?));
+    }
+    let mut pointers = pointers_of(alloc, nodes_of(content), values)?;
+    match (content.get("ref"), content.get("refs")) {
+        (Some(_), None) => Some(Data::new_ref(pointers.pop()?)),
+        (None, Some(_)) => Some(Data::new_refs(pointers)),
+        _ => None,
+    }
+}
+
+fn pointers_of<'d, T: Document>(
+    alloc: Global,
+    nodes: &[Value],
+    values: &'d [T],
+) -> Option<Vec<Pointer<'d, T>>> {
+    let mut pointers = Vec::new(alloc);
+    for (node, value) in nodes.iter().zip(values) {
+        let [path, _] = list(node)? else {
+            return None;
+        };
+        pointers
+            .push(Pointer::new(value, text_of(alloc, path)?))
+            .ok()?;
+    }
+    Some(pointers)
+}
+
+/// Whether all values of the data are documents of whole numbers.
+pub fn is_whole<T: Queryable>(data: &Data<'_, T>) -> bool
+    ensures { IsTrue result → DataIsWhole T.is_whole data.now }
+{
+    match data {
+        Data::Ref(pointer) => pointer.inner.is_whole(),
+        Data::Refs(pointers) => are_whole(pointers),
+        Data::Value(value) => value.is_whole(),
+        Data::Nothing => true,
+    }
+}
+
+fn are_whole<T: Queryable>(pointers: &[Pointer<'_, T>]) -> bool
+    ensures { IsTrue result → PointersAreWhole T.is_whole pointers.now }
+{
+    pointers.iter().all(|pointer| pointer.inner.is_whole())
+}
+
+/// Whether the data is what the row writes.
+pub fn is_data<T: Document>(alloc: Global, data: &Data<'_, T>, wanted: &Value) -> bool {
+    match data {
+        Data::Ref(pointer) => match wanted.get("ref") {
+            Some(node) => is_pointer(alloc, pointer, node),
+            None => false,
+        },
+        Data::Refs(pointers) => match list_at(wanted, "refs") {
+            Some(nodes) => are_pointers(alloc, pointers, nodes),
+            None => false,
+        },
+        Data::Value(value) => match wanted.get("value") {
+            Some(wanted) => is_value(alloc, value, wanted),
+            None => false,
+        },
+        Data::Nothing => wanted.as_str() == Some("nothing"),
+    }
+}
+
+/// Whether the pointers are these nodes, in order.
+pub fn are_pointers<T: Document>(
+    alloc: Global,
+    pointers: &[Pointer<'_, T>],
+    nodes: &[Value],
+) -> bool {
+    for (pointer, node) in pointers.iter().zip(nodes) {
+        if !is_pointer(alloc, pointer, node) {
+            return false;
+        }
+    }
+    pointers.len() == nodes.len()
+}
+
+fn is_pointer<T: Document>(alloc: Global, pointer: &Pointer<'_, T>, node: &Value) -> bool {
+    match list(node) {
+        Some([path, value]) => {
+            spells(alloc, path, pointer.path.as_str()) && is_value(alloc, pointer.inner, value)
+        }
+        _ => false,
+    }
+}
