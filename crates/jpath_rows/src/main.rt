@@ -26,6 +26,7 @@ mod results;
 mod row;
 mod slice;
 mod state;
+mod states;
 mod step;
 mod suite;
 mod text;

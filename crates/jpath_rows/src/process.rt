@@ -6,9 +6,9 @@ mod picks;
 mod untyped;
 
 use crate::agreement::is_by_process;
-use crate::document::{Document, are_equal};
+use crate::document::Document;
 use crate::members::{Types, has_only, string_at, types_of};
-use crate::state::{data_of, is_data, is_whole, values_of};
+use crate::state::{is_state, state_of, values_of};
 use crate::text::text_at;
 use jpath_doc::Doc;
 use jsonpath_build::{and, or, segment_many};
@@ -139,21 +139,14 @@ fn argument(alloc: Global, cursor: &mut Cursor<'_>) -> Option<FnArg> {
 }
 
 /// The state that the row asks of, that of the root where it tells none; None where a value of it is not whole.
-fn state_of<'r, T: Document>(alloc: Global, asked: &Asked<'r, T>) -> Option<State<'r, T>>
+fn asked_state<'r, T: Document>(alloc: Global, asked: &Asked<'r, T>) -> Option<State<'r, T>>
     ensures content { IfSome result (λ s. DataIsWhole T.is_whole s.content) }
     ensures root { IfSome result (λ s. IsTrue (T.is_whole s.root.now)) }
 {
-    if !asked.document.is_whole() {
-        return None;
-    }
-    let Some(state) = asked.row.get("state") else {
-        return State::root(alloc, asked.document).ok();
-    };
-    let content = data_of(alloc, state, asked.values)?;
-    if is_whole(&content) {
-        Some(State::data(asked.document, content))
-    } else {
-        None
+    match asked.row.get("state") {
+        Some(content) => state_of(alloc, asked.document, content, asked.values),
+        None if asked.document.is_whole() => State::root(alloc, asked.document).ok(),
+        None => None,
     }
 }
 
@@ -163,8 +156,8 @@ fn is_answered_by<Q: Query + Drop, T: Document>(
     part: Option<Q>,
     asked: &Asked<'_, T>,
 ) -> bool {
-    match (part, state_of(alloc, asked)) {
-        (Some(part), Some(state)) => is_answer(alloc, part.process(alloc, state).ok(), asked),
+    match (part, asked_state(alloc, asked)) {
+        (Some(part), Some(state)) => is_told(alloc, part.process(alloc, state).ok(), asked),
         _ => false,
     }
 }
@@ -175,8 +168,8 @@ fn is_applied<T: Document>(
     call: Parsed<TestFunction>,
     asked: &Asked<'_, T>,
 ) -> bool {
-    match (call.ok(), state_of(alloc, asked)) {
-        (Some(call), Some(state)) => is_answer(alloc, apply(alloc, &call, state).ok(), asked),
+    match (call.ok(), asked_state(alloc, asked)) {
+        (Some(call), Some(state)) => is_told(alloc, apply(alloc, &call, state).ok(), asked),
         _ => false,
     }
 }
@@ -199,20 +192,10 @@ fn is_answered_by_query<T: Document>(
     agrees && is_answered_by(alloc, Some(query), asked)
 }
 
-/// Whether the answer, and a copy of it, is what the row tells, in the same document.
-fn is_answer<T: Document>(
-    alloc: Global,
-    answer: Option<State<'_, T>>,
-    asked: &Asked<'_, T>,
-) -> bool {
-    let (Some(answer), Some(wanted)) = (answer, asked.row.get("answer")) else {
-        return false;
-    };
-    let Some(copy) = answer.try_clone(alloc).ok() else {
-        return false;
-    };
-    is_data(alloc, &answer.content, wanted)
-        && is_data(alloc, &copy.content, wanted)
-        && are_equal(answer.root, asked.document)
-        && are_equal(copy.root, asked.document)
+/// Whether the answer is what the row tells.
+fn is_told<T: Document>(alloc: Global, answer: Option<State<'_, T>>, asked: &Asked<'_, T>) -> bool {
+    match (answer, asked.row.get("answer")) {
+        (Some(answer), Some(wanted)) => is_state(alloc, &answer, asked.document, wanted),
+        _ => false,
+    }
 }

@@ -1,5 +1,5 @@
 //! One row: what it asks is told by its members.
-use crate::{built, call, deletion, maker, parse, process, production, query, reference};
+use crate::{built, call, deletion, maker, parse, process, production, query, reference, states};
 use serde_json::Value;
 use std::alloc::Global;
 
@@ -16,6 +16,8 @@ pub fn holds(alloc: Global, line: &str) -> bool {
         built::holds(alloc, &row)
     } else if row.get("process").is_some() {
         process::holds(alloc, &row)
+    } else if row.get("states").is_some() {
+        states::holds(alloc, &row)
     } else if row.get("call").is_some() {
         call::holds(alloc, &row)
     } else if row.get("delete").is_some() {

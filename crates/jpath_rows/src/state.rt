@@ -1,12 +1,12 @@
 //! What states hold, as rows write it: `"nothing"`, `{"value": V}`, `{"ref": [PATH, V]}`, or `{"refs": [[PATH, V], ..]}`.
-ghost use Rattle.std.specs.Prelude.{IsTrue};
+ghost use Rattle.std.specs.Prelude.{IsTrue, IfSome};
 ghost use Rattle.jsonpath_rust.specs.State.{DataIsWhole, PointersAreWhole};
 
-use crate::document::{Document, is_value};
+use crate::document::{Document, are_equal, is_value};
 use crate::members::{list, list_at};
 use crate::text::{spells, text_of};
 use jsonpath_rust::query::queryable::Queryable;
-use jsonpath_rust::query::state::{Data, Pointer};
+use jsonpath_rust::query::state::{Data, Pointer, State};
 use serde_json::Value;
 use std::alloc::Global;
 use std::slice;
@@ -69,8 +69,26 @@ fn pointers_of<'d, T: Document>(
     Some(pointers)
 }
 
+/// The state of that content in the document; None where a value of it is not whole.
+pub fn state_of<'d, T: Document>(
+    alloc: Global,
+    document: &'d T,
+    content: &Value,
+    values: &'d [T],
+) -> Option<State<'d, T>>
+    ensures content { IfSome result (λ s. DataIsWhole T.is_whole s.content) }
+    ensures root { IfSome result (λ s. IsTrue (T.is_whole s.root.now)) }
+{
+    let content = data_of(alloc, content, values)?;
+    if document.is_whole() && is_whole(&content) {
+        Some(State::data(document, content))
+    } else {
+        None
+    }
+}
+
 /// Whether all values of the data are documents of whole numbers.
-pub fn is_whole<T: Queryable>(data: &Data<'_, T>) -> bool
+fn is_whole<T: Queryable>(data: &Data<'_, T>) -> bool
     ensures { IsTrue result → DataIsWhole T.is_whole data.now }
 {
     match data {
@@ -87,8 +105,25 @@ fn are_whole<T: Queryable>(pointers: &[Pointer<'_, T>]) -> bool
     pointers.iter().all(|pointer| pointer.inner.is_whole())
 }
 
+/// Whether the state, and a copy of it, is that content in that document.
+pub fn is_state<T: Document>(
+    alloc: Global,
+    state: &State<'_, T>,
+    document: &T,
+    content: &Value,
+) -> bool {
+    is_data(alloc, &state.content, content)
+        && are_equal(state.root, document)
+        && match state.try_clone(alloc).ok() {
+            Some(copy) => {
+                is_data(alloc, &copy.content, content) && are_equal(copy.root, document)
+            }
+            None => false,
+        }
+}
+
 /// Whether the data is what the row writes.
-pub fn is_data<T: Document>(alloc: Global, data: &Data<'_, T>, wanted: &Value) -> bool {
+fn is_data<T: Document>(alloc: Global, data: &Data<'_, T>, wanted: &Value) -> bool {
     match data {
         Data::Ref(pointer) => match wanted.get("ref") {
             Some(node) => is_pointer(alloc, pointer, node),
