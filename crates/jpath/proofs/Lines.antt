@@ -3,8 +3,8 @@ use Rattle.std.proofs.Common.{◌≡◌, ℕ, List, [], ◌∷◌, ◌++◌, cod
 use Rattle.std.specs.List.{flat_map, AllZip}
 use Rattle.jsonpath_parser.specs.Location.{Location}
 use Rattle.jsonpath_base.specs.Tree.{Tree}
-use Rattle.jsonpath_rust.specs.Document.{Document}
-use Rattle.jsonpath_rust.specs.Answer.{IsNodeAt, IsValueAt}
+use Rattle.jsonpath_node.specs.Document.{Document}
+use Rattle.jsonpath_node.specs.Answer.{IsNodeAt, IsValueAt}
 use Rattle.jpath.specs.Json.{json_text}
 use Rattle.jpath.specs.Output.{line, location_line}
 use Rattle.jpath.specs.declared.words.Listing.{Listing}

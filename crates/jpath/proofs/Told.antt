@@ -9,7 +9,7 @@ use Rattle.jsonpath_parser.specs.Syntax as syntax
 use Rattle.jsonpath_base.specs.SetFunctions.{set_function}
 use Rattle.jsonpath_base.specs.Values.{value_tree, value_is_whole, has_whole_numbers}
 use Rattle.jsonpath_base.specs.Tree.{has_distinct_names}
-use Rattle.jsonpath_rust.specs.Document.{document_of}
+use Rattle.jsonpath_node.specs.Document.{document_of}
 use Rattle.jpath.specs.Words.{Asked, asked_by}
 use Rattle.jpath.specs.Output.{IsJson, IsWholeJson, IsOutput, AppendsFront, IsFaultOf, printed}
 use Rattle.jpath.specs.Refused.{IsNoAnswer}

@@ -15,9 +15,9 @@ use Rattle.jsonpath_base.specs.Places.{at}
 use Rattle.jsonpath_base.specs.SetFunctions.{set_function}
 use Rattle.jsonpath_base.specs.Without.{without, is_among, distinct_count}
 use Rattle.jsonpath_base.specs.Values.{tree_of, has_whole_numbers}
-use Rattle.jsonpath_rust.specs.Document.{Document}
-use Rattle.jsonpath_rust.specs.Meaning.{selected}
-use Rattle.jsonpath_rust.specs.Patterns.{IsInvalid, AsksPattern}
+use Rattle.jsonpath_node.specs.Document.{Document}
+use Rattle.jsonpath_node.specs.Meaning.{selected}
+use Rattle.jsonpath_node.specs.Patterns.{IsInvalid, AsksPattern}
 use Rattle.jpath.specs.Json.{json_text}
 use Rattle.jpath.specs.Words.{Asked, asked_by}
 use Rattle.jpath.specs.declared.words.Command.{Command}

@@ -1,7 +1,7 @@
 //! Whether each call that asks a query answers the same nodes.
 ghost use Rattle.std.specs.Prelude.{◌≡◌, map, IsTrue, IfOk};
 ghost use Rattle.jsonpath_base.specs.Values.{value_is_whole};
-ghost use Rattle.jsonpath_rust.specs.Answer.{shown, paths_of};
+ghost use Rattle.jsonpath_node.specs.Answer.{shown, paths_of};
 
 use crate::document::are_equal;
 use jsonpath_parser::model::JpQuery;

@@ -13,13 +13,13 @@ use Rattle.jsonpath_parser.specs.declared.errors.JsonPathError.{JsonPathError}
 use Rattle.jsonpath_parser.specs.declared.errors.JsonPathError.TheVariants.{OutOfMemory}
 use Rattle.jsonpath_base.specs.Places.{child, at}
 use Rattle.jsonpath_base.specs.Tree.{Tree, null, truth, number, text, list, object, elements}
-use Rattle.jsonpath_rust.specs.Answer.{IsNodeAt, node_there}
-use Rattle.jsonpath_rust.specs.Document.{Document}
-use Rattle.jsonpath_rust.specs.Meaning.{element, indexed, replaced, all_applied, selected}
-use Rattle.jsonpath_rust.specs.Node.{Node, root_node, below}
-use Rattle.jsonpath_rust.specs.Patterns.{segments_patterns, IsStop}
-use Rattle.jsonpath_rust.proofs.Patterns.{stop_is_memory}
-use Rattle.jsonpath_rust.proofs.Trees.{item_at-elements}
+use Rattle.jsonpath_node.specs.Answer.{IsNodeAt, node_there}
+use Rattle.jsonpath_node.specs.Document.{Document}
+use Rattle.jsonpath_node.specs.Meaning.{element, indexed, replaced, all_applied, selected}
+use Rattle.jsonpath_node.specs.Node.{Node, root_node, below}
+use Rattle.jsonpath_node.specs.Patterns.{segments_patterns, IsStop}
+use Rattle.jsonpath_walk.proofs.PatternLaws.{stop_is_memory}
+use Rattle.jsonpath_node.proofs.Trees.{item_at-elements}
 
 -- an index from 0 on is that of an element, where there is one
 indexed-element : (i : ℕ) (l : Location) (t : Tree) → indexed (pos i) (record { location = l; tree = t }) ≡ element i (record { location = l; tree = t })

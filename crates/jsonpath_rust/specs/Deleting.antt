@@ -4,8 +4,8 @@ use Rattle.jsonpath_parser.specs.Derives.{Derives}
 use Rattle.jsonpath_parser.specs.Syntax.{Query}
 use Rattle.jsonpath_base.specs.Tree.{Tree}
 use Rattle.jsonpath_base.specs.Without.{without, is_among, distinct_count}
-use Rattle.jsonpath_rust.specs.Document.{Document}
-use Rattle.jsonpath_rust.specs.Meaning.{selected}
+use Rattle.jsonpath_node.specs.Document.{Document}
+use Rattle.jsonpath_node.specs.Meaning.{selected}
 
 -- The tree left is the document without all locations that the query selects, removed at once; and so many distinct ones there are.
 pub record IsDeletion (q : Query) (doc : Document) (left : Tree) (count : ℕ) : Type 0 where

@@ -1,16 +1,2 @@
-pub mod Document
-pub mod Node
-pub mod Comparing
-pub mod Functions
-pub mod Meaning
-pub mod Answer
 pub mod Deleting
-pub mod Args
 pub mod Defaults
-pub mod Patterns
-pub mod Referring
-pub mod Lending
-pub mod State
-pub mod Process
-pub mod Asking
-pub mod inner

@@ -8,55 +8,30 @@ ghost use Rattle.jsonpath_parser.specs.Steps.{HasIndexesInRange};
 ghost use Rattle.jsonpath_parser.specs.Syntax.{Query};
 ghost use Rattle.jsonpath_parser.specs.Typing as typing;
 ghost use Rattle.jsonpath_parser.specs.View.{query_view};
-ghost use Rattle.jsonpath_rust.specs.Document.{document_of};
-ghost use Rattle.jsonpath_rust.specs.Meaning.{selected};
-ghost use Rattle.jsonpath_rust.specs.Asking.{IsProcessStop};
-ghost use Rattle.jsonpath_rust.specs.Patterns.{segments_patterns, IsStop, IsQueryRefusal};
-ghost use Rattle.jsonpath_rust.specs.State.{root_content};
-ghost use Rattle.jsonpath_rust.specs.Answer.{IsNodeAt, IsPathAt, IsValueAt, Lists, shown, paths_of, node_there, processed};
+ghost use Rattle.jsonpath_parser.specs.declared.errors.JsonPathError.TheVariants.{OutOfMemory};
+ghost use Rattle.jsonpath_node.specs.Document.{document_of};
+ghost use Rattle.jsonpath_node.specs.Meaning.{selected};
+ghost use Rattle.jsonpath_state.specs.Asking.{IsProcessStop};
+ghost use Rattle.jsonpath_node.specs.Patterns.{segments_patterns, IsStop, IsQueryRefusal};
+ghost use Rattle.jsonpath_state.specs.State.{root_content};
+ghost use Rattle.jsonpath_node.specs.Answer.{IsNodeAt, IsPathAt, IsValueAt, Lists, shown, paths_of, node_there};
+ghost use Rattle.jsonpath_state.specs.Processed.{processed};
 
-mod argument;
-mod cache;
-mod comparison;
 mod deletion;
-mod evaluate;
-mod filter;
-mod function;
-mod halt;
-mod lending;
-mod node;
-mod patterns;
-mod process;
-mod processed;
 pub mod queryable;
-mod reference;
-mod refusal;
-pub mod selector;
-mod singular;
-mod sink;
-pub mod state;
-mod subquery;
-mod trail;
-mod value;
-mod walk;
-mod way;
 
 pub use crate::query::deletion::{delete_selected, delete_within};
-pub use crate::query::node::{QueryPath, QueryRef};
-pub use crate::query::process::{Query, apply};
-use crate::query::processed::{processed_nodes, processed_values};
-use crate::query::queryable::Queryable;
-pub use crate::query::reference::replace_by_path;
-pub use crate::query::refusal::not_a_reference;
-use jsonpath_parser::errors::JsonPathError;
+use jsonpath_node::queryable::Queryable;
+pub use jsonpath_node::{Queried, QueryPath, QueryRef, not_a_reference, replace_by_path};
 use jsonpath_parser::model::JpQuery;
 use jsonpath_parser::{
     MAX_NESTING_DEPTH, is_typed, let_go, parse_json_path, parse_json_path_within,
 };
+pub use jsonpath_state::{Query, apply, selector, state};
+use jsonpath_state::{processed_nodes, processed_values};
+use jsonpath_walk::selected_paths;
+pub use jsonpath_walk::{selected_nodes, selected_values};
 use std::alloc::Global;
-
-/// What a query answers.
-pub type Queried<T> = Result<T, JsonPathError>;
 
 /// The nodes that a query text selects in a document, in order (RFC 9535, 2.1.2): their values and their Normalized
 /// Paths.
@@ -83,7 +58,7 @@ pub fn js_path<'a, T: Queryable>(
     // A Normalized Path is refused for want of memory alone. It gives the node at its location, or none where nothing is there.
     ensures normal { (l : Location) → IsNormal l path.now → HasIndexesInRange l → MatchResult result
         (λ v. shown T.tree v.items ≡ node_there (document_of T.tree T.custom value.now) l path.now)
-        (λ e. e ≡ JsonPathError.OutOfMemory) }
+        (λ e. e ≡ OutOfMemory) }
     ensures whole { IfOk result (λ v. All (λ r. IsTrue (T.is_whole r.val.now)) v.items) }
     ensures refused { IfErr result (IsQueryRefusal MAX_NESTING_DEPTH path.now (document_of T.tree T.custom value.now)) }
 {
@@ -112,7 +87,7 @@ pub fn js_path_within<'a, T: Queryable>(
     // A Normalized Path is refused for want of memory alone. It gives the node at its location, or none where nothing is there.
     ensures normal { (l : Location) → IsNormal l path.now → HasIndexesInRange l → 1 ≤ depth → MatchResult result
         (λ v. shown T.tree v.items ≡ node_there (document_of T.tree T.custom value.now) l path.now)
-        (λ e. e ≡ JsonPathError.OutOfMemory) }
+        (λ e. e ≡ OutOfMemory) }
     ensures whole { IfOk result (λ v. All (λ r. IsTrue (T.is_whole r.val.now)) v.items) }
     ensures refused { IfErr result (IsQueryRefusal depth path.now (document_of T.tree T.custom value.now)) }
 {
@@ -218,57 +193,4 @@ pub fn js_path_process_vals<'a, T: Queryable>(
     } else {
         processed_values(alloc, query, value)
     }
-}
-
-/// The nodes that a query tree selects in a document, in order (RFC 9535, 2.1.2): what [`js_path_process`] answers of a
-/// tree that [`is_typed`], with no test of that. A tree that is not is asked in the same way: where it asks a query for
-/// a value, that is the value of its only node, and what is no query has no nodes. It refuses as [`js_path_process`] does
-/// of a tree that is typed.
-pub fn selected_nodes<'a, T: Queryable>(
-    alloc: Global,
-    query: &JpQuery,
-    value: &'a T,
-) -> Queried<Vec<QueryRef<'a, T>>>
-    requires { IsTrue (T.is_whole value.now) }
-    ensures nodes { IfOk result (λ v. AllZip (IsNodeAt (document_of T.tree T.custom value.now))
-        (selected (query_view query.now) (document_of T.tree T.custom value.now)) (shown T.tree v.items)) }
-    ensures whole { IfOk result (λ v. All (λ r. IsTrue (T.is_whole r.val.now)) v.items) }
-    ensures refused { IfErr result (IsStop (query_view query.now) (document_of T.tree T.custom value.now)) }
-{
-    let mut sink = sink::Sink::Nodes(Vec::new(alloc));
-    let _goes_on = walk::give_nodes(alloc, query, value, &mut sink)?;
-    Ok(sink.into_nodes(alloc))
-}
-
-/// The values of the nodes that [`selected_nodes`] answers, in order. It refuses as that does, and makes no path.
-pub fn selected_values<'a, T: Queryable>(
-    alloc: Global,
-    query: &JpQuery,
-    value: &'a T,
-) -> Queried<Vec<&'a T>>
-    requires { IsTrue (T.is_whole value.now) }
-    ensures values { IfOk result (λ v. AllZip (IsValueAt (document_of T.tree T.custom value.now))
-        (selected (query_view query.now) (document_of T.tree T.custom value.now)) (map (λ x. T.tree x.now) v.items)) }
-    ensures whole { IfOk result (λ v. All (λ x. IsTrue (T.is_whole x.now)) v.items) }
-    ensures refused { IfErr result (IsStop (query_view query.now) (document_of T.tree T.custom value.now)) }
-{
-    let mut sink = sink::Sink::Values(Vec::new(alloc));
-    let _goes_on = walk::give_nodes(alloc, query, value, &mut sink)?;
-    Ok(sink.into_values(alloc))
-}
-
-/// The Normalized Paths of the nodes that [`selected_nodes`] answers, in order. It refuses as that does.
-fn selected_paths<T: Queryable>(
-    alloc: Global,
-    query: &JpQuery,
-    value: &T,
-) -> Queried<Vec<QueryPath>>
-    requires { IsTrue (T.is_whole value.now) }
-    ensures paths { IfOk result (λ v. AllZip (IsPathAt (document_of T.tree T.custom value.now))
-        (selected (query_view query.now) (document_of T.tree T.custom value.now)) (paths_of v.items)) }
-    ensures refused { IfErr result (IsStop (query_view query.now) (document_of T.tree T.custom value.now)) }
-{
-    let mut sink = sink::Sink::Paths(Vec::new(alloc));
-    let _goes_on = walk::give_nodes(alloc, query, value, &mut sink)?;
-    Ok(sink.into_paths(alloc))
 }

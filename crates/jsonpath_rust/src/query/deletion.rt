@@ -4,24 +4,22 @@ ghost use Rattle.std.specs.Result.{IsErrAnd};
 ghost use Rattle.jsonpath_parser.specs.Derives.{Derives};
 ghost use Rattle.jsonpath_parser.specs.Syntax.{Query};
 ghost use Rattle.jsonpath_parser.specs.View.{query_view};
-ghost use Rattle.jsonpath_base.specs.Steps.{location_view};
 ghost use Rattle.jsonpath_base.specs.SetFunctions.{set_function};
 ghost use Rattle.jsonpath_base.specs.Values.{value_tree, value_is_whole};
 ghost use Rattle.jsonpath_base.specs.Without.{without, is_among, distinct_count};
 ghost use Rattle.jsonpath_rust.specs.Defaults.{IsUnsupported};
 ghost use Rattle.jsonpath_rust.specs.Deleting.{IsDeletion, Deletes};
-ghost use Rattle.jsonpath_rust.specs.Document.{document_of};
-ghost use Rattle.jsonpath_rust.specs.Meaning.{selected};
-ghost use Rattle.jsonpath_rust.specs.Patterns.{IsStop, IsQueryRefusal};
+ghost use Rattle.jsonpath_node.specs.Document.{document_of};
+ghost use Rattle.jsonpath_node.specs.Meaning.{selected};
+ghost use Rattle.jsonpath_node.specs.Patterns.{IsStop, IsQueryRefusal};
 
-use crate::query::Queried;
-use crate::query::queryable::Queryable;
-use crate::query::sink::Sink;
-use crate::query::walk::give_nodes;
-use jsonpath_base::{Step, remove_all};
+use jsonpath_base::remove_all;
+use jsonpath_node::Queried;
+use jsonpath_node::queryable::Queryable;
 use jsonpath_parser::errors::JsonPathError;
 use jsonpath_parser::model::JpQuery;
 use jsonpath_parser::{MAX_NESTING_DEPTH, let_go, parse_json_path_within};
+use jsonpath_walk::selected_locations;
 use serde_json::Value;
 use std::alloc::Global;
 
@@ -106,15 +104,4 @@ pub fn delete_selected(alloc: Global, value: &mut Value, query: &JpQuery) -> Que
 {
     let locations = selected_locations(alloc, query, value)?;
     remove_all(alloc, value, &locations)
-}
-
-/// The locations that a query selects, in order.
-fn selected_locations(alloc: Global, query: &JpQuery, value: &Value) -> Queried<Vec<Vec<Step>>>
-    requires { IsTrue (value_is_whole value.now) }
-    ensures locations { IfOk result (λ v. map (λ l. location_view l.items) v.items ≡ selected (query_view query.now) (document_of value_tree set_function value.now)) }
-    ensures refused { IfErr result (IsStop (query_view query.now) (document_of value_tree set_function value.now)) }
-{
-    let mut sink = Sink::Locations(Vec::new(alloc));
-    let _goes_on = give_nodes(alloc, query, value, &mut sink)?;
-    Ok(sink.into_locations(alloc))
 }

@@ -1,7 +1,7 @@
 use Rattle.std.proofs.Common.{◌∙◌}
 use Rattle.jsonpath_base.specs.Values.{value_tree}
 use Rattle.jsonpath_base.specs.SetFunctions.{set_function}
-use Rattle.jsonpath_rust.specs.Document.{document_of}
+use Rattle.jsonpath_node.specs.Document.{document_of}
 use Rattle.jpath.proofs.Lines.{lines-AllZip}
 use Rattle.jpath.proofs.output.nodes_printed.Goals as goal
 

@@ -1,7 +1,7 @@
 use Rattle.std.proofs.Common.{◌≡◌, take, string_bytes}
 use Rattle.std.specs.List.{flat_map}
 use Rattle.jsonpath_base.specs.Values.{value_tree}
-use Rattle.jsonpath_rust.specs.Answer.{shown}
+use Rattle.jsonpath_node.specs.Answer.{shown}
 use Rattle.jpath.specs.Json.{json_text}
 use Rattle.jpath.specs.Output.{line}
 use Rattle.jpath.proofs.output.nodes_text.Given as goal

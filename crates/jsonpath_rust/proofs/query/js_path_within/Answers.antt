@@ -1,6 +1,6 @@
 use Rattle.jsonpath_parser.specs.View.{query_view}
-use Rattle.jsonpath_rust.specs.Answer.{shown}
-use Rattle.jsonpath_rust.specs.Document.{document_of}
+use Rattle.jsonpath_node.specs.Answer.{shown}
+use Rattle.jsonpath_node.specs.Document.{document_of}
 use Rattle.jsonpath_rust.proofs.NormalPaths.{normal_answered}
 use Rattle.jsonpath_rust.proofs.query.js_path_within.Goals as goal
 

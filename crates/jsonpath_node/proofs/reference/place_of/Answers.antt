@@ -1,0 +1,17 @@
+use Rattle.std.proofs.Common.{ap, sym, ◌∙◌}
+use Rattle.jsonpath_parser.proofs.ViewEquations.{query_view-segments}
+use Rattle.jsonpath_parser.specs.View.{query_view}
+use Rattle.jsonpath_base.specs.SetFunctions.{set_function}
+use Rattle.jsonpath_base.specs.Values.{value_tree}
+use Rattle.jsonpath_node.specs.Document.{document_of}
+use Rattle.jsonpath_node.specs.inner.Parts.{segments_in}
+use Rattle.jsonpath_node.proofs.Following.{means_place, stands_there}
+use Rattle.jsonpath_node.proofs.reference.place_of.Goals as goal
+
+pub returns-in-Ok-clause-means : goal.returns-in-Ok-clause-means
+returns-in-Ok-clause-means c =
+    let q = c.in-Ok.query in
+    means_place c.args.path.now (document_of value_tree set_function c.args.value.now) (query_view q) _ c.follow-place.result (query_view-segments q ∙ ap segments_in (sym c.deref.ensures.value)) c.in-Ok.ensures.derived c.in-Ok.ensures.only c.follow-place.ensures.value
+
+pub returns-in-Ok-clause-there : goal.returns-in-Ok-clause-there
+returns-in-Ok-clause-there c = stands_there _ (value_tree c.args.value.now) c.follow-place.result c.follow-place.ensures.value

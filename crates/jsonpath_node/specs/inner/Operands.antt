@@ -1,0 +1,43 @@
+-- What the two sides of a comparison and the arguments of calls are inside the evaluator, for its contracts alone.
+use Rattle.std.specs.Prelude.{List, map, Bool, true, false, Option, Some, None, IsTrue, All}
+use Rattle.jsonpath_base.specs.Tree as tree
+use Rattle.jsonpath_base.specs.Tree.{Tree}
+use Rattle.jsonpath_node.specs.Args.{arg_value}
+use Rattle.jsonpath_node.specs.declared.queryable.Arg.{Arg}
+use Rattle.jsonpath_node.specs.declared.extent.Extent.{Extent}
+use Rattle.jsonpath_node.specs.declared.extent.Extent.TheVariants.{Entire, Substring}
+use Rattle.jsonpath_node.specs.declared.value.Scalar.{Scalar}
+use Rattle.jsonpath_node.specs.declared.value.Scalar.TheVariants as scalar
+use Rattle.jsonpath_node.specs.declared.value.Operand.{Operand}
+use Rattle.jsonpath_node.specs.declared.value.Operand.TheVariants as operand
+
+abbrev pub scalar_tree : Scalar → Tree
+scalar_tree scalar.Null = tree.null
+scalar_tree (scalar.Truth b) = tree.truth b
+scalar_tree (scalar.Number n) = tree.number n
+scalar_tree (scalar.Text s) = tree.text s.now
+
+-- the value, if it is not absent
+abbrev pub operand_tree : {A : Type 0} → (A → Tree) → Operand A → Option Tree
+operand_tree t operand.Absent = None
+operand_tree t (operand.Lent v) = Some (t v.now)
+operand_tree t (operand.Made v) = Some (t v)
+operand_tree t (operand.Plain s) = Some (scalar_tree s)
+
+abbrev pub operand_is_whole : {A : Type 0} → (A → Bool) → Operand A → Bool
+operand_is_whole w operand.Absent = true
+operand_is_whole w (operand.Lent v) = w v.now
+operand_is_whole w (operand.Made v) = w v
+operand_is_whole w (operand.Plain s) = true
+
+-- whether a pattern has to match the entire text
+abbrev pub is_entire : Extent → Bool
+is_entire Entire = true
+is_entire Substring = false
+
+-- the arguments of a custom function
+abbrev pub arg_trees : {A : Type 0} → (A → Tree) → List (Arg A) → List Tree
+arg_trees t args = map (λ a. t (arg_value a)) args
+
+abbrev pub AreWhole : {A : Type 0} → (A → Bool) → List (Arg A) → Type 0
+AreWhole w args = All (λ a. IsTrue (w (arg_value a))) args

@@ -1,0 +1,11 @@
+//! States, and what each part of a query answers on any of them: an evaluator by itself, which takes nothing of the walk.
+#![tactic(auto)]
+
+mod evaluate;
+mod process;
+mod processed;
+pub mod selector;
+pub mod state;
+
+pub use crate::process::{Query, apply};
+pub use crate::processed::{processed_nodes, processed_values};

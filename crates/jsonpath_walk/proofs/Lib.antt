@@ -1,0 +1,12 @@
+pub mod Answers
+pub mod Arguing
+pub mod Kept
+pub mod Leading
+pub mod Leaves
+pub mod NodelistLaws
+pub mod PatternLaws
+pub mod Sinks
+pub mod Standing
+pub mod Walks
+pub mod WayLaws
+pub mod Work

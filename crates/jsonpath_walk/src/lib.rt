@@ -1,0 +1,18 @@
+//! The walk: the nodes of a query, met depth-first in the order of its nodelist (RFC 9535, 2.1.2). What a query means stands in
+//! `jsonpath_node`.
+#![tactic(auto)]
+
+mod argument;
+mod cache;
+mod filter;
+mod function;
+mod nodelist;
+mod patterns;
+mod singular;
+mod sink;
+mod subquery;
+mod trail;
+mod walk;
+mod way;
+
+pub use crate::nodelist::{selected_locations, selected_nodes, selected_paths, selected_values};

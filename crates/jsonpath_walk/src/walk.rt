@@ -1,0 +1,358 @@
+//! The evaluator: a walk that meets the nodes of a query depth-first, in the order of its nodelist (RFC 9535, 2.1.2).
+//!
+//! The way to the value at hand stands on a stack of borrowed steps, so nothing is kept for a node that is only passed.
+//! Every method of the cycle asks for a value at hand (`Stands`), and comes back with the way as it was and what is kept
+//! still right (`Returns`).
+ghost use Rattle.std.specs.Prelude.{◌≡◌, [], ◌∷◌, ◌++◌, map, IsTrue, IfOk, IfErr, OnOk};
+ghost use Rattle.std.specs.List.{flat_map};
+ghost use Rattle.jsonpath_parser.specs.View.{selector_view, segment_view, query_view};
+ghost use Rattle.jsonpath_node.specs.Document.{document_of};
+ghost use Rattle.jsonpath_node.specs.Node.{below, children};
+ghost use Rattle.jsonpath_node.specs.Meaning.{picks, all_pick, replaced, sliced, nodelist};
+ghost use Rattle.jsonpath_node.specs.Patterns.{IsStop, segments_patterns, segment_patterns, selectors_patterns, selector_patterns};
+ghost use Rattle.jsonpath_walk.specs.inner.Sinks.{Took, seen};
+ghost use Rattle.jsonpath_walk.specs.inner.Keeping.{StandIn, document, query_of};
+ghost use Rattle.jsonpath_walk.specs.inner.Standing.{Stands, Returns, IsHalt};
+ghost use Rattle.jsonpath_walk.specs.inner.Walking.{through, node_of, step_of, acted, action_patterns};
+ghost use Rattle.jsonpath_node.specs.inner.Parts.{segments_in, selectors_in};
+
+use crate::cache::Cache;
+use crate::patterns::{finders_of, patterns_of};
+use crate::sink::Sink;
+use crate::trail::Trail;
+use crate::way::{StepRef, Way};
+use jsonpath_base::pattern::Finder;
+use jsonpath_base::slice::slice_places;
+use jsonpath_node::Queried;
+use jsonpath_node::halt::Walked;
+use jsonpath_node::queryable::Queryable;
+use jsonpath_node::queryable::children::{element, is_leaf};
+use jsonpath_parser::model::{Filter, JpQuery, Segment, Selector};
+use std::alloc::Global;
+
+/// What is asked: a query, of a document.
+#[derive(Drop)]
+pub struct Task<'a, 's, T> {
+    pub alloc: Global,
+    pub query: &'s JpQuery,
+    pub root: &'a T,
+}
+
+/// What is done at a child.
+#[derive(Clone, Copy)]
+pub enum Action<'s> {
+    /// The rest.
+    All,
+    /// The rest, if the filter holds there.
+    If(&'s Filter),
+    /// The segment and then the rest, there and at each node below.
+    Below(&'s Segment),
+}
+
+/// A child of the value at hand, and the step that leads to it.
+#[derive(Clone, Copy)]
+struct Child<'a, 's, T> {
+    step: StepRef<'s>,
+    value: &'a T,
+}
+
+/// Gives to the sink the nodes of a query on a document. The result says whether to go on.
+pub fn give_nodes<'a, T: Queryable>(
+    alloc: Global,
+    query: &JpQuery,
+    root: &'a T,
+    sink: &mut Sink<'a, T>,
+) -> Queried<bool>
+    requires { IsTrue (T.is_whole root.now) }
+    ensures gave { IfOk result (λ b. Took (seen T.tree T.is_whole sink.old) (nodelist (query_view query.now) (document_of T.tree T.custom root.now))
+        (seen T.tree T.is_whole sink.new) b) }
+    ensures refused { IfErr result (IsStop (query_view query.now) (document_of T.tree T.custom root.now)) }
+{
+    let patterns = patterns_of(alloc, query)?;
+    let finders = finders_of(alloc, &patterns)?;
+    match give_from_root(alloc, query, finders, root, sink) {
+        Ok(goes_on) => Ok(goes_on),
+        Err(halt) => Err(halt.told(alloc)),
+    }
+}
+
+/// The same, where these ask the patterns that stand in the query.
+fn give_from_root<'a: 's, 's, T: Queryable>(
+    alloc: Global,
+    query: &'s JpQuery,
+    finders: Vec<Finder<'s>>,
+    root: &'a T,
+    sink: &mut Sink<'a, T>,
+) -> Walked<bool>
+    requires { IsTrue (T.is_whole root.now) }
+    ensures gave { IfOk result (λ b. Took (seen T.tree T.is_whole sink.old) (nodelist (query_view query.now) (document_of T.tree T.custom root.now))
+        (seen T.tree T.is_whole sink.new) b) }
+    ensures refused { IfErr result (IsHalt (query_view query.now) (document_of T.tree T.custom root.now)) }
+{
+    let task = Task { alloc, query, root };
+    let way = Way::new(alloc);
+    let cache = Cache::new(alloc, finders);
+    let mut trail = Trail { way, cache };
+    task.walk(&query.segments, root, &mut trail, sink)
+}
+
+impl<'a: 's, 's, T: Queryable> Task<'a, 's, T> {
+    /// Gives to the sink what the segments select from a value on, to which the way leads. The result says whether to
+    /// go on.
+    #[cycle(walk)]
+    pub fn walk(
+        &self,
+        segments: &'s [Segment],
+        at: &'a T,
+        trail: &mut Trail<'a, 's, T>,
+        sink: &mut Sink<'a, T>,
+    ) -> Walked<bool>
+        requires stands { Stands T.tree T.is_whole T.custom self.now at.now trail.old.way.steps.items trail.old.cache }
+        requires part { StandIn (query_of self.now) (segments_patterns (segments_in segments.now)) }
+        ensures gave { IfOk result (λ b. Took (seen T.tree T.is_whole sink.old)
+            (through (segments_in segments.now) (document T.tree T.custom self.now) (node_of T.tree trail.old.way.steps.items at.now))
+            (seen T.tree T.is_whole sink.new) b) }
+        ensures returns { OnOk result (Returns T.tree T.is_whole T.custom self.now trail.old trail.new) }
+        ensures refused { IfErr result (IsHalt (query_of self.now) (document T.tree T.custom self.now)) }
+    {
+        match segments.split_first() {
+            None => sink.take(self.alloc, at, &mut trail.way),
+            Some((first, rest)) => self.pass(first, rest, at, trail, sink),
+        }
+    }
+
+    /// The first segment here, and the rest from each node that it makes of this one.
+    #[cycle(walk)]
+    #[inline(always)]
+    fn pass(
+        &self,
+        first: &'s Segment,
+        rest: &'s [Segment],
+        at: &'a T,
+        trail: &mut Trail<'a, 's, T>,
+        sink: &mut Sink<'a, T>,
+    ) -> Walked<bool>
+        requires stands { Stands T.tree T.is_whole T.custom self.now at.now trail.old.way.steps.items trail.old.cache }
+        requires part { StandIn (query_of self.now) (segment_patterns (segment_view first.now) ++ segments_patterns (segments_in rest.now)) }
+        ensures gave { IfOk result (λ b. Took (seen T.tree T.is_whole sink.old)
+            (flat_map (through (segments_in rest.now) (document T.tree T.custom self.now))
+            (replaced (segment_view first.now) (document T.tree T.custom self.now) (node_of T.tree trail.old.way.steps.items at.now)))
+            (seen T.tree T.is_whole sink.new) b) }
+        ensures returns { OnOk result (Returns T.tree T.is_whole T.custom self.now trail.old trail.new) }
+        ensures refused { IfErr result (IsHalt (query_of self.now) (document T.tree T.custom self.now)) }
+    {
+        match first {
+            Segment::Selector(selector) => self.pick(selector, rest, at, trail, sink),
+            Segment::Selectors(selectors) => self.pick_each(selectors, rest, at, trail, sink),
+            Segment::Descendant(inner) => self.act(Action::Below(inner), rest, at, trail, sink),
+        }
+    }
+
+    /// The rest from each child that the selectors pick here, one selector after the other.
+    #[cycle(walk)]
+    fn pick_each(
+        &self,
+        selectors: &'s [Selector],
+        rest: &'s [Segment],
+        at: &'a T,
+        trail: &mut Trail<'a, 's, T>,
+        sink: &mut Sink<'a, T>,
+    ) -> Walked<bool>
+        requires stands { Stands T.tree T.is_whole T.custom self.now at.now trail.old.way.steps.items trail.old.cache }
+        requires part { StandIn (query_of self.now) (selectors_patterns (selectors_in selectors.now) ++ segments_patterns (segments_in rest.now)) }
+        ensures gave { IfOk result (λ b. Took (seen T.tree T.is_whole sink.old)
+            (flat_map (through (segments_in rest.now) (document T.tree T.custom self.now))
+            (all_pick (selectors_in selectors.now) (document T.tree T.custom self.now) (node_of T.tree trail.old.way.steps.items at.now)))
+            (seen T.tree T.is_whole sink.new) b) }
+        ensures returns { OnOk result (Returns T.tree T.is_whole T.custom self.now trail.old trail.new) }
+        ensures refused { IfErr result (IsHalt (query_of self.now) (document T.tree T.custom self.now)) }
+    {
+        for selector in selectors {
+            if !self.pick(selector, rest, at, trail, sink)? {
+                return Ok(false);
+            }
+        }
+        Ok(true)
+    }
+
+    /// The rest from each child that the selector picks here.
+    #[cycle(walk)]
+    #[inline(always)]
+    fn pick(
+        &self,
+        selector: &'s Selector,
+        rest: &'s [Segment],
+        at: &'a T,
+        trail: &mut Trail<'a, 's, T>,
+        sink: &mut Sink<'a, T>,
+    ) -> Walked<bool>
+        requires stands { Stands T.tree T.is_whole T.custom self.now at.now trail.old.way.steps.items trail.old.cache }
+        requires part { StandIn (query_of self.now) (selector_patterns (selector_view selector.now) ++ segments_patterns (segments_in rest.now)) }
+        ensures gave { IfOk result (λ b. Took (seen T.tree T.is_whole sink.old)
+            (flat_map (through (segments_in rest.now) (document T.tree T.custom self.now))
+            (picks (selector_view selector.now) (document T.tree T.custom self.now) (node_of T.tree trail.old.way.steps.items at.now)))
+            (seen T.tree T.is_whole sink.new) b) }
+        ensures returns { OnOk result (Returns T.tree T.is_whole T.custom self.now trail.old trail.new) }
+        ensures refused { IfErr result (IsHalt (query_of self.now) (document T.tree T.custom self.now)) }
+    {
+        match selector {
+            Selector::Name(name) => match at.get(name) {
+                Some(value) => {
+                    let step = StepRef::Name(name);
+                    self.at_child(Action::All, rest, Child { step, value }, trail, sink)
+                }
+                None => Ok(true),
+            },
+            Selector::Wildcard => self.each_child(Action::All, rest, at, trail, sink),
+            Selector::Index(index) => match element(at, *index) {
+                Some((position, value)) => {
+                    let step = StepRef::Index(position);
+                    self.at_child(Action::All, rest, Child { step, value }, trail, sink)
+                }
+                None => Ok(true),
+            },
+            Selector::Slice(start, end, step) => {
+                self.pick_slice((*start, *end, *step), rest, at, trail, sink)
+            }
+            Selector::Filter(filter) => self.each_child(Action::If(filter), rest, at, trail, sink),
+        }
+    }
+
+    /// The rest from each element that a slice of this start, end and step picks, in its order (RFC 9535, 2.3.4).
+    #[cycle(walk)]
+    fn pick_slice(
+        &self,
+        slice: (Option<i64>, Option<i64>, Option<i64>),
+        rest: &'s [Segment],
+        at: &'a T,
+        trail: &mut Trail<'a, 's, T>,
+        sink: &mut Sink<'a, T>,
+    ) -> Walked<bool>
+        requires stands { Stands T.tree T.is_whole T.custom self.now at.now trail.old.way.steps.items trail.old.cache }
+        requires part { StandIn (query_of self.now) (segments_patterns (segments_in rest.now)) }
+        ensures gave { IfOk result (λ b. Took (seen T.tree T.is_whole sink.old)
+            (flat_map (through (segments_in rest.now) (document T.tree T.custom self.now))
+            (sliced slice.0 slice.1 slice.2 (node_of T.tree trail.old.way.steps.items at.now)))
+            (seen T.tree T.is_whole sink.new) b) }
+        ensures returns { OnOk result (Returns T.tree T.is_whole T.custom self.now trail.old trail.new) }
+        ensures refused { IfErr result (IsHalt (query_of self.now) (document T.tree T.custom self.now)) }
+    {
+        let Some(items) = at.as_array() else {
+            return Ok(true);
+        };
+        for position in slice_places(slice.0, slice.1, slice.2, items.len()) {
+            let step = StepRef::Index(position);
+            let value = &items[position];
+            if !self.at_child(Action::All, rest, Child { step, value }, trail, sink)? {
+                return Ok(false);
+            }
+        }
+        Ok(true)
+    }
+
+    /// The action at each child, in walk order.
+    #[cycle(walk)]
+    fn each_child(
+        &self,
+        action: Action<'s>,
+        rest: &'s [Segment],
+        at: &'a T,
+        trail: &mut Trail<'a, 's, T>,
+        sink: &mut Sink<'a, T>,
+    ) -> Walked<bool>
+        requires stands { Stands T.tree T.is_whole T.custom self.now at.now trail.old.way.steps.items trail.old.cache }
+        requires part { StandIn (query_of self.now) (action_patterns action ++ segments_patterns (segments_in rest.now)) }
+        ensures gave { IfOk result (λ b. Took (seen T.tree T.is_whole sink.old)
+            (flat_map (through (segments_in rest.now) (document T.tree T.custom self.now))
+            (flat_map (acted action.entry (document T.tree T.custom self.now)) (children (node_of T.tree trail.old.way.steps.items at.now))))
+            (seen T.tree T.is_whole sink.new) b) }
+        ensures returns { OnOk result (Returns T.tree T.is_whole T.custom self.now trail.old trail.new) }
+        ensures refused { IfErr result (IsHalt (query_of self.now) (document T.tree T.custom self.now)) }
+    {
+        if let Some(items) = at.as_array() {
+            for (i, value) in items.iter().enumerate() {
+                let step = StepRef::Index(i);
+                if !self.at_child(action, rest, Child { step, value }, trail, sink)? {
+                    return Ok(false);
+                }
+            }
+        } else if let Some(members) = at.as_object(self.alloc)? {
+            for member in &members {
+                let step = StepRef::Name(member.0);
+                let value = member.1;
+                if !self.at_child(action, rest, Child { step, value }, trail, sink)? {
+                    return Ok(false);
+                }
+            }
+        }
+        Ok(true)
+    }
+
+    /// The action at a child, a step from here.
+    #[cycle(walk)]
+    #[inline(always)]
+    fn at_child(
+        &self,
+        action: Action<'s>,
+        rest: &'s [Segment],
+        child: Child<'a, 's, T>,
+        trail: &mut Trail<'a, 's, T>,
+        sink: &mut Sink<'a, T>,
+    ) -> Walked<bool>
+        requires stands { Stands T.tree T.is_whole T.custom self.now child.value.now (trail.old.way.steps.items ++ child.step ∷ []) trail.old.cache }
+        requires part { StandIn (query_of self.now) (action_patterns action ++ segments_patterns (segments_in rest.now)) }
+        ensures gave { IfOk result (λ b. Took (seen T.tree T.is_whole sink.old)
+            (flat_map (through (segments_in rest.now) (document T.tree T.custom self.now))
+            (acted action.entry (document T.tree T.custom self.now) (below (map step_of trail.old.way.steps.items) (step_of child.entry.step) (T.tree child.entry.value.now))))
+            (seen T.tree T.is_whole sink.new) b) }
+        ensures returns { OnOk result (Returns T.tree T.is_whole T.custom self.now trail.old trail.new) }
+        ensures refused { IfErr result (IsHalt (query_of self.now) (document T.tree T.custom self.now)) }
+    {
+        trail.way.push(child.step)?;
+        let goes_on = self.act(action, rest, child.value, trail, sink)?;
+        trail.way.pop();
+        Ok(goes_on)
+    }
+
+    /// Does the action at this value, and gives the rest from each node that it makes of it.
+    #[cycle(walk)]
+    #[inline(always)]
+    fn act(
+        &self,
+        action: Action<'s>,
+        rest: &'s [Segment],
+        at: &'a T,
+        trail: &mut Trail<'a, 's, T>,
+        sink: &mut Sink<'a, T>,
+    ) -> Walked<bool>
+        requires stands { Stands T.tree T.is_whole T.custom self.now at.now trail.old.way.steps.items trail.old.cache }
+        requires part { StandIn (query_of self.now) (action_patterns action ++ segments_patterns (segments_in rest.now)) }
+        ensures gave { IfOk result (λ b. Took (seen T.tree T.is_whole sink.old)
+            (flat_map (through (segments_in rest.now) (document T.tree T.custom self.now))
+            (acted action.entry (document T.tree T.custom self.now) (node_of T.tree trail.old.way.steps.items at.now)))
+            (seen T.tree T.is_whole sink.new) b) }
+        ensures returns { OnOk result (Returns T.tree T.is_whole T.custom self.now trail.old trail.new) }
+        ensures refused { IfErr result (IsHalt (query_of self.now) (document T.tree T.custom self.now)) }
+    {
+        match action {
+            Action::All => self.walk(rest, at, trail, sink),
+            Action::If(filter) => {
+                if self.filter_holds(filter, at, trail)? {
+                    self.walk(rest, at, trail, sink)
+                } else {
+                    Ok(true)
+                }
+            }
+            Action::Below(segment) => {
+                if is_leaf(at) {
+                    return Ok(true);
+                }
+                if self.pass(segment, rest, at, trail, sink)? {
+                    self.each_child(action, rest, at, trail, sink)
+                } else {
+                    Ok(false)
+                }
+            }
+        }
+    }
+}
