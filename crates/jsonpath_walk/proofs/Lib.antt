@@ -3,6 +3,7 @@ pub mod Arguing
 pub mod Kept
 pub mod Leading
 pub mod Leaves
+pub mod LookupLaws
 pub mod NodelistLaws
 pub mod PatternLaws
 pub mod Sinks

@@ -1,7 +1,6 @@
 //! What one call of the evaluator keeps: the nodelists of queries from the root inside filters, and patterns.
 ghost use Rattle.std.specs.Prelude.{◌≡◌, ◌<◌, length, IsTrue, IfOk, IfErr, IfSome, OnOk};
 ghost use Rattle.jsonpath_parser.specs.View.{query_view};
-ghost use Rattle.jsonpath_base.specs.Pattern.{found};
 ghost use Rattle.jsonpath_node.specs.Document.{Document};
 ghost use Rattle.jsonpath_node.specs.Meaning.{nodelist};
 ghost use Rattle.jsonpath_node.specs.Functions.{is_matched};
@@ -11,9 +10,9 @@ ghost use Rattle.jsonpath_node.specs.declared.halt.Halt.TheVariants.{Memory};
 ghost use Rattle.jsonpath_walk.specs.inner.Sinks.{seen, start, give};
 ghost use Rattle.jsonpath_walk.specs.inner.Keeping.{seen_at, AreRight, nodelists_of, gathered, IsGathered};
 
+use crate::finders::{Asked, Finders};
 use crate::patterns::Origin;
 use crate::sink::{Sink, Wanted};
-use jsonpath_base::pattern::{Finder, Pattern, found_again};
 use jsonpath_node::extent::Extent;
 use jsonpath_node::halt::Walked;
 use jsonpath_node::queryable::Queryable;
@@ -29,6 +28,16 @@ pub struct CachedNodelist<'a, 's, T> {
     pub nodes: Sink<'a, T>,
 }
 
+impl<'a, 's, T: Queryable> CachedNodelist<'a, 's, T> {
+    /// Whether it is that of this query, for what is wanted.
+    #[inline(always)]
+    fn is_of(&self, query: &JpQuery, wanted: Wanted) -> bool
+        ensures { IsTrue result → (self.now.wanted ≡ wanted) × (query_view self.now.query.now ≡ query_view query.now) }
+    {
+        is_same_wanted(self.wanted, wanted) && is_same_query(self.query, query)
+    }
+}
+
 /// What the nodes of a query gave to a sink: one of its own, or the one at an index of the cache.
 #[derive(Drop)]
 pub enum Gathered<'a, T> {
@@ -41,39 +50,35 @@ pub enum Gathered<'a, T> {
 pub struct Cache<'a, 's, T> {
     /// The nodelists of queries from the root, each found when it was first needed.
     pub nodelists: Vec<CachedNodelist<'a, 's, T>>,
-    /// What asks the patterns that stand in the query, in the order in which they stand there.
-    pub finders: Vec<Finder<'s>>,
-    /// The index in it of the pattern that is likely to be asked next.
-    pub next: usize,
-    /// The last pattern that came from the document.
-    pub other: Option<Pattern>,
+    /// The index in it of the nodelist that is likely to be asked next.
+    pub likely: usize,
+    /// What asks patterns.
+    pub finders: Finders<'s>,
 }
 
 impl<'a, 's, T: Queryable> Cache<'a, 's, T> {
-    /// With these patterns and no nodelists.
-    pub fn new(alloc: Global, finders: Vec<Finder<'s>>) -> Self
+    /// With no nodelists yet.
+    pub fn new(alloc: Global, finders: Finders<'s>) -> Self
         ensures { (doc : Document) → AreRight T.tree T.is_whole doc (nodelists_of result) }
     {
         Cache {
             nodelists: Vec::new(alloc),
+            likely: 0,
             finders,
-            next: 0,
-            other: None,
         }
     }
 
-    /// The index of the nodelist of a query, if it is kept.
-    pub fn find(&self, query: &JpQuery, wanted: Wanted) -> Option<usize>
-        ensures within { IfSome result (λ i. i < length (nodelists_of self.now)) }
-        ensures right { (doc : Document) → AreRight T.tree T.is_whole doc (nodelists_of self.now) → IfSome result (λ i.
-            seen_at T.tree T.is_whole (nodelists_of self.now) i ≡ give (start wanted) (nodelist (query_view query.now) doc)) }
+    /// The index of the nodelist of a query, if it is kept. It is looked for from where the
+    /// last one was found, for a filter asks its queries in turn at one node after the other.
+    pub fn find(&mut self, query: &JpQuery, wanted: Wanted) -> Option<usize>
+        ensures same { nodelists_of self.new ≡ nodelists_of self.old }
+        ensures within { IfSome result (λ i. i < length (nodelists_of self.new)) }
+        ensures right { (doc : Document) → AreRight T.tree T.is_whole doc (nodelists_of self.old) → IfSome result (λ i.
+            seen_at T.tree T.is_whole (nodelists_of self.new) i ≡ give (start wanted) (nodelist (query_view query.now) doc)) }
     {
-        for (index, cached) in self.nodelists.iter().enumerate() {
-            if is_same_wanted(cached.wanted, wanted) && is_same_query(cached.query, query) {
-                return Some(index);
-            }
-        }
-        None
+        let index = found_from(self.likely, &self.nodelists, query, wanted)?;
+        self.likely = index.saturating_add(1);
+        Some(index)
     }
 
     /// Keeps the nodelist of a query, and tells its index.
@@ -117,8 +122,7 @@ impl<'a, 's, T: Queryable> Cache<'a, 's, T> {
         }
     }
 
-    /// Whether the pattern is found in the text, as all of it or somewhere. Patterns that stand in the query were read
-    /// before, and of others the last is kept.
+    /// Whether the pattern is found in the text, as all of it or somewhere.
     pub fn is_matched(
         &mut self,
         alloc: Global,
@@ -136,33 +140,29 @@ impl<'a, 's, T: Queryable> Cache<'a, 's, T> {
         let (Some(text), Some(pattern)) = (text.as_text(), pattern.as_text()) else {
             return Ok(false);
         };
-        if let Origin::Query = origin {
-            if let Some(found) = ask(&mut self.finders, &mut self.next, pattern, extent, text) {
-                return Ok(found);
-            }
-        }
-        Ok(found_again(alloc, &mut self.other, text, pattern, extent.is_entire())?)
+        let asked = Asked { pattern, extent };
+        Ok(self.finders.is_found(alloc, text, asked, origin)?)
     }
 }
 
-/// Whether the pattern is found in the text, if one of these asks it. They are tried from `next` on, round to it, for
-/// a filter asks its patterns in turn at one node after the other.
-fn ask(
-    finders: &mut [Finder<'_>],
-    next: &mut usize,
-    source: &str,
-    extent: Extent,
-    text: &str,
-) -> Option<bool>
-    ensures value { IfSome result (λ b. b ≡ found (is_entire extent) source.now text.now) }
+/// The index of the nodelist of a query, if it is among these. They are tried from `likely`
+/// on, round to it.
+fn found_from<T: Queryable>(
+    likely: usize,
+    nodelists: &Vec<CachedNodelist<'_, '_, T>>,
+    query: &JpQuery,
+    wanted: Wanted,
+) -> Option<usize>
+    ensures within { IfSome result (λ i. i < length nodelists.now.items) }
+    ensures right { (doc : Document) → AreRight T.tree T.is_whole doc nodelists.now.items → IfSome result (λ i.
+        seen_at T.tree T.is_whole nodelists.now.items i ≡ give (start wanted) (nodelist (query_view query.now) doc)) }
 {
-    let count = finders.len();
+    let count = nodelists.len();
     for turn in 0..count {
-        let index = around(*next, turn, count);
-        if let Some(finder) = finders.get_mut(index) {
-            if finder.is_of(source, extent.is_entire()) {
-                *next = index.saturating_add(1);
-                return Some(finder.is_found(text));
+        let index = around(likely, turn, count);
+        if let Some(cached) = nodelists.get(index) {
+            if cached.is_of(query, wanted) {
+                return Some(index);
             }
         }
     }

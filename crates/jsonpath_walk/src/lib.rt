@@ -5,7 +5,9 @@
 mod argument;
 mod cache;
 mod filter;
+mod finders;
 mod function;
+mod lookup;
 mod nodelist;
 mod patterns;
 mod singular;

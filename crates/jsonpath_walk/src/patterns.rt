@@ -1,14 +1,13 @@
-//! The patterns that stand in a query (RFC 9535, 2.4.6 and 2.4.7): read before its walk, so that none is read twice. One
-//! that cannot be built is left out: it is refused where it is asked.
+//! How many patterns a query may ask (RFC 9535, 2.4.6 and 2.4.7), so that there is a place for each before its walk.
 
-use jsonpath_base::pattern::{Finder, Pattern};
-use jsonpath_node::extent::Extent;
-use jsonpath_parser::errors::JsonPathError;
+use crate::finders::KEPT_FROM_DOCUMENT;
+use jsonpath_base::pattern::Pattern;
 use jsonpath_parser::model::{
-    Comparable, Comparison, Filter, FilterAtom, FnArg, JpQuery, Literal, Segment, Selector, Test,
+    Comparable, Comparison, Filter, FilterAtom, FnArg, JpQuery, Segment, Selector, Test,
     TestFunction,
 };
 use std::alloc::{AllocError, Global};
+use std::cell::OnceCell;
 
 /// Where a pattern comes from.
 #[derive(Clone, Copy)]
@@ -30,78 +29,73 @@ impl Origin {
     }
 }
 
-/// The patterns of a query in the order in which they stand there.
-pub fn patterns_of(alloc: Global, query: &JpQuery) -> Result<Vec<Pattern>, AllocError> {
-    let mut reader = Reader {
-        alloc,
-        patterns: Vec::new(alloc),
+/// A place for each pattern that stands in the query, and some for those that come from the document, if it asks any.
+pub fn places_for(alloc: Global, query: &JpQuery) -> Result<Vec<OnceCell<Pattern>>, AllocError> {
+    let mut counter = Counter {
+        standing: 0,
+        lent: 0,
     };
-    reader.segments(&query.segments)?;
-    Ok(reader.patterns)
-}
-
-/// What asks each of these patterns.
-pub fn finders_of(alloc: Global, patterns: &[Pattern]) -> Result<Vec<Finder<'_>>, AllocError> {
-    let mut finders = Vec::new(alloc);
-    for pattern in patterns {
-        finders.push(pattern.finder(alloc)?)?;
+    counter.segments(&query.segments);
+    let count = counter.standing.saturating_add(counter.lent);
+    let mut places = Vec::with_capacity(alloc, count)?;
+    for _ in 0..count {
+        places.push(OnceCell::new())?;
     }
-    Ok(finders)
+    Ok(places)
 }
 
-/// Reads the patterns of the parts that it is shown, one behind the other.
+/// Counts the patterns of the parts that it is shown.
 #[derive(Drop)]
-struct Reader {
-    alloc: Global,
-    patterns: Vec<Pattern>,
+struct Counter {
+    /// Those that stand in the query.
+    standing: usize,
+    /// Those that are kept of the ones that come from the document.
+    lent: usize,
 }
 
-impl Reader {
+impl Counter {
     #[cycle(patterns)]
-    fn segments(&mut self, segments: &[Segment]) -> Result<(), AllocError> {
+    fn segments(&mut self, segments: &[Segment]) {
         for segment in segments {
-            self.segment(segment)?;
+            self.segment(segment);
         }
-        Ok(())
     }
 
     #[cycle(patterns)]
-    fn segment(&mut self, segment: &Segment) -> Result<(), AllocError> {
+    fn segment(&mut self, segment: &Segment) {
         match segment {
             Segment::Descendant(inner) => self.segment(inner),
             Segment::Selector(selector) => self.selector(selector),
             Segment::Selectors(selectors) => {
                 for selector in selectors {
-                    self.selector(selector)?;
+                    self.selector(selector);
                 }
-                Ok(())
             }
         }
     }
 
     #[cycle(patterns)]
-    fn selector(&mut self, selector: &Selector) -> Result<(), AllocError> {
+    fn selector(&mut self, selector: &Selector) {
         match selector {
             Selector::Filter(filter) => self.filter(filter),
-            _ => Ok(()),
+            _ => {}
         }
     }
 
     #[cycle(patterns)]
-    fn filter(&mut self, filter: &Filter) -> Result<(), AllocError> {
+    fn filter(&mut self, filter: &Filter) {
         match filter {
             Filter::Or(parts) | Filter::And(parts) => {
                 for part in parts {
-                    self.filter(part)?;
+                    self.filter(part);
                 }
-                Ok(())
             }
             Filter::Atom(atom) => self.atom(atom),
         }
     }
 
     #[cycle(patterns)]
-    fn atom(&mut self, atom: &FilterAtom) -> Result<(), AllocError> {
+    fn atom(&mut self, atom: &FilterAtom) {
         match atom {
             FilterAtom::Filter { expr, .. } => self.filter(expr),
             FilterAtom::Test { expr, .. } => self.test(expr),
@@ -110,7 +104,7 @@ impl Reader {
     }
 
     #[cycle(patterns)]
-    fn comparison(&mut self, comparison: &Comparison) -> Result<(), AllocError> {
+    fn comparison(&mut self, comparison: &Comparison) {
         match comparison {
             Comparison::Eq(left, right)
             | Comparison::Ne(left, right)
@@ -118,22 +112,22 @@ impl Reader {
             | Comparison::Gte(left, right)
             | Comparison::Lt(left, right)
             | Comparison::Lte(left, right) => {
-                self.comparable(left)?;
-                self.comparable(right)
+                self.comparable(left);
+                self.comparable(right);
             }
         }
     }
 
     #[cycle(patterns)]
-    fn comparable(&mut self, comparable: &Comparable) -> Result<(), AllocError> {
+    fn comparable(&mut self, comparable: &Comparable) {
         match comparable {
             Comparable::Function(function) => self.call(function),
-            Comparable::Literal(_) | Comparable::SingularQuery(_) => Ok(()),
+            Comparable::Literal(_) | Comparable::SingularQuery(_) => {}
         }
     }
 
     #[cycle(patterns)]
-    fn test(&mut self, test: &Test) -> Result<(), AllocError> {
+    fn test(&mut self, test: &Test) {
         match test {
             Test::RelQuery(segments) => self.segments(segments),
             Test::AbsQuery(query) => self.segments(&query.segments),
@@ -142,51 +136,44 @@ impl Reader {
     }
 
     #[cycle(patterns)]
-    fn call(&mut self, function: &TestFunction) -> Result<(), AllocError> {
+    fn call(&mut self, function: &TestFunction) {
         match function {
             TestFunction::Custom(_, args) => {
                 for arg in args {
-                    self.argument(arg)?;
+                    self.argument(arg);
                 }
-                Ok(())
             }
             TestFunction::Length(arg) => self.argument(arg),
             TestFunction::Value(arg) | TestFunction::Count(arg) => self.argument(arg),
             TestFunction::Search(text, pattern) => {
-                self.argument(text)?;
-                self.pattern(pattern, Extent::Substring)
+                self.argument(text);
+                self.pattern(pattern);
             }
             TestFunction::Match(text, pattern) => {
-                self.argument(text)?;
-                self.pattern(pattern, Extent::Entire)
+                self.argument(text);
+                self.pattern(pattern);
             }
         }
     }
 
     /// The second argument of `match` or `search`.
     #[cycle(patterns)]
-    fn pattern(&mut self, arg: &FnArg, extent: Extent) -> Result<(), AllocError> {
-        match arg {
-            FnArg::Literal(Literal::String(source)) => self.read(source, extent),
-            _ => self.argument(arg),
+    fn pattern(&mut self, arg: &FnArg) {
+        match Origin::of(arg) {
+            Origin::Query => self.standing = self.standing.saturating_add(1),
+            Origin::Document => {
+                self.lent = KEPT_FROM_DOCUMENT;
+                self.argument(arg);
+            }
         }
     }
 
     #[cycle(patterns)]
-    fn argument(&mut self, arg: &FnArg) -> Result<(), AllocError> {
+    fn argument(&mut self, arg: &FnArg) {
         match arg {
-            FnArg::Literal(_) => Ok(()),
+            FnArg::Literal(_) => {}
             FnArg::Test(test) => self.test(test),
             FnArg::Filter(filter) => self.filter(filter),
-        }
-    }
-
-    /// Reads a pattern, and keeps it if it can be built.
-    fn read(&mut self, source: &str, extent: Extent) -> Result<(), AllocError> {
-        match Pattern::new(self.alloc, source, extent.is_entire()) {
-            Ok(pattern) => Ok(self.patterns.push(pattern)?),
-            Err(JsonPathError::OutOfMemory) => Err(AllocError),
-            Err(_) => Ok(()),
         }
     }
 }

@@ -3,8 +3,8 @@ ghost use Rattle.std.specs.Prelude.{◌≡◌, suc, min, ◌∷◌, [], map, opt
 ghost use Rattle.jsonpath_base.specs.Steps.{location_view};
 ghost use Rattle.jsonpath_node.specs.declared.halt.Halt.TheVariants.{Memory};
 ghost use Rattle.jsonpath_node.specs.Answer.{shown, paths_of};
-ghost use Rattle.jsonpath_node.specs.Node.{Node};
-ghost use Rattle.jsonpath_walk.specs.inner.Sinks.{Took, seen, seen_only, start, any_in, count_in, only_in, nodes_in, nodes_whole, values_in, values_whole, paths_in, locations_in};
+ghost use Rattle.jsonpath_node.specs.Node.{Node, root_node};
+ghost use Rattle.jsonpath_walk.specs.inner.Sinks.{Took, seen, seen_only, start, add, any_in, count_in, only_in, nodes_in, nodes_whole, values_in, values_whole, paths_in, locations_in};
 ghost use Rattle.jsonpath_walk.specs.inner.Walking.{node_of};
 
 use crate::way::Way;
@@ -66,6 +66,24 @@ impl<'a, T: Queryable> Sink<'a, T> {
             Wanted::Count => Sink::Count(0),
             Wanted::Only => Sink::Only(Only::Nothing),
             Wanted::Values => Sink::Values(Vec::new(alloc)),
+        }
+    }
+
+    /// A sink for what is wanted, that was given one node, of this value.
+    pub fn of_one(alloc: Global, wanted: Wanted, value: &'a T) -> Walked<Self>
+        requires { IsTrue (T.is_whole value.now) }
+        ensures given { IfOk result (λ s. seen T.tree T.is_whole s ≡ add (start wanted) (root_node (T.tree value.now))) }
+        ensures memory { IfErr result (λ h. h ≡ Memory) }
+    {
+        match wanted {
+            Wanted::Any => Ok(Sink::Any(true)),
+            Wanted::Count => Ok(Sink::Count(1)),
+            Wanted::Only => Ok(Sink::Only(Only::One(value))),
+            Wanted::Values => {
+                let mut values = Vec::new(alloc);
+                values.push(value)?;
+                Ok(Sink::Values(values))
+            }
         }
     }
 

@@ -17,11 +17,11 @@ ghost use Rattle.jsonpath_walk.specs.inner.Walking.{through, node_of, step_of, a
 ghost use Rattle.jsonpath_node.specs.inner.Parts.{segments_in, selectors_in};
 
 use crate::cache::Cache;
-use crate::patterns::{finders_of, patterns_of};
+use crate::finders::Finders;
+use crate::patterns::places_for;
 use crate::sink::Sink;
 use crate::trail::Trail;
 use crate::way::{StepRef, Way};
-use jsonpath_base::pattern::Finder;
 use jsonpath_base::slice::slice_places;
 use jsonpath_node::Queried;
 use jsonpath_node::halt::Walked;
@@ -68,19 +68,19 @@ pub fn give_nodes<'a, T: Queryable>(
         (seen T.tree T.is_whole sink.new) b) }
     ensures refused { IfErr result (IsStop (query_view query.now) (document_of T.tree T.custom root.now)) }
 {
-    let patterns = patterns_of(alloc, query)?;
-    let finders = finders_of(alloc, &patterns)?;
+    let places = places_for(alloc, query)?;
+    let finders = Finders::new(alloc, &places);
     match give_from_root(alloc, query, finders, root, sink) {
         Ok(goes_on) => Ok(goes_on),
         Err(halt) => Err(halt.told(alloc)),
     }
 }
 
-/// The same, where these ask the patterns that stand in the query.
+/// The same, where these ask the patterns.
 fn give_from_root<'a: 's, 's, T: Queryable>(
     alloc: Global,
     query: &'s JpQuery,
-    finders: Vec<Finder<'s>>,
+    finders: Finders<'s>,
     root: &'a T,
     sink: &mut Sink<'a, T>,
 ) -> Walked<bool>

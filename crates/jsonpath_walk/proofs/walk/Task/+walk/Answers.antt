@@ -12,7 +12,7 @@ use Rattle.jsonpath_parser.specs.declared.model.Selector.{Selector}
 use Rattle.jsonpath_parser.proofs.ViewEquations.{segment_view-Descendant, segment_view-Selector, segment_view-Selectors, selector_view-Name, selector_view-Wildcard, selector_view-Index, selector_view-Slice, selector_view-Filter, comparable_view-Literal, comparable_view-Function, comparable_view-SingularQuery, filter_view-Or, filter_view-And, filter_view-Atom, atom_view-Filter, atom_view-Test, atom_view-Comparison, test_view-RelQuery, test_view-AbsQuery, test_view-Function, argument_view-Literal, argument_view-Test, argument_view-Filter, call_view-Custom, call_view-Length, call_view-Value, call_view-Count, call_view-Search, call_view-Match, query_view-segments}
 use Rattle.jsonpath_base.specs.Tree.{get, truth}
 use Rattle.jsonpath_base.specs.Slice.{slice_of}
-use Rattle.jsonpath_node.specs.Node.{below, children, subtree}
+use Rattle.jsonpath_node.specs.Node.{below, children, subtree, root_node}
 use Rattle.jsonpath_node.specs.Meaning.{picks, all_pick, replaced, indexed, element, holds, some_holds, each_holds, atom_holds, comparison_holds, value_of, answer, negated, nodelist, all_trees, argued, tested}
 use Rattle.jsonpath_walk.proofs.Work.{action_weight}
 use Rattle.jsonpath_node.proofs.Weight.{segment_weight, selectors_weight, selector_weight, segments_weight, filter_weight, filters_weight, atom_weight, test_weight, comparison_weight, comparable_weight, call_weight, argument_weight, arguments_weight}
@@ -957,6 +957,16 @@ test-returns-in_ok-nodes-in-RelQuery-clause-held g t c =
     let ns = ap (λ (gs : List Segment). through (segments_in gs) d n) c.deref.ensures.value ∙ through-applied (segments_in c.in-RelQuery.segments.items) d n in
     ap nodes (c.in_ok-nodes-in-RelQuery.ensures.given ∙ ap (give (start c.args.wanted)) ns) ∙ sym (ap (λ q. holding c.args.wanted (tested q d n)) e)
 
+pub test-returns-in-Some-clause-held : goal.test-returns-in-Some-clause-held
+test-returns-in-Some-clause-held g t c =
+    let tree = g.T.Queryable.tree in
+    let d = document tree g.T.Queryable.custom c.args.self.now in
+    let n = node_of tree c.args.trail.now.way.steps.items c.args.at.now in
+    let e = ap test_view c.in-AbsQuery.is ∙ test_view-AbsQuery c.in-AbsQuery.query in
+    let found = rw c.in-Some.is at c.in_ok-nodes-in-AbsQuery.ensures.given in
+    let all = ap (λ (gs : List Segment). through (segments_in gs) d (root_node d.root)) c.deref-in-AbsQuery.ensures.value ∙ nodelist-through (segments_in c.in-AbsQuery.query.segments.items) d ∙ ap (λ q. nodelist q d) (sym (query_view-segments c.in-AbsQuery.query)) in
+    ap nodes (found.given d (root_node d.root) refl ∙ ap (give (start c.args.wanted)) all) ∙ sym (ap (λ q. holding c.args.wanted (tested q d n)) e)
+
 pub test-returns-in_ok-index-in-AbsQuery-clause-held : goal.test-returns-in_ok-index-in-AbsQuery-clause-held
 test-returns-in_ok-index-in-AbsQuery-clause-held g t c =
     let tree = g.T.Queryable.tree in
@@ -993,7 +1003,8 @@ pub absolute-gather-requires : goal.absolute-gather-requires
 absolute-gather-requires g t c κs within =
     let e = query_view-segments c.args.query.now in
     let gs = c.deref.ensures.value in
-    let root = at_root (ap (λ w. w.steps.items) c.replace-here.ensures.after ∙ c.new-root.ensures) c.requires.ready in
+    let ready = ready_as g.T.Queryable.tree g.T.Queryable.is_whole g.T.Queryable.custom c.args.self.now c.args.trail.now.cache c.find.new.self c.find.ensures.same c.requires.ready in
+    let root = at_root (ap (λ w. w.steps.items) c.replace-here.ensures.after ∙ c.new-root.ensures) ready in
     (down _ _ _ _ _ _ c.decreases (omega (arith, ap segments_weight e, ap (λ (xs : List Segment). segments_weight (segments_in xs)) gs)) (omega arith), (within, (root, part_as (λ (xs : List Segment). segments_patterns (segments_in xs)) _ _ _ (sym gs) (part_as segments_patterns _ _ _ e c.requires.part))))
 
 pub absolute-returns-in-Some-clause-within : goal.absolute-returns-in-Some-clause-within
@@ -1005,7 +1016,7 @@ absolute-returns-in-Some-clause-right g t c =
     c.in-Some.ensures.right d c.requires.ready.nodelists
 
 pub absolute-returns-in-Some-clause-returns : goal.absolute-returns-in-Some-clause-returns
-absolute-returns-in-Some-clause-returns g t c = stays c.requires.ready
+absolute-returns-in-Some-clause-returns g t c = record { same = refl; ready = ready_as g.T.Queryable.tree g.T.Queryable.is_whole g.T.Queryable.custom c.args.self.now c.args.trail.now.cache c.find.new.self c.find.ensures.same c.requires.ready }
 
 pub absolute-returns-clause-within : goal.absolute-returns-clause-within
 absolute-returns-clause-within g t c = c.in_ok-keep.ensures.within
