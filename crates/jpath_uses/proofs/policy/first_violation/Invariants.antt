@@ -1,0 +1,8 @@
+use Rattle.std.proofs.Common.{All, take}
+use Rattle.jsonpath_node.specs.Document.{document_of}
+use Rattle.jpath_uses.specs.First.{IsSilent}
+use Rattle.jpath_uses.proofs.policy.first_violation.Given as goal
+
+-- the queries that were asked select nothing
+abbrev pub invariant-loop-rule : goal.invariant-loop-rule
+invariant-loop-rule g l = All (IsSilent (document_of g.T.Queryable.tree g.T.Queryable.custom l.document)) (take l.rule l.policy)

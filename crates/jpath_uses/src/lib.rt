@@ -1,0 +1,9 @@
+//! Callers of `jsonpath_rust`, each with a contract of its own that is proved from the contracts of what it calls.
+#![tactic(auto)]
+
+pub mod first;
+pub mod policy;
+pub mod routing;
+
+pub use crate::policy::{Violation, first_violation};
+pub use crate::routing::route;
