@@ -9,6 +9,7 @@ pub mod TextOrder
 pub mod Placing
 pub mod PutLaws
 pub mod Putting
+pub mod PutWhole
 pub mod Marking
 pub mod Removing
 pub mod Removed

@@ -8,7 +8,7 @@ use Rattle.jsonpath_base.specs.Put.{with_element, with_member, with_child, put, 
 use Rattle.jsonpath_base.specs.Tree.{Tree, null, truth, number, text, list, object, Trees, no_trees, tree, Members, no_members, member, find, pairs}
 
 -- the child at r, where the child at s is written: it is the one that was written, or it is as it was
-abbrev IsWritten : Step → Step → (Tree → Tree) → Option Tree → Option Tree → Type 0
+abbrev pub IsWritten : Step → Step → (Tree → Tree) → Option Tree → Option Tree → Type 0
 IsWritten s r f old new = ((s ≡ r) × (new ≡ option_map f old)) ⊎ (new ≡ old)
 
 -- ---- elements
@@ -57,7 +57,7 @@ member_written k j f ms = pick (bytes_eq j k) refl
 
 -- ---- a step down
 
-child_written : (s r : Step) (f : Tree → Tree) (t : Tree) → IsWritten s r f (child r t) (child r (with_child s f t))
+pub child_written : (s r : Step) (f : Tree → Tree) (t : Tree) → IsWritten s r f (child r t) (child r (with_child s f t))
 child_written (index i) (index j) f (list ts) = element_written i j f ts
 child_written (index i) (name k) f (list ts) = inr refl
 child_written (name k) r f (list ts) = inr refl
@@ -90,3 +90,62 @@ put_leaves_the_rest (s ∷ l) (r ∷ m) u t above inside = step (child_written s
     step : IsWritten s r (put l u) (child r t) (child r (with_child s (put l u) t)) → (s ≡ r → (x : Tree) → at m (put l u x) ≡ at m x) → at (r ∷ m) (put (s ∷ l) u t) ≡ at (r ∷ m) t
     step (inl (e, h)) more = ap (option_and_then (at m)) h ∙ behind_same (put l u) (at m) (more e) (child r t)
     step (inr h) more = ap (option_and_then (at m)) h
+
+-- ---- the written child
+
+element_same : (i : ℕ) (f : Tree → Tree) (ts : Trees) → item_at i (with_element i f ts) ≡ option_map f (item_at i ts)
+element_same i f no_trees = refl
+element_same zero f (tree t ts) = refl
+element_same (suc i) f (tree t ts) = element_same i f ts
+
+-- it is the one that was there, written
+pub child_same : (s : Step) (f : Tree → Tree) (t : Tree) → child s (with_child s f t) ≡ option_map f (child s t)
+child_same (index i) f (list ts) = element_same i f ts
+child_same (name k) f (list ts) = refl
+child_same (name k) f (object ms) = member_same k f ms
+child_same (index i) f (object ms) = refl
+child_same (index i) f null = refl
+child_same (index i) f (truth b) = refl
+child_same (index i) f (number n) = refl
+child_same (index i) f (text k) = refl
+child_same (name k) f null = refl
+child_same (name k) f (truth b) = refl
+child_same (name k) f (number n) = refl
+child_same (name k) f (text k') = refl
+
+-- ---- where nothing is there, nothing is written
+
+abbrev Keeps : (Tree → Tree) → Option Tree → Type 0
+Keeps f o = (c : Tree) → o ≡ Some c → f c ≡ c
+
+element_as_it_was : (i : ℕ) (f : Tree → Tree) (ts : Trees) → Keeps f (item_at i ts) → with_element i f ts ≡ ts
+element_as_it_was i f no_trees h = refl
+element_as_it_was zero f (tree t ts) h = ap (λ u. tree u ts) (h t refl)
+element_as_it_was (suc i) f (tree t ts) h = ap (tree t) (element_as_it_was i f ts h)
+
+member_as_it_was : (k : List ℕ) (f : Tree → Tree) (ms : Members) → Keeps f (find k (pairs ms)) → with_member k f ms ≡ ms
+member_as_it_was k f no_members h = refl
+member_as_it_was k f (member n t ms) h = pick (bytes_eq k n) refl (member_as_it_was k f ms)
+  where
+    pick : (b : Bool) → bytes_eq k n ≡ b → (Keeps f (find k (pairs ms)) → with_member k f ms ≡ ms) → with_member k f (member n t ms) ≡ member n t ms
+    pick true same more = rw same (ap (λ u. member n u ms) (h t (ap (λ b. cond b (Some t) (find k (pairs ms))) same)))
+    pick false other more = rw other (ap (member n t) (more (λ c e. h c (ap (λ b. cond b (Some t) (find k (pairs ms))) other ∙ e))))
+
+child_as_it_was : (s : Step) (f : Tree → Tree) (t : Tree) → Keeps f (child s t) → with_child s f t ≡ t
+child_as_it_was (index i) f (list ts) h = ap list (element_as_it_was i f ts h)
+child_as_it_was (name k) f (list ts) h = refl
+child_as_it_was (name k) f (object ms) h = ap object (member_as_it_was k f ms h)
+child_as_it_was (index i) f (object ms) h = refl
+child_as_it_was (index i) f null h = refl
+child_as_it_was (index i) f (truth b) h = refl
+child_as_it_was (index i) f (number n) h = refl
+child_as_it_was (index i) f (text k) h = refl
+child_as_it_was (name k) f null h = refl
+child_as_it_was (name k) f (truth b) h = refl
+child_as_it_was (name k) f (number n) h = refl
+child_as_it_was (name k) f (text k') h = refl
+
+-- a write where nothing is changes nothing
+pub put_nowhere : (l : Location) (u t : Tree) → at l t ≡ None → put l u t ≡ t
+put_nowhere [] u t none = absurd cc
+put_nowhere (s ∷ l) u t none = child_as_it_was s (put l u) t (λ c is. put_nowhere l u c (sym (ap (option_and_then (at l)) is) ∙ none))

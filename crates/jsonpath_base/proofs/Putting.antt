@@ -76,7 +76,7 @@ element_past (v ∷ vs) (suc i) f h = let more = element_past vs i f (omega (ari
 
 -- ---- members
 
-abbrev is_entry : List ℕ → String Global → Bool
+abbrev pub is_entry : List ℕ → String Global → Bool
 is_entry k = is_at (λ l. slice_cmp nat_cmp k (string_bytes l))
 
 member_set : (k : List ℕ) (es : List Entry) (x w : Value) (f : Tree → Tree) → lookup (is_entry k) es ≡ Some x → value_tree w ≡ f (value_tree x)

@@ -50,22 +50,22 @@ members_are_whole ms = members_whole ms && members_distinct (members_of ms)
 pub whole_distinct : (v : Value) → IsTrue (value_is_whole v) → IsTrue (has_distinct_names (value_tree v))
 whole_distinct v h = (and_parts (has_whole_numbers (view v)) (has_distinct_names (value_tree v)) h).1
 
-first_item_whole : (d : Data) (ds : json.Items) → items_are_whole (json.item d ds) ≡ true → data_whole d ≡ true
+pub first_item_whole : (d : Data) (ds : json.Items) → items_are_whole (json.item d ds) ≡ true → data_whole d ≡ true
 first_item_whole d ds h =
     let parts = and_parts (items_whole (json.item d ds)) _ h in
     and_from (has_whole_numbers d) _ (and_parts (has_whole_numbers d) (items_whole ds) parts.0).0 (and_parts (has_distinct_names (tree_of d)) (trees_distinct (trees_of ds)) parts.1).0
 
-more_items_whole : (d : Data) (ds : json.Items) → items_are_whole (json.item d ds) ≡ true → items_are_whole ds ≡ true
+pub more_items_whole : (d : Data) (ds : json.Items) → items_are_whole (json.item d ds) ≡ true → items_are_whole ds ≡ true
 more_items_whole d ds h =
     let parts = and_parts (items_whole (json.item d ds)) _ h in
     and_from (items_whole ds) _ (and_parts (has_whole_numbers d) (items_whole ds) parts.0).1 (and_parts (has_distinct_names (tree_of d)) (trees_distinct (trees_of ds)) parts.1).1
 
-first_member_whole : (k : List ℕ) (d : Data) (ms : json.Members) → members_are_whole (json.member k d ms) ≡ true → data_whole d ≡ true
+pub first_member_whole : (k : List ℕ) (d : Data) (ms : json.Members) → members_are_whole (json.member k d ms) ≡ true → data_whole d ≡ true
 first_member_whole k d ms h =
     let parts = and_parts (members_whole (json.member k d ms)) _ h in
     and_from (has_whole_numbers d) _ (and_parts (has_whole_numbers d) (members_whole ms) parts.0).0 (and_parts (has_distinct_names (tree_of d)) (members_distinct (members_of ms)) parts.1).0
 
-more_members_whole : (k : List ℕ) (d : Data) (ms : json.Members) → members_are_whole (json.member k d ms) ≡ true → members_are_whole ms ≡ true
+pub more_members_whole : (k : List ℕ) (d : Data) (ms : json.Members) → members_are_whole (json.member k d ms) ≡ true → members_are_whole ms ≡ true
 more_members_whole k d ms h =
     let parts = and_parts (members_whole (json.member k d ms)) _ h in
     and_from (members_whole ms) _ (and_parts (has_whole_numbers d) (members_whole ms) parts.0).1 (and_parts (has_distinct_names (tree_of d)) (members_distinct (members_of ms)) parts.1).1

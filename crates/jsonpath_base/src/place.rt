@@ -1,9 +1,9 @@
 //! The value at a location, to be read and to be written.
-ghost use Rattle.std.specs.Prelude.{◌≡◌, option_map, is_some};
+ghost use Rattle.std.specs.Prelude.{◌≡◌, IsTrue, option_map, is_some};
 ghost use Rattle.jsonpath_base.specs.Places as places;
 ghost use Rattle.jsonpath_base.specs.Put.{put, PutLeavesTheRest};
 ghost use Rattle.jsonpath_base.specs.Steps.{location_view, step_view};
-ghost use Rattle.jsonpath_base.specs.Values.{value_tree};
+ghost use Rattle.jsonpath_base.specs.Values.{value_tree, value_is_whole};
 
 use crate::step::Step;
 use serde_json::Value;
@@ -40,6 +40,7 @@ fn child<'v>(value: &'v Value, step: &Step) -> Option<&'v Value>
 pub fn put_at(value: &mut Value, steps: &[Step], new: Value) -> bool
     ensures value { value_tree value.new ≡ put (location_view steps.now) (value_tree new) (value_tree value.old) }
     ensures found { result ≡ is_some (places.at (location_view steps.now) (value_tree value.old)) }
+    ensures whole { IsTrue (value_is_whole value.old) → IsTrue (value_is_whole new) → IsTrue (value_is_whole value.new) }
 {
     let (step, rest) = match steps.split_first() {
         Some((step, rest)) => (step, rest),
