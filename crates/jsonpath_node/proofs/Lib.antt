@@ -3,6 +3,7 @@ pub mod Following
 pub mod LendingLaws
 pub mod Made
 pub mod NodesAt
+pub mod NormalSteps
 pub mod Parts
 pub mod Trees
 pub mod Weight

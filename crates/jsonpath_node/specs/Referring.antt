@@ -44,3 +44,8 @@ pub record IsReplaced (text : List ℕ) (doc : Document) (new : Tree) (answer : 
   pub means : IsReference text doc reference
   pub replaced : after ≡ put_there reference new doc.root
   pub found : answer ≡ is_some reference
+
+-- The new tree is put at the location, and the answer is whether something was there.
+pub record IsPut (l : Location) (old new : Tree) (answer : Bool) (after : Tree) : Type 0 where
+  pub found : answer ≡ is_some (at l old)
+  pub left : after ≡ put l new old

@@ -2,6 +2,9 @@
 //! name or one index. The steps are followed down from the root; the value is not walked.
 ghost use Rattle.std.specs.Prelude.{◌≡◌, [], Some, IsTrue, IfOk, IfErr, IfSome, IsSome, OnErr, option_map};
 ghost use Rattle.jsonpath_parser.specs.Location as location;
+ghost use Rattle.jsonpath_parser.specs.Location.{Location};
+ghost use Rattle.jsonpath_parser.specs.Normal.{IsNormal};
+ghost use Rattle.jsonpath_parser.specs.Steps.{HasIndexesInRange};
 ghost use Rattle.jsonpath_parser.specs.View.{segment_view, selector_view};
 ghost use Rattle.jsonpath_parser.specs.declared.errors.JsonPathError.TheVariants.{OutOfMemory};
 ghost use Rattle.jsonpath_base.specs.Places as places;
@@ -9,7 +12,7 @@ ghost use Rattle.jsonpath_base.specs.SetFunctions.{set_function};
 ghost use Rattle.jsonpath_base.specs.Steps.{location_view};
 ghost use Rattle.jsonpath_base.specs.Values.{value_tree, value_is_whole};
 ghost use Rattle.jsonpath_node.specs.Document.{document_of};
-ghost use Rattle.jsonpath_node.specs.Referring.{IsReference, IsReferred, IsReplaced};
+ghost use Rattle.jsonpath_node.specs.Referring.{IsReference, IsReferred, IsReplaced, IsPut};
 ghost use Rattle.jsonpath_node.specs.inner.Following as following;
 ghost use Rattle.jsonpath_node.specs.inner.Following.{followed, step_to, child_view, place_view};
 ghost use Rattle.jsonpath_node.specs.inner.Parts.{segments_in};
@@ -44,6 +47,10 @@ struct Place<'v> {
 /// The time is linear in the length of the path, with a search by name in each object on the way.
 pub fn replace_by_path(alloc: Global, value: &mut Value, path: &str, new: Value) -> Queried<bool>
     ensures replaced { IfOk result (λ found. IsReplaced path.now (document_of value_tree set_function value.old) (value_tree new) found (value_tree value.new)) }
+
+    // The Normalized Path of a location means that location, wherever something is there.
+    ensures normal { (l : Location) → IsNormal l path.now → HasIndexesInRange l → IfOk result (λ found. IsPut l (value_tree value.old) (value_tree new) found (value_tree value.new)) }
+    ensures whole { IsTrue (value_is_whole value.old) → IsTrue (value_is_whole new) → IsTrue (value_is_whole value.new) }
     ensures kept { OnErr result (value.new ≡ value.old) }
     ensures memory { IfErr result (λ e. e ≡ OutOfMemory) }
 {
