@@ -3,7 +3,9 @@
 
 pub mod first;
 pub mod policy;
+pub mod redaction;
 pub mod routing;
 
 pub use crate::policy::{Violation, first_violation};
+pub use crate::redaction::redact;
 pub use crate::routing::route;

@@ -1,0 +1,11 @@
+use Rattle.std.proofs.Common.{◌≡◌, map, take}
+use Rattle.jsonpath_base.specs.SetFunctions.{set_function}
+use Rattle.jsonpath_base.specs.Steps.{location_view}
+use Rattle.jsonpath_base.specs.Values.{value_tree}
+use Rattle.jsonpath_node.specs.Document.{document_of}
+use Rattle.jpath_uses.specs.Redaction.{all_selected}
+use Rattle.jpath_uses.proofs.redaction.all_places.Given as goal
+
+-- the places of the queries so far
+abbrev pub invariant-loop-query : goal.invariant-loop-query
+invariant-loop-query l = map (λ p. location_view p.items) l.places.items ≡ all_selected (take l.query-index l.rules) (document_of value_tree set_function l.document)
