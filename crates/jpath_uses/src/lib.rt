@@ -5,7 +5,9 @@ pub mod first;
 pub mod policy;
 pub mod redaction;
 pub mod routing;
+pub mod script;
 
 pub use crate::policy::{Violation, first_violation};
 pub use crate::redaction::redact;
 pub use crate::routing::route;
+pub use crate::script::{Edit, apply_edits};
