@@ -1,3 +1,4 @@
+pub mod Differing
 pub mod Firsts
 pub mod Making
 pub mod Nulling

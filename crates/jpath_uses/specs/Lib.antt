@@ -1,3 +1,4 @@
+pub mod Difference
 pub mod First
 pub mod Redaction
 pub mod Script
