@@ -4,6 +4,7 @@ pub mod Kept
 pub mod Leading
 pub mod Leaves
 pub mod LookupLaws
+pub mod NestingLaws
 pub mod NodelistLaws
 pub mod PatternLaws
 pub mod Sinks

@@ -18,6 +18,10 @@ use Rattle.jsonpath_walk.specs.inner.Keeping.{StandIn}
 pub part_as : {X : Type 0} (f : X → List (Bool × Argument)) (q : Query) (x y : X) → x ≡ y → StandIn q (f x) → StandIn q (f y)
 part_as f q x y e h = subst (λ z. StandIn q (f z)) e h
 
+-- a part of a part
+pub part_in : (q inner : Query) (ps : List (Bool × Argument)) → StandIn q (segments_patterns inner) → StandIn inner ps → StandIn q ps
+part_in q inner ps h k = record { all = λ p c. h.all p (k.all p c) }
+
 -- one of two parts
 pub part_left : (q : Query) (xs ys : List (Bool × Argument)) → StandIn q (xs ++ ys) → StandIn q xs
 part_left q xs ys h = record { all = λ p k. h.all p (Contains-append_left xs ys p k) }

@@ -2,6 +2,7 @@
 pub mod Arguing
 pub mod Keeping
 pub mod Lookup
+pub mod Nesting
 pub mod Sinks
 pub mod Standing
 pub mod Walking

@@ -8,6 +8,7 @@ mod filter;
 mod finders;
 mod function;
 mod lookup;
+mod nested;
 mod nodelist;
 mod patterns;
 mod singular;

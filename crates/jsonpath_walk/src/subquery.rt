@@ -10,6 +10,7 @@ ghost use Rattle.jsonpath_walk.specs.inner.Walking.{node_of, through};
 ghost use Rattle.jsonpath_node.specs.inner.Parts.{segments_in};
 
 use crate::lookup::looked_up;
+use crate::nested::nested_in;
 use crate::sink::{Sink, Wanted};
 use crate::trail::Trail;
 use crate::walk::Task;
@@ -43,7 +44,8 @@ impl<'a: 's, 's, T: Queryable> Task<'a, 's, T> {
         Ok(sink)
     }
 
-    /// The index in the cache of the nodelist of a query from the root. It is found when it is first needed.
+    /// The index in the cache of the nodelist of a query from the root. It is found when it is first needed, and after those
+    /// in its filters.
     #[cycle(walk)]
     pub fn absolute(
         &self,
@@ -61,10 +63,27 @@ impl<'a: 's, 's, T: Queryable> Task<'a, 's, T> {
         if let Some(index) = trail.cache.find(query, wanted) {
             return Ok(index);
         }
+        self.settle(query, trail)?;
         let root = Way::new(self.alloc);
         let here = mem::replace(&mut trail.way, root);
         let nodes = self.gather(&query.segments, wanted, self.root, trail)?;
         trail.way = here;
         Ok(trail.cache.keep(query, wanted, nodes)?)
+    }
+
+    /// Answers the queries from the root that stand in the filters of this one, before it goes down. So of those that stand
+    /// in one another only one is on its way at a time.
+    #[cycle(walk)]
+    fn settle(&self, query: &'s JpQuery, trail: &mut Trail<'a, 's, T>) -> Walked<()>
+        requires part { StandIn (query_of self.now) (segments_patterns (query_view query.now)) }
+        requires ready { IsReady T.tree T.is_whole T.custom self.now trail.old.cache }
+        ensures returns { OnOk result (Returns T.tree T.is_whole T.custom self.now trail.old trail.new) }
+        ensures refused { IfErr result (IsHalt (query_of self.now) (document T.tree T.custom self.now)) }
+    {
+        let inner = nested_in(self.alloc, query)?;
+        for nested in &inner {
+            let _index = self.absolute(nested.query, nested.wanted, trail)?;
+        }
+        Ok(())
     }
 }

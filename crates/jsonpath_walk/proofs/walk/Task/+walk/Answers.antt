@@ -6,7 +6,7 @@ use Rattle.std.proofs.lemmas.List.Elements.{All-head, All-tail, All-nil}
 use Rattle.std.specs.List.{flat_map}
 use Rattle.jsonpath_parser.specs.Location.{name, index}
 use Rattle.jsonpath_parser.specs.Syntax.{descendant}
-use Rattle.jsonpath_parser.specs.View.{segment_view, selector_view, filter_view, atom_view, test_view, comparison_view, comparable_view, call_view, argument_view, operator_view}
+use Rattle.jsonpath_parser.specs.View.{segment_view, selector_view, filter_view, atom_view, test_view, comparison_view, comparable_view, call_view, argument_view, operator_view, query_view}
 use Rattle.jsonpath_parser.specs.declared.model.Segment.{Segment}
 use Rattle.jsonpath_parser.specs.declared.model.Selector.{Selector}
 use Rattle.jsonpath_parser.proofs.ViewEquations.{segment_view-Descendant, segment_view-Selector, segment_view-Selectors, selector_view-Name, selector_view-Wildcard, selector_view-Index, selector_view-Slice, selector_view-Filter, comparable_view-Literal, comparable_view-Function, comparable_view-SingularQuery, filter_view-Or, filter_view-And, filter_view-Atom, atom_view-Filter, atom_view-Test, atom_view-Comparison, test_view-RelQuery, test_view-AbsQuery, test_view-Function, argument_view-Literal, argument_view-Test, argument_view-Filter, call_view-Custom, call_view-Length, call_view-Value, call_view-Count, call_view-Search, call_view-Match, query_view-segments}
@@ -21,13 +21,14 @@ use Rattle.jsonpath_walk.specs.inner.Walking.{action_patterns, through, node_of,
 use Rattle.jsonpath_node.specs.inner.Parts.{segments_in, selectors_in, filters_in, arguments_in}
 use Rattle.jsonpath_walk.specs.inner.Sinks.{seen, give, start}
 use Rattle.jsonpath_walk.specs.inner.Keeping.{document, query_of}
+use Rattle.jsonpath_walk.specs.inner.Nesting.{IsNested}
 use Rattle.jsonpath_walk.specs.declared.way.StepRef.TheVariants.{Name, Index}
 use Rattle.jsonpath_walk.proofs.Sinks.{took_none, took_as, took_stop, result_as, result_then, true_false}
 use Rattle.jsonpath_walk.proofs.Walks.{down, down_tree, turn_next, turn_stop, turn_end, selector_turns, element_turns, member_turns, place_next, place_stop, below_more, flat_map-alone, flat_map-filter}
 use Rattle.jsonpath_walk.proofs.Leaves.{replaced-none}
 use Rattle.jsonpath_walk.proofs.Leading.{leads_below, leads_indexed}
 use Rattle.jsonpath_node.proofs.NodesAt.{member_there}
-use Rattle.jsonpath_walk.proofs.PatternLaws.{part_as, part_left, part_right, part_both, part_at, part_rest, pattern_asked}
+use Rattle.jsonpath_walk.proofs.PatternLaws.{part_as, part_in, part_left, part_right, part_both, part_at, part_rest, pattern_asked}
 use Rattle.jsonpath_node.proofs.Trees.{child_there, all_at, element_size, pair_size, member_size, element_at, sliced-list, named_some, named_none}
 use Rattle.jsonpath_node.proofs.Parts.{part_of, kept_true, kept_false, some_found, some_next, each_failed, each_next, parts_end, ok_as, ok_through, differs, passed_on, joined_next}
 use Rattle.jsonpath_walk.proofs.Kept.{ready_as}
@@ -999,12 +1000,16 @@ gather-returns-clause-given g t c =
     let n = node_of tree c.args.trail.now.way.steps.items c.args.at.now in
     c.in_ok-_goes_on.ensures.gave.given ∙ ap (λ s. give s (through (segments_in c.args.segments.now) d n)) c.start-sink.ensures
 
+pub absolute-settle-requires : goal.absolute-settle-requires
+absolute-settle-requires g t c κs within =
+    let ready = ready_as g.T.Queryable.tree g.T.Queryable.is_whole g.T.Queryable.custom c.args.self.now c.args.trail.now.cache c.find.new.self c.find.ensures.same c.requires.ready in
+    (down _ _ _ _ _ _ c.decreases (omega arith) (omega arith), (within, (c.requires.part, ready)))
+
 pub absolute-gather-requires : goal.absolute-gather-requires
 absolute-gather-requires g t c κs within =
     let e = query_view-segments c.args.query.now in
     let gs = c.deref.ensures.value in
-    let ready = ready_as g.T.Queryable.tree g.T.Queryable.is_whole g.T.Queryable.custom c.args.self.now c.args.trail.now.cache c.find.new.self c.find.ensures.same c.requires.ready in
-    let root = at_root (ap (λ w. w.steps.items) c.replace-here.ensures.after ∙ c.new-root.ensures) ready in
+    let root = at_root (ap (λ w. w.steps.items) c.replace-here.ensures.after ∙ c.new-root.ensures) c.in_ok-settle.ensures.returns.ready in
     (down _ _ _ _ _ _ c.decreases (omega (arith, ap segments_weight e, ap (λ (xs : List Segment). segments_weight (segments_in xs)) gs)) (omega arith), (within, (root, part_as (λ (xs : List Segment). segments_patterns (segments_in xs)) _ _ _ (sym gs) (part_as segments_patterns _ _ _ e c.requires.part))))
 
 pub absolute-returns-in-Some-clause-within : goal.absolute-returns-in-Some-clause-within
@@ -1037,4 +1042,11 @@ absolute-returns-clause-returns g t c =
     let at = λ (q : List StepRef) (gs : List Segment). through (segments_in gs) d (node_of tree q c.args.self.now.root.now) in
     let all = ap (λ q. at q c.deref.result.now) (ap (λ w. w.steps.items) c.replace-here.ensures.after ∙ c.new-root.ensures) ∙ ap (at []) c.deref.ensures.value ∙ nodelist-through (segments_in c.args.query.now.segments.items) d ∙ ap (λ q. nodelist q d) (sym (query_view-segments c.args.query.now)) in
     let given = c.in_ok-nodes.ensures.given ∙ ap (give (start c.args.wanted)) all in
-    record { same = ap (λ w. w.steps.items) c.replace-here.ensures.value; ready = record { root = c.requires.ready.root; nodelists = c.in_ok-keep.ensures.right d given c.in_ok-nodes.ensures.returns.ready.nodelists } }
+    record { same = ap (λ w. w.steps.items) c.replace-here.ensures.value ∙ c.in_ok-settle.ensures.returns.same; ready = record { root = c.requires.ready.root; nodelists = c.in_ok-keep.ensures.right d given c.in_ok-nodes.ensures.returns.ready.nodelists } }
+
+pub settle-absolute-requires : goal.settle-absolute-requires
+settle-absolute-requires g t c κs within =
+    let q = query_view c.args.query.now in
+    let all = subst (All (IsNested q)) (sym c.deref-nested-items.ensures.value) c.in_ok-inner.ensures in
+    let nested = all_at (IsNested q) c.deref-nested-items.result.now c.loop-nested.nested-index c.nested-item.result all c.loop-nested-test.true c.nested-item.is in
+    (down _ _ _ _ _ _ c.decreases (omega (arith, nested.within)) (omega arith), (within, (part_in _ _ _ c.requires.part nested.stand, c.loop-nested.invariant.returns.ready)))

@@ -82,6 +82,9 @@ decreases-gather g l = let tree = g.T.Queryable.tree in work (segments_weight (s
 abbrev pub decreases-absolute : goal.decreases-absolute
 decreases-absolute g l = let tree = g.T.Queryable.tree in work (segments_weight (query_view l.query.now) + 3) (size (tree l.self.now.root.now)) (3 * size (tree l.self.now.root.now))
 
+abbrev pub decreases-settle : goal.decreases-settle
+decreases-settle g l = let tree = g.T.Queryable.tree in work (segments_weight (query_view l.query.now) + 2) (size (tree l.self.now.root.now)) (3 * size (tree l.self.now.root.now))
+
 -- what was given, with what is left, is what all of them give
 abbrev pub invariant-pick_each-loop-selector : goal.invariant-pick_each-loop-selector
 invariant-pick_each-loop-selector g l =
@@ -168,3 +171,8 @@ invariant-custom-loop-arg g l =
       trees : arg_trees tree l.values.items ++ all_trees (arguments_in (drop l.arg-index l.args)) d n ≡ all_trees (arguments_in l.args) d n;
       whole : AreWhole whole l.values.items;
     }
+
+abbrev pub invariant-settle-loop-nested : goal.invariant-settle-loop-nested
+invariant-settle-loop-nested g l = record {
+  returns : Returns g.T.Queryable.tree g.T.Queryable.is_whole g.T.Queryable.custom l.self l.initial.trail l.trail;
+}

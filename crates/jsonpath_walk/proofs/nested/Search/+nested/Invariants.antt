@@ -1,0 +1,30 @@
+use Rattle.jsonpath_parser.specs.Syntax.{Query}
+use Rattle.jsonpath_node.proofs.Weight.{segments_weight, selectors_weight, filters_weight, arguments_weight}
+use Rattle.jsonpath_node.specs.Patterns.{segments_patterns, selectors_patterns, filters_patterns, arguments_patterns}
+use Rattle.jsonpath_node.specs.inner.Parts.{segments_in, selectors_in, filters_in, arguments_in}
+use Rattle.jsonpath_walk.specs.inner.Nesting.{LiesIn, AreNested}
+use Rattle.jsonpath_walk.proofs.nested.Search.+nested.Given as goal
+
+-- what is found so far stands in what they stand in
+abbrev pub invariant-segments-loop-segment : goal.invariant-segments-loop-segment
+invariant-segments-loop-segment l = record {
+  nested : (q : Query) → LiesIn q (segments_patterns (segments_in l.segments)) (segments_weight (segments_in l.segments)) → AreNested q l.initial.self.found.items → AreNested q l.self.found.items;
+}
+
+-- what is found so far stands in what they stand in
+abbrev pub invariant-selectors-loop-selector : goal.invariant-selectors-loop-selector
+invariant-selectors-loop-selector l = record {
+  nested : (q : Query) → LiesIn q (selectors_patterns (selectors_in l.selectors)) (selectors_weight (selectors_in l.selectors)) → AreNested q l.initial.self.found.items → AreNested q l.self.found.items;
+}
+
+-- what is found so far stands in what they stand in
+abbrev pub invariant-filters-loop-filter : goal.invariant-filters-loop-filter
+invariant-filters-loop-filter l = record {
+  nested : (q : Query) → LiesIn q (filters_patterns (filters_in l.filters)) (filters_weight (filters_in l.filters)) → AreNested q l.initial.self.found.items → AreNested q l.self.found.items;
+}
+
+-- what is found so far stands in what they stand in
+abbrev pub invariant-arguments-loop-arg : goal.invariant-arguments-loop-arg
+invariant-arguments-loop-arg l = record {
+  nested : (q : Query) → LiesIn q (arguments_patterns (arguments_in l.args)) (arguments_weight (arguments_in l.args)) → AreNested q l.initial.self.found.items → AreNested q l.self.found.items;
+}
