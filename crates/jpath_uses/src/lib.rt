@@ -3,6 +3,7 @@
 
 pub mod difference;
 pub mod first;
+pub mod first_steps;
 pub mod policy;
 pub mod redaction;
 pub mod routing;

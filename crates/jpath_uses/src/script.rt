@@ -31,11 +31,7 @@ pub enum Edit {
 /// document is as it was then.
 ///
 /// The cost is that of the edits, and of a copy of the document and of the new values.
-pub fn apply_edits(
-    alloc: Global,
-    edits: &[Edit],
-    document: &mut Value,
-) -> Queried<Option<usize>>
+pub fn apply_edits(alloc: Global, edits: &[Edit], document: &mut Value) -> Queried<Option<usize>>
     requires whole_edits { All IsWholeEdit edits.now }
     requires whole_document { IsTrue (value_is_whole document.old) }
     ensures made { IfOk result (λ o. IfNone o (AllMake edits.now (value_tree document.old) (value_tree document.new))) }

@@ -1,0 +1,31 @@
+//! First steps: a document is asked, read at a place, and changed.
+use jsonpath_rust::JsonPath;
+use jsonpath_rust::parser::errors::JsonPathError;
+use jsonpath_rust::query::js_path;
+use jsonpath_rust::query::queryable::{Deletable, Queryable};
+use serde_json::Value;
+use std::alloc::Global;
+
+/// Deletes the dear books of a store, and tells how many they were.
+pub fn delete_dear(alloc: Global, store: &mut Value) -> Result<usize, JsonPathError> {
+    if !store.is_whole() {
+        return Ok(0);
+    }
+    // The values of all prices in the store, lent, in order.
+    if store.query(alloc, "$..price")?.is_empty() {
+        return Ok(0);
+    }
+
+    // Nodes: `val` is a value in the store, `path` its place, as `$['book'][1]`.
+    let dear = js_path(alloc, "$.book[?@.price >= 10]", store)?;
+    for node in &dear {
+        // A path leads back to its value.
+        if store.reference(alloc, node.path.as_str())?.is_none() {
+            return Ok(0);
+        }
+    }
+    drop(dear);
+
+    // Deletion removes all that is selected, at once.
+    store.delete_by_path(alloc, "$.book[?@.price >= 10]")
+}
