@@ -3,20 +3,30 @@ ghost use Rattle.std.specs.Prelude.{All, IsTrue};
 ghost use Rattle.jsonpath_node.specs.Args.{arg_value};
 
 use crate::document::{Document, is_value};
-use crate::members::Types;
 use jpath_doc::Doc;
+use jpath_row::members::{Types, has_only, list_at, string_at, types_of};
 use jsonpath_rust::query::queryable::{Arg, Queryable};
 use serde_json::Value;
 use std::alloc::Global;
 
+/// Whether a row on a call of a document type, by its name, holds.
+pub fn holds(alloc: Global, row: &Value) -> bool {
+    match (
+        string_at(row, "call"),
+        list_at(row, "arguments"),
+        row.get("answer"),
+        types_of(row),
+    ) {
+        (Some(name), Some(arguments), Some(answer), Some(types)) => {
+            has_only(row, &["call", "arguments", "answer", "of"])
+                && answers(alloc, types, name, arguments, answer)
+        }
+        _ => false,
+    }
+}
+
 /// Whether the call answers so, of each of these types.
-pub fn answers(
-    alloc: Global,
-    types: Types,
-    name: &str,
-    arguments: &[Value],
-    answer: &Value,
-) -> bool {
+fn answers(alloc: Global, types: Types, name: &str, arguments: &[Value], answer: &Value) -> bool {
     match types {
         Types::Value => answers_of::<Value>(alloc, name, arguments, answer),
         Types::Doc => answers_of::<Doc>(alloc, name, arguments, answer),

@@ -2,10 +2,10 @@
 ghost use Rattle.std.specs.Prelude.{IsTrue};
 ghost use Rattle.jsonpath_base.specs.Values.{value_is_whole};
 
-use crate::document::{Document, are_equal};
-use crate::members::{Depth, Types, depth_of, has_only, size, string_at, types_of};
-use crate::refusal::is_refused;
+use crate::document::{Document, are_equal, is_value};
 use jpath_doc::Doc;
+use jpath_row::members::{Depth, Types, depth_of, has_only, size, string_at, types_of};
+use jpath_row::refusal::is_refused;
 use jsonpath_rust::query::queryable::{Deletable, Queryable};
 use jsonpath_rust::query::{Queried, QueryPath, QueryRef, delete_within, js_path_path};
 use serde_json::Value;
@@ -43,7 +43,9 @@ fn leaves(alloc: Global, row: &Value, query: &str, document: &Value) -> bool {
         return false;
     };
     let deleted = deleted(alloc, &mut left, query, depth);
-    deleted.is_some() && deleted == size(count) && are_equal(&left, wanted)
+    let held = deleted.is_some() && deleted == size(count) && are_equal(&left, wanted);
+    drop(left);
+    held
 }
 
 /// What the call of that depth answers, where it answers.
@@ -77,19 +79,22 @@ fn value_refuses(alloc: Global, query: &str, depth: Depth, document: &Value, kin
     let Some(mut kept) = document.clone().ok() else {
         return false;
     };
-    kept.is_whole()
+    let held = kept.is_whole()
         && is_refused(answered(alloc, &mut kept, query, depth), kind, query.len())
-        && are_equal(&kept, document)
+        && are_equal(&kept, document);
+    drop(kept);
+    held
 }
 
 fn doc_refuses(alloc: Global, query: &str, document: &Value, kind: &str) -> bool {
-    let (Some(mut kept), Some(document)) = (Doc::made(alloc, document), Doc::made(alloc, document))
-    else {
+    let Some(mut kept) = Doc::made(alloc, document) else {
         return false;
     };
-    kept.is_whole()
+    let held = kept.is_whole()
         && is_refused(kept.delete_by_path(alloc, query), kind, query.len())
-        && are_equal(&kept, &document)
+        && is_value(alloc, &kept, document);
+    drop(kept);
+    held
 }
 
 /// Whether deletion answers and leaves the same as removing by the paths of the nodes that the query selects, one after the
@@ -106,13 +111,20 @@ pub fn is_one_by_one(
     let Some(places) = js_path_path(alloc, "$..*", document).ok() else {
         return false;
     };
-    let (Some(mut at_once), Some(mut left)) = (document.clone().ok(), document.clone().ok()) else {
+    let Some(mut left) = document.clone().ok() else {
         return false;
     };
     let count = removed_by_paths(alloc, &mut left, &places, nodes);
-    count.is_some()
+    let Some(mut at_once) = document.clone().ok() else {
+        drop(left);
+        return false;
+    };
+    let held = count.is_some()
         && deleted(alloc, &mut at_once, query, Depth::Limit(depth)) == count
-        && are_equal(&at_once, &left)
+        && are_equal(&at_once, &left);
+    drop(at_once);
+    drop(left);
+    held
 }
 
 /// How many of these places are paths of nodes, once each of those is removed, the last first and the root at the end.

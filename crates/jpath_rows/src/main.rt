@@ -1,39 +1,24 @@
-//! Asks the rows on standard input, and tells how many hold, and which do not.
-//!
-//! The rows are JSON objects, one a line; an empty line, and one that begins with `#`, are passed over. A row is asked by its
-//! members, and one with another member, or without one that it needs, does not hold. Where the whole input is one JSON
-//! object with a member `tests`, it is read as a compliance suite.
+//! Asks the rows on standard input that ask documents, and tells how many hold, and which do not. Where the whole input is one
+//! JSON object with a member `tests`, it is read as a compliance suite.
 #![tactic(auto)]
 
 mod agreement;
-mod built;
-mod call;
 mod custom;
 mod deletion;
 mod document;
-mod maker;
-mod members;
 mod nodes;
-mod parse;
-mod pattern;
-mod place;
 mod process;
-mod production;
 mod query;
 mod reference;
-mod refusal;
+mod refused;
 mod results;
 mod row;
-mod slice;
 mod state;
 mod states;
-mod step;
 mod suite;
-mod text;
-mod tree;
-mod values;
 
-use members::{list_at, string_at};
+use jpath_row::ask_rows;
+use jpath_row::members::{list_at, string_at};
 use serde_json::Value;
 use std::io;
 use suite::Outcome;
@@ -45,29 +30,12 @@ fn main(rt: HostRuntime) -> io::Result<()> {
         Some(whole) => list_at(whole, "tests"),
         None => None,
     };
-    match tests {
+    let told = match tests {
         Some(tests) => ask_tests(&rt, tests),
-        None => ask_rows(&rt, input.as_str()),
-    }
-}
-
-/// Asks each row.
-fn ask_rows(rt: &HostRuntime, input: &str) -> io::Result<()> {
-    let mut count = 0u64;
-    let mut held = 0u64;
-    for (at, line) in input.lines().enumerate() {
-        if line.is_empty() || line.starts_with('#') {
-            continue;
-        }
-        count = count.saturating_add(1);
-        if row::holds(rt.alloc(), line) {
-            held = held.saturating_add(1);
-        } else {
-            let number = at.saturating_add(1);
-            println!(rt; "row {number} does not hold: {line}")?;
-        }
-    }
-    println!(rt; "{held} of {count} rows hold")
+        None => ask_rows(&rt, input.as_str(), row::holds),
+    };
+    drop(whole);
+    told
 }
 
 /// Asks each test of a suite.

@@ -1,7 +1,7 @@
 //! The nodes that a query answered, beside what is wanted of them.
 use crate::document::{Document, is_value};
-use crate::members::list;
-use crate::text::spells;
+use jpath_row::members::list;
+use jpath_row::text::spells;
 use jsonpath_rust::query::QueryRef;
 use serde_json::Value;
 use std::alloc::Global;

@@ -7,16 +7,17 @@ mod untyped;
 
 use crate::agreement::is_by_process;
 use crate::document::Document;
-use crate::members::{Types, has_only, string_at, types_of};
 use crate::state::{is_state, state_of, values_of};
-use crate::text::text_at;
 use jpath_doc::Doc;
+use jpath_row::members::{Types, has_only, string_at, types_of};
+use jpath_row::text::text_at;
 use jsonpath_build::{and, or, segment_many};
 use jsonpath_parser::errors::Parsed;
 use jsonpath_parser::model::{FnArg, JpQuery, SingularQuerySegment, TestFunction};
 use jsonpath_parser::{
-    Cursor, child_segment, comp_expr, comparable, filter_atom, function_expr, jp_query, literal,
-    logical_expr, rel_query, segment, selector, singular_query, singular_query_segments, test,
+    Cursor, child_segment, comp_expr, comparable, filter_atom, function_expr, jp_query, let_go,
+    literal, logical_expr, rel_query, segment, selector, singular_query, singular_query_segments,
+    test,
 };
 use jsonpath_rust::query::queryable::Queryable;
 use jsonpath_rust::query::state::State;
@@ -156,9 +157,19 @@ fn is_answered_by<Q: Query + Drop, T: Document>(
     part: Option<Q>,
     asked: &Asked<'_, T>,
 ) -> bool {
-    match (part, asked_state(alloc, asked)) {
-        (Some(part), Some(state)) => is_told(alloc, part.process(alloc, state).ok(), asked),
-        _ => false,
+    let Some(part) = part else {
+        return false;
+    };
+    let held = is_answered_so(alloc, &part, asked);
+    drop(part);
+    held
+}
+
+/// Whether this part answers as the row tells.
+fn is_answered_so<Q: Query, T: Document>(alloc: Global, part: &Q, asked: &Asked<'_, T>) -> bool {
+    match asked_state(alloc, asked) {
+        Some(state) => is_told(alloc, part.process(alloc, state).ok(), asked),
+        None => false,
     }
 }
 
@@ -168,10 +179,15 @@ fn is_applied<T: Document>(
     call: Parsed<TestFunction>,
     asked: &Asked<'_, T>,
 ) -> bool {
-    match (call.ok(), asked_state(alloc, asked)) {
-        (Some(call), Some(state)) => is_told(alloc, apply(alloc, &call, state).ok(), asked),
-        _ => false,
-    }
+    let Some(call) = call.ok() else {
+        return false;
+    };
+    let held = match asked_state(alloc, asked) {
+        Some(state) => is_told(alloc, apply(alloc, &call, state).ok(), asked),
+        None => false,
+    };
+    drop(call);
+    held
 }
 
 /// Whether the query answers as the row tells, and from the root the nodes of `js_path_process`.
@@ -189,13 +205,20 @@ fn is_answered_by_query<T: Document>(
             Some(nodes) => is_by_process(alloc, &query, document, &nodes),
             None => false,
         };
-    agrees && is_answered_by(alloc, Some(query), asked)
+    let held = agrees && is_answered_so(alloc, &query, asked);
+    let_go(query);
+    held
 }
 
 /// Whether the answer is what the row tells.
 fn is_told<T: Document>(alloc: Global, answer: Option<State<'_, T>>, asked: &Asked<'_, T>) -> bool {
-    match (answer, asked.row.get("answer")) {
-        (Some(answer), Some(wanted)) => is_state(alloc, &answer, asked.document, wanted),
-        _ => false,
-    }
+    let Some(answer) = answer else {
+        return false;
+    };
+    let held = match asked.row.get("answer") {
+        Some(wanted) => is_state(alloc, &answer, asked.document, wanted),
+        None => false,
+    };
+    drop(answer);
+    held
 }

@@ -5,11 +5,11 @@ ghost use Rattle.jsonpath_base.specs.Values.{value_is_whole};
 use crate::agreement::{is_by_methods, is_by_text, is_by_tree, lead_back};
 use crate::deletion::is_one_by_one;
 use crate::document::Document;
-use crate::members::{Depth, Types, depth_of, has_only, list, types_of};
 use crate::nodes::{Part, are_wanted};
 use crate::reference::refer_back;
-use crate::text::{text_at, text_of};
 use jpath_doc::Doc;
+use jpath_row::members::{Depth, Types, depth_of, has_only, list, types_of};
+use jpath_row::text::{text_at, text_of};
 use jsonpath_rust::query::js_path_within;
 use jsonpath_rust::query::queryable::Queryable;
 use serde_json::Value;
@@ -109,7 +109,11 @@ fn is_read_and_deleted(alloc: Global, document: &Value, question: Question<'_>) 
 fn holds_of_doc(alloc: Global, document: &Value, question: Question<'_>) -> bool {
     document.is_whole()
         && match Doc::made(alloc, document) {
-            Some(document) => document.is_whole() && selects(alloc, &document, question),
+            Some(document) => {
+                let held = document.is_whole() && selects(alloc, &document, question);
+                drop(document);
+                held
+            }
             None => false,
         }
 }

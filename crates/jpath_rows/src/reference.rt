@@ -1,7 +1,7 @@
 //! Rows on reading and writing by a path: `reference` with `values`; `replace` with `new`, `replaced` and `left`.
 use crate::document::{Document, are_equal};
-use crate::members::{has_only, list_at, string_at};
 use jpath_doc::Doc;
+use jpath_row::members::{has_only, list_at, string_at};
 use jsonpath_rust::query::queryable::Queryable;
 use jsonpath_rust::query::{QueryRef, replace_by_path};
 use serde_json::Value;
@@ -49,18 +49,22 @@ fn is_lent_there(alloc: Global, path: &str, document: &Value, wanted: &[Value]) 
     let Some(mut copy) = document.clone().ok() else {
         return false;
     };
-    match (copy.reference_mut(alloc, path).ok(), wanted) {
+    let held = match (copy.reference_mut(alloc, path).ok(), wanted) {
         (Some(Some(found)), [wanted]) => are_equal(found, wanted),
         (Some(None), []) => true,
         _ => false,
-    }
+    };
+    drop(copy);
+    held
 }
 
 fn doc_refers_to_nothing(alloc: Global, path: &str, document: &Value) -> bool {
     let Some(document) = Doc::made(alloc, document) else {
         return false;
     };
-    matches!(document.reference(alloc, path).ok(), Some(None))
+    let held = matches!(document.reference(alloc, path).ok(), Some(None));
+    drop(document);
+    held
 }
 
 /// What a row puts at a path of a document, and what it wants of that.
@@ -91,24 +95,43 @@ fn replaces(alloc: Global, row: &Value, path: &str, document: &Value) -> bool {
 
 /// Whether `replace_by_path` answers the row's truth, and leaves the row's document.
 fn is_replaced(alloc: Global, writing: Writing<'_>) -> bool {
-    let (Some(mut left), Some(new)) = (writing.document.clone().ok(), writing.new.clone().ok())
-    else {
+    let Some(mut left) = writing.document.clone().ok() else {
         return false;
     };
-    let found = replace_by_path(alloc, &mut left, writing.path, new).ok();
-    found.is_some() && found == writing.replaced.as_bool() && are_equal(&left, writing.left)
+    let found = match writing.new.clone().ok() {
+        Some(new) => replace_by_path(alloc, &mut left, writing.path, new).ok(),
+        None => None,
+    };
+    let held = found.is_some()
+        && found == writing.replaced.as_bool()
+        && are_equal(&left, writing.left);
+    drop(left);
+    held
 }
 
 /// Whether writing through the loan of `reference_mut`, where it lends, leaves the row's document.
 fn is_written(alloc: Global, writing: Writing<'_>) -> bool {
-    let (Some(mut left), Some(new)) = (writing.document.clone().ok(), writing.new.clone().ok())
-    else {
+    let Some(mut left) = writing.document.clone().ok() else {
         return false;
     };
-    if let Some(Some(place)) = left.reference_mut(alloc, writing.path).ok() {
-        drop(mem::replace(place, new));
+    let written = match left.reference_mut(alloc, writing.path).ok() {
+        Some(Some(place)) => put(place, writing.new),
+        _ => true,
+    };
+    let held = written && are_equal(&left, writing.left);
+    drop(left);
+    held
+}
+
+/// Puts a copy of the value at the place, where there is memory for one.
+fn put(place: &mut Value, new: &Value) -> bool {
+    match new.clone().ok() {
+        Some(new) => {
+            drop(mem::replace(place, new));
+            true
+        }
+        None => false,
     }
-    are_equal(&left, writing.left)
 }
 
 /// Whether each node's path, by `reference`, gives its value.

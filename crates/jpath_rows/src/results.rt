@@ -1,7 +1,7 @@
 //! What a test of a compliance suite wants of the nodes.
 use crate::document::Document;
-use crate::members::{has_only, list, list_at};
 use crate::nodes::{Part, are_wanted};
+use jpath_row::members::{has_only, list, list_at};
 use jsonpath_rust::query::QueryRef;
 use jsonpath_rust::query::queryable::Queryable;
 use serde_json::Value;

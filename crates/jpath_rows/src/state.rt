@@ -3,8 +3,8 @@ ghost use Rattle.std.specs.Prelude.{IsTrue, IfSome};
 ghost use Rattle.jsonpath_state.specs.State.{DataIsWhole, PointersAreWhole};
 
 use crate::document::{Document, are_equal, is_value};
-use crate::members::{list, list_at};
-use crate::text::{spells, text_of};
+use jpath_row::members::{list, list_at};
+use jpath_row::text::{spells, text_of};
 use jsonpath_rust::query::queryable::Queryable;
 use jsonpath_rust::query::state::{Data, Pointer, State};
 use serde_json::Value;
@@ -83,6 +83,7 @@ pub fn state_of<'d, T: Document>(
     if document.is_whole() && is_whole(&content) {
         Some(State::data(document, content))
     } else {
+        drop(content);
         None
     }
 }
@@ -116,7 +117,9 @@ pub fn is_state<T: Document>(
         && are_equal(state.root, document)
         && match state.try_clone(alloc).ok() {
             Some(copy) => {
-                is_data(alloc, &copy.content, content) && are_equal(copy.root, document)
+                let held = is_data(alloc, &copy.content, content) && are_equal(copy.root, document);
+                drop(copy);
+                held
             }
             None => false,
         }

@@ -6,9 +6,9 @@ ghost use Rattle.jsonpath_state.specs.State.{DataIsWhole};
 mod pointers;
 
 use crate::document::{Document, is_value};
-use crate::members::{Types, has_only, list, string_at, types_of};
 use crate::state::{are_pointers, is_state, state_of, values_of};
 use jpath_doc::Doc;
+use jpath_row::members::{Types, has_only, list, string_at, types_of};
 use jsonpath_rust::query::queryable::Queryable;
 use jsonpath_rust::query::state::{Data, State};
 use serde_json::Value;
@@ -79,11 +79,8 @@ fn is_answered<T: Document>(alloc: Global, asked: &Asked<'_, T>) -> bool {
         return false;
     };
     match call {
-        "is_nothing" => match given(alloc, asked) {
-            Some(state) => wanted.as_bool() == Some(state.is_nothing()),
-            None => false,
-        },
-        "equal" => wanted.as_bool() == are_equal(alloc, asked),
+        "is_nothing" => is_nothing(alloc, asked, wanted),
+        "equal" => are_equal(alloc, asked, wanted),
         "shown" => is_shown(alloc, asked, wanted),
         "ok_ref" => is_ok_ref(alloc, asked, wanted),
         "ok_val" => is_ok_val(alloc, asked, wanted),
@@ -91,11 +88,28 @@ fn is_answered<T: Document>(alloc: Global, asked: &Asked<'_, T>) -> bool {
             Some(pointer) => wanted.as_bool() == Some(pointer.is_internal()),
             None => false,
         },
-        _ => match made(alloc, call, asked) {
-            Some(state) => is_state(alloc, &state, asked.document, wanted),
-            None => false,
-        },
+        _ => is_made(alloc, call, asked, wanted),
     }
+}
+
+/// Whether the state that the call makes, and a copy of it, is the wanted one.
+fn is_made<T: Document>(alloc: Global, call: &str, asked: &Asked<'_, T>, wanted: &Value) -> bool {
+    let Some(state) = made(alloc, call, asked) else {
+        return false;
+    };
+    let held = is_state(alloc, &state, asked.document, wanted);
+    drop(state);
+    held
+}
+
+/// Whether the state tells so of whether it is nothing.
+fn is_nothing<T: Document>(alloc: Global, asked: &Asked<'_, T>, wanted: &Value) -> bool {
+    let Some(state) = given(alloc, asked) else {
+        return false;
+    };
+    let nothing = state.is_nothing();
+    drop(state);
+    wanted.as_bool() == Some(nothing)
 }
 
 /// The state of the row's content.
@@ -124,36 +138,46 @@ fn made<'r, T: Document>(alloc: Global, call: &str, asked: &Asked<'r, T>) -> Opt
         "i64" => State::i64(alloc, asked.row.get("argument")?.as_i64()?, document).ok(),
         "str" => State::str(alloc, string_at(asked.row, "argument")?, document).ok(),
         "shift_to_root" => given(alloc, asked)?.shift_to_root(alloc).ok(),
-        "reduce" => match (given(alloc, asked), other(alloc, asked)) {
-            (Some(left), Some(right)) => left.reduce(alloc, right).ok(),
-            _ => None,
-        },
+        "reduce" => reduced(alloc, asked),
         "default" => Some(State::data(document, Data::default())),
         _ => Some(State::data(document, pointers::found(alloc, call, asked)?)),
     }
 }
 
-/// Whether both states are equal, asked from either side; None where one cannot be made, or the sides differ.
-fn are_equal<T: Document>(alloc: Global, asked: &Asked<'_, T>) -> Option<bool> {
-    match (given(alloc, asked), other(alloc, asked)) {
-        (Some(left), Some(right)) => {
-            let is_equal = left.equal(&right);
-            if right.equal(&left) == is_equal {
-                Some(is_equal)
-            } else {
-                None
-            }
-        }
-        _ => None,
-    }
+/// What the nodes of both states come to.
+fn reduced<'r, T: Document>(alloc: Global, asked: &Asked<'r, T>) -> Option<State<'r, T>> {
+    let left = given(alloc, asked)?;
+    let Some(right) = other(alloc, asked) else {
+        drop(left);
+        return None;
+    };
+    left.reduce(alloc, right).ok()
+}
+
+/// Whether both states tell so of whether they are equal, asked from either side.
+fn are_equal<T: Document>(alloc: Global, asked: &Asked<'_, T>, wanted: &Value) -> bool {
+    let Some(left) = given(alloc, asked) else {
+        return false;
+    };
+    let Some(right) = other(alloc, asked) else {
+        drop(left);
+        return false;
+    };
+    let is_equal = left.equal(&right);
+    let is_equal_back = right.equal(&left);
+    drop(left);
+    drop(right);
+    wanted.as_bool() == Some(is_equal) && is_equal_back == is_equal
 }
 
 fn is_shown<T: Document>(alloc: Global, asked: &Asked<'_, T>, wanted: &Value) -> bool {
-    match given(alloc, asked) {
-        Some(state) => match format!(in alloc; "{state}").ok() {
-            Some(shown) => wanted.as_str() == Some(shown.as_str()),
-            None => false,
-        },
+    let Some(state) = given(alloc, asked) else {
+        return false;
+    };
+    let shown = format!(in alloc; "{state}").ok();
+    drop(state);
+    match shown {
+        Some(shown) => wanted.as_str() == Some(shown.as_str()),
         None => false,
     }
 }

@@ -2,10 +2,10 @@
 ghost use Rattle.std.specs.Prelude.{IsTrue};
 
 use crate::document::Document;
-use crate::members::{Depth, has_only, string_at};
-use crate::parse::{Reading, read};
 use crate::results::{Order, Wanted, are_any, are_whole, wanted_of};
 use jpath_doc::Doc;
+use jpath_row::members::{Depth, has_only, string_at};
+use jpath_row::reading::{Reading, read};
 use jsonpath_rust::query::js_path;
 use jsonpath_rust::query::queryable::Queryable;
 use serde_json::Value;
@@ -68,7 +68,11 @@ fn ask_of(alloc: Global, selector: &str, document: &Value, wanted: Wanted<'_>) -
 
 fn selects_in_doc(alloc: Global, selector: &str, document: &Value, wanted: Wanted<'_>) -> bool {
     match Doc::made(alloc, document) {
-        Some(document) => document.is_whole() && selects(alloc, selector, &document, wanted),
+        Some(document) => {
+            let held = document.is_whole() && selects(alloc, selector, &document, wanted);
+            drop(document);
+            held
+        }
         None => false,
     }
 }

@@ -3,8 +3,8 @@ ghost use Rattle.std.specs.Prelude.{IsTrue, IfSome};
 
 use super::Asked;
 use crate::document::Document;
-use crate::members::size;
 use crate::state::data_of;
+use jpath_row::members::size;
 use jsonpath_rust::query::queryable::Queryable;
 use jsonpath_rust::query::selector::{process_index, process_key};
 use jsonpath_rust::query::state::{Data, Pointer};

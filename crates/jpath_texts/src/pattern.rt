@@ -1,5 +1,5 @@
 //! Rows on patterns: `found`, `pattern`, `finder`, `found_again`.
-use crate::members::list;
+use jpath_row::members::list;
 use jsonpath_base::{Pattern, found, found_again};
 use serde_json::Value;
 use std::alloc::Global;

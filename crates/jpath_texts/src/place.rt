@@ -1,5 +1,5 @@
 //! Rows on places in values: `at`, `put_at`, `remove_all`.
-use crate::members::{list, size};
+use jpath_row::members::{list, size};
 use jsonpath_base::{Step, at, put_at, remove_all, same, whole};
 use serde_json::Value;
 use std::alloc::Global;

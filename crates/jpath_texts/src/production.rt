@@ -1,8 +1,8 @@
 //! Rows on the grammar functions: what each reads from the start of a text, or `calls`, each where the one before it ended;
 //! and how the tree is `shown`.
-use crate::members::{has_only, list_at, size, string_at};
-use crate::refusal::is_kind;
-use crate::text::{spells, text_at};
+use jpath_row::members::{has_only, list_at, size, string_at};
+use jpath_row::refusal::is_kind;
+use jpath_row::text::{spells, text_at};
 use jsonpath_parser::errors::Parsed;
 use jsonpath_parser::{
     Cursor, child_segment, comp_expr, comparable, filter_atom, function_expr, jp_query, literal,

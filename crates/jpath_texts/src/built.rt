@@ -2,8 +2,8 @@
 mod filters;
 mod queries;
 
-use crate::members::{has_only, string_at};
-use crate::text::text_at;
+use jpath_row::members::{has_only, string_at};
+use jpath_row::text::text_at;
 use jsonpath_parser::errors::Parsed;
 use jsonpath_parser::{
     Cursor, child_segment, comp_expr, comparable, filter_atom, function_expr, jp_query, literal,

@@ -1,10 +1,10 @@
-//! Rows on the functions of `jsonpath_base`, and on those of a document type.
-use crate::members::{Types, has_only, list_at, string_at, types_of};
-use crate::{custom, pattern, place, slice, step, values};
+//! Rows on the functions of `jsonpath_base`.
+use crate::{pattern, place, slice, step, values};
+use jpath_row::members::{has_only, list_at, string_at};
 use serde_json::Value;
 use std::alloc::Global;
 
-/// Whether a row on a call, by its name, holds. Only those of a document type may have the member `of`.
+/// Whether a row on a call, by its name, holds.
 pub fn holds(alloc: Global, row: &Value) -> bool {
     match (
         string_at(row, "call"),
@@ -12,16 +12,8 @@ pub fn holds(alloc: Global, row: &Value) -> bool {
         row.get("answer"),
     ) {
         (Some(name), Some(arguments), Some(answer)) => {
-            if row.get("of").is_none() {
-                has_only(row, &["call", "arguments", "answer"])
-                    && answers(alloc, name, arguments, answer)
-            } else {
-                has_only(row, &["call", "arguments", "answer", "of"])
-                    && match types_of(row) {
-                        Some(types) => custom::answers(alloc, types, name, arguments, answer),
-                        None => false,
-                    }
-            }
+            has_only(row, &["call", "arguments", "answer"])
+                && answers(alloc, name, arguments, answer)
         }
         _ => false,
     }
@@ -43,6 +35,6 @@ fn answers(alloc: Global, name: &str, arguments: &[Value], answer: &Value) -> bo
         "pattern" => pattern::is_found_by_pattern(alloc, arguments, answer),
         "finder" => pattern::are_found(alloc, arguments, answer),
         "found_again" => pattern::are_found_again(alloc, arguments, answer),
-        _ => custom::answers(alloc, Types::Both, name, arguments, answer),
+        _ => false,
     }
 }

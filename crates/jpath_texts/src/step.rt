@@ -1,5 +1,5 @@
 //! Rows on the steps of paths: `add_name`, `push_name`, `add_index`, `push_index`.
-use crate::members::size;
+use jpath_row::members::size;
 use jsonpath_base::{add_index, add_name, push_index, push_name};
 use serde_json::Value;
 use std::alloc::Global;

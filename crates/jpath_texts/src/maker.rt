@@ -1,14 +1,14 @@
 //! Rows on the makers of trees: a maker, what it takes, and the tree that it makes, also as it is `shown`, or its refusal; and
 //! on what an argument is.
-use crate::members::{has_only, string_at};
 use crate::production::{Reading, beside, shown_beside};
+use jpath_row::members::{has_only, string_at};
+use jsonpath_build::{atom_test, cmp, comparable_lit, lit_int, test_rel};
 use jsonpath_parser::errors::{JsonPathError, Parsed};
 use jsonpath_parser::model::{
     Comparable, Comparison, Filter, FilterAtom, FnArg, JpQuery, Literal, Segment, Test,
     TestFunction, slice_from,
 };
 use jsonpath_parser::{Cursor, function_expr};
-use jsonpath_rust::build::{atom_test, cmp, comparable_lit, lit_int, test_rel};
 use serde_json::Value;
 use std::alloc::Global;
 

@@ -1,5 +1,5 @@
 //! Rows on slices: `picked`, `slice_places`.
-use crate::members::{list, size};
+use jpath_row::members::{list, size};
 use jsonpath_base::{picked, slice_places};
 use serde_json::Value;
 use std::alloc::Global;

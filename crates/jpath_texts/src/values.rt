@@ -1,5 +1,5 @@
 //! Rows on texts and values: `text_length`, `text_less`, `whole`, `same`, `set_function`.
-use crate::members::size;
+use jpath_row::members::size;
 use jsonpath_base::{same, set_function, text_length, text_less, whole};
 use serde_json::Value;
 
