@@ -4,8 +4,8 @@ ghost use Rattle.jsonpath_parser.specs.View.{literal_view, step_view, singular_v
 ghost use Rattle.jsonpath_parser.specs.declared.errors.JsonPathError.TheVariants.{OutOfMemory};
 
 use super::{
-    Comparable, Comparison, Filter, FilterAtom, FnArg, JpQuery, Literal, Segment, Selector,
-    SingularQuery, SingularQuerySegment, Test, TestFunction,
+    Comparable, Comparison, Filter, FilterAtom, FnArg, JpQuery, Literal, Operator, Segment,
+    Selector, SingularQuery, SingularQuerySegment, Test, TestFunction,
 };
 use crate::errors::Parsed;
 use std::alloc::Global;
@@ -160,26 +160,17 @@ impl Comparison {
         ensures same { IfOk result (λ c. comparison_view c ≡ comparison_view self.now) }
         ensures memory { IfErr result (λ e. e ≡ OutOfMemory) }
     {
-        match self {
-            Comparison::Eq(left, right) => {
-                Ok(Comparison::Eq(left.try_clone(alloc)?, right.try_clone(alloc)?))
-            }
-            Comparison::Ne(left, right) => {
-                Ok(Comparison::Ne(left.try_clone(alloc)?, right.try_clone(alloc)?))
-            }
-            Comparison::Gt(left, right) => {
-                Ok(Comparison::Gt(left.try_clone(alloc)?, right.try_clone(alloc)?))
-            }
-            Comparison::Gte(left, right) => {
-                Ok(Comparison::Gte(left.try_clone(alloc)?, right.try_clone(alloc)?))
-            }
-            Comparison::Lt(left, right) => {
-                Ok(Comparison::Lt(left.try_clone(alloc)?, right.try_clone(alloc)?))
-            }
-            Comparison::Lte(left, right) => {
-                Ok(Comparison::Lte(left.try_clone(alloc)?, right.try_clone(alloc)?))
-            }
-        }
+        let (operator, left, right) = match self {
+            Comparison::Eq(left, right) => (Operator::Equal, left, right),
+            Comparison::Ne(left, right) => (Operator::NotEqual, left, right),
+            Comparison::Gt(left, right) => (Operator::Greater, left, right),
+            Comparison::Gte(left, right) => (Operator::GreaterOrEqual, left, right),
+            Comparison::Lt(left, right) => (Operator::Less, left, right),
+            Comparison::Lte(left, right) => (Operator::LessOrEqual, left, right),
+        };
+        let left = left.try_clone(alloc)?;
+        let right = right.try_clone(alloc)?;
+        Ok(operator.compare(left, right))
     }
 }
 
