@@ -1,6 +1,6 @@
 -- Why a query has no answer in a document. The definition here is for the contracts of the printing alone.
 use Rattle.std.specs.Prelude.{⊤}
-use Rattle.jsonpath_parser.specs.Syntax as syntax
+use Rattle.jsonpath_tree.specs.Syntax as syntax
 use Rattle.jsonpath_node.specs.Document.{Document}
 use Rattle.jsonpath_node.specs.Patterns.{IsInvalid, AsksPattern}
 use Rattle.jpath.specs.declared.fault.Fault.{Fault}

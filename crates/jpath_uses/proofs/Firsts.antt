@@ -4,9 +4,9 @@ use Rattle.std.proofs.lemmas.List.{take_all}
 use Rattle.std.proofs.lemmas.List.Elements.{All-more}
 use Rattle.std.proofs.lemmas.Option.{slice_get_read}
 use Rattle.std.specs.List.{AllZip}
-use Rattle.jsonpath_parser.specs.Location.{Location}
-use Rattle.jsonpath_parser.specs.View.{query_view}
-use Rattle.jsonpath_parser.specs.declared.model.JpQuery.{JpQuery}
+use Rattle.jsonpath_tree.specs.Location.{Location}
+use Rattle.jsonpath_tree.specs.View.{query_view}
+use Rattle.jsonpath_tree.specs.declared.model.JpQuery.{JpQuery}
 use Rattle.jsonpath_base.specs.Tree.{Tree}
 use Rattle.jsonpath_node.specs.Answer.{IsNodeAt, shown}
 use Rattle.jsonpath_node.specs.Document.{Document}

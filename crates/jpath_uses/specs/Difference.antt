@@ -1,8 +1,8 @@
 -- Where two lists of values differ.
 use Rattle.std.specs.Prelude.{List, Option, Some, None, IsTrue, IsFalse, take, slice_get}
 use Rattle.std.specs.List.{AllZip, filter_map}
-use Rattle.jsonpath_parser.specs.View.{query_view}
-use Rattle.jsonpath_parser.specs.declared.model.JpQuery.{JpQuery}
+use Rattle.jsonpath_tree.specs.View.{query_view}
+use Rattle.jsonpath_tree.specs.declared.model.JpQuery.{JpQuery}
 use Rattle.jsonpath_base.specs.Places.{at}
 use Rattle.jsonpath_base.specs.Same.{same}
 use Rattle.jsonpath_base.specs.Tree.{Tree}

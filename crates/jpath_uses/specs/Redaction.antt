@@ -1,10 +1,10 @@
 -- What is left of a document in which values are replaced by null.
 use Rattle.std.specs.Prelude.{◌≡◌, List, [], ◌∷◌, All, IfSome}
 use Rattle.std.specs.List.{Contains, flat_map}
-use Rattle.jsonpath_parser.specs.Location.{Location, Begins}
-use Rattle.jsonpath_parser.specs.View.{query_view}
-use Rattle.jsonpath_parser.specs.declared.errors.JsonPathError.{JsonPathError}
-use Rattle.jsonpath_parser.specs.declared.model.JpQuery.{JpQuery}
+use Rattle.jsonpath_tree.specs.Location.{Location, Begins}
+use Rattle.jsonpath_tree.specs.View.{query_view}
+use Rattle.jsonpath_tree.specs.declared.errors.JsonPathError.{JsonPathError}
+use Rattle.jsonpath_tree.specs.declared.model.JpQuery.{JpQuery}
 use Rattle.jsonpath_base.specs.Places.{at}
 use Rattle.jsonpath_base.specs.Put.{put}
 use Rattle.jsonpath_base.specs.Tree.{Tree, null}

@@ -1,6 +1,6 @@
 //! The first node that a query selects.
 ghost use Rattle.std.specs.Prelude.{IsTrue, IfOk, IfErr, IfSome, IfNone, string_bytes};
-ghost use Rattle.jsonpath_parser.specs.View.{query_view};
+ghost use Rattle.jsonpath_tree.specs.View.{query_view};
 ghost use Rattle.jsonpath_node.specs.Document.{document_of};
 ghost use Rattle.jsonpath_node.specs.Patterns.{IsStop};
 ghost use Rattle.jpath_uses.specs.First.{IsSilent, IsFirstPath};

@@ -7,10 +7,10 @@ use Rattle.std.specs.Prelude.{nat_lt}
 use Rattle.jsonpath_parser.proofs.NormalQueries.{normal_derives}
 use Rattle.jsonpath_parser.proofs.Unambiguous.{no_text_derives_two_trees}
 use Rattle.jsonpath_parser.specs.Derives.{Derives}
-use Rattle.jsonpath_parser.specs.Location.{Step, name, index, Location}
-use Rattle.jsonpath_parser.specs.Normal.{IsNormal}
-use Rattle.jsonpath_parser.specs.Steps.{HasIndexesInRange, step_segment, steps_query}
-use Rattle.jsonpath_parser.specs.Typing.{is_singular}
+use Rattle.jsonpath_tree.specs.Location.{Step, name, index, Location}
+use Rattle.jsonpath_tree.specs.Normal.{IsNormal}
+use Rattle.jsonpath_tree.specs.Steps.{HasIndexesInRange, step_segment, steps_query}
+use Rattle.jsonpath_tree.specs.Typing.{is_singular}
 use Rattle.jsonpath_base.proofs.PutLaws.{put_nowhere}
 use Rattle.jsonpath_base.specs.Places.{child, at}
 use Rattle.jsonpath_base.specs.Tree.{Tree, null, truth, number, text, list, object, elements}

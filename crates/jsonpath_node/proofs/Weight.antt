@@ -1,7 +1,7 @@
 -- How much work a part of a query is, for the measures of the walk and of the plain evaluator.
 use Rattle.std.specs.Prelude.{ℕ, ◌+◌}
-use Rattle.jsonpath_parser.specs.Syntax as syntax
-use Rattle.jsonpath_parser.specs.Syntax.{Selector, wildcard, slice, Selectors, no_selectors, selector, Segment, one, several, descendant, Segments, no_segments, segment, Filter, or, and, atom, Filters, no_filters, filter_then, Atom, group, test, comparison, Comparison, compare, Comparable, literal, function, singular, Test, relative, absolute, call, Call, custom_call, length_call, value_call, count_call, search_call, match_call, Argument, literal_argument, test_argument, filter_argument, Arguments, no_arguments, argument}
+use Rattle.jsonpath_tree.specs.Syntax as syntax
+use Rattle.jsonpath_tree.specs.Syntax.{Selector, wildcard, slice, Selectors, no_selectors, selector, Segment, one, several, descendant, Segments, no_segments, segment, Filter, or, and, atom, Filters, no_filters, filter_then, Atom, group, test, comparison, Comparison, compare, Comparable, literal, function, singular, Test, relative, absolute, call, Call, custom_call, length_call, value_call, count_call, search_call, match_call, Argument, literal_argument, test_argument, filter_argument, Arguments, no_arguments, argument}
 
 -- every part is less than the whole
 abbrev mutual

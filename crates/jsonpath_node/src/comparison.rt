@@ -1,6 +1,6 @@
 //! How values compare (RFC 9535, 2.3.5.2.2).
 ghost use Rattle.std.specs.Prelude.{◌≡◌, Some, IsTrue};
-ghost use Rattle.jsonpath_parser.specs.View.{operator_view};
+ghost use Rattle.jsonpath_tree.specs.View.{operator_view};
 ghost use Rattle.jsonpath_base.specs.Same.{same};
 ghost use Rattle.jsonpath_node.specs.Comparing.{are_equal, is_below, compares};
 ghost use Rattle.jsonpath_node.specs.inner.Operands.{scalar_tree, operand_tree, operand_is_whole};

@@ -1,6 +1,6 @@
 //! Values inside the evaluator: the sides of a comparison, and what functions take and answer.
 ghost use Rattle.std.specs.Prelude.{◌≡◌, ◌++◌, [], ◌∷◌, Some, IsTrue, IfOk, IfErr, IfSome, OnOk, option_map, option_and_then, option_to_list};
-ghost use Rattle.jsonpath_parser.specs.View.{literal_view};
+ghost use Rattle.jsonpath_tree.specs.View.{literal_view};
 ghost use Rattle.jsonpath_node.specs.declared.halt.Halt.TheVariants.{Memory};
 ghost use Rattle.jsonpath_base.specs.Tree.{as_text, as_int};
 ghost use Rattle.jsonpath_node.specs.Functions.{length_of, count_value, is_true};

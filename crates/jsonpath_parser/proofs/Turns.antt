@@ -1,17 +1,17 @@
 -- The loops of the reading functions, a turn at a time.
 use Rattle.std.proofs.Common.{◌≡◌, ℕ, zero, suc, ◌-◌, ◌<◌, ℤ, Bool, true, false, ◌==◌, List, [], ◌∷◌, ◌++◌, length, drop, map, Vec, Global, Option, Some, None, Result, Ok, Err, IsErrAnd, refl, sym, ap, ◌∙◌, arith}
 use Rattle.std.proofs.lemmas.List.{map-append}
-use Rattle.jsonpath_parser.specs.inner.Reading.{Read, Gives, first, skip_blank}
+use Rattle.jsonpath_lexical.specs.inner.Reading.{Read, Gives, first, skip_blank}
 use Rattle.jsonpath_parser.specs.inner.ReadingGrammar.{selection_of, filter_of, operand_behind, segments_at, all_segments_at, disjunction_at, argument_at}
 use Rattle.jsonpath_parser.specs.inner.ReadingLists.{found_then, many_at, separated_at}
-use Rattle.jsonpath_parser.specs.Syntax as tree
-use Rattle.jsonpath_parser.specs.Syntax.{Filter, Argument, list_of}
-use Rattle.jsonpath_parser.specs.View.{segment_view, selector_view, selectors_of, selectors_view}
-use Rattle.jsonpath_parser.specs.declared.model.Segment
-use Rattle.jsonpath_parser.specs.declared.model.Selector.{Selector as CodeSelector}
-use Rattle.jsonpath_parser.specs.declared.stop.Stop.{Stop}
-use Rattle.jsonpath_parser.specs.declared.stop.Stop.TheVariants.{Memory}
-use Rattle.jsonpath_parser.proofs.ViewEquations.{segment_view-Selectors}
+use Rattle.jsonpath_tree.specs.Syntax as tree
+use Rattle.jsonpath_tree.specs.Syntax.{Filter, Argument, list_of}
+use Rattle.jsonpath_tree.specs.View.{segment_view, selector_view, selectors_of, selectors_view}
+use Rattle.jsonpath_tree.specs.declared.model.Segment
+use Rattle.jsonpath_tree.specs.declared.model.Selector.{Selector as CodeSelector}
+use Rattle.jsonpath_lexical.specs.declared.stop.Stop.{Stop}
+use Rattle.jsonpath_lexical.specs.declared.stop.Stop.TheVariants.{Memory}
+use Rattle.jsonpath_tree.proofs.ViewEquations.{segment_view-Selectors}
 
 less : (m : ℕ) → suc m - 1 ≡ m
 less m = omega arith
@@ -120,9 +120,3 @@ several_all (x ∷ y ∷ xs) h = refl
 
 pub selection_several : (v : Vec CodeSelector Global) → (length v.items ≡ 1 → ⊥) → segment_view (Segment.Selectors v) ≡ selection_of (selectors_view v)
 selection_several v h = segment_view-Selectors v ∙ several_all v.items h
-
--- an error that a `?` passes on
-pub gives_err : {A B : Type 0} (f : A → B) (r : Result A Stop) (expected : Option B) (e : Stop) (Q : Stop → Type 0)
-    → IsErrAnd r Q → ((y : Stop) → Q y → y ≡ e) → ((e ≡ Memory → ⊥) → expected ≡ None) → Gives f r expected
-gives_err f (Ok a) expected e Q h same refused = absurd h
-gives_err f (Err y) expected e Q h same refused = λ other. refused (λ m. other (same y h ∙ m))

@@ -1,14 +1,13 @@
 //! The reading functions: from a text to a tree and the text after it (RFC 9535, 2.1 to 2.5). Each reads its text
 //! once, from the left, and never goes back over what it has read, so the time is linear in the text.
 ghost use Rattle.std.specs.Prelude.{◌≡◌, ℕ, ◌≤◌, length};
-ghost use Rattle.jsonpath_parser.specs.inner.Reading.{Gives, Reads};
+ghost use Rattle.jsonpath_lexical.specs.inner.Reading.{Gives, Reads};
 ghost use Rattle.jsonpath_parser.specs.inner.ReadingGrammar as spec;
 ghost use Rattle.jsonpath_parser.specs.inner.ReadingGrammar.{number_reading};
-ghost use Rattle.jsonpath_parser.specs.View.{query_view};
+ghost use Rattle.jsonpath_tree.specs.View.{query_view};
 
 mod calls;
 mod filters;
-mod int;
 mod literals;
 mod operands;
 pub mod productions;
@@ -19,9 +18,9 @@ mod words;
 
 pub use self::literals::Numbers;
 use self::segments::segments;
-use crate::model::JpQuery;
-use crate::stop::Stop;
-use crate::text::{first, skip};
+use jsonpath_lexical::stop::Stop;
+use jsonpath_lexical::text::{first, skip};
+use jsonpath_tree::model::JpQuery;
 use std::alloc::Global;
 
 /// `$` and segments (2.1.1, 2.2.1).

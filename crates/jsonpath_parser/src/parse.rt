@@ -1,28 +1,28 @@
 //! Query texts to query trees, at a limit of depth (RFC 9535, 2.1 and 4.1).
 ghost use Rattle.std.specs.Prelude.{◌≡◌, ◌-◌, ◌<◌, ◌≤◌, length, drop, Some, IfOk, IfErr};
 ghost use Rattle.std.specs.Str.{IsCharBoundary};
-ghost use Rattle.jsonpath_parser.specs.Depth as spec;
-ghost use Rattle.jsonpath_parser.specs.inner.Reading.{Gives};
+ghost use Rattle.jsonpath_lexical.specs.Depth as spec;
+ghost use Rattle.jsonpath_lexical.specs.inner.Reading.{Gives};
 ghost use Rattle.jsonpath_parser.specs.Derives.{Derives, Answers, IsRefusal};
 ghost use Rattle.jsonpath_parser.specs.Grammar.{Spells};
 ghost use Rattle.jsonpath_parser.specs.inner.ReadingQuery as reading;
 ghost use Rattle.jsonpath_parser.specs.inner.ReadingQuery.{IsTextRefusal, IsReadRefusal};
-ghost use Rattle.jsonpath_parser.specs.Location.{Location};
-ghost use Rattle.jsonpath_parser.specs.Normal.{IsNormal};
-ghost use Rattle.jsonpath_parser.specs.Numbers.{SpellsNumber};
-ghost use Rattle.jsonpath_parser.specs.Steps.{steps_query, HasIndexesInRange};
-ghost use Rattle.jsonpath_parser.specs.Syntax.{Query};
+ghost use Rattle.jsonpath_tree.specs.Location.{Location};
+ghost use Rattle.jsonpath_tree.specs.Normal.{IsNormal};
+ghost use Rattle.jsonpath_lexical.specs.Numbers.{SpellsNumber};
+ghost use Rattle.jsonpath_tree.specs.Steps.{steps_query, HasIndexesInRange};
+ghost use Rattle.jsonpath_tree.specs.Syntax.{Query};
 ghost use Rattle.jsonpath_parser.specs.Valueless.{IsValuelessIn};
-ghost use Rattle.jsonpath_parser.specs.View.{query_view};
+ghost use Rattle.jsonpath_tree.specs.View.{query_view};
 ghost use Rattle.jsonpath_parser.specs.declared.grammar.literals.Numbers.TheVariants.{Valued};
 
-use crate::depth::exceeds;
-use crate::errors::{JsonPathError, Parsed};
 use crate::grammar::{Numbers, whole_query};
-use crate::model::JpQuery;
-use crate::number::number;
-use crate::stop::Stop;
-use crate::typing::is_typed;
+use jsonpath_lexical::depth::exceeds;
+use jsonpath_lexical::number::number;
+use jsonpath_lexical::stop::Stop;
+use jsonpath_tree::errors::{JsonPathError, Parsed};
+use jsonpath_tree::is_typed;
+use jsonpath_tree::model::JpQuery;
 use std::alloc::Global;
 
 /// How many brackets may stand open in a query text.

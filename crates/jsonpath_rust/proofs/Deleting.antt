@@ -1,6 +1,6 @@
 -- The law of a deletion by a query that selects nothing.
 use Rattle.std.proofs.Common.{◌≡◌, ℕ, [], ◌∙◌, ap}
-use Rattle.jsonpath_parser.specs.Syntax.{Query}
+use Rattle.jsonpath_tree.specs.Syntax.{Query}
 use Rattle.jsonpath_base.specs.Tree.{Tree}
 use Rattle.jsonpath_base.specs.Without.{without, is_among, distinct_count}
 use Rattle.jsonpath_base.proofs.WithoutLaws.{without_none}

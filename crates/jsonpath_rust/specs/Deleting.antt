@@ -1,7 +1,7 @@
 -- What a deletion leaves, and what it answers.
 use Rattle.std.specs.Prelude.{◌≡◌, ℕ, List}
 use Rattle.jsonpath_parser.specs.Derives.{Derives}
-use Rattle.jsonpath_parser.specs.Syntax.{Query}
+use Rattle.jsonpath_tree.specs.Syntax.{Query}
 use Rattle.jsonpath_base.specs.Tree.{Tree}
 use Rattle.jsonpath_base.specs.Without.{without, is_among, distinct_count}
 use Rattle.jsonpath_node.specs.Document.{Document}

@@ -5,7 +5,7 @@ use Rattle.std.proofs.lemmas.List.{length-map}
 use Rattle.std.proofs.lemmas.List.Elements.{Contains-append_left, Contains-append_right, All-head, All-tail}
 use Rattle.std.specs.List.{AllByRecursion, Contains}
 use Rattle.std.specs.Result.{IsErrAnd}
-use Rattle.jsonpath_parser.specs.Syntax.{Argument, Segment}
+use Rattle.jsonpath_tree.specs.Syntax.{Argument, Segment}
 use Rattle.jsonpath_base.specs.Tree.{Tree, has_distinct_names}
 use Rattle.jsonpath_base.specs.Places.{at}
 use Rattle.jsonpath_state.specs.Asking.{tops, IsBelow, IsAsked, AsksPatternAt}

@@ -1,6 +1,6 @@
 -- How much work a part of a path is.
 use Rattle.std.specs.Prelude.{ℕ, ◌+◌}
-use Rattle.jsonpath_parser.specs.View.{filter_view}
+use Rattle.jsonpath_tree.specs.View.{filter_view}
 use Rattle.jsonpath_node.specs.inner.Parts.{selectors_in}
 use Rattle.jsonpath_state.specs.declared.evaluate.segments.Part.{Part}
 use Rattle.jsonpath_state.specs.declared.evaluate.segments.Part.TheVariants.{Name, Wildcard, Index, Slice, Parents, Kept, Joined}

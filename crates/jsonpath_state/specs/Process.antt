@@ -1,9 +1,9 @@
 -- What `process` answers on a state, for each part of a query. It has a value on every state and every tree, also where the typing of RFC 9535,
 -- 2.4.3 refuses the tree. That the nodes from the root are those that Meaning selects, where the typing takes the tree, is tested and not proved.
 use Rattle.std.specs.Prelude.{List, [], ◌∷◌, ◌++◌, length, map, Bool, true, false, not, ◌&&◌, ◌||◌, Option, Some, None}
-use Rattle.jsonpath_parser.specs.Making.{is_truth_call}
-use Rattle.jsonpath_parser.specs.Syntax as syntax
-use Rattle.jsonpath_parser.specs.Syntax.{SingularStep, name_step, index_step, SingularQuery, current, Operator, equal, not_equal, greater, greater_or_equal, less, less_or_equal, Selector, wildcard, slice, Selectors, no_selectors, selector, Segment, several, descendant, Segments, no_segments, segment, Filter, or, and, atom, Filters, no_filters, filter_then, Atom, group, test, comparison, Comparison, compare, Comparable, literal, function, singular, Test, relative, absolute, call, Call, custom_call, length_call, value_call, count_call, search_call, match_call, Argument, literal_argument, test_argument, filter_argument, Arguments, no_arguments, argument}
+use Rattle.jsonpath_tree.specs.Making.{is_truth_call}
+use Rattle.jsonpath_tree.specs.Syntax as syntax
+use Rattle.jsonpath_tree.specs.Syntax.{SingularStep, name_step, index_step, SingularQuery, current, Operator, equal, not_equal, greater, greater_or_equal, less, less_or_equal, Selector, wildcard, slice, Selectors, no_selectors, selector, Segment, several, descendant, Segments, no_segments, segment, Filter, or, and, atom, Filters, no_filters, filter_then, Atom, group, test, comparison, Comparison, compare, Comparable, literal, function, singular, Test, relative, absolute, call, Call, custom_call, length_call, value_call, count_call, search_call, match_call, Argument, literal_argument, test_argument, filter_argument, Arguments, no_arguments, argument}
 use Rattle.jsonpath_base.specs.Same.{same}
 use Rattle.jsonpath_base.specs.Tree.{Tree, truth, list, elements}
 use Rattle.jsonpath_node.specs.Comparing.{is_below}

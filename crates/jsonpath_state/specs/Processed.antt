@@ -1,6 +1,6 @@
 -- What `process` answers of a whole query.
 use Rattle.std.specs.Prelude.{ℕ, List, map}
-use Rattle.jsonpath_parser.specs.Syntax.{Query}
+use Rattle.jsonpath_tree.specs.Syntax.{Query}
 use Rattle.jsonpath_base.specs.Tree.{Tree}
 use Rattle.jsonpath_node.specs.Document.{Document}
 use Rattle.jsonpath_state.specs.Process.{segments_content}

@@ -1,7 +1,7 @@
 //! What can be asked of a state: each part of a query.
 ghost use Rattle.std.specs.Prelude.{◌≡◌, [], List, Bool, map, IsTrue, IfOk, IfErr};
-ghost use Rattle.jsonpath_parser.specs.Syntax.{Argument};
-ghost use Rattle.jsonpath_parser.specs.View.{segment_view, selector_view, filter_view, atom_view, comparison_view, comparable_view, test_view, call_view, argument_view, query_view, singular_view, step_view, literal_view, segments_view};
+ghost use Rattle.jsonpath_tree.specs.Syntax.{Argument};
+ghost use Rattle.jsonpath_tree.specs.View.{segment_view, selector_view, filter_view, atom_view, comparison_view, comparable_view, test_view, call_view, argument_view, query_view, singular_view, step_view, literal_view, segments_view};
 ghost use Rattle.jsonpath_base.specs.Tree.{truth};
 ghost use Rattle.jsonpath_state.specs.Asking.{IsProcessStop};
 ghost use Rattle.jsonpath_node.specs.Document.{Document, document_of};
@@ -22,7 +22,7 @@ use crate::state::{Data, State};
 use jsonpath_node::Queried;
 use jsonpath_node::halt::Walked;
 use jsonpath_node::queryable::Queryable;
-use jsonpath_parser::model::{
+use jsonpath_tree::model::{
     Comparable, Comparison, Filter, FilterAtom, FnArg, JpQuery, Literal, Segment, Selector,
     SingularQuery, SingularQuerySegment, Test, TestFunction,
 };

@@ -1,6 +1,6 @@
 //! The nodes that [`Query::process`] answers from the root, as a caller of `js_path_process` wants them.
 ghost use Rattle.std.specs.Prelude.{◌≡◌, map, All, IsTrue, IfOk, IfErr};
-ghost use Rattle.jsonpath_parser.specs.View.{query_view};
+ghost use Rattle.jsonpath_tree.specs.View.{query_view};
 ghost use Rattle.jsonpath_node.specs.Answer.{shown};
 ghost use Rattle.jsonpath_state.specs.Processed.{processed};
 ghost use Rattle.jsonpath_node.specs.Document.{document_of};
@@ -13,7 +13,7 @@ use crate::process::Query;
 use crate::state::{Data, Pointer, State};
 use jsonpath_node::queryable::Queryable;
 use jsonpath_node::{Queried, QueryRef};
-use jsonpath_parser::model::JpQuery;
+use jsonpath_tree::model::JpQuery;
 use std::alloc::Global;
 
 /// The nodes, with their values and the texts of their paths. It refuses as [`Query::process`] does.

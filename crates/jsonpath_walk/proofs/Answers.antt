@@ -1,9 +1,9 @@
 -- What the calls answer, from what the walk gave.
 use Rattle.std.proofs.Common.{◌≡◌, ℕ, List, [], ◌∷◌, map, Some, IsTrue, sym, subst, refl}
 use Rattle.std.specs.List.{AllByRecursion, AllZip}
-use Rattle.jsonpath_parser.proofs.NormalLemmas.{only_path}
-use Rattle.jsonpath_parser.specs.Syntax.{Query}
-use Rattle.jsonpath_parser.specs.Normal.{normal}
+use Rattle.jsonpath_tree.proofs.NormalLemmas.{only_path}
+use Rattle.jsonpath_tree.specs.Syntax.{Query}
+use Rattle.jsonpath_tree.specs.Normal.{normal}
 use Rattle.jsonpath_base.specs.Tree.{Tree, has_distinct_names}
 use Rattle.jsonpath_base.specs.Places.{at}
 use Rattle.jsonpath_node.specs.Document.{Document}

@@ -1,9 +1,9 @@
 -- A value that is no list and no object: nothing is selected below it.
 use Rattle.std.proofs.Common.{◌≡◌, ℕ, List, [], ◌∷◌, ◌++◌, filter, length, refl, sym, ◌∙◌, ap, None, option_and_then, option_to_list}
 use Rattle.std.specs.List.{flat_map}
-use Rattle.jsonpath_parser.specs.Location.{Location}
-use Rattle.jsonpath_parser.specs.Syntax as syntax
-use Rattle.jsonpath_parser.specs.Syntax.{Selector, wildcard, slice, Selectors, no_selectors, selector, Segment, one, several, descendant}
+use Rattle.jsonpath_tree.specs.Location.{Location}
+use Rattle.jsonpath_tree.specs.Syntax as syntax
+use Rattle.jsonpath_tree.specs.Syntax.{Selector, wildcard, slice, Selectors, no_selectors, selector, Segment, one, several, descendant}
 use Rattle.jsonpath_base.specs.Tree.{Tree, null, truth, number, text, list, object, as_list, as_members, get}
 use Rattle.jsonpath_base.specs.Slice.{slice_of}
 use Rattle.jsonpath_node.specs.Node.{Node, subtree, subtree_at}

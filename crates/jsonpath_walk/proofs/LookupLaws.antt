@@ -1,9 +1,9 @@
 -- What is looked up is what the walk would select.
 use Rattle.std.proofs.Common.{◌≡◌, ℕ, ℤ, List, [], ◌∷◌, append-nil, refl, sym, ◌∙◌, ap, subst, Some, None}
 use Rattle.std.specs.List.{flat_map}
-use Rattle.jsonpath_parser.specs.Location.{Location, index}
-use Rattle.jsonpath_parser.specs.Syntax as syntax
-use Rattle.jsonpath_parser.specs.Syntax.{Segment, one, Segments, no_segments, segment}
+use Rattle.jsonpath_tree.specs.Location.{Location, index}
+use Rattle.jsonpath_tree.specs.Syntax as syntax
+use Rattle.jsonpath_tree.specs.Syntax.{Segment, one, Segments, no_segments, segment}
 use Rattle.jsonpath_base.specs.Tree.{Tree, get}
 use Rattle.jsonpath_node.specs.Document.{Document}
 use Rattle.jsonpath_node.specs.Meaning.{replaced, indexed}

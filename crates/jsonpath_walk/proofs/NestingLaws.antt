@@ -1,11 +1,11 @@
 -- Parts of a query, and the queries from the root that stand in them.
 use Rattle.std.proofs.Common.{◌≡◌, ℕ, ◌+◌, ◌<◌, ◌≤◌, List, [], ◌∷◌, ◌++◌, length, get_or, arith, subst, ◌∙◌, ap, Bool, All, ◌⊎◌, inl, inr}
-use Rattle.jsonpath_parser.specs.Syntax.{Argument, Query}
-use Rattle.jsonpath_parser.specs.View.{comparison_view, comparable_view}
-use Rattle.jsonpath_parser.specs.declared.model.Comparable.{Comparable}
-use Rattle.jsonpath_parser.specs.declared.model.Comparison.{Comparison}
-use Rattle.jsonpath_parser.specs.declared.model.Comparison.TheVariants.{Eq, Ne, Gt, Gte, Lt, Lte}
-use Rattle.jsonpath_parser.proofs.ViewEquations.{comparison_view-Eq, comparison_view-Ne, comparison_view-Gt, comparison_view-Gte, comparison_view-Lt, comparison_view-Lte}
+use Rattle.jsonpath_tree.specs.Syntax.{Argument, Query}
+use Rattle.jsonpath_tree.specs.View.{comparison_view, comparable_view}
+use Rattle.jsonpath_tree.specs.declared.model.Comparable.{Comparable}
+use Rattle.jsonpath_tree.specs.declared.model.Comparison.{Comparison}
+use Rattle.jsonpath_tree.specs.declared.model.Comparison.TheVariants.{Eq, Ne, Gt, Gte, Lt, Lte}
+use Rattle.jsonpath_tree.proofs.ViewEquations.{comparison_view-Eq, comparison_view-Ne, comparison_view-Gt, comparison_view-Gte, comparison_view-Lt, comparison_view-Lte}
 use Rattle.jsonpath_node.proofs.Parts.{part_of}
 use Rattle.jsonpath_node.proofs.Weight.{comparison_weight, comparable_weight}
 use Rattle.jsonpath_node.specs.Patterns.{comparison_patterns, comparable_patterns}

@@ -1,7 +1,7 @@
 -- The nodelist of a query, reached node by node.
 use Rattle.std.proofs.Common.{◌≡◌, List, [], ◌∷◌, append-nil, sym, ◌∙◌}
 use Rattle.std.specs.List.{flat_map}
-use Rattle.jsonpath_parser.specs.Syntax.{Segments, no_segments, segment, Query}
+use Rattle.jsonpath_tree.specs.Syntax.{Segments, no_segments, segment, Query}
 use Rattle.jsonpath_node.specs.Document.{Document}
 use Rattle.jsonpath_node.specs.Node.{Node, root_node}
 use Rattle.jsonpath_node.specs.Meaning.{replaced, all_applied, nodelist}

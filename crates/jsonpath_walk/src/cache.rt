@@ -1,6 +1,6 @@
 //! What one call of the evaluator keeps: the nodelists of queries from the root inside filters, and patterns.
 ghost use Rattle.std.specs.Prelude.{◌≡◌, ◌<◌, length, IsTrue, IfOk, IfErr, IfSome, OnOk};
-ghost use Rattle.jsonpath_parser.specs.View.{query_view};
+ghost use Rattle.jsonpath_tree.specs.View.{query_view};
 ghost use Rattle.jsonpath_node.specs.Document.{Document};
 ghost use Rattle.jsonpath_node.specs.Meaning.{nodelist};
 ghost use Rattle.jsonpath_node.specs.Functions.{is_matched};
@@ -17,7 +17,7 @@ use jsonpath_node::extent::Extent;
 use jsonpath_node::halt::Walked;
 use jsonpath_node::queryable::Queryable;
 use jsonpath_node::value::Operand;
-use jsonpath_parser::model::JpQuery;
+use jsonpath_tree::model::JpQuery;
 use std::alloc::{AllocError, Global};
 
 /// The nodelist of a query from the root.
@@ -195,7 +195,7 @@ fn is_same_wanted(left: Wanted, right: Wanted) -> bool
 }
 
 /// Whether the queries are the same tree.
-#[tactic(auto, using(jsonpath_parser::proofs::Equality::query_same))]
+#[tactic(auto, using(jsonpath_tree::proofs::Equality::query_same))]
 fn is_same_query(left: &JpQuery, right: &JpQuery) -> bool
     ensures { IsTrue result → query_view left.now ≡ query_view right.now }
 {

@@ -1,6 +1,6 @@
 //! Whether filters hold (RFC 9535, 2.3.5).
 ghost use Rattle.std.specs.Prelude.{◌≡◌, IsTrue, IfOk, IfErr, OnOk};
-ghost use Rattle.jsonpath_parser.specs.View.{filter_view, atom_view, comparison_view, comparable_view};
+ghost use Rattle.jsonpath_tree.specs.View.{filter_view, atom_view, comparison_view, comparable_view};
 ghost use Rattle.jsonpath_node.specs.Meaning.{holds, some_holds, each_holds, atom_holds, comparison_holds, value_of};
 ghost use Rattle.jsonpath_node.specs.inner.Operands.{operand_tree, operand_is_whole};
 ghost use Rattle.jsonpath_node.specs.Patterns.{filter_patterns, filters_patterns, atom_patterns, comparison_patterns, comparable_patterns};
@@ -17,7 +17,7 @@ use jsonpath_node::comparison::compares;
 use jsonpath_node::halt::Walked;
 use jsonpath_node::queryable::Queryable;
 use jsonpath_node::value::{Operand, scalar_of};
-use jsonpath_parser::model::{Comparable, Comparison, Filter, FilterAtom};
+use jsonpath_tree::model::{Comparable, Comparison, Filter, FilterAtom};
 
 impl<'a: 's, 's, T: Queryable> Task<'a, 's, T> {
     /// Whether a filter holds at a value, to which the way leads.

@@ -7,7 +7,7 @@ ghost use Rattle.jsonpath_node.specs.inner.Operands.{is_entire};
 use crate::patterns::Origin;
 use jsonpath_base::pattern::{Finder, Pattern, found_again};
 use jsonpath_node::extent::Extent;
-use jsonpath_parser::errors::Parsed;
+use jsonpath_tree::errors::Parsed;
 use std::alloc::{AllocError, Global};
 use std::cell::OnceCell;
 use std::collections::BTreeMap;

@@ -1,6 +1,6 @@
 //! Functions and their arguments (RFC 9535, 2.4).
 ghost use Rattle.std.specs.Prelude.{◌≡◌, ◌∷◌, ◌++◌, Some, string_bytes, IsTrue, IfOk, IfErr, OnOk};
-ghost use Rattle.jsonpath_parser.specs.View.{call_view, argument_view, test_view};
+ghost use Rattle.jsonpath_tree.specs.View.{call_view, argument_view, test_view};
 ghost use Rattle.jsonpath_base.specs.Tree.{truth};
 ghost use Rattle.jsonpath_node.specs.Functions.{is_matched, as_value};
 ghost use Rattle.jsonpath_node.specs.Meaning.{answer, argued, tested, all_trees};
@@ -23,7 +23,7 @@ use jsonpath_node::extent::Extent;
 use jsonpath_node::halt::Walked;
 use jsonpath_node::queryable::Queryable;
 use jsonpath_node::value::{Operand, Scalar, scalar_of};
-use jsonpath_parser::model::{FnArg, Test, TestFunction};
+use jsonpath_tree::model::{FnArg, Test, TestFunction};
 
 impl<'a: 's, 's, T: Queryable> Task<'a, 's, T> {
     /// What a function answers at a value, to which the way leads.

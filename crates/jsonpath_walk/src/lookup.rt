@@ -1,7 +1,7 @@
 //! Queries of names and indexes alone, inside filters: they are looked up, and not walked.
 ghost use Rattle.std.specs.Prelude.{◌≡◌, IsTrue, IfOk, IfErr, IfSome};
-ghost use Rattle.jsonpath_parser.specs.Syntax.{one};
-ghost use Rattle.jsonpath_parser.specs.View.{segment_view, selector_view};
+ghost use Rattle.jsonpath_tree.specs.Syntax.{one};
+ghost use Rattle.jsonpath_tree.specs.View.{segment_view, selector_view};
 ghost use Rattle.jsonpath_node.specs.declared.halt.Halt.TheVariants.{Memory};
 ghost use Rattle.jsonpath_node.specs.inner.Parts.{segments_in};
 ghost use Rattle.jsonpath_walk.specs.inner.Lookup.{Leads, LeadsOn, IsWholeThere, GivesThrough};
@@ -10,7 +10,7 @@ use crate::sink::{Sink, Wanted};
 use jsonpath_node::halt::Walked;
 use jsonpath_node::queryable::Queryable;
 use jsonpath_node::queryable::children::element;
-use jsonpath_parser::model::{Segment, Selector};
+use jsonpath_tree::model::{Segment, Selector};
 use std::alloc::Global;
 
 /// Where segments lead, from a value on.

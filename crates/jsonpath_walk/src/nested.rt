@@ -3,15 +3,15 @@
 //! A query from the root inside a filter starts at the root, on top of the walk that asks it. So that this happens once and
 //! not once for each of many that stand in one another, those inside its own filters are answered before it goes down.
 ghost use Rattle.std.specs.Prelude.{OnOk, IfOk};
-ghost use Rattle.jsonpath_parser.specs.Syntax.{Query};
-ghost use Rattle.jsonpath_parser.specs.View.{segment_view, selector_view, filter_view, atom_view, comparison_view, comparable_view, test_view, call_view, argument_view, query_view};
+ghost use Rattle.jsonpath_tree.specs.Syntax.{Query};
+ghost use Rattle.jsonpath_tree.specs.View.{segment_view, selector_view, filter_view, atom_view, comparison_view, comparable_view, test_view, call_view, argument_view, query_view};
 ghost use Rattle.jsonpath_node.specs.Patterns.{segments_patterns, segment_patterns, selectors_patterns, selector_patterns, filter_patterns, filters_patterns, atom_patterns, comparison_patterns, comparable_patterns, test_patterns, call_patterns, argument_patterns, arguments_patterns};
 ghost use Rattle.jsonpath_node.proofs.Weight.{segments_weight, segment_weight, selectors_weight, selector_weight, filter_weight, filters_weight, atom_weight, comparison_weight, comparable_weight, test_weight, call_weight, argument_weight, arguments_weight};
 ghost use Rattle.jsonpath_node.specs.inner.Parts.{segments_in, selectors_in, filters_in, arguments_in};
 ghost use Rattle.jsonpath_walk.specs.inner.Nesting.{LiesIn, IsNested, AreNested};
 
 use crate::sink::Wanted;
-use jsonpath_parser::model::{
+use jsonpath_tree::model::{
     Comparable, Comparison, Filter, FilterAtom, FnArg, JpQuery, Segment, Selector, Test,
     TestFunction,
 };

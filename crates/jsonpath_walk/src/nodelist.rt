@@ -1,7 +1,7 @@
 //! The nodelist of a query (RFC 9535, 2.1.2): its nodes, or what of them is wanted.
 ghost use Rattle.std.specs.Prelude.{◌≡◌, map, All, IsTrue, IfOk, IfErr};
 ghost use Rattle.std.specs.List.{AllZip};
-ghost use Rattle.jsonpath_parser.specs.View.{query_view};
+ghost use Rattle.jsonpath_tree.specs.View.{query_view};
 ghost use Rattle.jsonpath_base.specs.Steps.{location_view};
 ghost use Rattle.jsonpath_node.specs.Answer.{IsNodeAt, IsPathAt, IsValueAt, shown, paths_of};
 ghost use Rattle.jsonpath_node.specs.Document.{document_of};
@@ -13,7 +13,7 @@ use crate::walk::give_nodes;
 use jsonpath_base::Step;
 use jsonpath_node::queryable::Queryable;
 use jsonpath_node::{Queried, QueryPath, QueryRef};
-use jsonpath_parser::model::JpQuery;
+use jsonpath_tree::model::JpQuery;
 use std::alloc::Global;
 
 /// The nodes that a query tree selects in a document, in order (RFC 9535, 2.1.2): what
@@ -21,7 +21,7 @@ use std::alloc::Global;
 /// way: where it asks a query for a value, that is the value of its only node, and what is no query has no nodes. It
 /// refuses as `js_path_process` does of a tree that is typed.
 ///
-/// [`is_typed`]: jsonpath_parser::is_typed
+/// [`is_typed`]: jsonpath_tree::is_typed
 pub fn selected_nodes<'a, T: Queryable>(
     alloc: Global,
     query: &JpQuery,

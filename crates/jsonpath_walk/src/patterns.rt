@@ -2,7 +2,7 @@
 
 use crate::finders::KEPT_FROM_DOCUMENT;
 use jsonpath_base::pattern::Pattern;
-use jsonpath_parser::model::{
+use jsonpath_tree::model::{
     Comparable, Comparison, Filter, FilterAtom, FnArg, JpQuery, Segment, Selector, Test,
     TestFunction,
 };

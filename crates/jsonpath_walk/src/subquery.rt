@@ -1,6 +1,6 @@
 //! Queries inside filters, from a value on and from the root.
 ghost use Rattle.std.specs.Prelude.{◌≡◌, ◌<◌, length, IfOk, IfErr, OnOk};
-ghost use Rattle.jsonpath_parser.specs.View.{query_view};
+ghost use Rattle.jsonpath_tree.specs.View.{query_view};
 ghost use Rattle.jsonpath_node.specs.Meaning.{nodelist};
 ghost use Rattle.jsonpath_walk.specs.inner.Sinks.{seen, start, give};
 ghost use Rattle.jsonpath_node.specs.Patterns.{segments_patterns};
@@ -17,7 +17,7 @@ use crate::walk::Task;
 use crate::way::Way;
 use jsonpath_node::halt::Walked;
 use jsonpath_node::queryable::Queryable;
-use jsonpath_parser::model::{JpQuery, Segment};
+use jsonpath_tree::model::{JpQuery, Segment};
 use std::mem;
 
 impl<'a: 's, 's, T: Queryable> Task<'a, 's, T> {

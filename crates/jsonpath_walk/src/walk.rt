@@ -5,7 +5,7 @@
 //! still right (`Returns`).
 ghost use Rattle.std.specs.Prelude.{◌≡◌, [], ◌∷◌, ◌++◌, map, IsTrue, IfOk, IfErr, OnOk};
 ghost use Rattle.std.specs.List.{flat_map};
-ghost use Rattle.jsonpath_parser.specs.View.{selector_view, segment_view, query_view};
+ghost use Rattle.jsonpath_tree.specs.View.{selector_view, segment_view, query_view};
 ghost use Rattle.jsonpath_node.specs.Document.{document_of};
 ghost use Rattle.jsonpath_node.specs.Node.{below, children};
 ghost use Rattle.jsonpath_node.specs.Meaning.{picks, all_pick, replaced, sliced, nodelist};
@@ -27,7 +27,7 @@ use jsonpath_node::Queried;
 use jsonpath_node::halt::Walked;
 use jsonpath_node::queryable::Queryable;
 use jsonpath_node::queryable::children::{element, is_leaf};
-use jsonpath_parser::model::{Filter, JpQuery, Segment, Selector};
+use jsonpath_tree::model::{Filter, JpQuery, Segment, Selector};
 use std::alloc::Global;
 
 /// What is asked: a query, of a document.

@@ -1,9 +1,9 @@
 -- How the segments of a singular query are followed, for the contracts of `reference` alone: the definitions here are no part of what a query
 -- means.
 use Rattle.std.specs.Prelude.{ℤ, [], ◌∷◌, ◌++◌, length, Option, Some, None, option_map, option_and_then}
-use Rattle.jsonpath_parser.specs.Location.{Step, name, index, Location}
-use Rattle.jsonpath_parser.specs.Syntax as syntax
-use Rattle.jsonpath_parser.specs.Syntax.{Selector, Segment, one, several, descendant, Segments, no_segments, segment}
+use Rattle.jsonpath_tree.specs.Location.{Step, name, index, Location}
+use Rattle.jsonpath_tree.specs.Syntax as syntax
+use Rattle.jsonpath_tree.specs.Syntax.{Selector, Segment, one, several, descendant, Segments, no_segments, segment}
 use Rattle.jsonpath_base.specs.Places.{child}
 use Rattle.jsonpath_base.specs.Steps.{step_view, location_view}
 use Rattle.jsonpath_base.specs.Tree.{Tree, as_list}

@@ -1,12 +1,12 @@
 -- Lists of the code's parts of a query, without where they lie in memory, for the contracts of what goes through them alone.
 use Rattle.std.specs.Prelude.{List, map}
-use Rattle.jsonpath_parser.specs.Syntax as syntax
-use Rattle.jsonpath_parser.specs.Syntax.{Segments}
-use Rattle.jsonpath_parser.specs.View.{segment_view, segments_of, selector_view, selectors_of, filter_view, filters_of, argument_view, arguments_of}
-use Rattle.jsonpath_parser.specs.declared.model.Segment.{Segment}
-use Rattle.jsonpath_parser.specs.declared.model.Selector.{Selector}
-use Rattle.jsonpath_parser.specs.declared.model.Filter.{Filter}
-use Rattle.jsonpath_parser.specs.declared.model.FnArg.{FnArg}
+use Rattle.jsonpath_tree.specs.Syntax as syntax
+use Rattle.jsonpath_tree.specs.Syntax.{Segments}
+use Rattle.jsonpath_tree.specs.View.{segment_view, segments_of, selector_view, selectors_of, filter_view, filters_of, argument_view, arguments_of}
+use Rattle.jsonpath_tree.specs.declared.model.Segment.{Segment}
+use Rattle.jsonpath_tree.specs.declared.model.Selector.{Selector}
+use Rattle.jsonpath_tree.specs.declared.model.Filter.{Filter}
+use Rattle.jsonpath_tree.specs.declared.model.FnArg.{FnArg}
 
 abbrev pub segments_in : List Segment → Segments
 segments_in gs = segments_of (map segment_view gs)

@@ -2,8 +2,8 @@
 ghost use Rattle.std.specs.Prelude.{◌≡◌, Bool, true, false, map, IsTrue, IfOk, IfErr, OnOk, OnErr, MatchResult};
 ghost use Rattle.std.specs.Result.{IsErrAnd};
 ghost use Rattle.jsonpath_parser.specs.Derives.{Derives};
-ghost use Rattle.jsonpath_parser.specs.Syntax.{Query};
-ghost use Rattle.jsonpath_parser.specs.View.{query_view};
+ghost use Rattle.jsonpath_tree.specs.Syntax.{Query};
+ghost use Rattle.jsonpath_tree.specs.View.{query_view};
 ghost use Rattle.jsonpath_base.specs.SetFunctions.{set_function};
 ghost use Rattle.jsonpath_base.specs.Values.{value_tree, value_is_whole};
 ghost use Rattle.jsonpath_base.specs.Without.{without, is_among, distinct_count};

@@ -1,8 +1,8 @@
 -- The parts of the plain evaluator, for its contracts alone: the definitions here are no part of what a query means.
 use Rattle.std.specs.Prelude.{◌≡◌, List, [], ◌++◌, Bool, Option, Some, None, if◌then◌else◌, string_bytes}
 use Rattle.std.specs.List.{flat_map, AllZip}
-use Rattle.jsonpath_parser.specs.Syntax.{Argument}
-use Rattle.jsonpath_parser.specs.View.{filter_view}
+use Rattle.jsonpath_tree.specs.Syntax.{Argument}
+use Rattle.jsonpath_tree.specs.View.{filter_view}
 use Rattle.jsonpath_state.specs.Asking.{IsBelow, IsAsked, AsksPatternAt}
 use Rattle.jsonpath_node.specs.Document.{Document}
 use Rattle.jsonpath_node.specs.Node.{children}

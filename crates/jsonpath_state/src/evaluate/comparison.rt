@@ -1,6 +1,6 @@
 //! How the data of two states compares.
 ghost use Rattle.std.specs.Prelude.{◌≡◌, Some, All, map, IsTrue};
-ghost use Rattle.jsonpath_parser.specs.View.{operator_view};
+ghost use Rattle.jsonpath_tree.specs.View.{operator_view};
 ghost use Rattle.jsonpath_state.specs.Process.{plain, lists_same, lists_places, values_same, contents_equal, is_content_below, contents_compare};
 ghost use Rattle.jsonpath_state.specs.State.{places_of, content_of, PointersAreWhole, DataIsWhole};
 
@@ -9,7 +9,7 @@ use crate::state::{Data, Pointer, are_same};
 use jsonpath_node::comparison::is_below;
 use jsonpath_node::queryable::Queryable;
 use jsonpath_node::value::Operand;
-use jsonpath_parser::model::Operator;
+use jsonpath_tree::model::Operator;
 
 /// Whether the comparison holds.
 pub fn compares<'a, T: Queryable>(

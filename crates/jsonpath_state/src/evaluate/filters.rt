@@ -1,6 +1,6 @@
 //! Filters, comparisons, functions and their arguments, at any state.
 ghost use Rattle.std.specs.Prelude.{◌≡◌, IsTrue, IfOk, IfErr};
-ghost use Rattle.jsonpath_parser.specs.View.{filter_view, atom_view, comparison_view, comparable_view, test_view, call_view, argument_view};
+ghost use Rattle.jsonpath_tree.specs.View.{filter_view, atom_view, comparison_view, comparable_view, test_view, call_view, argument_view};
 ghost use Rattle.jsonpath_node.specs.Document.{document_of};
 ghost use Rattle.jsonpath_node.specs.Patterns.{filter_patterns, filters_patterns, atom_patterns, comparison_patterns, comparable_patterns, test_patterns, call_patterns, arguments_patterns, argument_patterns};
 ghost use Rattle.jsonpath_state.specs.Process.{holds_at, some_holds_at, each_holds_at, atom_content, comparison_holds_at, comparable_content, test_content, call_content, argument_content, arguments_trees};
@@ -22,9 +22,7 @@ use crate::state::{Data, root_of};
 use jsonpath_node::extent::Extent;
 use jsonpath_node::halt::Walked;
 use jsonpath_node::queryable::{Arg, Queryable};
-use jsonpath_parser::model::{
-    Comparable, Comparison, Filter, FilterAtom, FnArg, Test, TestFunction,
-};
+use jsonpath_tree::model::{Comparable, Comparison, Filter, FilterAtom, FnArg, Test, TestFunction};
 use std::alloc::Global;
 
 /// The truth of a logical expression at a state.

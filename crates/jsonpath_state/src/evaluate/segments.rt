@@ -1,6 +1,6 @@
 //! Segments and selectors, on any state: each on the answer before, node by node.
 ghost use Rattle.std.specs.Prelude.{◌≡◌, IsTrue, IfOk, IfErr};
-ghost use Rattle.jsonpath_parser.specs.View.{segment_view, selector_view, filter_view};
+ghost use Rattle.jsonpath_tree.specs.View.{segment_view, selector_view, filter_view};
 ghost use Rattle.jsonpath_node.specs.Document.{document_of};
 ghost use Rattle.jsonpath_node.specs.Patterns.{segments_patterns, segment_patterns, selectors_patterns, selector_patterns, filter_patterns};
 ghost use Rattle.jsonpath_state.specs.Process.{several_content, segments_content, segment_content, selector_content, joined_from, holds_at};
@@ -14,7 +14,7 @@ use crate::evaluate::test::keep_if;
 use crate::state::{Data, Pointer, push_nodes};
 use jsonpath_node::halt::Walked;
 use jsonpath_node::queryable::Queryable;
-use jsonpath_parser::model::{Filter, Segment, Selector};
+use jsonpath_tree::model::{Filter, Segment, Selector};
 use std::alloc::Global;
 
 /// What is done at each node.

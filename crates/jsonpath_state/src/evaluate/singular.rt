@@ -1,7 +1,7 @@
 //! Singular queries, from each node of a state or from the root (RFC 9535, 2.3.5.1).
 ghost use Rattle.std.specs.Prelude.{◌≡◌, map, string_bytes, IsTrue, IfOk, IfErr};
-ghost use Rattle.jsonpath_parser.specs.View.{singular_view, step_view};
-ghost use Rattle.jsonpath_parser.specs.declared.errors.JsonPathError.TheVariants.{OutOfMemory};
+ghost use Rattle.jsonpath_tree.specs.View.{singular_view, step_view};
+ghost use Rattle.jsonpath_tree.specs.declared.errors.JsonPathError.TheVariants.{OutOfMemory};
 ghost use Rattle.jsonpath_node.specs.Document.{document_of};
 ghost use Rattle.jsonpath_state.specs.Process.{step_content, steps_content, singular_content};
 ghost use Rattle.jsonpath_state.specs.State.{mapped, named_from, indexed_from, content_of, DataIsWhole};
@@ -10,7 +10,7 @@ use crate::evaluate::found::{element_from, named};
 use crate::state::{Data, root_of};
 use jsonpath_node::Queried;
 use jsonpath_node::queryable::Queryable;
-use jsonpath_parser::model::{SingularQuery, SingularQuerySegment};
+use jsonpath_tree::model::{SingularQuery, SingularQuerySegment};
 use std::alloc::Global;
 
 /// A query of at most one node, from each node or from the root.

@@ -1,8 +1,8 @@
 //! What tests make of data (RFC 9535, 2.3.5.2.1).
 ghost use Rattle.std.specs.Prelude.{◌≡◌, ◌∷◌, [], ◌++◌, cond, IsTrue, IfOk, IfErr, OnOk};
-ghost use Rattle.jsonpath_parser.specs.Making.{is_truth_call};
-ghost use Rattle.jsonpath_parser.specs.View.{test_view};
-ghost use Rattle.jsonpath_parser.specs.declared.errors.JsonPathError.TheVariants.{OutOfMemory};
+ghost use Rattle.jsonpath_tree.specs.Making.{is_truth_call};
+ghost use Rattle.jsonpath_tree.specs.View.{test_view};
+ghost use Rattle.jsonpath_tree.specs.declared.errors.JsonPathError.TheVariants.{OutOfMemory};
 ghost use Rattle.jsonpath_state.specs.Process as process;
 ghost use Rattle.jsonpath_state.specs.Process.{is_truth, test_truth};
 ghost use Rattle.jsonpath_state.specs.State.{places, place_of, places_of, content_of, PointersAreWhole, DataIsWhole};
@@ -13,7 +13,7 @@ use crate::state::{Data, Pointer};
 use jsonpath_node::Queried;
 use jsonpath_node::halt::Walked;
 use jsonpath_node::queryable::Queryable;
-use jsonpath_parser::model::Test;
+use jsonpath_tree::model::Test;
 use std::alloc::Global;
 
 /// Whether it is a value of its own that is true.

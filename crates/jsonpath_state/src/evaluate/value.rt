@@ -1,6 +1,6 @@
 //! Data of one value: truths, counts, literals, and the value that data is or points to.
 ghost use Rattle.std.specs.Prelude.{◌≡◌, option_map, IsTrue, IfOk, IfErr, IfSome};
-ghost use Rattle.jsonpath_parser.specs.View.{literal_view};
+ghost use Rattle.jsonpath_tree.specs.View.{literal_view};
 ghost use Rattle.jsonpath_base.specs.Tree.{truth};
 ghost use Rattle.jsonpath_node.specs.Functions.{count_value};
 ghost use Rattle.jsonpath_node.specs.Meaning.{literal_tree};
@@ -12,7 +12,7 @@ use crate::state::Data;
 use jsonpath_node::halt::Walked;
 use jsonpath_node::queryable::Queryable;
 use jsonpath_node::value::{count_scalar, made, scalar_of};
-use jsonpath_parser::model::Literal;
+use jsonpath_tree::model::Literal;
 use std::alloc::Global;
 
 /// A truth.

@@ -1,8 +1,8 @@
 -- What one call of the evaluator keeps, for the contracts of the walk alone: the definitions here are no part of what a query means.
 use Rattle.std.specs.Prelude.{◌≡◌, ℕ, ◌<◌, List, map, length, get_or, Bool, false, IsTrue, All}
 use Rattle.std.specs.List.{Contains}
-use Rattle.jsonpath_parser.specs.View.{query_view}
-use Rattle.jsonpath_parser.specs.Syntax.{Argument, Query}
+use Rattle.jsonpath_tree.specs.View.{query_view}
+use Rattle.jsonpath_tree.specs.Syntax.{Argument, Query}
 use Rattle.jsonpath_base.specs.Tree.{Tree}
 use Rattle.jsonpath_node.specs.Document.{Document, document_of}
 use Rattle.jsonpath_node.specs.Meaning.{nodelist}

@@ -1,6 +1,6 @@
 -- Where segments lead that are looked up, for the contracts of the walk alone: the definitions here are no part of what a query means.
 use Rattle.std.specs.Prelude.{◌≡◌, List, [], ◌∷◌, map, Bool, IsTrue}
-use Rattle.jsonpath_parser.specs.Syntax.{Segment, Segments}
+use Rattle.jsonpath_tree.specs.Syntax.{Segment, Segments}
 use Rattle.jsonpath_base.specs.Tree.{Tree}
 use Rattle.jsonpath_node.specs.Document.{Document}
 use Rattle.jsonpath_node.specs.Meaning.{replaced}

@@ -1,7 +1,7 @@
 -- Queries from the root inside filters, for the contracts of the walk alone: the definitions here are no part of what a query means.
 use Rattle.std.specs.Prelude.{ℕ, ◌+◌, ◌≤◌, List, Bool, All}
-use Rattle.jsonpath_parser.specs.Syntax.{Argument, Query}
-use Rattle.jsonpath_parser.specs.View.{query_view}
+use Rattle.jsonpath_tree.specs.Syntax.{Argument, Query}
+use Rattle.jsonpath_tree.specs.View.{query_view}
 use Rattle.jsonpath_node.proofs.Weight.{segments_weight}
 use Rattle.jsonpath_node.specs.Patterns.{segments_patterns}
 use Rattle.jsonpath_walk.specs.inner.Keeping.{StandIn}

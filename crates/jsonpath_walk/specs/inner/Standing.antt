@@ -1,7 +1,7 @@
 -- Where a walk stands, how it comes back and why it halts, for the contracts of the walk alone: the definitions here are no part of what a
 -- query means.
 use Rattle.std.specs.Prelude.{◌≡◌, ◌≤◌, ℕ, List, Bool, IsTrue}
-use Rattle.jsonpath_parser.specs.Syntax.{Query}
+use Rattle.jsonpath_tree.specs.Syntax.{Query}
 use Rattle.jsonpath_base.specs.Tree.{Tree}
 use Rattle.jsonpath_node.specs.Document.{Document}
 use Rattle.jsonpath_node.specs.Patterns.{AsksPattern}

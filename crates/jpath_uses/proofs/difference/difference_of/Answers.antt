@@ -1,5 +1,5 @@
 use Rattle.std.proofs.Common.{map}
-use Rattle.jsonpath_parser.specs.View.{query_view}
+use Rattle.jsonpath_tree.specs.View.{query_view}
 use Rattle.jsonpath_node.specs.Document.{document_of}
 use Rattle.jsonpath_node.specs.Meaning.{selected}
 use Rattle.jpath_uses.specs.Difference.{values_of}

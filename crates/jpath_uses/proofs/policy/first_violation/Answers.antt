@@ -1,6 +1,6 @@
 use Rattle.std.proofs.Common.{string_bytes, arith}
 use Rattle.std.proofs.lemmas.Result.{err_from_is_err_and}
-use Rattle.jsonpath_parser.specs.View.{query_view}
+use Rattle.jsonpath_tree.specs.View.{query_view}
 use Rattle.jsonpath_node.specs.Document.{document_of}
 use Rattle.jsonpath_node.specs.Patterns.{IsStop}
 use Rattle.jpath_uses.specs.First.{IsSilent, IsFirstPath, IsStopped}

@@ -1,6 +1,6 @@
 use Rattle.std.proofs.Common.{ap, sym, ◌∙◌}
-use Rattle.jsonpath_parser.proofs.ViewEquations.{query_view-segments}
-use Rattle.jsonpath_parser.specs.View.{query_view}
+use Rattle.jsonpath_tree.proofs.ViewEquations.{query_view-segments}
+use Rattle.jsonpath_tree.specs.View.{query_view}
 use Rattle.jsonpath_base.specs.SetFunctions.{set_function}
 use Rattle.jsonpath_base.specs.Values.{value_tree}
 use Rattle.jsonpath_node.specs.Document.{document_of}

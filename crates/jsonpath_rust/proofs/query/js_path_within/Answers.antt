@@ -1,4 +1,4 @@
-use Rattle.jsonpath_parser.specs.View.{query_view}
+use Rattle.jsonpath_tree.specs.View.{query_view}
 use Rattle.jsonpath_node.specs.Answer.{shown}
 use Rattle.jsonpath_node.specs.Document.{document_of}
 use Rattle.jsonpath_rust.proofs.NormalPaths.{normal_answered}

@@ -2,12 +2,12 @@ use Rattle.std.proofs.Common.{rules, refl, sym, ap, ◌∙◌, arith, ◌≡◌,
 use Rattle.std.proofs.lemmas.Int.{to_z-of_z}
 use Rattle.std.proofs.lemmas.List.{map-append}
 use Rattle.std.specs.List.{flat_map}
-use Rattle.jsonpath_parser.specs.View.{segment_view, selector_view, filter_view, call_view, argument_view, test_view}
-use Rattle.jsonpath_parser.specs.declared.model.Filter.{Filter}
-use Rattle.jsonpath_parser.specs.declared.model.Segment.{Segment}
-use Rattle.jsonpath_parser.specs.declared.model.Selector.{Selector}
-use Rattle.jsonpath_parser.specs.declared.model.FnArg.{FnArg}
-use Rattle.jsonpath_parser.proofs.ViewEquations.{segment_view-Selectors, selector_view-Index, selector_view-Slice, call_view-Custom, segment_view-Descendant, test_view-RelQuery, test_view-AbsQuery, query_view-segments, call_view-Search, call_view-Match}
+use Rattle.jsonpath_tree.specs.View.{segment_view, selector_view, filter_view, call_view, argument_view, test_view}
+use Rattle.jsonpath_tree.specs.declared.model.Filter.{Filter}
+use Rattle.jsonpath_tree.specs.declared.model.Segment.{Segment}
+use Rattle.jsonpath_tree.specs.declared.model.Selector.{Selector}
+use Rattle.jsonpath_tree.specs.declared.model.FnArg.{FnArg}
+use Rattle.jsonpath_tree.proofs.ViewEquations.{segment_view-Selectors, selector_view-Index, selector_view-Slice, call_view-Custom, segment_view-Descendant, test_view-RelQuery, test_view-AbsQuery, query_view-segments, call_view-Search, call_view-Match}
 use Rattle.jsonpath_base.specs.Tree.{Tree}
 use Rattle.jsonpath_node.specs.Args.{arg_value}
 use Rattle.jsonpath_node.specs.Document.{document_of}
@@ -19,7 +19,7 @@ use Rattle.jsonpath_node.proofs.Weight.{segment_weight, segments_weight, selecto
 use Rattle.jsonpath_state.proofs.Found.{kept-parts}
 use Rattle.jsonpath_state.proofs.Maps.{places_seen, whole_pointers}
 use Rattle.jsonpath_node.proofs.Parts.{part_of, some_found, some_next, each_failed, each_next, fold_next, parts_end, ok_through, joined_next, joined_end, all_joined, filter_more}
-use Rattle.jsonpath_parser.specs.Syntax.{absolute}
+use Rattle.jsonpath_tree.specs.Syntax.{absolute}
 use Rattle.jsonpath_node.specs.Patterns.{segments_patterns, segment_patterns, selectors_patterns, selector_patterns, filters_patterns, filter_patterns, test_patterns, comparison_patterns, call_patterns, argument_patterns, arguments_patterns}
 use Rattle.jsonpath_state.proofs.Asking.{asks_left, asks_right, asks_rest, asks_at, asks_here, asks_nothing, asks_same, asks_below, asks_parents, asks_place, asks_child, asks_root, asks_too, asks_within, stays_next, data-distinct, halts_as, halts_so}
 use Rattle.jsonpath_state.proofs.Lies.{stays-itself}

@@ -1,6 +1,6 @@
 use Rattle.std.proofs.Common.{◌≡◌, ◌++◌, ◌+◌, ◌*◌, drop, map, filter, All, IsTrue, List, Bool}
 use Rattle.std.specs.List.{AllByRecursion, flat_map}
-use Rattle.jsonpath_parser.specs.View.{segment_view, selector_view, filter_view, atom_view, test_view, comparison_view, comparable_view, call_view, argument_view}
+use Rattle.jsonpath_tree.specs.View.{segment_view, selector_view, filter_view, atom_view, test_view, comparison_view, comparable_view, call_view, argument_view}
 use Rattle.jsonpath_node.specs.Args.{arg_value}
 use Rattle.jsonpath_node.specs.Document.{document_of}
 use Rattle.jsonpath_state.specs.Process.{segments_content, joined_from, holds_at, some_holds_at, each_holds_at, arguments_trees}

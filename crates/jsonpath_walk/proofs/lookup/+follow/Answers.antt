@@ -1,5 +1,5 @@
 use Rattle.std.proofs.Common.{◌≡◌, ◌∷◌, rules, sym, ap, subst}
-use Rattle.jsonpath_parser.specs.View.{segment_view}
+use Rattle.jsonpath_tree.specs.View.{segment_view}
 use Rattle.jsonpath_node.specs.inner.Parts.{segments_in}
 use Rattle.jsonpath_walk.specs.inner.Lookup.{Leads, LeadsOn}
 use Rattle.jsonpath_walk.proofs.LookupLaws.{leads_on}

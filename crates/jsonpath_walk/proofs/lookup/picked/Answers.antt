@@ -1,8 +1,8 @@
 use Rattle.std.proofs.Common.{ap, ◌∙◌, w64, SFits, rules}
 use Rattle.std.proofs.lemmas.Int.{to_z-of_z}
-use Rattle.jsonpath_parser.specs.Syntax.{one}
-use Rattle.jsonpath_parser.specs.View.{selector_view}
-use Rattle.jsonpath_parser.proofs.ViewEquations.{selector_view-Index}
+use Rattle.jsonpath_tree.specs.Syntax.{one}
+use Rattle.jsonpath_tree.specs.View.{selector_view}
+use Rattle.jsonpath_tree.proofs.ViewEquations.{selector_view-Index}
 use Rattle.jsonpath_node.specs.Meaning.{indexed}
 use Rattle.jsonpath_walk.proofs.LookupLaws.{index_there, index_nowhere}
 use Rattle.jsonpath_walk.proofs.lookup.picked.Goals as goal

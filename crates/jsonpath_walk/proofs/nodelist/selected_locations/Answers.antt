@@ -1,5 +1,5 @@
 use Rattle.std.proofs.Common.{◌∙◌}
-use Rattle.jsonpath_parser.specs.View.{query_view}
+use Rattle.jsonpath_tree.specs.View.{query_view}
 use Rattle.jsonpath_base.specs.Steps.{location_view}
 use Rattle.jsonpath_node.specs.Document.{document_of}
 use Rattle.jsonpath_node.specs.Meaning.{nodelist}

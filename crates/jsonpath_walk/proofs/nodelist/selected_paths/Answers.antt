@@ -1,5 +1,5 @@
 use Rattle.std.proofs.Common.{◌∙◌, string_bytes}
-use Rattle.jsonpath_parser.specs.View.{query_view}
+use Rattle.jsonpath_tree.specs.View.{query_view}
 use Rattle.jsonpath_node.specs.Document.{document_of}
 use Rattle.jsonpath_node.specs.Meaning.{nodelist}
 use Rattle.jsonpath_walk.proofs.Sinks.{given_paths}

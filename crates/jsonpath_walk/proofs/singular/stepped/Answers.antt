@@ -1,6 +1,6 @@
 use Rattle.std.proofs.Common.{ap, sym, ◌∙◌, [], Some, None, w64, SFits, rules}
 use Rattle.std.proofs.lemmas.Int.{to_z-of_z}
-use Rattle.jsonpath_parser.specs.View.{step_view}
+use Rattle.jsonpath_tree.specs.View.{step_view}
 use Rattle.jsonpath_node.specs.Node.{Node}
 use Rattle.jsonpath_node.specs.Meaning.{stepped, indexed}
 use Rattle.jsonpath_node.proofs.Trees.{stepped-found}

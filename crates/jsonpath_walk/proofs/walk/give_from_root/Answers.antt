@@ -1,6 +1,6 @@
 use Rattle.std.proofs.Common.{ap, sym, ◌∙◌, List, []}
-use Rattle.jsonpath_parser.specs.declared.model.Segment.{Segment}
-use Rattle.jsonpath_parser.proofs.ViewEquations.{query_view-segments}
+use Rattle.jsonpath_tree.specs.declared.model.Segment.{Segment}
+use Rattle.jsonpath_tree.proofs.ViewEquations.{query_view-segments}
 use Rattle.jsonpath_node.specs.Document.{document_of}
 use Rattle.jsonpath_node.specs.Meaning.{nodelist}
 use Rattle.jsonpath_node.specs.inner.Parts.{segments_in}

@@ -1,6 +1,6 @@
 use Rattle.std.proofs.Common.{List, map, refl}
-use Rattle.jsonpath_parser.specs.View.{step_view}
-use Rattle.jsonpath_parser.specs.declared.model.SingularQuerySegment.{SingularQuerySegment}
+use Rattle.jsonpath_tree.specs.View.{step_view}
+use Rattle.jsonpath_tree.specs.declared.model.SingularQuerySegment.{SingularQuerySegment}
 use Rattle.jsonpath_state.specs.Process.{step_content, steps_content}
 use Rattle.jsonpath_state.specs.State.{Content, content_of}
 use Rattle.jsonpath_node.proofs.Parts.{fold_next, parts_end}

@@ -1,5 +1,5 @@
 use Rattle.std.proofs.Common.{◌≡◌, map, drop}
-use Rattle.jsonpath_parser.specs.View.{step_view}
+use Rattle.jsonpath_tree.specs.View.{step_view}
 use Rattle.jsonpath_state.specs.Process.{steps_content}
 use Rattle.jsonpath_state.specs.State.{content_of, DataIsWhole}
 use Rattle.jsonpath_state.proofs.evaluate.singular.steps_data.Given as goal

@@ -1,14 +1,14 @@
 -- Every query that is found in a part stands in what the part stands in.
 use Rattle.std.proofs.Common.{◌≡◌, ◌+◌, ◌≤◌, List, [], ◌∷◌, arith, sym, ◌∙◌, ap, refl}
-use Rattle.jsonpath_parser.specs.View.{segment_view, selector_view, filter_view, atom_view, test_view, comparison_view, comparable_view, call_view, argument_view}
-use Rattle.jsonpath_parser.specs.declared.model.Segment.{Segment}
-use Rattle.jsonpath_parser.specs.declared.model.Selector.{Selector}
-use Rattle.jsonpath_parser.specs.declared.model.Filter.{Filter}
-use Rattle.jsonpath_parser.specs.declared.model.Test.{Test}
-use Rattle.jsonpath_parser.specs.declared.model.Comparison.{Comparison}
-use Rattle.jsonpath_parser.specs.declared.model.TestFunction.{TestFunction}
-use Rattle.jsonpath_parser.specs.declared.model.FnArg.{FnArg}
-use Rattle.jsonpath_parser.proofs.ViewEquations.{segment_view-Descendant, segment_view-Selector, segment_view-Selectors, selector_view-Filter, comparable_view-Function, filter_view-Or, filter_view-And, filter_view-Atom, atom_view-Filter, atom_view-Test, atom_view-Comparison, test_view-RelQuery, test_view-AbsQuery, test_view-Function, argument_view-Test, argument_view-Filter, call_view-Custom, call_view-Length, call_view-Value, call_view-Count, call_view-Search, call_view-Match}
+use Rattle.jsonpath_tree.specs.View.{segment_view, selector_view, filter_view, atom_view, test_view, comparison_view, comparable_view, call_view, argument_view}
+use Rattle.jsonpath_tree.specs.declared.model.Segment.{Segment}
+use Rattle.jsonpath_tree.specs.declared.model.Selector.{Selector}
+use Rattle.jsonpath_tree.specs.declared.model.Filter.{Filter}
+use Rattle.jsonpath_tree.specs.declared.model.Test.{Test}
+use Rattle.jsonpath_tree.specs.declared.model.Comparison.{Comparison}
+use Rattle.jsonpath_tree.specs.declared.model.TestFunction.{TestFunction}
+use Rattle.jsonpath_tree.specs.declared.model.FnArg.{FnArg}
+use Rattle.jsonpath_tree.proofs.ViewEquations.{segment_view-Descendant, segment_view-Selector, segment_view-Selectors, selector_view-Filter, comparable_view-Function, filter_view-Or, filter_view-And, filter_view-Atom, atom_view-Filter, atom_view-Test, atom_view-Comparison, test_view-RelQuery, test_view-AbsQuery, test_view-Function, argument_view-Test, argument_view-Filter, call_view-Custom, call_view-Length, call_view-Value, call_view-Count, call_view-Search, call_view-Match}
 use Rattle.jsonpath_node.proofs.Weight.{segment_weight, selectors_weight, selector_weight, segments_weight, filter_weight, filters_weight, atom_weight, test_weight, comparison_weight, comparable_weight, call_weight, argument_weight, arguments_weight}
 use Rattle.jsonpath_node.specs.Patterns.{segments_patterns, segment_patterns, selectors_patterns, selector_patterns, filter_patterns, filters_patterns, atom_patterns, test_patterns, comparison_patterns, comparable_patterns, call_patterns, argument_patterns, arguments_patterns}
 use Rattle.jsonpath_node.specs.inner.Parts.{segments_in, selectors_in, filters_in, arguments_in}

@@ -1,4 +1,4 @@
-use Rattle.jsonpath_parser.specs.Syntax.{Query}
+use Rattle.jsonpath_tree.specs.Syntax.{Query}
 use Rattle.jsonpath_node.proofs.Weight.{segments_weight, selectors_weight, filters_weight, arguments_weight}
 use Rattle.jsonpath_node.specs.Patterns.{segments_patterns, selectors_patterns, filters_patterns, arguments_patterns}
 use Rattle.jsonpath_node.specs.inner.Parts.{segments_in, selectors_in, filters_in, arguments_in}

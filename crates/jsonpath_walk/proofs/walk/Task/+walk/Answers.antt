@@ -4,12 +4,12 @@ use Rattle.std.proofs.lemmas.Int.{to_z-of_z}
 use Rattle.std.proofs.lemmas.List.{map-append}
 use Rattle.std.proofs.lemmas.List.Elements.{All-head, All-tail, All-nil}
 use Rattle.std.specs.List.{flat_map}
-use Rattle.jsonpath_parser.specs.Location.{name, index}
-use Rattle.jsonpath_parser.specs.Syntax.{descendant}
-use Rattle.jsonpath_parser.specs.View.{segment_view, selector_view, filter_view, atom_view, test_view, comparison_view, comparable_view, call_view, argument_view, operator_view, query_view}
-use Rattle.jsonpath_parser.specs.declared.model.Segment.{Segment}
-use Rattle.jsonpath_parser.specs.declared.model.Selector.{Selector}
-use Rattle.jsonpath_parser.proofs.ViewEquations.{segment_view-Descendant, segment_view-Selector, segment_view-Selectors, selector_view-Name, selector_view-Wildcard, selector_view-Index, selector_view-Slice, selector_view-Filter, comparable_view-Literal, comparable_view-Function, comparable_view-SingularQuery, filter_view-Or, filter_view-And, filter_view-Atom, atom_view-Filter, atom_view-Test, atom_view-Comparison, test_view-RelQuery, test_view-AbsQuery, test_view-Function, argument_view-Literal, argument_view-Test, argument_view-Filter, call_view-Custom, call_view-Length, call_view-Value, call_view-Count, call_view-Search, call_view-Match, query_view-segments}
+use Rattle.jsonpath_tree.specs.Location.{name, index}
+use Rattle.jsonpath_tree.specs.Syntax.{descendant}
+use Rattle.jsonpath_tree.specs.View.{segment_view, selector_view, filter_view, atom_view, test_view, comparison_view, comparable_view, call_view, argument_view, operator_view, query_view}
+use Rattle.jsonpath_tree.specs.declared.model.Segment.{Segment}
+use Rattle.jsonpath_tree.specs.declared.model.Selector.{Selector}
+use Rattle.jsonpath_tree.proofs.ViewEquations.{segment_view-Descendant, segment_view-Selector, segment_view-Selectors, selector_view-Name, selector_view-Wildcard, selector_view-Index, selector_view-Slice, selector_view-Filter, comparable_view-Literal, comparable_view-Function, comparable_view-SingularQuery, filter_view-Or, filter_view-And, filter_view-Atom, atom_view-Filter, atom_view-Test, atom_view-Comparison, test_view-RelQuery, test_view-AbsQuery, test_view-Function, argument_view-Literal, argument_view-Test, argument_view-Filter, call_view-Custom, call_view-Length, call_view-Value, call_view-Count, call_view-Search, call_view-Match, query_view-segments}
 use Rattle.jsonpath_base.specs.Tree.{get, truth}
 use Rattle.jsonpath_base.specs.Slice.{slice_of}
 use Rattle.jsonpath_node.specs.Node.{below, children, subtree, root_node}
@@ -32,15 +32,15 @@ use Rattle.jsonpath_walk.proofs.PatternLaws.{part_as, part_in, part_left, part_r
 use Rattle.jsonpath_node.proofs.Trees.{child_there, all_at, element_size, pair_size, member_size, element_at, sliced-list, named_some, named_none}
 use Rattle.jsonpath_node.proofs.Parts.{part_of, kept_true, kept_false, some_found, some_next, each_failed, each_next, parts_end, ok_as, ok_through, differs, passed_on, joined_next}
 use Rattle.jsonpath_walk.proofs.Kept.{ready_as}
-use Rattle.jsonpath_parser.specs.declared.model.Filter.{Filter}
-use Rattle.jsonpath_parser.specs.declared.model.Test.{Test}
-use Rattle.jsonpath_parser.specs.declared.model.Comparison.{Comparison}
-use Rattle.jsonpath_parser.specs.declared.model.TestFunction.{TestFunction}
+use Rattle.jsonpath_tree.specs.declared.model.Filter.{Filter}
+use Rattle.jsonpath_tree.specs.declared.model.Test.{Test}
+use Rattle.jsonpath_tree.specs.declared.model.Comparison.{Comparison}
+use Rattle.jsonpath_tree.specs.declared.model.TestFunction.{TestFunction}
 use Rattle.jsonpath_node.specs.Comparing.{compares}
 use Rattle.jsonpath_node.specs.Functions.{length_of, as_value, as_trees, as_truth, is_matched}
 use Rattle.jsonpath_node.specs.inner.Operands.{operand_tree, arg_trees, AreWhole, is_entire}
 use Rattle.jsonpath_walk.proofs.NodelistLaws.{through-applied, nodelist-through}
-use Rattle.jsonpath_parser.specs.declared.model.FnArg.{FnArg}
+use Rattle.jsonpath_tree.specs.declared.model.FnArg.{FnArg}
 use Rattle.jsonpath_walk.specs.declared.way.StepRef.{StepRef}
 use Rattle.jsonpath_walk.specs.inner.Arguing.{value, nodes, held, holding, value_held, only_held, count_held, trees_held, truth_held, OnlyIsWhole, HeldAreWhole}
 use Rattle.jsonpath_walk.proofs.Arguing.{as_value_held, as_only_held, as_count_held, as_trees_held, as_truth_held, only_is_whole, held_are_whole}

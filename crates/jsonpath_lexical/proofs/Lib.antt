@@ -1,0 +1,11 @@
+pub mod Depths
+pub mod Fronts
+pub mod Giving
+pub mod Ints
+pub mod NumberPowers
+pub mod NumberValues
+pub mod Runs
+pub mod StringComplete
+pub mod StringRuns
+pub mod StringSound
+pub mod StringTurns

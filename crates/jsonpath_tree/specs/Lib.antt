@@ -1,0 +1,10 @@
+pub mod Errors
+pub mod Location
+pub mod Normal
+pub mod Syntax
+pub mod Steps
+pub mod View
+pub mod Typing
+pub mod Making
+pub mod Shown
+pub mod inner
