@@ -1,10 +1,13 @@
-//! A second document type, for the tests of queries: it walks the members of an object from the greatest name to the least.
+//! A second document type, for the tests of queries: it walks the members of an object from the greatest name to the least. And
+//! what tests ask of both types.
 #![tactic(auto)]
 
 mod copies;
 mod customs;
+pub mod document;
 mod documents;
 mod kinds;
+pub mod processed;
 mod sameness;
 mod values;
 mod walks;

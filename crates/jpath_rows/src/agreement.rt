@@ -3,15 +3,14 @@ ghost use Rattle.std.specs.Prelude.{◌≡◌, map, IsTrue, IfOk};
 ghost use Rattle.jsonpath_base.specs.Values.{value_is_whole};
 ghost use Rattle.jsonpath_node.specs.Answer.{shown, paths_of};
 
-use crate::document::are_equal;
-use jsonpath_parser::model::JpQuery;
+use jpath_doc::document::are_equal;
+use jpath_doc::processed::is_by_process;
 use jsonpath_parser::{let_go, parse_json_path_within};
 use jsonpath_rust::JsonPath;
 use jsonpath_rust::query::queryable::Queryable;
-use jsonpath_rust::query::state::{Data, Pointer, State};
 use jsonpath_rust::query::{
-    Queried, Query, QueryPath, QueryRef, js_path, js_path_path, js_path_process,
-    js_path_process_vals, js_path_vals,
+    Queried, QueryPath, QueryRef, js_path, js_path_path, js_path_process, js_path_process_vals,
+    js_path_vals,
 };
 use serde_json::Value;
 use std::alloc::Global;
@@ -103,42 +102,6 @@ fn makes_too_many(query: &str) -> bool {
         }
     }
     count > 10
-}
-
-/// Whether `process`, asked of the state of the root, answers these nodes.
-pub fn is_by_process<T: Queryable>(
-    alloc: Global,
-    query: &JpQuery,
-    document: &T,
-    nodes: &[QueryRef<'_, T>],
-) -> bool
-    requires { IsTrue (T.is_whole document.now) }
-{
-    let Some(state) = State::root(alloc, document).ok() else {
-        return false;
-    };
-    match query.process(alloc, state).ok() {
-        Some(answer) => are_in(nodes, &answer.content),
-        None => false,
-    }
-}
-
-/// Whether the nodes of the data are these, in order.
-fn are_in<T: Queryable>(nodes: &[QueryRef<'_, T>], data: &Data<'_, T>) -> bool {
-    match data {
-        Data::Ref(pointer) => are_pointed_to(nodes, slice::from_ref(pointer)),
-        Data::Refs(pointers) => are_pointed_to(nodes, pointers),
-        Data::Value(_) | Data::Nothing => nodes.is_empty(),
-    }
-}
-
-fn are_pointed_to<T: Queryable>(nodes: &[QueryRef<'_, T>], pointers: &[Pointer<'_, T>]) -> bool {
-    for (node, pointer) in nodes.iter().zip(pointers) {
-        if node.path.as_str() != pointer.path.as_str() || !are_equal(node.val, pointer.inner) {
-            return false;
-        }
-    }
-    nodes.len() == pointers.len()
 }
 
 /// What the three methods of a document answer to a query.

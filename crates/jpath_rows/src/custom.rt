@@ -2,8 +2,8 @@
 ghost use Rattle.std.specs.Prelude.{All, IsTrue};
 ghost use Rattle.jsonpath_node.specs.Args.{arg_value};
 
-use crate::document::{Document, is_value};
 use jpath_doc::Doc;
+use jpath_doc::document::{Document, is_value};
 use jpath_row::members::{Types, has_only, list_at, string_at, types_of};
 use jsonpath_rust::query::queryable::{Arg, Queryable};
 use serde_json::Value;

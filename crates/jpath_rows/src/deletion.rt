@@ -2,8 +2,8 @@
 ghost use Rattle.std.specs.Prelude.{IsTrue};
 ghost use Rattle.jsonpath_base.specs.Values.{value_is_whole};
 
-use crate::document::{Document, are_equal, is_value};
 use jpath_doc::Doc;
+use jpath_doc::document::{Document, are_equal, is_value};
 use jpath_row::members::{Depth, Types, depth_of, has_only, size, string_at, types_of};
 use jpath_row::refusal::is_refused;
 use jsonpath_rust::query::queryable::{Deletable, Queryable};

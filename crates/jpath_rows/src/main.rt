@@ -5,16 +5,12 @@
 mod agreement;
 mod custom;
 mod deletion;
-mod document;
 mod nodes;
-mod process;
 mod query;
 mod reference;
 mod refused;
 mod results;
 mod row;
-mod state;
-mod states;
 mod suite;
 
 use jpath_row::ask_rows;

@@ -1,5 +1,5 @@
 //! The nodes that a query answered, beside what is wanted of them.
-use crate::document::{Document, is_value};
+use jpath_doc::document::{Document, is_value};
 use jpath_row::members::list;
 use jpath_row::text::spells;
 use jsonpath_rust::query::QueryRef;

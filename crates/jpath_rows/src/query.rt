@@ -4,10 +4,10 @@ ghost use Rattle.jsonpath_base.specs.Values.{value_is_whole};
 
 use crate::agreement::{is_by_methods, is_by_text, is_by_tree, lead_back};
 use crate::deletion::is_one_by_one;
-use crate::document::Document;
 use crate::nodes::{Part, are_wanted};
 use crate::reference::refer_back;
 use jpath_doc::Doc;
+use jpath_doc::document::Document;
 use jpath_row::members::{Depth, Types, depth_of, has_only, list, types_of};
 use jpath_row::text::{text_at, text_of};
 use jsonpath_rust::query::js_path_within;

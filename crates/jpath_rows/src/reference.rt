@@ -1,6 +1,6 @@
 //! Rows on reading and writing by a path: `reference` with `values`; `replace` with `new`, `replaced` and `left`.
-use crate::document::{Document, are_equal};
 use jpath_doc::Doc;
+use jpath_doc::document::{Document, are_equal};
 use jpath_row::members::{has_only, list_at, string_at};
 use jsonpath_rust::query::queryable::Queryable;
 use jsonpath_rust::query::{QueryRef, replace_by_path};

@@ -1,6 +1,6 @@
 //! What a test of a compliance suite wants of the nodes.
-use crate::document::Document;
 use crate::nodes::{Part, are_wanted};
+use jpath_doc::document::Document;
 use jpath_row::members::{has_only, list, list_at};
 use jsonpath_rust::query::QueryRef;
 use jsonpath_rust::query::queryable::Queryable;

@@ -1,15 +1,11 @@
 //! One row: what it asks is told by its members. One with another member, or without one that it needs, does not hold.
-use crate::{custom, deletion, process, query, reference, refused, states};
+use crate::{custom, deletion, query, reference, refused};
 use serde_json::Value;
 use std::alloc::Global;
 
 /// Whether the row holds.
 pub fn holds(alloc: Global, row: &Value) -> bool {
-    if row.get("process").is_some() {
-        process::holds(alloc, row)
-    } else if row.get("states").is_some() {
-        states::holds(alloc, row)
-    } else if row.get("call").is_some() {
+    if row.get("call").is_some() {
         custom::holds(alloc, row)
     } else if row.get("delete").is_some() {
         deletion::holds(alloc, row)

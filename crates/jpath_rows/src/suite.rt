@@ -1,9 +1,9 @@
 //! The tests of a compliance suite for JSONPath.
 ghost use Rattle.std.specs.Prelude.{IsTrue};
 
-use crate::document::Document;
 use crate::results::{Order, Wanted, are_any, are_whole, wanted_of};
 use jpath_doc::Doc;
+use jpath_doc::document::Document;
 use jpath_row::members::{Depth, has_only, string_at};
 use jpath_row::reading::{Reading, read};
 use jsonpath_rust::query::js_path;

@@ -1,6 +1,8 @@
 //! A pattern so large that `regex` may refuse it; which of the two it does is left open.
+use crate::fault::Fault;
 use crate::tests::runs::{ends_so, texts};
 use jsonpath_base::found;
+use jsonpath_parser::errors::JsonPathError;
 use regex::Regex;
 use std::alloc::Global;
 
@@ -55,4 +57,22 @@ fn large_pattern(rt: HostRuntime) {
 fn is_run(alloc: Global, wanted: (u8, &str)) -> Option<bool> {
     let words = texts(alloc, &["nodes", QUERY])?;
     ends_so(alloc, &words, br#"["a"]"#, wanted)
+}
+
+/// Whether the fault of a pattern that is too large has its status and its line.
+fn is_told(alloc: Global) -> bool {
+    let fault = Fault::Query(JsonPathError::InvalidJsonPath(String::new(alloc)));
+    let status = fault.status();
+    let line = fault.to_string(alloc).ok();
+    drop(fault);
+    status == 1
+        && match line {
+            Some(line) => line.as_str() == "jpath: a pattern is too large",
+            None => false,
+        }
+}
+
+#[test]
+fn line_of_a_large_pattern(rt: HostRuntime) {
+    assert!(rt; is_told(rt.alloc()));
 }

@@ -38,30 +38,37 @@ enum Failing {
     Flush,
 }
 
-/// Takes five bytes at a time.
+/// How much a `SmallWriter` takes: so many bytes at once, and so many times; and how it fails then.
+#[derive(Clone, Copy)]
+struct Taking {
+    at_once: usize,
+    writes: usize,
+    failing: Failing,
+}
+
+/// Takes a few bytes at a time.
 #[derive(Drop)]
 struct SmallWriter {
     written: Vec<u8>,
-    writes_left: usize,
-    failing: Failing,
+    left: Taking,
 }
 
 impl Write for SmallWriter {
     fn write(&mut self, buf: &[u8]) -> io::Result<usize> {
-        if self.writes_left == 0 {
-            return match self.failing {
+        if self.left.writes == 0 {
+            return match self.left.failing {
                 Failing::EmptyWrite => Ok(0),
                 Failing::Write | Failing::Flush => Err(io::Error::from(ErrorKind::Other)),
             };
         }
-        self.writes_left -= 1;
-        let count = buf.len().min(5);
+        self.left.writes -= 1;
+        let count = buf.len().min(self.left.at_once);
         self.written.extend_from_slice(&buf[..count])?;
         Ok(count)
     }
 
     fn flush(&mut self) -> io::Result<()> {
-        match self.failing {
+        match self.left.failing {
             Failing::Flush => Err(io::Error::from(ErrorKind::Other)),
             Failing::Write | Failing::EmptyWrite => Ok(()),
         }
@@ -107,20 +114,23 @@ fn failing_reads(rt: HostRuntime) {
     }
 }
 
-/// Whether a run ends by this status and writes this, where a writer takes so many writes and fails so.
-fn writes_so(alloc: Global, writes: usize, failing: Failing, wanted: (u8, &[u8])) -> Option<bool> {
+/// The status of a run whose writer takes so much, and the bytes that it has taken, if they are a beginning of the output.
+fn written(alloc: Global, taking: Taking) -> Option<(u8, usize)> {
     let mut reader = DOCUMENT;
     let mut writer = SmallWriter {
         written: Vec::new(alloc),
-        writes_left: writes,
-        failing,
+        left: taking,
     };
     let status = status(alloc, &mut reader, &mut writer)?;
-    Some(status == wanted.0 && writer.written.as_slice() == wanted.1)
+    if OUTPUT.starts_with(writer.written.as_slice()) {
+        Some((status, writer.written.len()))
+    } else {
+        None
+    }
 }
 
-/// How many writes a writer takes and how it fails; the exit status, and how many bytes are written. The fourteen
-/// bytes of the output take three writes.
+/// How many writes of five bytes a writer takes and how it fails; the exit status, and how many bytes are written. The
+/// fourteen bytes of the output take three writes.
 static WRITERS: [(usize, Failing, u8, usize); 8] = [
     (0, Failing::Write, 5, 0),
     (1, Failing::Write, 5, 5),
@@ -135,11 +145,32 @@ static WRITERS: [(usize, Failing, u8, usize); 8] = [
 #[test]
 fn failing_writes_and_flushes(rt: HostRuntime) {
     for (writes, failing, status, length) in &WRITERS {
-        let wanted = (*status, &OUTPUT[..*length]);
+        let taking = Taking {
+            at_once: 5,
+            writes: *writes,
+            failing: *failing,
+        };
         assert_eq!(rt;
-            writes_so(rt.alloc(), *writes, *failing, wanted),
-            Some(true),
+            written(rt.alloc(), taking),
+            Some((*status, *length)),
             "{failing:?} behind {writes} writes"
+        );
+    }
+}
+
+#[test]
+fn failing_writes_of_a_byte(rt: HostRuntime) {
+    for writes in 0..=14 {
+        let taking = Taking {
+            at_once: 1,
+            writes,
+            failing: Failing::Write,
+        };
+        let status = if writes < 14 { 5 } else { 0 };
+        assert_eq!(rt;
+            written(rt.alloc(), taking),
+            Some((status, writes)),
+            "{writes} bytes"
         );
     }
 }

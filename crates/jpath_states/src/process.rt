@@ -5,10 +5,10 @@ ghost use Rattle.jsonpath_state.specs.State.{DataIsWhole};
 mod picks;
 mod untyped;
 
-use crate::agreement::is_by_process;
-use crate::document::Document;
 use crate::state::{is_state, state_of, values_of};
 use jpath_doc::Doc;
+use jpath_doc::document::Document;
+use jpath_doc::processed::is_by_process;
 use jpath_row::members::{Types, has_only, string_at, types_of};
 use jpath_row::text::text_at;
 use jsonpath_build::{and, or, segment_many};

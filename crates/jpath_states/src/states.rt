@@ -5,9 +5,9 @@ ghost use Rattle.jsonpath_state.specs.State.{DataIsWhole};
 
 mod pointers;
 
-use crate::document::{Document, is_value};
 use crate::state::{are_pointers, is_state, state_of, values_of};
 use jpath_doc::Doc;
+use jpath_doc::document::{Document, is_value};
 use jpath_row::members::{Types, has_only, list, string_at, types_of};
 use jsonpath_rust::query::queryable::Queryable;
 use jsonpath_rust::query::state::{Data, State};

@@ -1,6 +1,5 @@
-//! The texts of errors, and of faults that no run here meets.
-use crate::fault::Fault;
-use jsonpath_parser::errors::JsonPathError;
+//! The texts of errors, and their copies.
+use jsonpath_tree::errors::JsonPathError;
 use std::alloc::Global;
 
 /// Errors by their names, or by the makers that no variant is named for, and their texts.
@@ -129,22 +128,4 @@ fn copies_of_errors(rt: HostRuntime) {
     for (name, _) in &TEXTS {
         assert!(rt; is_copied(rt.alloc(), name), "{name}");
     }
-}
-
-/// Whether the fault of a pattern that is too large has its status and its line.
-fn is_told(alloc: Global) -> bool {
-    let fault = Fault::Query(JsonPathError::InvalidJsonPath(String::new(alloc)));
-    let status = fault.status();
-    let line = fault.to_string(alloc).ok();
-    drop(fault);
-    status == 1
-        && match line {
-            Some(line) => line.as_str() == "jpath: a pattern is too large",
-            None => false,
-        }
-}
-
-#[test]
-fn line_of_a_large_pattern(rt: HostRuntime) {
-    assert!(rt; is_told(rt.alloc()));
 }

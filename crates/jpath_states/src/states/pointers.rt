@@ -2,8 +2,8 @@
 ghost use Rattle.std.specs.Prelude.{IsTrue, IfSome};
 
 use super::Asked;
-use crate::document::Document;
 use crate::state::data_of;
+use jpath_doc::document::Document;
 use jpath_row::members::size;
 use jsonpath_rust::query::queryable::Queryable;
 use jsonpath_rust::query::selector::{process_index, process_key};

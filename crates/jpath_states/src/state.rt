@@ -2,7 +2,7 @@
 ghost use Rattle.std.specs.Prelude.{IsTrue, IfSome};
 ghost use Rattle.jsonpath_state.specs.State.{DataIsWhole, PointersAreWhole};
 
-use crate::document::{Document, are_equal, is_value};
+use jpath_doc::document::{Document, are_equal, is_value};
 use jpath_row::members::{list, list_at};
 use jpath_row::text::{spells, text_of};
 use jsonpath_rust::query::queryable::Queryable;

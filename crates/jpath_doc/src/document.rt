@@ -1,5 +1,5 @@
-//! The types of documents that rows are asked of.
-use jpath_doc::{Doc, of_value};
+//! The types of documents that rows are asked of, each made of a value.
+use crate::{Doc, of_value};
 use jsonpath_rust::JsonPath;
 use jsonpath_rust::query::queryable::Queryable;
 use serde_json::Value;

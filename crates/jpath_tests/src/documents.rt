@@ -1,7 +1,7 @@
 //! Documents through their trait alone, at `Value`.
 ghost use Rattle.std.specs.Prelude.{IsTrue, IfSome};
 
-use jsonpath_rust::query::queryable::{Arg, Queryable};
+use jsonpath_node::queryable::{Arg, Queryable};
 use serde_json::Value;
 use std::alloc::Global;
 
