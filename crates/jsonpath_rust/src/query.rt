@@ -30,7 +30,7 @@ use jsonpath_parser::{
 pub use jsonpath_state::{Query, apply, selector, state};
 use jsonpath_state::{processed_nodes, processed_values};
 use jsonpath_walk::selected_paths;
-pub use jsonpath_walk::{selected_nodes, selected_values};
+pub use jsonpath_walk::{Prepared, selected_nodes, selected_values};
 use std::alloc::Global;
 
 /// The nodes that a query text selects in a document, in order (RFC 9535, 2.1.2): their values and their Normalized

@@ -10,7 +10,7 @@ use Rattle.jsonpath_base.specs.Tree.{Tree, number}
 use Rattle.jsonpath_node.specs.Node.{Node, has_node}
 use Rattle.jsonpath_node.specs.Functions.{count_value, count_of, only_value}
 use Rattle.jsonpath_walk.specs.inner.Sinks as sinks
-use Rattle.jsonpath_walk.specs.inner.Sinks.{Seen, nodes, paths, values, locations, any, count, nothing, one, several, add, give, full, any_in, only_in, nodes_in, nodes_whole, paths_in, locations_in, values_in, values_whole, answer_of, Took}
+use Rattle.jsonpath_walk.specs.inner.Sinks.{Seen, nodes, paths, values, locations, any, count, nothing, one, several, first, add, give, full, any_in, only_in, first_in, nodes_in, nodes_whole, paths_in, locations_in, values_in, values_whole, answer_of, Took}
 
 pub give-append : (s : Seen) (xs ys : List Node) → give s (xs ++ ys) ≡ give (give s xs) ys
 give-append s [] ys = refl
@@ -26,6 +26,8 @@ add-full (count k) n h = absurd (false≢true h)
 add-full nothing n h = absurd (false≢true h)
 add-full (one b t) n h = absurd (false≢true h)
 add-full several n h = refl
+add-full (first None) n h = absurd (false≢true h)
+add-full (first (Some p)) n h = refl
 
 -- a sink that wants no more nodes stays as it is
 pub give-full : (s : Seen) (ns : List Node) → full s ≡ true → give s ns ≡ s
@@ -84,6 +86,10 @@ only_whole (n ∷ []) p e = let h : (true, n.tree) ≡ p = cc in sym (ap (λ q. 
 only_whole (n ∷ m ∷ ns) p e = let h : None ≡ Some p = sym (ap only_in (give-full several ns refl)) ∙ e in cc
 
 -- ---- what it has in the end
+
+-- the first node is kept
+pub only_first : (n : Node) (ns : List Node) → first_in (give (first None) (n ∷ ns)) ≡ Some (true, answer_of n)
+only_first n ns = ap first_in (give-full (first (Some (true, answer_of n))) ns refl)
 
 give-nodes : (bs : List Bool) (ms : List (List ℕ × Tree)) (ns : List Node) → give (nodes bs ms) ns ≡ nodes (bs ++ map (λ n. true) ns) (ms ++ map answer_of ns)
 give-nodes bs ms [] = ap (λ x. nodes x ms) (sym (append-nil bs)) ∙ ap (nodes (bs ++ [])) (sym (append-nil ms))

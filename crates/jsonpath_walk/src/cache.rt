@@ -12,6 +12,7 @@ ghost use Rattle.jsonpath_walk.specs.inner.Keeping.{seen_at, AreRight, nodelists
 
 use crate::finders::{Asked, Finders};
 use crate::patterns::Origin;
+use crate::round::around;
 use crate::sink::{Sink, Wanted};
 use jsonpath_node::extent::Extent;
 use jsonpath_node::halt::Walked;
@@ -167,17 +168,6 @@ fn found_from<T: Queryable>(
         }
     }
     None
-}
-
-/// The index so many turns behind this one in a round of `count`.
-#[inline(always)]
-fn around(index: usize, turns: usize, count: usize) -> usize {
-    let after = index.saturating_add(turns);
-    if after < count {
-        after
-    } else {
-        after.saturating_sub(count)
-    }
 }
 
 /// Whether the same is wanted.

@@ -1,19 +1,17 @@
-//! What asks the patterns of one call (RFC 9535, 2.4.6 and 2.4.7). Each is built when it is first asked, and is then kept with
-//! what asks it; equal ones share that.
+//! What asks the patterns of one call (RFC 9535, 2.4.6 and 2.4.7). Each is built when it is first asked, unless an earlier call
+//! has built it, and is then kept with what asks it; equal ones share that.
 ghost use Rattle.std.specs.Prelude.{◌≡◌, IfOk, IfErr, IfSome};
 ghost use Rattle.jsonpath_base.specs.Pattern.{pattern_sought, found, IsPatternRefusal};
 ghost use Rattle.jsonpath_node.specs.inner.Operands.{is_entire};
 
 use crate::patterns::Origin;
+use crate::round::{after, around};
 use jsonpath_base::pattern::{Finder, Pattern, found_again};
 use jsonpath_node::extent::Extent;
 use jsonpath_tree::errors::Parsed;
 use std::alloc::{AllocError, Global};
 use std::cell::OnceCell;
 use std::collections::BTreeMap;
-
-/// How many patterns that come from the document are kept.
-pub const KEPT_FROM_DOCUMENT: usize = 8;
 
 /// A pattern, and what of a text it has to match.
 #[derive(Clone, Copy)]
@@ -25,8 +23,10 @@ pub struct Asked<'p> {
 /// What asks the patterns that were asked so far.
 #[derive(Drop)]
 pub struct Finders<'p> {
-    /// Where the patterns stand, in the order in which they were built; the others are empty.
-    places: &'p [OnceCell<Pattern>],
+    /// Where the patterns that stand in the query are built, in the order in which that was done; the others are empty.
+    standing: &'p [OnceCell<Pattern>],
+    /// Where those that come from the document are built, in the same way.
+    lent: &'p [OnceCell<Pattern>],
     /// What asks each of them.
     finders: Vec<Finder<'p>>,
     /// The index of each that is asked of entire texts, by its pattern.
@@ -35,21 +35,36 @@ pub struct Finders<'p> {
     substring: BTreeMap<String, usize>,
     /// The index of the one that is likely to be asked next.
     likely: usize,
-    /// How many of them came from the document.
+    /// How many of the standing ones were built before this call.
+    ready: usize,
+    /// The place of the one of these that is likely to be asked next.
+    likely_ready: usize,
+    /// How many of the standing ones are built.
+    built: usize,
+    /// How many came from the document.
     from_document: usize,
     /// The last pattern for which there was no place.
     other: Option<Pattern>,
 }
 
 impl<'p> Finders<'p> {
-    /// With these places, all empty.
-    pub fn new(alloc: Global, places: &'p [OnceCell<Pattern>]) -> Self {
+    /// With these places, of which the first standing ones may hold what an earlier call has built.
+    pub fn new(
+        alloc: Global,
+        standing: &'p [OnceCell<Pattern>],
+        lent: &'p [OnceCell<Pattern>],
+    ) -> Self {
+        let ready = filled_of(standing);
         Finders {
-            places,
+            standing,
+            lent,
             finders: Vec::new(alloc),
             entire: BTreeMap::new(alloc),
             substring: BTreeMap::new(alloc),
             likely: 0,
+            ready,
+            likely_ready: 0,
+            built: ready,
             from_document: 0,
             other: None,
         }
@@ -108,33 +123,56 @@ impl<'p> Finders<'p> {
         }
     }
 
-    /// Builds the pattern and what asks it, if there is a place.
+    /// Makes what asks the pattern, if there is a place for it: where it stands already, or an empty one, where it is built.
     fn add(&mut self, alloc: Global, asked: Asked<'_>, origin: Origin) -> Parsed<()>
         ensures { IfErr result (IsPatternRefusal (pattern_sought (is_entire asked.entry.extent) asked.entry.pattern.now)) }
     {
-        if let Origin::Document = origin {
-            if self.from_document == KEPT_FROM_DOCUMENT {
-                return Ok(());
-            }
-            self.from_document = self.from_document.saturating_add(1);
-        }
-        let places = self.places;
-        let Some(place) = places.get(self.finders.len()) else {
+        let place = match origin {
+            Origin::Query => self.standing_place(asked),
+            Origin::Document => self.lent_place(),
+        };
+        let Some(place) = place else {
             return Ok(());
         };
-        let built = Pattern::new(alloc, asked.pattern, asked.extent.is_entire())?;
-        Ok(self.keep(alloc, place, built, asked.extent)?)
+        if place.get().is_none() {
+            let built = Pattern::new(alloc, asked.pattern, asked.extent.is_entire())?;
+            let _ = place.set(built);
+        }
+        Ok(self.keep(alloc, place, asked.extent)?)
     }
 
-    /// Keeps a pattern at its place, with what asks it.
+    /// Where this pattern was built before this call, or else the next empty place.
+    fn standing_place(&mut self, asked: Asked<'_>) -> Option<&'p OnceCell<Pattern>> {
+        let standing = self.standing;
+        for turn in 0..self.ready {
+            let index = around(self.likely_ready, turn, self.ready);
+            if let Some(place) = standing.get(index) {
+                if is_there(place, asked) {
+                    self.likely_ready = after(index, self.ready);
+                    return Some(place);
+                }
+            }
+        }
+        let next = self.built;
+        self.built = next.saturating_add(1);
+        standing.get(next)
+    }
+
+    /// The next empty place for a pattern from the document.
+    fn lent_place(&mut self) -> Option<&'p OnceCell<Pattern>> {
+        let lent = self.lent;
+        let next = self.from_document;
+        self.from_document = next.saturating_add(1);
+        lent.get(next)
+    }
+
+    /// Keeps what asks the pattern of this place.
     fn keep(
         &mut self,
         alloc: Global,
         place: &'p OnceCell<Pattern>,
-        built: Pattern,
         extent: Extent,
     ) -> Result<(), AllocError> {
-        let _ = place.set(built);
         if let Some(pattern) = place.get() {
             let finder = pattern.finder(alloc)?;
             let source = String::from_str(alloc, pattern.source())?;
@@ -149,9 +187,20 @@ impl<'p> Finders<'p> {
     }
 }
 
-/// The index behind this one, of so many in a round.
-#[inline(always)]
-fn after(index: usize, count: usize) -> usize {
-    let next = index.saturating_add(1);
-    if next < count { next } else { 0 }
+/// How many of the first places hold a pattern.
+fn filled_of(places: &[OnceCell<Pattern>]) -> usize {
+    for (i, place) in places.iter().enumerate() {
+        if place.get().is_none() {
+            return i;
+        }
+    }
+    places.len()
+}
+
+/// Whether the place holds this pattern.
+fn is_there(place: &OnceCell<Pattern>, asked: Asked<'_>) -> bool {
+    match place.get() {
+        Some(pattern) => pattern.is_of(asked.pattern, asked.extent.is_entire()),
+        None => false,
+    }
 }

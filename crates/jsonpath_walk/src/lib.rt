@@ -11,6 +11,8 @@ mod lookup;
 mod nested;
 mod nodelist;
 mod patterns;
+mod prepared;
+mod round;
 mod singular;
 mod sink;
 mod subquery;
@@ -19,3 +21,4 @@ mod walk;
 mod way;
 
 pub use crate::nodelist::{selected_locations, selected_nodes, selected_paths, selected_values};
+pub use crate::prepared::Prepared;

@@ -1,6 +1,6 @@
-//! How many patterns a query may ask (RFC 9535, 2.4.6 and 2.4.7), so that there is a place for each before its walk.
+//! How many patterns a query may ask (RFC 9535, 2.4.6 and 2.4.7), so that there is a place for each before its walk: for each that
+//! stands in the query, and for some of those that come from the document, if it asks any.
 
-use crate::finders::KEPT_FROM_DOCUMENT;
 use jsonpath_base::pattern::Pattern;
 use jsonpath_tree::model::{
     Comparable, Comparison, Filter, FilterAtom, FnArg, JpQuery, Segment, Selector, Test,
@@ -29,20 +29,47 @@ impl Origin {
     }
 }
 
-/// A place for each pattern that stands in the query, and some for those that come from the document, if it asks any.
-pub fn places_for(alloc: Global, query: &JpQuery) -> Result<Vec<OnceCell<Pattern>>, AllocError> {
-    let mut counter = Counter {
-        standing: 0,
-        lent: 0,
-    };
-    counter.segments(&query.segments);
-    let count = counter.standing.saturating_add(counter.lent);
+/// Where the patterns of a query are built. What stands in it stays from one call to the next.
+#[derive(Drop)]
+pub struct Places {
+    /// A place for each pattern that stands in the query.
+    pub standing: Vec<OnceCell<Pattern>>,
+    /// How many places a call needs for those that come from the document.
+    pub lent: usize,
+}
+
+impl Places {
+    /// Those of a query, all empty.
+    pub fn new(alloc: Global, query: &JpQuery) -> Result<Self, AllocError> {
+        let mut counter = Counter {
+            standing: 0,
+            lent: 0,
+        };
+        counter.segments(&query.segments);
+        let standing = empty_places(alloc, counter.standing)?;
+        Ok(Places {
+            standing,
+            lent: counter.lent,
+        })
+    }
+
+    /// The places of one call for the patterns that come from the document, all empty.
+    pub fn lend(&self, alloc: Global) -> Result<Vec<OnceCell<Pattern>>, AllocError> {
+        empty_places(alloc, self.lent)
+    }
+}
+
+/// So many places.
+fn empty_places(alloc: Global, count: usize) -> Result<Vec<OnceCell<Pattern>>, AllocError> {
     let mut places = Vec::with_capacity(alloc, count)?;
     for _ in 0..count {
         places.push(OnceCell::new())?;
     }
     Ok(places)
 }
+
+/// How many patterns that come from the document are kept.
+const KEPT_FROM_DOCUMENT: usize = 8;
 
 /// Counts the patterns of the parts that it is shown.
 #[derive(Drop)]

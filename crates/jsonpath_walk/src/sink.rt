@@ -1,10 +1,10 @@
 //! What is done with the nodes that a walk meets.
-ghost use Rattle.std.specs.Prelude.{◌≡◌, suc, min, ◌∷◌, [], map, option_map, IsTrue, IfOk, IfErr};
+ghost use Rattle.std.specs.Prelude.{◌≡◌, suc, min, ◌∷◌, [], map, option_map, IsTrue, false, IfOk, IfErr, OnOk, string_bytes};
 ghost use Rattle.jsonpath_base.specs.Steps.{location_view};
 ghost use Rattle.jsonpath_node.specs.declared.halt.Halt.TheVariants.{Memory};
 ghost use Rattle.jsonpath_node.specs.Answer.{shown, paths_of};
 ghost use Rattle.jsonpath_node.specs.Node.{Node, root_node};
-ghost use Rattle.jsonpath_walk.specs.inner.Sinks.{Took, seen, seen_only, start, add, any_in, count_in, only_in, nodes_in, nodes_whole, values_in, values_whole, paths_in, locations_in};
+ghost use Rattle.jsonpath_walk.specs.inner.Sinks.{Took, seen, seen_only, seen_first, start, add, any_in, count_in, only_in, first_in, nodes_in, nodes_whole, values_in, values_whole, paths_in, locations_in};
 ghost use Rattle.jsonpath_walk.specs.inner.Walking.{node_of};
 
 use crate::way::Way;
@@ -53,6 +53,8 @@ pub enum Sink<'a, T> {
     Count(usize),
     /// The only node. It stops at the second.
     Only(Only<'a, T>),
+    /// The first node's value and Normalized Path. It stops there.
+    First(Option<QueryRef<'a, T>>),
 }
 
 impl<'a, T: Queryable> Sink<'a, T> {
@@ -124,6 +126,10 @@ impl<'a, T: Queryable> Sink<'a, T> {
                 Ok(true)
             }
             Sink::Only(only) => Ok(take_only(only, value)),
+            Sink::First(first) => {
+                take_first(first, alloc, value, way)?;
+                Ok(false)
+            }
         }
     }
 
@@ -173,6 +179,7 @@ impl<'a, T: Queryable> Sink<'a, T> {
             Sink::Any(_any) => Vec::new(alloc),
             Sink::Count(_count) => Vec::new(alloc),
             Sink::Only(_only) => Vec::new(alloc),
+            Sink::First(_first) => Vec::new(alloc),
         }
     }
 
@@ -188,6 +195,7 @@ impl<'a, T: Queryable> Sink<'a, T> {
             Sink::Any(_any) => Vec::new(alloc),
             Sink::Count(_count) => Vec::new(alloc),
             Sink::Only(_only) => Vec::new(alloc),
+            Sink::First(_first) => Vec::new(alloc),
         }
     }
 
@@ -203,6 +211,7 @@ impl<'a, T: Queryable> Sink<'a, T> {
             Sink::Any(_any) => Vec::new(alloc),
             Sink::Count(_count) => Vec::new(alloc),
             Sink::Only(_only) => Vec::new(alloc),
+            Sink::First(_first) => Vec::new(alloc),
         }
     }
 
@@ -219,6 +228,23 @@ impl<'a, T: Queryable> Sink<'a, T> {
             Sink::Any(_any) => Vec::new(alloc),
             Sink::Count(_count) => Vec::new(alloc),
             Sink::Only(_only) => Vec::new(alloc),
+            Sink::First(_first) => Vec::new(alloc),
+        }
+    }
+
+    /// The node that a `First` was given.
+    pub fn into_first(self) -> Option<QueryRef<'a, T>>
+        ensures { option_map (λ r. (T.is_whole r.val.now, (string_bytes r.path, T.tree r.val.now))) result ≡ first_in (seen T.tree T.is_whole self.entry) }
+    {
+        match self {
+            Sink::Nodes(_nodes) => None,
+            Sink::Paths(_paths) => None,
+            Sink::Values(_values) => None,
+            Sink::Locations(_locations) => None,
+            Sink::Any(_any) => None,
+            Sink::Count(_count) => None,
+            Sink::Only(_only) => None,
+            Sink::First(first) => first,
         }
     }
 }
@@ -251,4 +277,23 @@ fn take_only<'a, T: Queryable>(only: &mut Only<'a, T>, value: &'a T) -> bool
             false
         }
     }
+}
+
+/// Takes a node, if that is the first.
+fn take_first<'a, T: Queryable>(
+    first: &mut Option<QueryRef<'a, T>>,
+    alloc: Global,
+    value: &'a T,
+    way: &mut Way<'_>,
+) -> Walked<()>
+    requires { IsTrue (T.is_whole value.now) }
+    ensures gave { OnOk result (Took (seen_first T.tree T.is_whole first.old) (node_of T.tree way.old.steps.items value.now ∷ []) (seen_first T.tree T.is_whole first.new) false) }
+    ensures same { way.new.steps.items ≡ way.old.steps.items }
+    ensures memory { IfErr result (λ h. h ≡ Memory) }
+{
+    if first.is_none() {
+        let path = way.path(alloc)?;
+        *first = Some(QueryRef { val: value, path });
+    }
+    Ok(())
 }

@@ -18,7 +18,7 @@ ghost use Rattle.jsonpath_node.specs.inner.Parts.{segments_in, selectors_in};
 
 use crate::cache::Cache;
 use crate::finders::Finders;
-use crate::patterns::places_for;
+use crate::patterns::Places;
 use crate::sink::Sink;
 use crate::trail::Trail;
 use crate::way::{StepRef, Way};
@@ -68,8 +68,25 @@ pub fn give_nodes<'a, T: Queryable>(
         (seen T.tree T.is_whole sink.new) b) }
     ensures refused { IfErr result (IsStop (query_view query.now) (document_of T.tree T.custom root.now)) }
 {
-    let places = places_for(alloc, query)?;
-    let finders = Finders::new(alloc, &places);
+    let places = Places::new(alloc, query)?;
+    give_nodes_again(alloc, query, &places, root, sink)
+}
+
+/// The same, where the patterns of the query have these places.
+pub fn give_nodes_again<'a, T: Queryable>(
+    alloc: Global,
+    query: &JpQuery,
+    places: &Places,
+    root: &'a T,
+    sink: &mut Sink<'a, T>,
+) -> Queried<bool>
+    requires { IsTrue (T.is_whole root.now) }
+    ensures gave { IfOk result (λ b. Took (seen T.tree T.is_whole sink.old) (nodelist (query_view query.now) (document_of T.tree T.custom root.now))
+        (seen T.tree T.is_whole sink.new) b) }
+    ensures refused { IfErr result (IsStop (query_view query.now) (document_of T.tree T.custom root.now)) }
+{
+    let lent = places.lend(alloc)?;
+    let finders = Finders::new(alloc, &places.standing, &lent);
     match give_from_root(alloc, query, finders, root, sink) {
         Ok(goes_on) => Ok(goes_on),
         Err(halt) => Err(halt.told(alloc)),

@@ -1,5 +1,5 @@
 -- What a walk gives to a sink, for the contracts of the walk alone: the definitions here are no part of what a query means.
-use Rattle.std.specs.Prelude.{◌≡◌, ℕ, suc, min, List, [], ◌∷◌, ◌++◌, map, Bool, true, false, Option, Some, None, IsTrue, All}
+use Rattle.std.specs.Prelude.{◌≡◌, ℕ, suc, min, List, [], ◌∷◌, ◌++◌, map, Bool, true, false, Option, Some, None, is_some, option_map, IsTrue, All, string_bytes}
 use Rattle.jsonpath_tree.specs.Location.{Location}
 use Rattle.jsonpath_tree.specs.Normal.{normal}
 use Rattle.jsonpath_base.specs.Steps.{location_view}
@@ -12,6 +12,7 @@ use Rattle.jsonpath_walk.specs.declared.sink.Only.{Only}
 use Rattle.jsonpath_walk.specs.declared.sink.Only.TheVariants.{Nothing, One, Several}
 use Rattle.jsonpath_walk.specs.declared.sink.Wanted.{Wanted}
 use Rattle.jsonpath_walk.specs.declared.sink.Wanted.TheVariants as wanted
+use Rattle.jsonpath_node.specs.declared.node.QueryRef.{QueryRef}
 use Rattle.jsonpath_node.specs.declared.value.TheConstants.{GREATEST_COUNT}
 
 -- a node as it is answered: its Normalized Path and its tree
@@ -29,11 +30,15 @@ pub data Seen : Type 0 where
   nothing : Seen
   one : Bool → Tree → Seen
   several : Seen
+  first : Option (Bool × (List ℕ × Tree)) → Seen
 
 abbrev pub seen_only : {A : Type 0} → (A → Tree) → (A → Bool) → Only A → Seen
 seen_only tree whole Nothing = nothing
 seen_only tree whole (One v) = one (whole v.now) (tree v.now)
 seen_only tree whole Several = several
+
+abbrev pub seen_first : {A : Type 0} → (A → Tree) → (A → Bool) → Option (QueryRef A) → Seen
+seen_first tree whole o = first (option_map (λ r. (whole r.val.now, (string_bytes r.path, tree r.val.now))) o)
 
 abbrev pub seen : {A : Type 0} → (A → Tree) → (A → Bool) → Sink A → Seen
 seen tree whole (sink.Nodes refs) = nodes (map (λ r. whole r.val.now) refs.items) (shown tree refs.items)
@@ -43,6 +48,7 @@ seen tree whole (sink.Locations ls) = locations (map (λ l. location_view l.item
 seen tree whole (sink.Any b) = any b
 seen tree whole (sink.Count n) = count n
 seen tree whole (sink.Only o) = seen_only tree whole o
+seen tree whole (sink.First o) = seen_first tree whole o
 
 -- before any node
 abbrev pub start : Wanted → Seen
@@ -62,6 +68,8 @@ add (count k) n = count (min (suc k) GREATEST_COUNT)
 add nothing n = one true n.tree
 add (one b t) n = several
 add several n = several
+add (first None) n = first (Some (true, answer_of n))
+add (first (Some p)) n = first (Some p)
 
 abbrev pub give : Seen → List Node → Seen
 give s [] = s
@@ -71,6 +79,7 @@ give s (n ∷ ns) = give (add s n) ns
 abbrev pub full : Seen → Bool
 full (any b) = b
 full several = true
+full (first o) = is_some o
 full (nodes bs ns) = false
 full (paths ps) = false
 full (values bs ts) = false
@@ -92,6 +101,10 @@ count_in _ = 0
 abbrev pub only_in : Seen → Option (Bool × Tree)
 only_in (one b t) = Some (b, t)
 only_in _ = None
+
+abbrev pub first_in : Seen → Option (Bool × (List ℕ × Tree))
+first_in (first o) = o
+first_in _ = None
 
 abbrev pub nodes_in : Seen → List (List ℕ × Tree)
 nodes_in (nodes bs ns) = ns

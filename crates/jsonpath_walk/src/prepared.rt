@@ -1,0 +1,146 @@
+//! A query that is prepared once, to be asked of many documents.
+ghost use Rattle.std.specs.Prelude.{◌≡◌, ◌↔◌, [], map, All, IsTrue, IsFalse, IfOk, IfErr, IfSome, IfNone, string_bytes};
+ghost use Rattle.std.specs.List.{AllZip};
+ghost use Rattle.jsonpath_tree.specs.View.{query_view};
+ghost use Rattle.jsonpath_tree.specs.declared.errors.JsonPathError.TheVariants.{OutOfMemory};
+ghost use Rattle.jsonpath_node.specs.Answer.{IsNodeAt, IsPathAt, IsValueAt, shown, paths_of};
+ghost use Rattle.jsonpath_node.specs.Document.{document_of};
+ghost use Rattle.jsonpath_node.specs.Meaning.{selected, nodelist};
+ghost use Rattle.jsonpath_node.specs.Patterns.{IsStop};
+ghost use Rattle.jsonpath_walk.specs.Prepared.{prepared_view, IsFirstNode};
+ghost use Rattle.jsonpath_walk.specs.inner.Sinks.{Took, seen};
+
+use crate::patterns::Places;
+use crate::sink::Sink;
+use crate::walk::give_nodes_again;
+use jsonpath_node::queryable::Queryable;
+use jsonpath_node::{Queried, QueryPath, QueryRef};
+use jsonpath_tree::let_go;
+use jsonpath_tree::model::JpQuery;
+use std::alloc::Global;
+
+/// A query, to be asked of any number of documents, of any types.
+///
+/// A pattern that stands in it, as the second argument of `match` or of `search` (RFC 9535, 2.4.6 and 2.4.7), is built by
+/// the first call that asks it, and then stays built. Nothing of a document outlasts a call.
+///
+/// Each call refuses as [`selected_nodes`] does: by `InvalidJsonPath` where `regex` refuses a pattern for its size, and by
+/// `OutOfMemory`. It can be asked again after that.
+///
+/// [`selected_nodes`]: crate::selected_nodes
+#[derive(Drop)]
+pub struct Prepared {
+    query: JpQuery,
+    places: Places,
+}
+
+impl Prepared {
+    /// Prepares a query. No pattern is built yet: the cost is linear in the query. It refuses by `OutOfMemory` alone, and
+    /// lets the query go then.
+    pub fn new(alloc: Global, query: JpQuery) -> Queried<Self>
+        ensures query { IfOk result (λ p. prepared_view p ≡ query_view query) }
+        ensures memory { IfErr result (λ e. e ≡ OutOfMemory) }
+    {
+        match Places::new(alloc, &query) {
+            Ok(places) => Ok(Prepared { query, places }),
+            Err(error) => {
+                let_go(query);
+                Err(error.into())
+            }
+        }
+    }
+
+    /// The query.
+    pub fn query(&self) -> &JpQuery
+        ensures { query_view result.now ≡ prepared_view self.now }
+    {
+        &self.query
+    }
+
+    /// The nodes that the query selects in a document, in order (RFC 9535, 2.1.2), as [`selected_nodes`] answers them.
+    ///
+    /// [`selected_nodes`]: crate::selected_nodes
+    pub fn nodes<'a, T: Queryable>(
+        &self,
+        alloc: Global,
+        value: &'a T,
+    ) -> Queried<Vec<QueryRef<'a, T>>>
+        requires { IsTrue (T.is_whole value.now) }
+        ensures nodes { IfOk result (λ v. AllZip (IsNodeAt (document_of T.tree T.custom value.now))
+            (selected (prepared_view self.now) (document_of T.tree T.custom value.now)) (shown T.tree v.items)) }
+        ensures whole { IfOk result (λ v. All (λ r. IsTrue (T.is_whole r.val.now)) v.items) }
+        ensures refused { IfErr result (IsStop (prepared_view self.now) (document_of T.tree T.custom value.now)) }
+    {
+        let mut sink = Sink::Nodes(Vec::new(alloc));
+        let _goes_on = self.give(alloc, value, &mut sink)?;
+        Ok(sink.into_nodes(alloc))
+    }
+
+    /// The values of these nodes, in order. No path is made.
+    pub fn values<'a, T: Queryable>(&self, alloc: Global, value: &'a T) -> Queried<Vec<&'a T>>
+        requires { IsTrue (T.is_whole value.now) }
+        ensures values { IfOk result (λ v. AllZip (IsValueAt (document_of T.tree T.custom value.now))
+            (selected (prepared_view self.now) (document_of T.tree T.custom value.now)) (map (λ x. T.tree x.now) v.items)) }
+        ensures whole { IfOk result (λ v. All (λ x. IsTrue (T.is_whole x.now)) v.items) }
+        ensures refused { IfErr result (IsStop (prepared_view self.now) (document_of T.tree T.custom value.now)) }
+    {
+        let mut sink = Sink::Values(Vec::new(alloc));
+        let _goes_on = self.give(alloc, value, &mut sink)?;
+        Ok(sink.into_values(alloc))
+    }
+
+    /// The Normalized Paths of these nodes (RFC 9535, 2.7), in order.
+    pub fn paths<T: Queryable>(&self, alloc: Global, value: &T) -> Queried<Vec<QueryPath>>
+        requires { IsTrue (T.is_whole value.now) }
+        ensures paths { IfOk result (λ v. AllZip (IsPathAt (document_of T.tree T.custom value.now))
+            (selected (prepared_view self.now) (document_of T.tree T.custom value.now)) (paths_of v.items)) }
+        ensures refused { IfErr result (IsStop (prepared_view self.now) (document_of T.tree T.custom value.now)) }
+    {
+        let mut sink = Sink::Paths(Vec::new(alloc));
+        let _goes_on = self.give(alloc, value, &mut sink)?;
+        Ok(sink.into_paths(alloc))
+    }
+
+    /// The first of these nodes, or None where the query selects none. The document is walked no further than to that node.
+    pub fn first<'a, T: Queryable>(
+        &self,
+        alloc: Global,
+        value: &'a T,
+    ) -> Queried<Option<QueryRef<'a, T>>>
+        requires { IsTrue (T.is_whole value.now) }
+        ensures first { IfOk result (λ o. IfSome o (λ r. IsFirstNode (prepared_view self.now) (document_of T.tree T.custom value.now) (string_bytes r.path, T.tree r.val.now))) }
+        ensures none { IfOk result (λ o. IfNone o (selected (prepared_view self.now) (document_of T.tree T.custom value.now) ≡ [])) }
+        ensures whole { IfOk result (λ o. IfSome o (λ r. IsTrue (T.is_whole r.val.now))) }
+        ensures refused { IfErr result (IsStop (prepared_view self.now) (document_of T.tree T.custom value.now)) }
+    {
+        let mut sink = Sink::First(None);
+        let _goes_on = self.give(alloc, value, &mut sink)?;
+        Ok(sink.into_first())
+    }
+
+    /// Whether the query selects a node. The document is walked no further than to the first, and no path is made.
+    pub fn has_node<T: Queryable>(&self, alloc: Global, value: &T) -> Queried<bool>
+        requires { IsTrue (T.is_whole value.now) }
+        ensures none { IfOk result (λ b. IsFalse b ↔ (selected (prepared_view self.now) (document_of T.tree T.custom value.now) ≡ [])) }
+        ensures refused { IfErr result (IsStop (prepared_view self.now) (document_of T.tree T.custom value.now)) }
+    {
+        let mut sink = Sink::Any(false);
+        let _goes_on = self.give(alloc, value, &mut sink)?;
+        Ok(sink.has_any())
+    }
+
+    /// Gives the nodes to the sink. The result says whether to go on.
+    fn give<'a, T: Queryable>(
+        &self,
+        alloc: Global,
+        value: &'a T,
+        sink: &mut Sink<'a, T>,
+    ) -> Queried<bool>
+        requires { IsTrue (T.is_whole value.now) }
+        ensures gave { IfOk result (λ b. Took (seen T.tree T.is_whole sink.old) (nodelist (prepared_view self.now) (document_of T.tree T.custom value.now))
+            (seen T.tree T.is_whole sink.new) b) }
+        ensures refused { IfErr result (IsStop (prepared_view self.now) (document_of T.tree T.custom value.now)) }
+    {
+        give_nodes_again(alloc, &self.query, &self.places, value, sink)
+    }
+}
