@@ -19,8 +19,8 @@ pub fn first_path<T: Queryable>(
     document: &T,
 ) -> Queried<Option<QueryPath>>
     requires { IsTrue (T.is_whole document.now) }
-    ensures found { IfOk result (λ o. IfSome o (λ path. IsFirstPath (document_of T.tree T.custom document.now) (string_bytes path) query.now)) }
-    ensures silent { IfOk result (λ o. IfNone o (IsSilent (document_of T.tree T.custom document.now) query.now)) }
+    ensures found { IfOk result (λ o. IfSome o (λ path. IsFirstPath (document_of T.tree T.custom document.now) (string_bytes path) (query_view query.now))) }
+    ensures silent { IfOk result (λ o. IfNone o (IsSilent (document_of T.tree T.custom document.now) (query_view query.now))) }
     ensures refused { IfErr result (IsStop (query_view query.now) (document_of T.tree T.custom document.now)) }
 {
     let nodes = selected_nodes(alloc, query, document)?;

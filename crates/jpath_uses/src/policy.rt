@@ -1,5 +1,6 @@
 //! A policy: queries that are to select nothing in a document.
-ghost use Rattle.std.specs.Prelude.{All, IsTrue, IfOk, IfErr, IfSome, IfNone, string_bytes};
+ghost use Rattle.std.specs.Prelude.{All, IsTrue, IfOk, IfErr, IfSome, IfNone, map, string_bytes};
+ghost use Rattle.jsonpath_tree.specs.View.{query_view};
 ghost use Rattle.jsonpath_node.specs.Document.{document_of};
 ghost use Rattle.jpath_uses.specs.First.{IsSilent, IsFirst, IsFirstPath, IsStopped};
 
@@ -33,10 +34,10 @@ pub fn first_violation<T: Queryable>(
     document: &T,
 ) -> Queried<Option<Violation>>
     requires { IsTrue (T.is_whole document.now) }
-    ensures kept { IfOk result (λ o. IfNone o (All (IsSilent (document_of T.tree T.custom document.now)) policy.now)) }
-    ensures broken { IfOk result (λ o. IfSome o (λ v. IsFirst policy.now (document_of T.tree T.custom document.now) v.rule
+    ensures kept { IfOk result (λ o. IfNone o (All (IsSilent (document_of T.tree T.custom document.now)) (map query_view policy.now))) }
+    ensures broken { IfOk result (λ o. IfSome o (λ v. IsFirst (map query_view policy.now) (document_of T.tree T.custom document.now) v.rule
         (IsFirstPath (document_of T.tree T.custom document.now) (string_bytes v.path)))) }
-    ensures refused { IfErr result (IsStopped policy.now (document_of T.tree T.custom document.now)) }
+    ensures refused { IfErr result (IsStopped (map query_view policy.now) (document_of T.tree T.custom document.now)) }
 {
     for (rule, query) in policy.iter().enumerate() {
         match first_path(alloc, query, document)? {
