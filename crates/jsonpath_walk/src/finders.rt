@@ -5,7 +5,8 @@ ghost use Rattle.jsonpath_base.specs.Pattern.{pattern_sought, found, IsPatternRe
 ghost use Rattle.jsonpath_node.specs.inner.Operands.{is_entire};
 
 use crate::patterns::Origin;
-use crate::round::{after, around};
+use crate::round::after;
+use crate::shelf::Shelf;
 use jsonpath_base::pattern::{Finder, Pattern, found_again};
 use jsonpath_node::extent::Extent;
 use jsonpath_tree::errors::Parsed;
@@ -23,10 +24,10 @@ pub struct Asked<'p> {
 /// What asks the patterns that were asked so far.
 #[derive(Drop)]
 pub struct Finders<'p> {
-    /// Where the patterns that stand in the query are built, in the order in which that was done; the others are empty.
-    standing: &'p [OnceCell<Pattern>],
-    /// Where those that come from the document are built, in the same way.
-    lent: &'p [OnceCell<Pattern>],
+    /// Where those that stand in the query are built.
+    standing: Shelf<'p>,
+    /// Where those that come from the document are built.
+    lent: Shelf<'p>,
     /// What asks each of them.
     finders: Vec<Finder<'p>>,
     /// The index of each that is asked of entire texts, by its pattern.
@@ -35,37 +36,24 @@ pub struct Finders<'p> {
     substring: BTreeMap<String, usize>,
     /// The index of the one that is likely to be asked next.
     likely: usize,
-    /// How many of the standing ones were built before this call.
-    ready: usize,
-    /// The place of the one of these that is likely to be asked next.
-    likely_ready: usize,
-    /// How many of the standing ones are built.
-    built: usize,
-    /// How many came from the document.
-    from_document: usize,
     /// The last pattern for which there was no place.
     other: Option<Pattern>,
 }
 
 impl<'p> Finders<'p> {
-    /// With these places, of which the first standing ones may hold what an earlier call has built.
+    /// With these places for patterns that stand in the query, and these for patterns that come from the document.
     pub fn new(
         alloc: Global,
         standing: &'p [OnceCell<Pattern>],
         lent: &'p [OnceCell<Pattern>],
     ) -> Self {
-        let ready = filled_of(standing);
         Finders {
-            standing,
-            lent,
+            standing: Shelf::new(standing),
+            lent: Shelf::new(lent),
             finders: Vec::new(alloc),
             entire: BTreeMap::new(alloc),
             substring: BTreeMap::new(alloc),
             likely: 0,
-            ready,
-            likely_ready: 0,
-            built: ready,
-            from_document: 0,
             other: None,
         }
     }
@@ -123,13 +111,13 @@ impl<'p> Finders<'p> {
         }
     }
 
-    /// Makes what asks the pattern, if there is a place for it: where it stands already, or an empty one, where it is built.
+    /// Makes what asks the pattern, if there is a place for it. There it is built, if no earlier call has built it.
     fn add(&mut self, alloc: Global, asked: Asked<'_>, origin: Origin) -> Parsed<()>
         ensures { IfErr result (IsPatternRefusal (pattern_sought (is_entire asked.entry.extent) asked.entry.pattern.now)) }
     {
         let place = match origin {
-            Origin::Query => self.standing_place(asked),
-            Origin::Document => self.lent_place(),
+            Origin::Query => self.standing.place_of(asked),
+            Origin::Document => self.lent.place_of(asked),
         };
         let Some(place) = place else {
             return Ok(());
@@ -139,31 +127,6 @@ impl<'p> Finders<'p> {
             let _ = place.set(built);
         }
         Ok(self.keep(alloc, place, asked.extent)?)
-    }
-
-    /// Where this pattern was built before this call, or else the next empty place.
-    fn standing_place(&mut self, asked: Asked<'_>) -> Option<&'p OnceCell<Pattern>> {
-        let standing = self.standing;
-        for turn in 0..self.ready {
-            let index = around(self.likely_ready, turn, self.ready);
-            if let Some(place) = standing.get(index) {
-                if is_there(place, asked) {
-                    self.likely_ready = after(index, self.ready);
-                    return Some(place);
-                }
-            }
-        }
-        let next = self.built;
-        self.built = next.saturating_add(1);
-        standing.get(next)
-    }
-
-    /// The next empty place for a pattern from the document.
-    fn lent_place(&mut self) -> Option<&'p OnceCell<Pattern>> {
-        let lent = self.lent;
-        let next = self.from_document;
-        self.from_document = next.saturating_add(1);
-        lent.get(next)
     }
 
     /// Keeps what asks the pattern of this place.
@@ -184,23 +147,5 @@ impl<'p> Finders<'p> {
             };
         }
         Ok(())
-    }
-}
-
-/// How many of the first places hold a pattern.
-fn filled_of(places: &[OnceCell<Pattern>]) -> usize {
-    for (i, place) in places.iter().enumerate() {
-        if place.get().is_none() {
-            return i;
-        }
-    }
-    places.len()
-}
-
-/// Whether the place holds this pattern.
-fn is_there(place: &OnceCell<Pattern>, asked: Asked<'_>) -> bool {
-    match place.get() {
-        Some(pattern) => pattern.is_of(asked.pattern, asked.extent.is_entire()),
-        None => false,
     }
 }

@@ -13,6 +13,7 @@ mod nodelist;
 mod patterns;
 mod prepared;
 mod round;
+mod shelf;
 mod singular;
 mod sink;
 mod subquery;
