@@ -1,0 +1,39 @@
+//! What queries cost, on documents that this program makes itself.
+//!
+//! - `counts BYTES`: how many nodes each query selects; without words, of a bookstore of 10,000 bytes.
+//! - `time BYTES`: nodes selected, nodes of the bookstore, nanoseconds for each of these for values alone and with paths, query.
+//! - `route COUNT`: nanoseconds for each message that all of a table is asked of, prepared and by `js_path_process`.
+//! - `document BYTES`, `messages COUNT`: what was asked; before the messages stand the queries of the table.
+#![tactic(auto)]
+
+mod documents;
+mod report;
+mod routes;
+mod timing;
+
+use std::io::ErrorKind;
+use std::{env, io};
+
+fn main(rt: HostRuntime) -> io::Result<()> {
+    let mut words = Vec::new(rt.alloc());
+    for word in env::args(&rt)?.skip(1) {
+        words.push(word)?;
+    }
+    match words.as_slice() {
+        [] => report::counts(&rt, 10000),
+        [word, size] => run(&rt, word.as_str(), size.as_str()),
+        _ => Err(ErrorKind::InvalidInput.into()),
+    }
+}
+
+/// Does what the word says, for documents of that size.
+fn run(rt: &HostRuntime, word: &str, size: &str) -> io::Result<()> {
+    match (word, size.parse()) {
+        ("counts", Ok(bytes)) => report::counts(rt, bytes),
+        ("time", Ok(bytes)) => report::times(rt, bytes),
+        ("route", Ok(count)) => report::routes(rt, count),
+        ("document", Ok(bytes)) => report::document(rt, bytes),
+        ("messages", Ok(count)) => report::messages(rt, count),
+        _ => Err(ErrorKind::InvalidInput.into()),
+    }
+}

@@ -1,0 +1,146 @@
+//! The queries, and what is printed of them.
+ghost use Rattle.std.specs.Prelude.{IsTrue, IfOk};
+ghost use Rattle.jsonpath_base.specs.Values.{value_is_whole};
+
+use crate::documents::{Dice, bookstore, message};
+use crate::routes::{prepared, routed};
+use crate::timing::{fastest, reading, refused};
+use jsonpath_rust::query::queryable::Queryable;
+use serde_json::Value;
+use std::alloc::Global;
+use std::io;
+use std::io::ErrorKind;
+use std::time::{Clock, Duration};
+
+/// What is asked of a bookstore.
+const QUERIES: [&str; 13] = [
+    "$..*",
+    "$..author",
+    "$.store.book[?@.price<10]",
+    "$..[?@.a && @.b==1]",
+    "$.store.book[?count(@.tags[*])>2]",
+    "$.store.book[?length(@.title)>20]",
+    "$.store.book[*].author",
+    "$.store.book[*]['title','price','id']",
+    "$.store.book[?match(@.category,'f.*')]",
+    "$.store.book[?search(@.title,'[a-m].*')]",
+    "$.store.book[?search(@.title,$.pattern)]",
+    "$.store.book[::-1]",
+    "$..[?@.price<=$.expensive]",
+];
+
+/// What is read alone, so many times a round.
+const READ: &str = "$.store.book[?@.price<10].title";
+
+const READINGS: usize = 1000;
+
+/// What a router asks of each message.
+const TABLE: [&str; 10] = [
+    "$[?@==true]",
+    "$.lines[3]",
+    "$.lines[?@.count>7]",
+    "$.lines[?@.price<10]",
+    "$..[?@.count==1 && @.price>30]",
+    "$[?length(@)>25]",
+    "$.lines[?count(@.*)==3 && @.count<3]",
+    "$.lines[?match(@.item,'[a-m].*')]",
+    "$.lines[?search(@.item,'i[a-z]*r')]",
+    "$[?match(@,'order|invoice')]",
+];
+
+/// How many nodes each query selects in a bookstore, and in how many of a hundred messages each of the table selects some.
+pub fn counts(rt: &(impl Print + Clock + AllocGlobal), bytes: usize) -> io::Result<()> {
+    let document = read(rt.alloc(), bookstore(rt.alloc(), bytes)?)?;
+    for text in QUERIES {
+        let selected = fastest(rt, text, &document, 0)?.selected;
+        println!(rt; "{selected}\t{text}")?;
+    }
+    drop(document);
+    let messages = inbox(rt.alloc(), 100)?;
+    for text in TABLE {
+        let table = prepared(rt.alloc(), &[text]).map_err(refused)?;
+        let selected = routed(rt, &table, &messages)?.selected;
+        println!(rt; "{selected}\t{text}")?;
+    }
+    Ok(())
+}
+
+/// The times of each query.
+pub fn times(rt: &(impl Print + Clock + AllocGlobal), bytes: usize) -> io::Result<()> {
+    let document = read(rt.alloc(), bookstore(rt.alloc(), bytes)?)?;
+    let nodes = fastest(rt, "$..*", &document, 0)?
+        .selected
+        .saturating_add(1);
+    let more = if bytes > 4000000 { 8 } else { 29 };
+    for text in QUERIES {
+        let best = fastest(rt, text, &document, more)?;
+        let selected = best.selected;
+        let values = each(best.lean, nodes);
+        let paths = each(best.full, nodes);
+        println!(rt; "{selected}\t{nodes}\t{values:.2}\t{paths:.2}\t{text}")?;
+    }
+    drop(document);
+    let call = each(reading(rt, READ, 3000)?, 1);
+    println!(rt; "{call:.1}\t{READ}")
+}
+
+/// The times of the table.
+pub fn routes(rt: &(impl Print + Clock + AllocGlobal), count: usize) -> io::Result<()> {
+    let table = prepared(rt.alloc(), &TABLE).map_err(refused)?;
+    let messages = inbox(rt.alloc(), count)?;
+    let mut best = routed(rt, &table, &messages)?;
+    for _ in 0..4 {
+        best = best.least(routed(rt, &table, &messages)?);
+    }
+    let selected = best.selected;
+    let found = each(best.lean, count);
+    let processed = each(best.full, count);
+    println!(rt; "{selected}\t{count}\t{found:.1}\t{processed:.1}")
+}
+
+/// The text of the bookstore.
+pub fn document(rt: &(impl Print + AllocGlobal), bytes: usize) -> io::Result<()> {
+    let text = bookstore(rt.alloc(), bytes)?;
+    println!(rt; "{text}")
+}
+
+/// The table, and the texts of the messages, one a line.
+pub fn messages(rt: &(impl Print + AllocGlobal), count: usize) -> io::Result<()> {
+    for text in TABLE {
+        println!(rt; "{text}")?;
+    }
+    let mut dice = Dice::new(2);
+    for _ in 0..count {
+        let text = message(rt.alloc(), &mut dice)?;
+        println!(rt; "{text}")?;
+    }
+    Ok(())
+}
+
+fn inbox(alloc: Global, count: usize) -> io::Result<Vec<Value>> {
+    let mut messages = Vec::new(alloc);
+    let mut dice = Dice::new(2);
+    for _ in 0..count {
+        messages.push(read(alloc, message(alloc, &mut dice)?)?)?;
+    }
+    Ok(messages)
+}
+
+/// The document of a text.
+fn read(alloc: Global, text: String) -> io::Result<Value>
+    ensures { IfOk result (λ v. IsTrue (value_is_whole v)) }
+{
+    let Ok(document) = Value::from_str(alloc, text.as_str()) else {
+        return Err(ErrorKind::InvalidData.into());
+    };
+    if document.is_whole() {
+        Ok(document)
+    } else {
+        Err(ErrorKind::InvalidData.into())
+    }
+}
+
+/// Nanoseconds for each of so many.
+fn each(taken: Duration, count: usize) -> f64 {
+    taken.as_secs_f64() * 1e9 / count as f64
+}
