@@ -51,11 +51,9 @@ const TABLE: [&str; 10] = [
 /// How many nodes each query selects in a bookstore, and in how many of a hundred messages each of the table selects some.
 pub fn counts(rt: &(impl Print + Clock + AllocGlobal), bytes: usize) -> io::Result<()> {
     let document = read(rt.alloc(), bookstore(rt.alloc(), bytes)?)?;
-    for text in QUERIES {
-        let selected = fastest(rt, text, &document, 0)?.selected;
-        println!(rt; "{selected}\t{text}")?;
-    }
+    let counted = book_counts(rt, &document);
     drop(document);
+    counted?;
     let messages = inbox(rt.alloc(), 100)?;
     for text in TABLE {
         let table = prepared(rt.alloc(), &[text]).map_err(refused)?;
@@ -65,23 +63,44 @@ pub fn counts(rt: &(impl Print + Clock + AllocGlobal), bytes: usize) -> io::Resu
     Ok(())
 }
 
+fn book_counts(rt: &(impl Print + Clock + AllocGlobal), document: &Value) -> io::Result<()>
+    requires { IsTrue (value_is_whole document.now) }
+{
+    for text in QUERIES {
+        let selected = fastest(rt, text, document, 0)?.selected;
+        println!(rt; "{selected}\t{text}")?;
+    }
+    Ok(())
+}
+
 /// The times of each query.
 pub fn times(rt: &(impl Print + Clock + AllocGlobal), bytes: usize) -> io::Result<()> {
     let document = read(rt.alloc(), bookstore(rt.alloc(), bytes)?)?;
-    let nodes = fastest(rt, "$..*", &document, 0)?
-        .selected
-        .saturating_add(1);
     let more = if bytes > 4000000 { 8 } else { 29 };
+    let timed = book_times(rt, &document, more);
+    drop(document);
+    timed?;
+    let call = each(reading(rt, READ, 3000)?, 1);
+    println!(rt; "{call:.1}\t{READ}")
+}
+
+fn book_times(
+    rt: &(impl Print + Clock + AllocGlobal),
+    document: &Value,
+    more: u32,
+) -> io::Result<()>
+    requires { IsTrue (value_is_whole document.now) }
+{
+    let below = fastest(rt, "$..*", document, 0)?.selected;
+    let nodes = below.saturating_add(1);
     for text in QUERIES {
-        let best = fastest(rt, text, &document, more)?;
+        let best = fastest(rt, text, document, more)?;
         let selected = best.selected;
         let values = each(best.lean, nodes);
         let paths = each(best.full, nodes);
         println!(rt; "{selected}\t{nodes}\t{values:.2}\t{paths:.2}\t{text}")?;
     }
-    drop(document);
-    let call = each(reading(rt, READ, 3000)?, 1);
-    println!(rt; "{call:.1}\t{READ}")
+    Ok(())
 }
 
 /// The times of the table.
@@ -142,5 +161,6 @@ fn read(alloc: Global, text: String) -> io::Result<Value>
 
 /// Nanoseconds for each of so many.
 fn each(taken: Duration, count: usize) -> f64 {
-    taken.as_secs_f64() * 1e9 / count as f64
+    let count = u32::try_from(count).unwrap_or(u32::MAX);
+    taken.as_secs_f64() * 1e9 / f64::from(count)
 }
