@@ -29,10 +29,10 @@ const QUERIES: [&str; 13] = [
     "$..[?@.price<=$.expensive]",
 ];
 
-/// What is read alone, so many times a round.
+/// What is read alone, so many times and once more.
 const READ: &str = "$.store.book[?@.price<10].title";
 
-const READINGS: usize = 1000;
+const READINGS: u32 = 3000;
 
 /// What a router asks of each message.
 const TABLE: [&str; 10] = [
@@ -80,7 +80,7 @@ pub fn times(rt: &(impl Print + Clock + AllocGlobal), bytes: usize) -> io::Resul
     let timed = book_times(rt, &document, more);
     drop(document);
     timed?;
-    let call = each(reading(rt, READ, 3000)?, 1);
+    let call = each(reading(rt, READ, READINGS)?, 1);
     println!(rt; "{call:.1}\t{READ}")
 }
 
