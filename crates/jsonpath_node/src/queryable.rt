@@ -1,5 +1,5 @@
 //! The types that are documents.
-ghost use Rattle.std.specs.Prelude.{◌≡◌, ℕ, Bool, false, List, map, Option, Some, None, option_map, All, IsTrue, IfOk, IfErr, IfSome};
+ghost use Rattle.std.specs.Prelude.{◌≡◌, ℕ, Bool, false, List, map, length, Option, Some, None, option_map, All, IsTrue, IfOk, IfErr, IfSome};
 ghost use Rattle.jsonpath_base.specs.Tree.{Tree, null, truth, number, text, get, as_list, as_members, as_text, as_int, as_bool, has_distinct_names};
 ghost use Rattle.jsonpath_base.specs.Same.{same};
 ghost use Rattle.jsonpath_tree.specs.declared.errors.JsonPathError.TheVariants.{OutOfMemory};
@@ -61,6 +61,17 @@ pub trait Queryable: Sized + Debug + Drop {
         ensures value { IsTrue (is_whole self.now) → IfOk result (λ o. option_map (λ v. map (λ m. (m.0.now, tree m.1.now)) v.items) o ≡ as_members (tree self.now)) }
         ensures whole { IsTrue (is_whole self.now) → IfOk result (λ o. IfSome o (λ v. All (λ m. IsTrue (is_whole m.1.now)) v.items)) }
         ensures memory { IfErr result (λ e. e ≡ OutOfMemory) };
+
+    /// How many members an object has. By default their list is made for it. It refuses by `OutOfMemory` alone.
+    fn member_count(&self, alloc: Global) -> Queried<Option<usize>>
+        ensures value { IsTrue (is_whole self.now) → IfOk result (λ o. o ≡ option_map (λ ms. length ms) (as_members (tree self.now))) }
+        ensures memory { IfErr result (λ e. e ≡ OutOfMemory) }
+    {
+        match self.as_object(alloc)? {
+            Some(members) => Ok(Some(members.len())),
+            None => Ok(None),
+        }
+    }
 
     /// The text.
     fn as_str(&self) -> Option<&str>

@@ -2,11 +2,12 @@
 ghost use Rattle.std.specs.Prelude.{◌≡◌, ◌++◌, [], ◌∷◌, Some, IsTrue, IfOk, IfErr, IfSome, OnOk, option_map, option_and_then, option_to_list};
 ghost use Rattle.jsonpath_tree.specs.View.{literal_view};
 ghost use Rattle.jsonpath_node.specs.declared.halt.Halt.TheVariants.{Memory};
-ghost use Rattle.jsonpath_base.specs.Tree.{as_text, as_int};
+ghost use Rattle.jsonpath_base.specs.Tree.{as_text};
 ghost use Rattle.jsonpath_node.specs.Functions.{length_of, count_value, is_true};
 ghost use Rattle.jsonpath_node.specs.Meaning.{literal_tree};
-ghost use Rattle.jsonpath_node.specs.inner.Operands.{scalar_tree, operand_tree, operand_is_whole, arg_trees, AreWhole};
+ghost use Rattle.jsonpath_node.specs.inner.Operands.{scalar_tree, operand_tree, operand_is_whole, side_tree, side_is_whole, arg_trees, AreWhole};
 
+use crate::comparison::Side;
 use crate::halt::Walked;
 use crate::queryable::{Arg, Queryable};
 use jsonpath_base::text::text_length;
@@ -85,17 +86,18 @@ impl<'a, 's, T: Queryable> Operand<'a, 's, T> {
         }
     }
 
-    /// The number, where it is one.
+    /// As a side of a comparison.
     #[inline(always)]
-    pub fn as_number(&self) -> Option<i64>
+    pub fn as_side(&self) -> Side<'_, 's, T>
         requires { IsTrue (operand_is_whole T.is_whole self.now) }
-        ensures { result ≡ option_and_then as_int (operand_tree T.tree self.now) }
+        ensures value { side_tree T.tree result ≡ operand_tree T.tree self.now }
+        ensures whole { IsTrue (side_is_whole T.is_whole result) }
     {
         match self {
-            Operand::Lent(value) => value.as_i64(),
-            Operand::Made(value) => value.as_i64(),
-            Operand::Plain(Scalar::Number(number)) => Some(*number),
-            _ => None,
+            Operand::Absent => Side::Absent,
+            Operand::Lent(value) => Side::Lent(*value),
+            Operand::Made(value) => Side::Lent(value),
+            Operand::Plain(scalar) => Side::Plain(*scalar),
         }
     }
 
@@ -195,10 +197,7 @@ pub fn length_of<T: Queryable>(alloc: Global, value: &T) -> Walked<Option<usize>
     if let Some(items) = value.as_array() {
         return Ok(Some(items.len()));
     }
-    match value.as_object(alloc)? {
-        Some(members) => Ok(Some(members.len())),
-        None => Ok(None),
-    }
+    Ok(value.member_count(alloc)?)
 }
 
 /// A count, if there is one.

@@ -1,9 +1,12 @@
 -- What the two sides of a comparison and the arguments of calls are inside the evaluator, for its contracts alone.
-use Rattle.std.specs.Prelude.{List, map, Bool, true, false, Option, Some, None, IsTrue, All}
+use Rattle.std.specs.Prelude.{List, map, Bool, true, false, Option, Some, None, IsTrue, All, chars}
 use Rattle.jsonpath_base.specs.Tree as tree
 use Rattle.jsonpath_base.specs.Tree.{Tree}
+use Rattle.jsonpath_base.specs.Texts.{is_less}
 use Rattle.jsonpath_node.specs.Args.{arg_value}
 use Rattle.jsonpath_node.specs.declared.queryable.Arg.{Arg}
+use Rattle.jsonpath_node.specs.declared.comparison.Side.{Side}
+use Rattle.jsonpath_node.specs.declared.comparison.Side.TheVariants as side
 use Rattle.jsonpath_node.specs.declared.extent.Extent.{Extent}
 use Rattle.jsonpath_node.specs.declared.extent.Extent.TheVariants.{Entire, Substring}
 use Rattle.jsonpath_node.specs.declared.value.Scalar.{Scalar}
@@ -29,6 +32,22 @@ operand_is_whole w operand.Absent = true
 operand_is_whole w (operand.Lent v) = w v.now
 operand_is_whole w (operand.Made v) = w v
 operand_is_whole w (operand.Plain s) = true
+
+-- a side of a comparison, as the value that it is
+abbrev pub side_tree : {A : Type 0} → (A → Tree) → Side A → Option Tree
+side_tree t side.Absent = None
+side_tree t (side.Lent v) = Some (t v.now)
+side_tree t (side.Plain s) = Some (scalar_tree s)
+
+abbrev pub side_is_whole : {A : Type 0} → (A → Bool) → Side A → Bool
+side_is_whole w side.Absent = true
+side_is_whole w (side.Lent v) = w v.now
+side_is_whole w (side.Plain s) = true
+
+-- two texts, the first less than the second
+abbrev pub is_text_below : Option Tree → Option Tree → Bool
+is_text_below (Some (tree.text s)) (Some (tree.text t)) = is_less (chars s) (chars t)
+is_text_below _ _ = false
 
 -- whether a pattern has to match the entire text
 abbrev pub is_entire : Extent → Bool

@@ -1,8 +1,9 @@
 //! Values of `serde_json` as documents.
 ghost use Rattle.std.specs.Prelude.{◌≡◌, All, IfOk, IfErr, IfSome, IsTrue, Some, map, option_map, true};
 ghost use Rattle.std.specs.Borrow.{sem};
+ghost use Rattle.std.specs.List.{AllByRecursion};
 ghost use Rattle.serde_json.specs.View.{view, members_view};
-ghost use Rattle.jsonpath_base.specs.Tree.{as_list, pairs};
+ghost use Rattle.jsonpath_base.specs.Tree.{as_list, find, pairs};
 ghost use Rattle.jsonpath_base.specs.SetFunctions.{set_function};
 ghost use Rattle.jsonpath_base.specs.Values.{value_tree, value_is_whole, has_whole_numbers, members_of};
 ghost use Rattle.jsonpath_base.proofs.Views.{whole_distinct};
@@ -18,6 +19,9 @@ use crate::reference::referred;
 use serde_json::{Map, Value};
 use std::alloc::{AllocError, Global};
 
+/// Up to how many members are gone through for a name, which takes less time in few than to compare by order.
+const FEW_MEMBERS: usize = 11;
+
 impl Queryable for Value {
     ghost tree = { value_tree };
 
@@ -28,6 +32,11 @@ impl Queryable for Value {
     ghost refers = { true };
 
     fn get(&self, key: &str) -> Option<&Value> {
+        if let Some(members) = self.as_object() {
+            if members.len() <= FEW_MEMBERS {
+                return found_among(members, key);
+            }
+        }
         self.get(key)
     }
 
@@ -39,6 +48,13 @@ impl Queryable for Value {
     fn as_object(&self, alloc: Global) -> Queried<Option<Vec<(&str, &Value)>>> {
         match self.as_object() {
             Some(members) => Ok(Some(lent_members(alloc, members)?)),
+            None => Ok(None),
+        }
+    }
+
+    fn member_count(&self, _alloc: Global) -> Queried<Option<usize>> {
+        match self.as_object() {
+            Some(members) => Ok(Some(members.len())),
             None => Ok(None),
         }
     }
@@ -128,6 +144,19 @@ impl Queryable for Value {
     }
 
     ghost distinct = { whole_distinct };
+}
+
+/// The member of that name.
+fn found_among<'a>(members: &'a Map<String, Value>, key: &str) -> Option<&'a Value>
+    ensures value { option_map (λ v. value_tree v.now) result ≡ find key.now (pairs (members_of (members_view members.now.entries))) }
+    ensures whole { AllByRecursion (λ e. IsTrue (value_is_whole e.1)) members.now.entries → IfSome result (λ v. IsTrue (value_is_whole v.now)) }
+{
+    for (name, member) in members.iter() {
+        if key == name.as_str() {
+            return Some(member);
+        }
+    }
+    None
 }
 
 fn lent_members<'a>(
