@@ -64,7 +64,7 @@ pub any_given : (ns : List Node) → any_in (give (any false) ns) ≡ has_node n
 any_given [] = refl
 any_given (n ∷ ns) = ap any_in (give-full (any true) ns refl)
 
-give-count : (k : ℕ) (ns : List Node) → k ≤ 9223372036854775807 → give (count k) ns ≡ count (min (k + length ns) 9223372036854775807)
+pub give-count : (k : ℕ) (ns : List Node) → k ≤ 9223372036854775807 → give (count k) ns ≡ count (min (k + length ns) 9223372036854775807)
 give-count k [] h = ap count (omega (arith, h))
 give-count k (n ∷ ns) h = give-count (min (suc k) 9223372036854775807) ns (omega arith) ∙ ap count (omega (arith, h))
 

@@ -1,8 +1,8 @@
 -- How much work is left for a walk.
 use Rattle.std.specs.Prelude.{ℕ, ◌+◌, ◌*◌}
 use Rattle.jsonpath_tree.specs.View.{filter_view, segment_view}
-use Rattle.jsonpath_walk.specs.declared.walk.Action.{Action}
-use Rattle.jsonpath_walk.specs.declared.walk.Action.TheVariants.{All, If, Below}
+use Rattle.jsonpath_walk.specs.declared.action.Action.{Action}
+use Rattle.jsonpath_walk.specs.declared.action.Action.TheVariants.{All, If, Below}
 use Rattle.jsonpath_node.proofs.Weight.{segment_weight, filter_weight}
 
 abbrev pub action_weight : Action → ℕ

@@ -9,6 +9,7 @@ ghost use Rattle.jsonpath_walk.specs.inner.Standing.{Stands, Returns, IsHalt};
 ghost use Rattle.jsonpath_walk.specs.inner.Walking.{node_of};
 ghost use Rattle.jsonpath_node.specs.inner.Parts.{filters_in};
 
+use crate::sides::lent_compare;
 use crate::singular::singular_value;
 use crate::sink::Wanted;
 use crate::trail::Trail;
@@ -125,9 +126,12 @@ impl<'a: 's, 's, T: Queryable> Task<'a, 's, T> {
         ensures refused { IfErr result (IsHalt (query_of self.now) (document T.tree T.custom self.now)) }
     {
         let (operator, left, right) = comparison.parts();
+        if let Some(held) = lent_compare(operator, left, right, self.root, at) {
+            return Ok(held);
+        }
         let left = self.side(left, at, trail)?;
         let right = self.side(right, at, trail)?;
-        Ok(compares(operator, &left, &right))
+        Ok(compares(operator, &left.as_side(), &right.as_side()))
     }
 
     /// The value of a side of a comparison.

@@ -2,6 +2,7 @@
 //! `jsonpath_node`.
 #![tactic(auto)]
 
+mod action;
 mod argument;
 mod cache;
 mod filter;
@@ -14,6 +15,7 @@ mod patterns;
 mod prepared;
 mod round;
 mod shelf;
+mod sides;
 mod singular;
 mod sink;
 mod subquery;

@@ -1,15 +1,18 @@
-//! Queries of names and indexes alone, inside filters: they are looked up, and not walked.
-ghost use Rattle.std.specs.Prelude.{◌≡◌, IsTrue, IfOk, IfErr, IfSome};
+//! Queries of names and indexes alone, inside filters: they are looked up, and not walked. Where all children of such a place are
+//! only counted, or asked for one, they are not walked either.
+ghost use Rattle.std.specs.Prelude.{◌≡◌, length, IsTrue, IfOk, IfErr, IfSome};
 ghost use Rattle.jsonpath_tree.specs.Syntax.{one};
 ghost use Rattle.jsonpath_tree.specs.View.{segment_view, selector_view};
 ghost use Rattle.jsonpath_node.specs.declared.halt.Halt.TheVariants.{Memory};
+ghost use Rattle.jsonpath_node.specs.Node.{children, root_node};
 ghost use Rattle.jsonpath_node.specs.inner.Parts.{segments_in};
-ghost use Rattle.jsonpath_walk.specs.inner.Lookup.{Leads, LeadsOn, IsWholeThere, GivesThrough};
+ghost use Rattle.jsonpath_walk.specs.inner.Lookup.{Leads, LeadsOn, IsWholeThere, GivesThrough, GivesSoMany};
 
 use crate::sink::{Sink, Wanted};
 use jsonpath_node::halt::Walked;
 use jsonpath_node::queryable::Queryable;
 use jsonpath_node::queryable::children::element;
+use jsonpath_node::value::GREATEST_COUNT;
 use jsonpath_tree::model::{Segment, Selector};
 use std::alloc::Global;
 
@@ -18,9 +21,11 @@ use std::alloc::Global;
 pub enum Followed<'a, T> {
     /// To one node, of this value.
     To(&'a T),
+    /// To all children of this value.
+    Children(&'a T),
     /// To no node.
     Nowhere,
-    /// That is left open: a segment is more than one name or one index.
+    /// That is left open: a segment is more than one name or one index, and not `[*]` at the end.
     Open,
 }
 
@@ -39,7 +44,63 @@ pub fn looked_up<'a, T: Queryable>(
     match follow(segments, at) {
         Followed::To(value) => Ok(Some(Sink::of_one(alloc, wanted, value)?)),
         Followed::Nowhere => Ok(Some(Sink::start(alloc, wanted))),
+        Followed::Children(_) => Ok(None),
         Followed::Open => Ok(None),
+    }
+}
+
+/// The same, also where all children are counted, or asked for one.
+pub fn looked_up_or_counted<'a, T: Queryable>(
+    alloc: Global,
+    segments: &[Segment],
+    wanted: Wanted,
+    at: &'a T,
+) -> Walked<Option<Sink<'a, T>>>
+    requires { IsTrue (T.is_whole at.now) }
+    ensures given { IfOk result (λ o. IfSome o (GivesThrough T.tree T.is_whole wanted (segments_in segments.now) (T.tree at.now))) }
+    ensures memory { IfErr result (λ h. h ≡ Memory) }
+{
+    match follow(segments, at) {
+        Followed::To(value) => Ok(Some(Sink::of_one(alloc, wanted, value)?)),
+        Followed::Nowhere => Ok(Some(Sink::start(alloc, wanted))),
+        Followed::Children(parent) => counted(alloc, wanted, parent),
+        Followed::Open => Ok(None),
+    }
+}
+
+/// What as many nodes as the value has children give to a sink, where they are counted, or asked for one.
+fn counted<'a, T: Queryable>(
+    alloc: Global,
+    wanted: Wanted,
+    parent: &T,
+) -> Walked<Option<Sink<'a, T>>>
+    requires { IsTrue (T.is_whole parent.now) }
+    ensures given { IfOk result (λ o. IfSome o (GivesSoMany T.tree T.is_whole wanted (length (children (root_node (T.tree parent.now)))))) }
+    ensures memory { IfErr result (λ h. h ≡ Memory) }
+{
+    match wanted {
+        Wanted::Any => Ok(Some(Sink::Any(child_count(alloc, parent)? > 0))),
+        Wanted::Count => {
+            let count = child_count(alloc, parent)?;
+            Ok(Some(Sink::Count(count.min(GREATEST_COUNT))))
+        }
+        Wanted::Only => Ok(None),
+        Wanted::Values => Ok(None),
+    }
+}
+
+/// How many children a value has.
+fn child_count<T: Queryable>(alloc: Global, parent: &T) -> Walked<usize>
+    requires { IsTrue (T.is_whole parent.now) }
+    ensures value { IfOk result (λ k. k ≡ length (children (root_node (T.tree parent.now)))) }
+    ensures memory { IfErr result (λ h. h ≡ Memory) }
+{
+    if let Some(items) = parent.as_array() {
+        return Ok(items.len());
+    }
+    match parent.member_count(alloc)? {
+        Some(count) => Ok(count),
+        None => Ok(0),
     }
 }
 
@@ -53,6 +114,10 @@ fn follow<'a, T: Queryable>(segments: &[Segment], at: &'a T) -> Followed<'a, T>
         None => Followed::To(at),
         Some((first, rest)) => match stepped(first, at) {
             Followed::To(child) => follow(rest, child),
+            Followed::Children(parent) => match rest.split_first() {
+                None => Followed::Children(parent),
+                Some(_) => Followed::Open,
+            },
             Followed::Nowhere => Followed::Nowhere,
             Followed::Open => Followed::Open,
         },
@@ -88,6 +153,7 @@ fn picked<'a, T: Queryable>(selector: &Selector, at: &'a T) -> Followed<'a, T>
             Some((_position, child)) => Followed::To(child),
             None => Followed::Nowhere,
         },
+        Selector::Wildcard => Followed::Children(at),
         _ => Followed::Open,
     }
 }

@@ -16,6 +16,7 @@ ghost use Rattle.jsonpath_walk.specs.inner.Standing.{Stands, Returns, IsHalt};
 ghost use Rattle.jsonpath_walk.specs.inner.Walking.{through, node_of, step_of, acted, action_patterns};
 ghost use Rattle.jsonpath_node.specs.inner.Parts.{segments_in, selectors_in};
 
+use crate::action::{Action, is_idle};
 use crate::cache::Cache;
 use crate::finders::Finders;
 use crate::patterns::Places;
@@ -26,8 +27,8 @@ use jsonpath_base::slice::slice_places;
 use jsonpath_node::Queried;
 use jsonpath_node::halt::Walked;
 use jsonpath_node::queryable::Queryable;
-use jsonpath_node::queryable::children::{element, is_leaf};
-use jsonpath_tree::model::{Filter, JpQuery, Segment, Selector};
+use jsonpath_node::queryable::children::element;
+use jsonpath_tree::model::{JpQuery, Segment, Selector};
 use std::alloc::Global;
 
 /// What is asked: a query, of a document.
@@ -36,17 +37,6 @@ pub struct Task<'a, 's, T> {
     pub alloc: Global,
     pub query: &'s JpQuery,
     pub root: &'a T,
-}
-
-/// What is done at a child.
-#[derive(Clone, Copy)]
-pub enum Action<'s> {
-    /// The rest.
-    All,
-    /// The rest, if the filter holds there.
-    If(&'s Filter),
-    /// The segment and then the rest, there and at each node below.
-    Below(&'s Segment),
 }
 
 /// A child of the value at hand, and the step that leads to it.
@@ -325,6 +315,9 @@ impl<'a: 's, 's, T: Queryable> Task<'a, 's, T> {
         ensures returns { OnOk result (Returns T.tree T.is_whole T.custom self.now trail.old trail.new) }
         ensures refused { IfErr result (IsHalt (query_of self.now) (document T.tree T.custom self.now)) }
     {
+        if is_idle(action, child.value) {
+            return Ok(true);
+        }
         trail.way.push(child.step)?;
         let goes_on = self.act(action, rest, child.value, trail, sink)?;
         trail.way.pop();
@@ -352,24 +345,44 @@ impl<'a: 's, 's, T: Queryable> Task<'a, 's, T> {
         ensures refused { IfErr result (IsHalt (query_of self.now) (document T.tree T.custom self.now)) }
     {
         match action {
-            Action::All => self.walk(rest, at, trail, sink),
+            Action::All => self.go_on(rest, at, trail, sink),
             Action::If(filter) => {
                 if self.filter_holds(filter, at, trail)? {
-                    self.walk(rest, at, trail, sink)
+                    self.go_on(rest, at, trail, sink)
                 } else {
                     Ok(true)
                 }
             }
             Action::Below(segment) => {
-                if is_leaf(at) {
-                    return Ok(true);
-                }
                 if self.pass(segment, rest, at, trail, sink)? {
                     self.each_child(action, rest, at, trail, sink)
                 } else {
                     Ok(false)
                 }
             }
+        }
+    }
+    /// The rest from this value on. Where nothing is left the value is taken here, with no call for it.
+    #[cycle(walk)]
+    #[inline(always)]
+    fn go_on(
+        &self,
+        rest: &'s [Segment],
+        at: &'a T,
+        trail: &mut Trail<'a, 's, T>,
+        sink: &mut Sink<'a, T>,
+    ) -> Walked<bool>
+        requires stands { Stands T.tree T.is_whole T.custom self.now at.now trail.old.way.steps.items trail.old.cache }
+        requires part { StandIn (query_of self.now) (segments_patterns (segments_in rest.now)) }
+        ensures gave { IfOk result (λ b. Took (seen T.tree T.is_whole sink.old)
+            (through (segments_in rest.now) (document T.tree T.custom self.now) (node_of T.tree trail.old.way.steps.items at.now))
+            (seen T.tree T.is_whole sink.new) b) }
+        ensures returns { OnOk result (Returns T.tree T.is_whole T.custom self.now trail.old trail.new) }
+        ensures refused { IfErr result (IsHalt (query_of self.now) (document T.tree T.custom self.now)) }
+    {
+        match rest.split_first() {
+            None => sink.take(self.alloc, at, &mut trail.way),
+            Some(_) => self.walk(rest, at, trail, sink),
         }
     }
 }

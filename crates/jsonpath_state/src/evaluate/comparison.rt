@@ -6,9 +6,8 @@ ghost use Rattle.jsonpath_state.specs.State.{places_of, content_of, PointersAreW
 
 use crate::evaluate::value::plain_value;
 use crate::state::{Data, Pointer, are_same};
-use jsonpath_node::comparison::is_below;
+use jsonpath_node::comparison::{Side, is_below};
 use jsonpath_node::queryable::Queryable;
-use jsonpath_node::value::Operand;
 use jsonpath_tree::model::Operator;
 
 /// Whether the comparison holds.
@@ -97,7 +96,7 @@ fn is_less<'a, T: Queryable>(left: &Data<'a, T>, right: &Data<'a, T>) -> bool
     requires right { DataIsWhole T.is_whole right.now }
     ensures { result ≡ is_content_below (content_of T.tree left.now) (content_of T.tree right.now) }
 {
-    let left = Operand::lent(plain_value(left));
-    let right = Operand::lent(plain_value(right));
+    let left = Side::lent(plain_value(left));
+    let right = Side::lent(plain_value(right));
     is_below(&left, &right)
 }

@@ -12,8 +12,8 @@ use Rattle.jsonpath_node.specs.Meaning.{replaced, holds}
 use Rattle.jsonpath_node.specs.Patterns.{segment_patterns, filter_patterns}
 use Rattle.jsonpath_walk.specs.declared.way.StepRef.{StepRef}
 use Rattle.jsonpath_walk.specs.declared.way.StepRef.TheVariants.{Name, Index}
-use Rattle.jsonpath_walk.specs.declared.walk.Action.{Action}
-use Rattle.jsonpath_walk.specs.declared.walk.Action.TheVariants.{All, If, Below}
+use Rattle.jsonpath_walk.specs.declared.action.Action.{Action}
+use Rattle.jsonpath_walk.specs.declared.action.Action.TheVariants.{All, If, Below}
 
 abbrev pub step_of : StepRef → Step
 step_of (Name k) = name k.now

@@ -1,8 +1,10 @@
-use Rattle.std.proofs.Common.{◌≡◌, ◌∷◌, rules, sym, ap, subst}
+use Rattle.std.proofs.Common.{◌≡◌, ◌∷◌, rules, sym, ap, ◌∙◌, subst}
+use Rattle.std.proofs.lemmas.List.{nil_from_length}
 use Rattle.jsonpath_tree.specs.View.{segment_view}
 use Rattle.jsonpath_node.specs.inner.Parts.{segments_in}
 use Rattle.jsonpath_walk.specs.inner.Lookup.{Leads, LeadsOn}
-use Rattle.jsonpath_walk.proofs.LookupLaws.{leads_on}
+use Rattle.jsonpath_walk.specs.declared.lookup.Followed.TheVariants.{Children}
+use Rattle.jsonpath_walk.proofs.LookupLaws.{leads_on, children_last}
 use Rattle.jsonpath_walk.proofs.lookup.+follow.Goals as goal
 
 pub returns-in-To-clause-leads : goal.returns-in-To-clause-leads
@@ -12,3 +14,13 @@ returns-in-To-clause-leads g t c =
     let e : c.args.segments.now ≡ c.in-Some.first.now ∷ c.in-Some.rest.now = search rules in
     let step = subst (LeadsOn tree (segment_view c.in-Some.first.now) x) c.in-To.is c.stepped.ensures.leads in
     subst (λ gs. Leads tree gs x c.follow.result) (sym (ap segments_in e)) (leads_on tree (segment_view c.in-Some.first.now) (segments_in c.in-Some.rest.now) x (tree c.in-To.child.now) c.follow.result step.leads c.follow.ensures.leads)
+
+pub returns-in-None-split_first-clause-leads : goal.returns-in-None-split_first-clause-leads
+returns-in-None-split_first-clause-leads g t c =
+    let tree = g.T.Queryable.tree in
+    let x = tree c.args.at.now in
+    let whole : c.args.segments.now ≡ c.in-Some.first.now ∷ c.in-Some.rest.now = search rules in
+    let last = nil_from_length c.in-Some.rest.now c.in-None-split_first.ensures.cases in
+    let e = whole ∙ ap (λ gs. c.in-Some.first.now ∷ gs) last in
+    let step = subst (LeadsOn tree (segment_view c.in-Some.first.now) x) c.in-Children.is c.stepped.ensures.leads in
+    subst (λ gs. Leads tree gs x (Children c.in-Children.parent)) (sym (ap segments_in e)) (children_last tree (segment_view c.in-Some.first.now) x (Children c.in-Children.parent) step)

@@ -2,9 +2,9 @@ use Rattle.std.proofs.Common.{ap, ◌∙◌, w64, SFits, rules}
 use Rattle.std.proofs.lemmas.Int.{to_z-of_z}
 use Rattle.jsonpath_tree.specs.Syntax.{one}
 use Rattle.jsonpath_tree.specs.View.{selector_view}
-use Rattle.jsonpath_tree.proofs.ViewEquations.{selector_view-Index}
+use Rattle.jsonpath_tree.proofs.ViewEquations.{selector_view-Index, selector_view-Wildcard}
 use Rattle.jsonpath_node.specs.Meaning.{indexed}
-use Rattle.jsonpath_walk.proofs.LookupLaws.{index_there, index_nowhere}
+use Rattle.jsonpath_walk.proofs.LookupLaws.{index_there, index_nowhere, children_there}
 use Rattle.jsonpath_walk.proofs.lookup.picked.Goals as goal
 
 pub returns-in-Some-element-clause-leads : goal.returns-in-Some-element-clause-leads
@@ -26,3 +26,8 @@ returns-in-None-element-clause-leads g c =
     let z = to_z-of_z w64 i fits in
     let s = ap one (ap selector_view c.in-Index.is ∙ selector_view-Index i) in
     record { leads = index_nowhere (one (selector_view c.args.selector.now)) _ t s (λ l. c.in-None-element.ensures.value l ∙ ap (λ j. indexed j (record { location = l; tree = t })) z) }
+
+pub returns-in-Wildcard-clause-leads : goal.returns-in-Wildcard-clause-leads
+returns-in-Wildcard-clause-leads g c =
+    let s = ap one (ap selector_view c.in-Wildcard.is ∙ selector_view-Wildcard) in
+    record { leads = children_there (one (selector_view c.args.selector.now)) (g.T.Queryable.tree c.args.at.now) s }

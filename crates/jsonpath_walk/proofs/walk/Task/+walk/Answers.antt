@@ -5,7 +5,6 @@ use Rattle.std.proofs.lemmas.List.{map-append}
 use Rattle.std.proofs.lemmas.List.Elements.{All-head, All-tail, All-nil}
 use Rattle.std.specs.List.{flat_map}
 use Rattle.jsonpath_tree.specs.Location.{name, index}
-use Rattle.jsonpath_tree.specs.Syntax.{descendant}
 use Rattle.jsonpath_tree.specs.View.{segment_view, selector_view, filter_view, atom_view, test_view, comparison_view, comparable_view, call_view, argument_view, operator_view, query_view}
 use Rattle.jsonpath_tree.specs.declared.model.Segment.{Segment}
 use Rattle.jsonpath_tree.specs.declared.model.Selector.{Selector}
@@ -25,7 +24,6 @@ use Rattle.jsonpath_walk.specs.inner.Nesting.{IsNested}
 use Rattle.jsonpath_walk.specs.declared.way.StepRef.TheVariants.{Name, Index}
 use Rattle.jsonpath_walk.proofs.Sinks.{took_none, took_as, took_stop, result_as, result_then, true_false}
 use Rattle.jsonpath_walk.proofs.Walks.{down, down_tree, turn_next, turn_stop, turn_end, selector_turns, element_turns, member_turns, place_next, place_stop, below_more, flat_map-alone, flat_map-filter}
-use Rattle.jsonpath_walk.proofs.Leaves.{replaced-none}
 use Rattle.jsonpath_walk.proofs.Leading.{leads_below, leads_indexed}
 use Rattle.jsonpath_node.proofs.NodesAt.{member_there}
 use Rattle.jsonpath_walk.proofs.PatternLaws.{part_as, part_in, part_left, part_right, part_both, part_at, part_rest, pattern_asked}
@@ -38,7 +36,7 @@ use Rattle.jsonpath_tree.specs.declared.model.Comparison.{Comparison}
 use Rattle.jsonpath_tree.specs.declared.model.TestFunction.{TestFunction}
 use Rattle.jsonpath_node.specs.Comparing.{compares}
 use Rattle.jsonpath_node.specs.Functions.{length_of, as_value, as_trees, as_truth, is_matched}
-use Rattle.jsonpath_node.specs.inner.Operands.{operand_tree, arg_trees, AreWhole, is_entire}
+use Rattle.jsonpath_node.specs.inner.Operands.{operand_tree, side_tree, arg_trees, AreWhole, is_entire}
 use Rattle.jsonpath_walk.proofs.NodelistLaws.{through-applied, nodelist-through}
 use Rattle.jsonpath_tree.specs.declared.model.FnArg.{FnArg}
 use Rattle.jsonpath_walk.specs.declared.way.StepRef.{StepRef}
@@ -51,8 +49,8 @@ use Rattle.jsonpath_walk.proofs.walk.Task.+walk.Goals as goal
 pub walk-take-requires : goal.walk-take-requires
 walk-take-requires g t c = c.requires.stands.whole
 
-pub act-walk-requires : goal.act-walk-requires
-act-walk-requires g t c κs within =
+pub act-go_on-requires : goal.act-go_on-requires
+act-go_on-requires g t c κs within =
     let e = ap action_weight c.in-All.is in
     (down _ _ _ _ _ _ c.decreases (omega (arith, e)) (omega (arith, c.requires.stands.within)), (within, (c.requires.stands, part_right _ _ _ c.requires.part)))
 
@@ -61,13 +59,10 @@ act-filter_holds-requires g t c κs within =
     let e = ap action_weight c.in-If.is in
     (down _ _ _ _ _ _ c.decreases (omega (arith, e)) (omega (arith, c.requires.stands.within)), (within, (c.requires.stands, part_as action_patterns _ _ _ c.in-If.is (part_left _ _ _ c.requires.part))))
 
-pub act-walk-requires-then-branch : goal.act-walk-requires-then-branch
-act-walk-requires-then-branch g t c κs within =
+pub act-go_on-requires-then-branch : goal.act-go_on-requires-then-branch
+act-go_on-requires-then-branch g t c κs within =
     let e = ap action_weight c.in-If.is in
     (down _ _ _ _ _ _ c.decreases (omega (arith, e)) (omega (arith, c.requires.stands.within)), (within, (still c.requires.stands c.in_ok-filter_holds-in-If.ensures.returns, part_right _ _ _ c.requires.part)))
-
-pub act-is_leaf-requires : goal.act-is_leaf-requires
-act-is_leaf-requires g t c = c.requires.stands.whole
 
 pub act-pass-requires : goal.act-pass-requires
 act-pass-requires g t c κs within =
@@ -83,7 +78,7 @@ act-returns-in-All-clause-gave g t c =
     let d = document tree g.T.Queryable.custom c.args.self.now in
     let n = node_of tree c.args.trail.now.way.steps.items c.args.at.now in
     let rest = through (segments_in c.args.rest.now) d in
-    result_as _ _ _ _ _ (sym (append-nil (rest n)) ∙ ap (λ a. flat_map rest (acted a d n)) (sym c.in-All.is)) c.walk.ensures.gave
+    result_as _ _ _ _ _ (sym (append-nil (rest n)) ∙ ap (λ a. flat_map rest (acted a d n)) (sym c.in-All.is)) c.go_on.ensures.gave
 
 pub act-returns-then-branch-clause-gave : goal.act-returns-then-branch-clause-gave
 act-returns-then-branch-clause-gave g t c =
@@ -92,7 +87,7 @@ act-returns-then-branch-clause-gave g t c =
     let n = node_of tree c.args.trail.now.way.steps.items c.args.at.now in
     let rest = through (segments_in c.args.rest.now) d in
     let h = c.in_ok-filter_holds-in-If.ensures in
-    result_as _ _ _ _ _ (ap (λ q. rest (node_of tree q c.args.at.now)) h.returns.same ∙ kept_true rest (holds (filter_view c.in-If.filter.now) d) n (sym h.holds ∙ c.if-branch.true) ∙ ap (λ a. flat_map rest (acted a d n)) (sym c.in-If.is)) c.walk-then-branch.ensures.gave
+    result_as _ _ _ _ _ (ap (λ q. rest (node_of tree q c.args.at.now)) h.returns.same ∙ kept_true rest (holds (filter_view c.in-If.filter.now) d) n (sym h.holds ∙ c.if-branch.true) ∙ ap (λ a. flat_map rest (acted a d n)) (sym c.in-If.is)) c.go_on-then-branch.ensures.gave
 
 pub act-returns-else-branch-clause-gave : goal.act-returns-else-branch-clause-gave
 act-returns-else-branch-clause-gave g t c =
@@ -102,16 +97,6 @@ act-returns-else-branch-clause-gave g t c =
     let rest = through (segments_in c.args.rest.now) d in
     let h = c.in_ok-filter_holds-in-If.ensures in
     took_none _ _ (ap (λ a. flat_map rest (acted a d n)) c.in-If.is ∙ kept_false rest (holds (filter_view c.in-If.filter.now) d) n (sym h.holds ∙ c.if-branch.false))
-
-pub act-returns-then-is_leaf-clause-gave : goal.act-returns-then-is_leaf-clause-gave
-act-returns-then-is_leaf-clause-gave g t c =
-    let tree = g.T.Queryable.tree in
-    let d = document tree g.T.Queryable.custom c.args.self.now in
-    let n = node_of tree c.args.trail.now.way.steps.items c.args.at.now in
-    let rest = through (segments_in c.args.rest.now) d in
-    let leaf = c.is_leaf.ensures in
-    let none = replaced-none (descendant (segment_view c.in-Below.segment.now)) d n.location n.tree (leaf.list c.if-is_leaf.true) (leaf.object c.if-is_leaf.true) in
-    took_none _ _ (ap (λ a. flat_map rest (acted a d n)) c.in-Below.is ∙ ap (flat_map rest) none)
 
 pub act-returns-then-branch-2-clause-gave : goal.act-returns-then-branch-2-clause-gave
 act-returns-then-branch-2-clause-gave g t c =
@@ -133,6 +118,22 @@ act-returns-else-branch-2-clause-gave g t c =
     let rest = through (segments_in c.args.rest.now) d in
     let h = replaced (segment_view c.in-Below.segment.now) d in
     took_stop _ _ _ _ _ _ _ (below_more rest h n.location n.tree ∙ ap (λ a. flat_map rest (acted a d n)) (sym c.in-Below.is)) c.in_ok-pass-in-Below.ensures.gave c.if-branch-2.false
+
+pub go_on-take-requires : goal.go_on-take-requires
+go_on-take-requires g t c = c.requires.stands.whole
+
+pub go_on-walk-requires : goal.go_on-walk-requires
+go_on-walk-requires g t c κs within = (down_tree _ _ _ _ _ c.decreases (omega arith), (within, (c.requires.stands, c.requires.part)))
+
+pub at_child-is_idle-requires : goal.at_child-is_idle-requires
+at_child-is_idle-requires g t c = c.requires.stands.whole
+
+pub at_child-returns-then-is_idle-clause-gave : goal.at_child-returns-then-is_idle-clause-gave
+at_child-returns-then-is_idle-clause-gave g t c =
+    let tree = g.T.Queryable.tree in
+    let d = document tree g.T.Queryable.custom c.args.self.now in
+    let rest = through (segments_in c.args.rest.now) d in
+    took_none _ _ (ap (flat_map rest) (c.is_idle.ensures c.if-is_idle.true d _))
 
 pub at_child-act-requires : goal.at_child-act-requires
 at_child-act-requires g t c κs within = (down_tree _ _ _ _ _ c.decreases (omega arith), (within, (stands_as c.in_ok-push.ensures.steps c.requires.stands, c.requires.part)))
@@ -480,7 +481,7 @@ at_child-returns-clause-returns g t c =
     record { same = c.pop.ensures _ _ (back.same ∙ c.in_ok-push.ensures.steps); ready = back.ready }
 
 pub act-returns-then-branch-clause-returns : goal.act-returns-then-branch-clause-returns
-act-returns-then-branch-clause-returns g t c = on_ok _ _ c.in_ok-filter_holds-in-If.ensures.returns c.walk-then-branch.ensures.returns
+act-returns-then-branch-clause-returns g t c = on_ok _ _ c.in_ok-filter_holds-in-If.ensures.returns c.go_on-then-branch.ensures.returns
 
 pub act-returns-then-branch-2-clause-returns : goal.act-returns-then-branch-2-clause-returns
 act-returns-then-branch-2-clause-returns g t c = on_ok _ _ c.in_ok-pass-in-Below.ensures.returns c.each_child.ensures.returns
@@ -624,11 +625,24 @@ comparison_holds-side-requires-2 g t c κs within =
     let s = c.parts-operator.ensures in
     (down _ _ _ _ _ _ c.decreases (omega (arith, ap comparison_weight s)) (omega (arith, c.requires.stands.within)), (within, (still c.requires.stands c.in_ok-left.ensures.returns, part_right _ _ _ (part_as comparison_patterns _ _ _ s c.requires.part))))
 
-pub comparison_holds-compares-requires-clause-left : goal.comparison_holds-compares-requires-clause-left
-comparison_holds-compares-requires-clause-left g t c = c.in_ok-left.ensures.whole
+pub comparison_holds-lent_compare-requires-clause-root : goal.comparison_holds-lent_compare-requires-clause-root
+comparison_holds-lent_compare-requires-clause-root g t c = c.requires.stands.ready.root
 
-pub comparison_holds-compares-requires-clause-right : goal.comparison_holds-compares-requires-clause-right
-comparison_holds-compares-requires-clause-right g t c = c.in_ok-right.ensures.whole
+pub comparison_holds-lent_compare-requires-clause-whole : goal.comparison_holds-lent_compare-requires-clause-whole
+comparison_holds-lent_compare-requires-clause-whole g t c = c.requires.stands.whole
+
+pub comparison_holds-returns-in-Some-clause-holds : goal.comparison_holds-returns-in-Some-clause-holds
+comparison_holds-returns-in-Some-clause-holds g t c =
+    let tree = g.T.Queryable.tree in
+    let d = document tree g.T.Queryable.custom c.args.self.now in
+    let n = node_of tree c.args.trail.now.way.steps.items c.args.at.now in
+    c.in-Some.ensures n refl ∙ sym (ap (λ x. comparison_holds x d n) c.parts-operator.ensures)
+
+pub comparison_holds-as_side-requires : goal.comparison_holds-as_side-requires
+comparison_holds-as_side-requires g t c = c.in_ok-left.ensures.whole
+
+pub comparison_holds-as_side-requires-2 : goal.comparison_holds-as_side-requires-2
+comparison_holds-as_side-requires-2 g t c = c.in_ok-right.ensures.whole
 
 pub comparison_holds-returns-clause-holds : goal.comparison_holds-returns-clause-holds
 comparison_holds-returns-clause-holds g t c =
@@ -638,7 +652,7 @@ comparison_holds-returns-clause-holds g t c =
     let s = c.parts-operator.ensures in
     let op = operator_view c.parts-operator.result.0 in
     let right = c.in_ok-right.ensures.value ∙ ap (λ q. value_of (comparable_view c.parts-operator.result.2.now) d (node_of tree q c.args.at.now)) c.in_ok-left.ensures.returns.same in
-    c.compares.ensures ∙ ap (λ o. compares op o (operand_tree tree c.in_ok-right.right)) c.in_ok-left.ensures.value ∙ ap (compares op (value_of (comparable_view c.parts-operator.result.1.now) d n)) right ∙ sym (ap (λ x. comparison_holds x d n) s)
+    c.compares.ensures ∙ ap (λ o. compares op o (side_tree tree c.as_side-2.result)) (c.as_side.ensures.value ∙ c.in_ok-left.ensures.value) ∙ ap (compares op (value_of (comparable_view c.parts-operator.result.1.now) d n)) (c.as_side-2.ensures.value ∙ right) ∙ sym (ap (λ x. comparison_holds x d n) s)
 
 pub side-answer-requires : goal.side-answer-requires
 side-answer-requires g t c κs within =

@@ -40,6 +40,9 @@ decreases-at_child g l = let tree = g.T.Queryable.tree in work (action_weight l.
 abbrev pub decreases-act : goal.decreases-act
 decreases-act g l = let tree = g.T.Queryable.tree in work (action_weight l.action + segments_weight (segments_in l.rest.now)) (size (tree l.self.now.root.now)) (3 * size (tree l.at.now) + 1)
 
+abbrev pub decreases-go_on : goal.decreases-go_on
+decreases-go_on g l = let tree = g.T.Queryable.tree in work (segments_weight (segments_in l.rest.now) + 1) (size (tree l.self.now.root.now)) (3 * size (tree l.at.now) + 1)
+
 abbrev pub decreases-filter_holds : goal.decreases-filter_holds
 decreases-filter_holds g l = let tree = g.T.Queryable.tree in work (filter_weight (filter_view l.filter.now)) (size (tree l.self.now.root.now)) (3 * size (tree l.at.now))
 

@@ -1,0 +1,32 @@
+//! What a walk does at the children of a value.
+ghost use Rattle.std.specs.Prelude.{◌≡◌, [], IsTrue};
+ghost use Rattle.jsonpath_tree.specs.Location.{Location};
+ghost use Rattle.jsonpath_node.specs.Document.{Document};
+ghost use Rattle.jsonpath_walk.specs.inner.Walking.{acted};
+
+use jsonpath_node::queryable::Queryable;
+use jsonpath_node::queryable::children::is_leaf;
+use jsonpath_tree::model::{Filter, Segment};
+
+/// What is done at a child.
+#[derive(Clone, Copy)]
+pub enum Action<'s> {
+    /// The rest.
+    All,
+    /// The rest, if the filter holds there.
+    If(&'s Filter),
+    /// The segment and then the rest, there and at each node below.
+    Below(&'s Segment),
+}
+
+/// Whether the action surely makes no node of the value: a leaf has nothing below.
+#[inline(always)]
+pub fn is_idle<T: Queryable>(action: Action<'_>, value: &T) -> bool
+    requires { IsTrue (T.is_whole value.now) }
+    ensures { IsTrue result → (d : Document) (l : Location) → acted action.entry d (record { location = l; tree = T.tree value.now }) ≡ [] }
+{
+    match action {
+        Action::Below(_) => is_leaf(value),
+        _ => false,
+    }
+}
