@@ -1,8 +1,8 @@
 //! What a query text is read as.
 use crate::members::Depth;
+use crate::memory::Memory;
 use jsonpath_parser::errors::JsonPathError;
 use jsonpath_parser::{let_go, parse_json_path, parse_json_path_within};
-use std::alloc::Global;
 
 /// What a text is read as.
 #[derive(Clone, Copy)]
@@ -17,10 +17,10 @@ pub enum Reading {
 }
 
 /// Reads a text, and lets its tree go.
-pub fn read(alloc: Global, text: &str, depth: Depth) -> Reading {
+pub fn read(memory: &Memory, text: &str, depth: Depth) -> Reading {
     let read = match depth {
-        Depth::Default => parse_json_path(alloc, text),
-        Depth::Limit(depth) => parse_json_path_within(alloc, text, depth),
+        Depth::Default => parse_json_path(memory.alloc, text),
+        Depth::Limit(depth) => parse_json_path_within(memory.alloc, text, depth),
     };
     match read {
         Ok(tree) => {
@@ -28,6 +28,7 @@ pub fn read(alloc: Global, text: &str, depth: Depth) -> Reading {
             Reading::Tree
         }
         Err(error) => {
+            memory.note(&error);
             let cause = cause_of(&error);
             drop(error);
             cause

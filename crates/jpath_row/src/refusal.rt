@@ -1,10 +1,17 @@
 //! The kinds of refusals, as rows name them.
+use crate::memory::Memory;
 use jsonpath_parser::errors::JsonPathError;
 
 /// Whether the answer is a refusal of that kind, of a text of that length.
-pub fn is_refused<T: Drop>(answer: Result<T, JsonPathError>, kind: &str, length: usize) -> bool {
+pub fn is_refused<T: Drop>(
+    memory: &Memory,
+    answer: Result<T, JsonPathError>,
+    kind: &str,
+    length: usize,
+) -> bool {
     match answer.err() {
         Some(error) => {
+            memory.note(&error);
             let told = is_kind(&error, kind, length);
             drop(error);
             told
