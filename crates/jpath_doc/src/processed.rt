@@ -4,7 +4,7 @@ ghost use Rattle.std.specs.Prelude.{IsTrue};
 use crate::document::are_equal;
 use jsonpath_rust::query::queryable::Queryable;
 use jsonpath_rust::query::state::{Data, Pointer, State};
-use jsonpath_rust::query::{Query, QueryRef};
+use jsonpath_rust::query::{Queried, Query, QueryRef};
 use jsonpath_tree::model::JpQuery;
 use std::alloc::Global;
 use std::slice;
@@ -15,16 +15,11 @@ pub fn is_by_process<T: Queryable>(
     query: &JpQuery,
     document: &T,
     nodes: &[QueryRef<'_, T>],
-) -> bool
+) -> Queried<bool>
     requires { IsTrue (T.is_whole document.now) }
 {
-    let Some(state) = State::root(alloc, document).ok() else {
-        return false;
-    };
-    match query.process(alloc, state).ok() {
-        Some(answer) => are_in(nodes, &answer.content),
-        None => false,
-    }
+    let answer = query.process(alloc, State::root(alloc, document)?)?;
+    Ok(are_in(nodes, &answer.content))
 }
 
 /// Whether the nodes of the data are these, in order.

@@ -9,6 +9,7 @@ use crate::state::{is_state, state_of, values_of};
 use jpath_doc::Doc;
 use jpath_doc::document::Document;
 use jpath_doc::processed::is_by_process;
+use jpath_row::Memory;
 use jpath_row::members::{Types, has_only, string_at, types_of};
 use jpath_row::text::text_at;
 use jsonpath_build::{and, or, segment_many};
@@ -23,17 +24,16 @@ use jsonpath_rust::query::queryable::Queryable;
 use jsonpath_rust::query::state::State;
 use jsonpath_rust::query::{Query, apply, js_path_process};
 use serde_json::Value;
-use std::alloc::Global;
 
 /// Whether a row on what a part of a query answers holds.
-pub fn holds(alloc: Global, row: &Value) -> bool {
+pub fn holds(memory: &Memory, row: &Value) -> bool {
     has_only(
         row,
         &["process", "text", "document", "state", "answer", "of"],
     ) && match types_of(row) {
-        Some(Types::Value) => holds_of::<Value>(alloc, row),
-        Some(Types::Doc) => holds_of::<Doc>(alloc, row),
-        Some(Types::Both) => holds_of::<Value>(alloc, row) && holds_of::<Doc>(alloc, row),
+        Some(Types::Value) => holds_of::<Value>(memory, row),
+        Some(Types::Doc) => holds_of::<Doc>(memory, row),
+        Some(Types::Both) => holds_of::<Value>(memory, row) && holds_of::<Doc>(memory, row),
         None => false,
     }
 }
@@ -46,19 +46,19 @@ struct Asked<'r, T> {
     values: &'r [T],
 }
 
-fn holds_of<T: Document>(alloc: Global, row: &Value) -> bool {
+fn holds_of<T: Document>(memory: &Memory, row: &Value) -> bool {
     let Some(document) = row.get("document") else {
         return false;
     };
     if !document.is_whole() {
         return false;
     }
-    let Some(document) = T::made(alloc, document) else {
+    let Some(document) = memory.ok(T::made(memory.alloc, document)) else {
         return false;
     };
     let values = match row.get("state") {
-        Some(state) => values_of::<T>(alloc, state),
-        None => Some(Vec::new(alloc)),
+        Some(state) => values_of::<T>(memory, state),
+        None => Some(Vec::new(memory.alloc)),
     };
     let Some(values) = values else {
         return false;
@@ -68,69 +68,103 @@ fn holds_of<T: Document>(alloc: Global, row: &Value) -> bool {
         document: &document,
         values: &values,
     };
-    match (string_at(row, "process"), text_at(alloc, row, "text")) {
-        (Some(part), Some(text)) => is_answered(alloc, part, text.as_str(), &asked),
+    match (string_at(row, "process"), text_at(memory, row, "text")) {
+        (Some(part), Some(text)) => is_answered(memory, part, text.as_str(), &asked),
         _ => false,
     }
 }
 
 /// Whether the part that is read or made of the text answers as the row tells.
-fn is_answered<T: Document>(alloc: Global, part: &str, text: &str, asked: &Asked<'_, T>) -> bool {
+fn is_answered<T: Document>(memory: &Memory, part: &str, text: &str, asked: &Asked<'_, T>) -> bool {
     match part {
-        "index" => is_answered_by_query(alloc, picks::index(alloc, text), asked),
-        "slice" => is_answered_by_query(alloc, picks::slice(alloc, text), asked),
-        "untyped_call" => is_answered_by(alloc, untyped::call(alloc, text), asked),
-        "untyped_comparison" => is_answered_by_query(alloc, untyped::compared(alloc, text), asked),
-        "untyped_test" => is_answered_by_query(alloc, untyped::tested(alloc, text), asked),
-        "no_selectors" => is_answered_by(alloc, Some(segment_many(Vec::new(alloc))), asked),
-        "and_of_nothing" => is_answered_by(alloc, Some(and(Vec::new(alloc))), asked),
-        "or_of_nothing" => is_answered_by(alloc, Some(or(Vec::new(alloc))), asked),
+        "index" => is_answered_by_query(memory, picks::index(memory, text), asked),
+        "slice" => is_answered_by_query(memory, picks::slice(memory, text), asked),
+        "untyped_call" => is_answered_by(memory, untyped::call(memory, text), asked),
+        "untyped_comparison" => is_answered_by_query(
+            memory,
+            untyped::compared(memory, text),
+            asked,
+        ),
+        "untyped_test" => is_answered_by_query(memory, untyped::tested(memory, text), asked),
+        "no_selectors" => is_answered_by(memory, Some(segment_many(Vec::new(memory.alloc))), asked),
+        "and_of_nothing" => is_answered_by(memory, Some(and(Vec::new(memory.alloc))), asked),
+        "or_of_nothing" => is_answered_by(memory, Some(or(Vec::new(memory.alloc))), asked),
         _ => {
             let mut cursor = Cursor::new(text);
-            is_read_and_answered(alloc, part, &mut cursor, asked) && cursor.at_end()
+            is_read_and_answered(memory, part, &mut cursor, asked) && cursor.at_end()
         }
     }
 }
 
 /// Whether the part that the grammar function of that name reads answers as the row tells.
 fn is_read_and_answered<T: Document>(
-    alloc: Global,
+    memory: &Memory,
     part: &str,
     cursor: &mut Cursor<'_>,
     asked: &Asked<'_, T>,
 ) -> bool {
     match part {
-        "jp_query" => is_answered_by_query(alloc, jp_query(alloc, cursor).ok(), asked),
-        "rel_query" => is_answered_by(alloc, rel_query(alloc, cursor).ok(), asked),
-        "child_segment" => is_answered_by(alloc, child_segment(alloc, cursor).ok(), asked),
-        "segment" => is_answered_by(alloc, segment(alloc, cursor).ok(), asked),
-        "selector" => is_answered_by(alloc, selector(alloc, cursor).ok(), asked),
-        "logical_expr" => is_answered_by(alloc, logical_expr(alloc, cursor).ok(), asked),
-        "filter_atom" => is_answered_by(alloc, filter_atom(alloc, cursor).ok(), asked),
-        "comp_expr" => is_answered_by(alloc, comp_expr(alloc, cursor).ok(), asked),
-        "comparable" => is_answered_by(alloc, comparable(alloc, cursor).ok(), asked),
-        "singular_query" => is_answered_by(alloc, singular_query(alloc, cursor).ok(), asked),
+        "jp_query" => is_answered_by_query(
+            memory,
+            memory.ok(jp_query(memory.alloc, cursor)),
+            asked,
+        ),
+        "rel_query" => is_answered_by(memory, memory.ok(rel_query(memory.alloc, cursor)), asked),
+        "child_segment" => is_answered_by(
+            memory,
+            memory.ok(child_segment(memory.alloc, cursor)),
+            asked,
+        ),
+        "segment" => is_answered_by(memory, memory.ok(segment(memory.alloc, cursor)), asked),
+        "selector" => is_answered_by(memory, memory.ok(selector(memory.alloc, cursor)), asked),
+        "logical_expr" => is_answered_by(
+            memory,
+            memory.ok(logical_expr(memory.alloc, cursor)),
+            asked,
+        ),
+        "filter_atom" => is_answered_by(
+            memory,
+            memory.ok(filter_atom(memory.alloc, cursor)),
+            asked,
+        ),
+        "comp_expr" => is_answered_by(memory, memory.ok(comp_expr(memory.alloc, cursor)), asked),
+        "comparable" => is_answered_by(memory, memory.ok(comparable(memory.alloc, cursor)), asked),
+        "singular_query" => is_answered_by(
+            memory,
+            memory.ok(singular_query(memory.alloc, cursor)),
+            asked,
+        ),
         "singular_query_segments" => {
-            is_answered_by(alloc, singular_query_segments(alloc, cursor).ok(), asked)
+            is_answered_by(
+                memory,
+                memory.ok(singular_query_segments(memory.alloc, cursor)),
+                asked,
+            )
         }
-        "step" => is_answered_by(alloc, step(alloc, cursor), asked),
-        "literal" => is_answered_by(alloc, literal(alloc, cursor).ok(), asked),
-        "test" => is_answered_by(alloc, test(alloc, cursor).ok(), asked),
-        "function_expr" => is_answered_by(alloc, function_expr(alloc, cursor).ok(), asked),
-        "apply" => is_applied(alloc, function_expr(alloc, cursor), asked),
-        "argument" => is_answered_by(alloc, argument(alloc, cursor), asked),
+        "step" => is_answered_by(memory, step(memory, cursor), asked),
+        "literal" => is_answered_by(memory, memory.ok(literal(memory.alloc, cursor)), asked),
+        "test" => is_answered_by(memory, memory.ok(test(memory.alloc, cursor)), asked),
+        "function_expr" => is_answered_by(
+            memory,
+            memory.ok(function_expr(memory.alloc, cursor)),
+            asked,
+        ),
+        "apply" => is_applied(memory, function_expr(memory.alloc, cursor), asked),
+        "argument" => is_answered_by(memory, argument(memory, cursor), asked),
         _ => false,
     }
 }
 
 /// The one step that follows the cursor.
-fn step(alloc: Global, cursor: &mut Cursor<'_>) -> Option<SingularQuerySegment> {
-    singular_query_segments(alloc, cursor).ok()?.pop()
+fn step(memory: &Memory, cursor: &mut Cursor<'_>) -> Option<SingularQuerySegment> {
+    memory
+        .ok(singular_query_segments(memory.alloc, cursor))?
+        .pop()
 }
 
 /// The last argument of the call of a custom function that follows the cursor.
-fn argument(alloc: Global, cursor: &mut Cursor<'_>) -> Option<FnArg> {
-    match function_expr(alloc, cursor).ok()? {
+fn argument(memory: &Memory, cursor: &mut Cursor<'_>) -> Option<FnArg> {
+    match memory.ok(function_expr(memory.alloc, cursor))? {
         TestFunction::Custom(_, mut arguments) => arguments.pop(),
         other => {
             drop(other);
@@ -140,50 +174,50 @@ fn argument(alloc: Global, cursor: &mut Cursor<'_>) -> Option<FnArg> {
 }
 
 /// The state that the row asks of, that of the root where it tells none; None where a value of it is not whole.
-fn asked_state<'r, T: Document>(alloc: Global, asked: &Asked<'r, T>) -> Option<State<'r, T>>
+fn asked_state<'r, T: Document>(memory: &Memory, asked: &Asked<'r, T>) -> Option<State<'r, T>>
     ensures content { IfSome result (λ s. DataIsWhole T.is_whole s.content) }
     ensures root { IfSome result (λ s. IsTrue (T.is_whole s.root.now)) }
 {
     match asked.row.get("state") {
-        Some(content) => state_of(alloc, asked.document, content, asked.values),
-        None if asked.document.is_whole() => State::root(alloc, asked.document).ok(),
+        Some(content) => state_of(memory, asked.document, content, asked.values),
+        None if asked.document.is_whole() => memory.ok(State::root(memory.alloc, asked.document)),
         None => None,
     }
 }
 
 /// Whether the part answers as the row tells.
 fn is_answered_by<Q: Query + Drop, T: Document>(
-    alloc: Global,
+    memory: &Memory,
     part: Option<Q>,
     asked: &Asked<'_, T>,
 ) -> bool {
     let Some(part) = part else {
         return false;
     };
-    let held = is_answered_so(alloc, &part, asked);
+    let held = is_answered_so(memory, &part, asked);
     drop(part);
     held
 }
 
 /// Whether this part answers as the row tells.
-fn is_answered_so<Q: Query, T: Document>(alloc: Global, part: &Q, asked: &Asked<'_, T>) -> bool {
-    match asked_state(alloc, asked) {
-        Some(state) => is_told(alloc, part.process(alloc, state).ok(), asked),
+fn is_answered_so<Q: Query, T: Document>(memory: &Memory, part: &Q, asked: &Asked<'_, T>) -> bool {
+    match asked_state(memory, asked) {
+        Some(state) => is_told(memory, memory.ok(part.process(memory.alloc, state)), asked),
         None => false,
     }
 }
 
 /// Whether the call answers as the row tells, by `apply`.
 fn is_applied<T: Document>(
-    alloc: Global,
+    memory: &Memory,
     call: Parsed<TestFunction>,
     asked: &Asked<'_, T>,
 ) -> bool {
-    let Some(call) = call.ok() else {
+    let Some(call) = memory.ok(call) else {
         return false;
     };
-    let held = match asked_state(alloc, asked) {
-        Some(state) => is_told(alloc, apply(alloc, &call, state).ok(), asked),
+    let held = match asked_state(memory, asked) {
+        Some(state) => is_told(memory, memory.ok(apply(memory.alloc, &call, state)), asked),
         None => false,
     };
     drop(call);
@@ -192,7 +226,7 @@ fn is_applied<T: Document>(
 
 /// Whether the query answers as the row tells, and from the root the nodes of `js_path_process`.
 fn is_answered_by_query<T: Document>(
-    alloc: Global,
+    memory: &Memory,
     query: Option<JpQuery>,
     asked: &Asked<'_, T>,
 ) -> bool {
@@ -201,22 +235,26 @@ fn is_answered_by_query<T: Document>(
     };
     let document = asked.document;
     let agrees = document.is_whole()
-        && match js_path_process(alloc, &query, document).ok() {
-            Some(nodes) => is_by_process(alloc, &query, document, &nodes),
+        && match memory.ok(js_path_process(memory.alloc, &query, document)) {
+            Some(nodes) => memory.holds(is_by_process(memory.alloc, &query, document, &nodes)),
             None => false,
         };
-    let held = agrees && is_answered_so(alloc, &query, asked);
+    let held = agrees && is_answered_so(memory, &query, asked);
     let_go(query);
     held
 }
 
 /// Whether the answer is what the row tells.
-fn is_told<T: Document>(alloc: Global, answer: Option<State<'_, T>>, asked: &Asked<'_, T>) -> bool {
+fn is_told<T: Document>(
+    memory: &Memory,
+    answer: Option<State<'_, T>>,
+    asked: &Asked<'_, T>,
+) -> bool {
     let Some(answer) = answer else {
         return false;
     };
     let held = match asked.row.get("answer") {
-        Some(wanted) => is_state(alloc, &answer, asked.document, wanted),
+        Some(wanted) => is_state(memory, &answer, asked.document, wanted),
         None => false,
     };
     drop(answer);

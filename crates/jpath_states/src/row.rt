@@ -1,13 +1,13 @@
 //! One row: what it asks is told by its members. One with another member, or without one that it needs, does not hold.
 use crate::{process, states};
+use jpath_row::Memory;
 use serde_json::Value;
-use std::alloc::Global;
 
 /// Whether the row holds.
-pub fn holds(alloc: Global, row: &Value) -> bool {
+pub fn holds(memory: &Memory, row: &Value) -> bool {
     if row.get("process").is_some() {
-        process::holds(alloc, row)
+        process::holds(memory, row)
     } else {
-        states::holds(alloc, row)
+        states::holds(memory, row)
     }
 }

@@ -3,12 +3,12 @@ ghost use Rattle.std.specs.Prelude.{IsTrue, IfSome};
 ghost use Rattle.jsonpath_state.specs.State.{DataIsWhole, PointersAreWhole};
 
 use jpath_doc::document::{Document, are_equal, is_value};
+use jpath_row::Memory;
 use jpath_row::members::{list, list_at};
 use jpath_row::text::{spells, text_of};
 use jsonpath_rust::query::queryable::Queryable;
 use jsonpath_rust::query::state::{Data, Pointer, State};
 use serde_json::Value;
-use std::alloc::Global;
 use std::slice;
 
 /// The nodes that the content writes, each a list of a path and a value. A value has none, and nothing has none.
@@ -21,20 +21,21 @@ fn nodes_of(content: &Value) -> &[Value] {
 }
 
 /// The values of the nodes that the content writes, in order, for pointers to borrow.
-pub fn values_of<T: Document>(alloc: Global, content: &Value) -> Option<Vec<T>> {
-    let mut values = Vec::new(alloc);
+pub fn values_of<T: Document>(memory: &Memory, content: &Value) -> Option<Vec<T>> {
+    let mut values = Vec::new(memory.alloc);
     for node in nodes_of(content) {
         let [_, value] = list(node)? else {
             return None;
         };
-        values.push(T::made(alloc, value)?).ok()?;
+        let value = memory.ok(T::made(memory.alloc, value))?;
+        memory.ok(values.push(value))?;
     }
     Some(values)
 }
 
 /// The content, whose pointers borrow the values of its nodes.
 pub fn data_of<'d, T: Document>(
-    alloc: Global,
+    memory: &Memory,
     content: &Value,
     values: &'d [T],
 ) -> Option<Data<'d, T>> {
@@ -42,9 +43,9 @@ pub fn data_of<'d, T: Document>(
         return Some(Data::Nothing);
     }
     if let Some(value) = content.get("value") {
-        return Some(Data::Value(T::made(alloc, value)?));
+        return Some(Data::Value(memory.ok(T::made(memory.alloc, value))?));
     }
-    let mut pointers = pointers_of(alloc, nodes_of(content), values)?;
+    let mut pointers = pointers_of(memory, nodes_of(content), values)?;
     match (content.get("ref"), content.get("refs")) {
         (Some(_), None) => Some(Data::new_ref(pointers.pop()?)),
         (None, Some(_)) => Some(Data::new_refs(pointers)),
@@ -53,25 +54,23 @@ pub fn data_of<'d, T: Document>(
 }
 
 fn pointers_of<'d, T: Document>(
-    alloc: Global,
+    memory: &Memory,
     nodes: &[Value],
     values: &'d [T],
 ) -> Option<Vec<Pointer<'d, T>>> {
-    let mut pointers = Vec::new(alloc);
+    let mut pointers = Vec::new(memory.alloc);
     for (node, value) in nodes.iter().zip(values) {
         let [path, _] = list(node)? else {
             return None;
         };
-        pointers
-            .push(Pointer::new(value, text_of(alloc, path)?))
-            .ok()?;
+        memory.ok(pointers.push(Pointer::new(value, text_of(memory, path)?)))?;
     }
     Some(pointers)
 }
 
 /// The state of that content in the document; None where a value of it is not whole.
 pub fn state_of<'d, T: Document>(
-    alloc: Global,
+    memory: &Memory,
     document: &'d T,
     content: &Value,
     values: &'d [T],
@@ -79,7 +78,7 @@ pub fn state_of<'d, T: Document>(
     ensures content { IfSome result (λ s. DataIsWhole T.is_whole s.content) }
     ensures root { IfSome result (λ s. IsTrue (T.is_whole s.root.now)) }
 {
-    let content = data_of(alloc, content, values)?;
+    let content = data_of(memory, content, values)?;
     if document.is_whole() && is_whole(&content) {
         Some(State::data(document, content))
     } else {
@@ -108,16 +107,17 @@ fn are_whole<T: Queryable>(pointers: &[Pointer<'_, T>]) -> bool
 
 /// Whether the state, and a copy of it, is that content in that document.
 pub fn is_state<T: Document>(
-    alloc: Global,
+    memory: &Memory,
     state: &State<'_, T>,
     document: &T,
     content: &Value,
 ) -> bool {
-    is_data(alloc, &state.content, content)
+    is_data(memory, &state.content, content)
         && are_equal(state.root, document)
-        && match state.try_clone(alloc).ok() {
+        && match memory.ok(state.try_clone(memory.alloc)) {
             Some(copy) => {
-                let held = is_data(alloc, &copy.content, content) && are_equal(copy.root, document);
+                let held = is_data(memory, &copy.content, content)
+                    && are_equal(copy.root, document);
                 drop(copy);
                 held
             }
@@ -126,18 +126,18 @@ pub fn is_state<T: Document>(
 }
 
 /// Whether the data is what the row writes.
-fn is_data<T: Document>(alloc: Global, data: &Data<'_, T>, wanted: &Value) -> bool {
+fn is_data<T: Document>(memory: &Memory, data: &Data<'_, T>, wanted: &Value) -> bool {
     match data {
         Data::Ref(pointer) => match wanted.get("ref") {
-            Some(node) => is_pointer(alloc, pointer, node),
+            Some(node) => is_pointer(memory, pointer, node),
             None => false,
         },
         Data::Refs(pointers) => match list_at(wanted, "refs") {
-            Some(nodes) => are_pointers(alloc, pointers, nodes),
+            Some(nodes) => are_pointers(memory, pointers, nodes),
             None => false,
         },
         Data::Value(value) => match wanted.get("value") {
-            Some(wanted) => is_value(alloc, value, wanted),
+            Some(wanted) => memory.holds(is_value(memory.alloc, value, wanted)),
             None => false,
         },
         Data::Nothing => wanted.as_str() == Some("nothing"),
@@ -146,22 +146,23 @@ fn is_data<T: Document>(alloc: Global, data: &Data<'_, T>, wanted: &Value) -> bo
 
 /// Whether the pointers are these nodes, in order.
 pub fn are_pointers<T: Document>(
-    alloc: Global,
+    memory: &Memory,
     pointers: &[Pointer<'_, T>],
     nodes: &[Value],
 ) -> bool {
     for (pointer, node) in pointers.iter().zip(nodes) {
-        if !is_pointer(alloc, pointer, node) {
+        if !is_pointer(memory, pointer, node) {
             return false;
         }
     }
     pointers.len() == nodes.len()
 }
 
-fn is_pointer<T: Document>(alloc: Global, pointer: &Pointer<'_, T>, node: &Value) -> bool {
+fn is_pointer<T: Document>(memory: &Memory, pointer: &Pointer<'_, T>, node: &Value) -> bool {
     match list(node) {
         Some([path, value]) => {
-            spells(alloc, path, pointer.path.as_str()) && is_value(alloc, pointer.inner, value)
+            spells(memory, path, pointer.path.as_str())
+                && memory.holds(is_value(memory.alloc, pointer.inner, value))
         }
         _ => false,
     }

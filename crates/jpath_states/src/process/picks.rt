@@ -1,18 +1,18 @@
 //! Queries of one index or one slice of any numbers, made by hand: those of a text lie between -(2^53) and 2^53.
+use jpath_row::Memory;
 use jsonpath_build::{jq, segment_one, selector_index};
 use jsonpath_parser::model::{JpQuery, Selector, slice_from};
-use std::alloc::Global;
 
 /// `$[INDEX]`, of the text `INDEX`.
-pub fn index(alloc: Global, text: &str) -> Option<JpQuery> {
-    of_one(alloc, selector_index(text.parse::<i64>().ok()?))
+pub fn index(memory: &Memory, text: &str) -> Option<JpQuery> {
+    of_one(memory, selector_index(text.parse::<i64>().ok()?))
 }
 
 /// `$[START:END:STEP]`, of the text `START:END:STEP`, whose parts may be empty.
-pub fn slice(alloc: Global, text: &str) -> Option<JpQuery> {
+pub fn slice(memory: &Memory, text: &str) -> Option<JpQuery> {
     let (start, rest) = text.split_once(':')?;
     let (end, step) = rest.split_once(':')?;
-    of_one(alloc, slice_from((part(start)?, part(end)?, part(step)?)))
+    of_one(memory, slice_from((part(start)?, part(end)?, part(step)?)))
 }
 
 /// A part of a slice, or None where the text is neither empty nor a number.
@@ -24,8 +24,8 @@ fn part(text: &str) -> Option<Option<i64>> {
     }
 }
 
-fn of_one(alloc: Global, selector: Selector) -> Option<JpQuery> {
-    let mut segments = Vec::new(alloc);
-    segments.push(segment_one(selector)).ok()?;
+fn of_one(memory: &Memory, selector: Selector) -> Option<JpQuery> {
+    let mut segments = Vec::new(memory.alloc);
+    memory.ok(segments.push(segment_one(selector)))?;
     Some(jq(segments))
 }

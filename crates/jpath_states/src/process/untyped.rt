@@ -1,19 +1,20 @@
 //! Trees that the typing of RFC 9535, 2.4.3 may refuse, made of texts.
+use jpath_row::Memory;
 use jsonpath_build::{
     atom_cmp, atom_test, comparable_fn, comparable_lit, filter, jq, segment_one, selector_filter,
     test_function,
 };
+use jsonpath_parser::errors::Parsed;
 use jsonpath_parser::model::{FilterAtom, FnArg, JpQuery, TestFunction};
 use jsonpath_parser::{Cursor, function_expr, literal};
-use std::alloc::Global;
 
 /// The call of this text, whatever its arguments are.
-pub fn call(alloc: Global, text: &str) -> Option<TestFunction> {
+pub fn call(memory: &Memory, text: &str) -> Option<TestFunction> {
     let (name, arguments) = text.split_once('(')?;
-    let mut arguments = read_arguments(alloc, arguments)?;
+    let mut arguments = read_arguments(memory, arguments)?;
     let last = arguments.pop()?;
     match (name, arguments.pop()) {
-        ("length", None) => Some(TestFunction::Length(Box::new(alloc, last).ok()?)),
+        ("length", None) => Some(TestFunction::Length(memory.ok(Box::new(memory.alloc, last))?)),
         ("value", None) => Some(TestFunction::Value(last)),
         ("count", None) => Some(TestFunction::Count(last)),
         ("match", Some(first)) => Some(TestFunction::Match(first, last)),
@@ -23,9 +24,9 @@ pub fn call(alloc: Global, text: &str) -> Option<TestFunction> {
 }
 
 /// The arguments of a call, of the text behind its `(`: a custom function takes any.
-fn read_arguments(alloc: Global, text: &str) -> Option<Vec<FnArg>> {
-    let call = format!(in alloc; "f({text}").ok()?;
-    match function_expr(alloc, &mut Cursor::new(call.as_str())).ok()? {
+fn read_arguments(memory: &Memory, text: &str) -> Option<Vec<FnArg>> {
+    let call = memory.ok(format!(in memory.alloc; "f({text}"))?;
+    match memory.ok(function_expr(memory.alloc, &mut Cursor::new(call.as_str())))? {
         TestFunction::Custom(_, arguments) => Some(arguments),
         other => {
             drop(other);
@@ -35,26 +36,25 @@ fn read_arguments(alloc: Global, text: &str) -> Option<Vec<FnArg>> {
 }
 
 /// `$[?CALL==LITERAL]`, of the text `CALL==LITERAL`.
-pub fn compared(alloc: Global, text: &str) -> Option<JpQuery> {
+pub fn compared(memory: &Memory, text: &str) -> Option<JpQuery> {
     let (left, right) = text.split_once("==")?;
-    let right = literal(alloc, &mut Cursor::new(right)).ok()?;
-    let left = comparable_fn(call(alloc, left)?);
+    let right = memory.ok(literal(memory.alloc, &mut Cursor::new(right)))?;
+    let left = comparable_fn(call(memory, left)?);
     filtered(
-        alloc,
-        atom_cmp(alloc, left, "==", comparable_lit(right)).ok()?,
+        memory,
+        atom_cmp(memory.alloc, left, "==", comparable_lit(right)),
     )
 }
 
 /// `$[?CALL]`, of the text `CALL`.
-pub fn tested(alloc: Global, text: &str) -> Option<JpQuery> {
-    let test = test_function(alloc, call(alloc, text)?).ok()?;
-    filtered(alloc, atom_test(alloc, test).ok()?)
+pub fn tested(memory: &Memory, text: &str) -> Option<JpQuery> {
+    let test = memory.ok(test_function(memory.alloc, call(memory, text)?))?;
+    filtered(memory, atom_test(memory.alloc, test))
 }
 
-fn filtered(alloc: Global, atom: FilterAtom) -> Option<JpQuery> {
-    let mut segments = Vec::new(alloc);
-    segments
-        .push(segment_one(selector_filter(filter(atom))))
-        .ok()?;
+fn filtered(memory: &Memory, atom: Parsed<FilterAtom>) -> Option<JpQuery> {
+    let atom = memory.ok(atom)?;
+    let mut segments = Vec::new(memory.alloc);
+    memory.ok(segments.push(segment_one(selector_filter(filter(atom)))))?;
     Some(jq(segments))
 }
