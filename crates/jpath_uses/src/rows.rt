@@ -8,22 +8,22 @@ mod routing;
 mod script;
 mod wanted;
 
+use jpath_row::Memory;
 use serde_json::Value;
-use std::alloc::Global;
 
 /// Whether the row holds.
-pub fn holds(alloc: Global, row: &Value) -> bool {
+pub fn holds(memory: &Memory, row: &Value) -> bool {
     if row.get("redact").is_some() {
-        redaction::holds(alloc, row)
+        redaction::holds(memory, row)
     } else if row.get("policy").is_some() {
-        policy::holds(alloc, row)
+        policy::holds(memory, row)
     } else if row.get("script").is_some() {
-        script::holds(alloc, row)
+        script::holds(memory, row)
     } else if row.get("route").is_some() {
-        routing::holds(alloc, row)
+        routing::holds(memory, row)
     } else if row.get("difference").is_some() {
-        difference::holds(alloc, row)
+        difference::holds(memory, row)
     } else {
-        first_steps::holds(alloc, row)
+        first_steps::holds(memory, row)
     }
 }

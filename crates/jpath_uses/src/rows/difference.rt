@@ -5,6 +5,7 @@ ghost use Rattle.jsonpath_base.specs.Values.{value_is_whole};
 
 use crate::difference::{Difference, Missing, difference_of};
 use crate::rows::wanted::{Wanted, refuses, wanted_of};
+use jpath_row::Memory;
 use jpath_row::members::{has_only, list_at, size, string_at};
 use jsonpath_parser::parse_json_path;
 use jsonpath_rust::query::Queried;
@@ -20,7 +21,7 @@ struct Asked<'r> {
 }
 
 /// Whether a row on a difference holds.
-pub fn holds(alloc: Global, row: &Value) -> bool {
+pub fn holds(memory: &Memory, row: &Value) -> bool {
     match (
         list_at(row, "difference"),
         list_at(row, "documents"),
@@ -40,24 +41,24 @@ pub fn holds(alloc: Global, row: &Value) -> bool {
                 document: other,
             };
             has_only(row, &["difference", "documents", "answer", "refused"])
-                && tells(alloc, first, second, wanted)
+                && tells(memory, first, second, wanted)
         }
         _ => false,
     }
 }
 
 /// Whether the helper tells what is wanted.
-fn tells(alloc: Global, first: Asked<'_>, second: Asked<'_>, wanted: Wanted<'_>) -> bool {
+fn tells(memory: &Memory, first: Asked<'_>, second: Asked<'_>, wanted: Wanted<'_>) -> bool {
     match wanted {
         Wanted::Answer(answer) => {
             first.document.is_whole()
                 && second.document.is_whole()
-                && is_answer(told(alloc, first, second), answer)
+                && is_answer(memory, told(memory.alloc, first, second), answer)
         }
         Wanted::Refused(kind) => {
             first.document.is_whole()
                 && second.document.is_whole()
-                && refuses(told(alloc, first, second), kind)
+                && refuses(memory, told(memory.alloc, first, second), kind)
         }
         Wanted::NoCall => !first.document.is_whole() || !second.document.is_whole(),
     }
@@ -77,8 +78,8 @@ fn told(alloc: Global, first: Asked<'_>, second: Asked<'_>) -> Queried<Option<Di
 }
 
 /// Whether it told this; null stands for None.
-fn is_answer(told: Queried<Option<Difference>>, answer: &Value) -> bool {
-    match told.ok() {
+fn is_answer(memory: &Memory, told: Queried<Option<Difference>>, answer: &Value) -> bool {
+    match memory.ok(told) {
         Some(Some(difference)) => is_difference(difference, answer),
         Some(None) => answer.is_null(),
         None => false,

@@ -6,6 +6,7 @@ ghost use Rattle.jsonpath_base.specs.Values.{value_is_whole};
 use crate::policy::{Violation, first_violation};
 use crate::rows::queries::queries_of;
 use crate::rows::wanted::{Wanted, refuses, wanted_of};
+use jpath_row::Memory;
 use jpath_row::members::{has_only, list_at, size, string_at};
 use jsonpath_rust::query::Queried;
 use jsonpath_rust::query::queryable::Queryable;
@@ -13,24 +14,25 @@ use serde_json::Value;
 use std::alloc::Global;
 
 /// Whether a row on a policy holds.
-pub fn holds(alloc: Global, row: &Value) -> bool {
+pub fn holds(memory: &Memory, row: &Value) -> bool {
     match (list_at(row, "policy"), row.get("document"), wanted_of(row)) {
         (Some(rules), Some(document), Some(wanted)) => {
             has_only(row, &["policy", "document", "answer", "refused"])
-                && tells(alloc, rules, document, wanted)
+                && tells(memory, rules, document, wanted)
         }
         _ => false,
     }
 }
 
 /// Whether the check tells what is wanted.
-fn tells(alloc: Global, rules: &[Value], document: &Value, wanted: Wanted<'_>) -> bool {
+fn tells(memory: &Memory, rules: &[Value], document: &Value, wanted: Wanted<'_>) -> bool {
     match wanted {
         Wanted::Answer(answer) => {
-            document.is_whole() && is_answer(violation(alloc, rules, document), answer)
+            document.is_whole()
+                && is_answer(memory, violation(memory.alloc, rules, document), answer)
         }
         Wanted::Refused(kind) => {
-            document.is_whole() && refuses(violation(alloc, rules, document), kind)
+            document.is_whole() && refuses(memory, violation(memory.alloc, rules, document), kind)
         }
         Wanted::NoCall => !document.is_whole(),
     }
@@ -47,8 +49,8 @@ fn violation(alloc: Global, rules: &[Value], document: &Value) -> Queried<Option
 }
 
 /// Whether it told this; null stands for None.
-fn is_answer(found: Queried<Option<Violation>>, answer: &Value) -> bool {
-    match found.ok() {
+fn is_answer(memory: &Memory, found: Queried<Option<Violation>>, answer: &Value) -> bool {
+    match memory.ok(found) {
         Some(Some(violation)) => is_violation(&violation, answer),
         Some(None) => answer.is_null(),
         None => false,

@@ -5,6 +5,7 @@ ghost use Rattle.jsonpath_base.specs.Values.{value_is_whole};
 use crate::redaction::redact;
 use crate::rows::queries::queries_of;
 use crate::rows::wanted::{Wanted, refuses, wanted_of};
+use jpath_row::Memory;
 use jpath_row::members::{has_only, list_at};
 use jsonpath_rust::query::Queried;
 use jsonpath_rust::query::queryable::Queryable;
@@ -12,30 +13,37 @@ use serde_json::Value;
 use std::alloc::Global;
 
 /// Whether a row on redaction holds.
-pub fn holds(alloc: Global, row: &Value) -> bool {
+pub fn holds(memory: &Memory, row: &Value) -> bool {
     match (list_at(row, "redact"), row.get("document"), wanted_of(row)) {
         (Some(rules), Some(document), Some(wanted)) => {
             has_only(row, &["redact", "document", "answer", "refused"])
-                && leaves(alloc, rules, document, wanted)
+                && leaves(memory, rules, document, wanted)
         }
         _ => false,
     }
 }
 
 /// Whether redaction leaves what is wanted; after a refusal that is the document as it was.
-fn leaves(alloc: Global, rules: &[Value], document: &Value, wanted: Wanted<'_>) -> bool {
-    let Some(mut left) = document.clone().ok() else {
+fn leaves(memory: &Memory, rules: &[Value], document: &Value, wanted: Wanted<'_>) -> bool {
+    let Some(mut left) = memory.ok(document.clone()) else {
         return false;
     };
     let held = match wanted {
         Wanted::Answer(answer) => {
-            left.is_whole() && redacted(alloc, rules, &mut left).is_ok() && left == *answer
+            left.is_whole()
+                && memory
+                    .ok(redacted(memory.alloc, rules, &mut left))
+                    .is_some()
+                && left == *answer
         }
         Wanted::Refused(kind) => {
-            left.is_whole() && refuses(redacted(alloc, rules, &mut left), kind) && left == *document
+            left.is_whole()
+                && refuses(memory, redacted(memory.alloc, rules, &mut left), kind)
+                && left == *document
         }
         Wanted::NoCall => !left.is_whole(),
     };
+    memory.note_kept(left == *document);
     drop(left);
     held
 }

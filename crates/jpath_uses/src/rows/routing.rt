@@ -5,6 +5,7 @@ ghost use Rattle.jsonpath_base.specs.Values.{value_is_whole};
 use crate::routing::route;
 use crate::rows::queries::prepared_of;
 use crate::rows::wanted::{Wanted, is_index, refuses, wanted_of};
+use jpath_row::Memory;
 use jpath_row::members::{has_only, list_at};
 use jsonpath_rust::query::Queried;
 use jsonpath_rust::query::queryable::Queryable;
@@ -12,24 +13,24 @@ use serde_json::Value;
 use std::alloc::Global;
 
 /// Whether a row on routing holds.
-pub fn holds(alloc: Global, row: &Value) -> bool {
+pub fn holds(memory: &Memory, row: &Value) -> bool {
     match (list_at(row, "route"), row.get("document"), wanted_of(row)) {
         (Some(table), Some(document), Some(wanted)) => {
             has_only(row, &["route", "document", "answer", "refused"])
-                && leads(alloc, table, document, wanted)
+                && leads(memory, table, document, wanted)
         }
         _ => false,
     }
 }
 
 /// Whether the table leads the document where it is wanted.
-fn leads(alloc: Global, table: &[Value], document: &Value, wanted: Wanted<'_>) -> bool {
+fn leads(memory: &Memory, table: &[Value], document: &Value, wanted: Wanted<'_>) -> bool {
     match wanted {
         Wanted::Answer(answer) => {
-            document.is_whole() && is_index(routed(alloc, table, document), answer)
+            document.is_whole() && is_index(memory, routed(memory.alloc, table, document), answer)
         }
         Wanted::Refused(kind) => {
-            document.is_whole() && refuses(routed(alloc, table, document), kind)
+            document.is_whole() && refuses(memory, routed(memory.alloc, table, document), kind)
         }
         Wanted::NoCall => !document.is_whole(),
     }

@@ -7,19 +7,19 @@ ghost use Rattle.jpath_uses.specs.Script.{IsWholeEdit};
 
 use crate::rows::wanted::{Wanted, is_index, refuses, wanted_of};
 use crate::script::{Edit, apply_edits};
+use jpath_row::Memory;
 use jpath_row::members::{has_only, list_at, string_at};
 use jsonpath_rust::query::Queried;
 use jsonpath_rust::query::queryable::Queryable;
 use serde_json::Value;
-use std::alloc::Global;
 
 /// Whether a row on an edit script holds.
-pub fn holds(alloc: Global, row: &Value) -> bool {
+pub fn holds(memory: &Memory, row: &Value) -> bool {
     match (list_at(row, "script"), row.get("document"), wanted_of(row)) {
         (Some(steps), Some(document), Some(wanted)) => {
             let left = row.get("left").unwrap_or(document);
             has_only(row, &["script", "document", "answer", "refused", "left"])
-                && leaves(alloc, steps, document, left, wanted)
+                && leaves(memory, steps, document, left, wanted)
         }
         _ => false,
     }
@@ -27,32 +27,33 @@ pub fn holds(alloc: Global, row: &Value) -> bool {
 
 /// Whether the script answers so of the document, and leaves that.
 fn leaves(
-    alloc: Global,
+    memory: &Memory,
     steps: &[Value],
     document: &Value,
     left: &Value,
     wanted: Wanted<'_>,
 ) -> bool {
-    let Some(mut edited) = document.clone().ok() else {
+    let Some(mut edited) = memory.ok(document.clone()) else {
         return false;
     };
-    let held = match edits_of(alloc, steps) {
-        Some(edits) => answers(alloc, &edits, &mut edited, wanted) && edited == *left,
+    let held = match edits_of(memory, steps) {
+        Some(edits) => answers(memory, &edits, &mut edited, wanted) && edited == *left,
         None => false,
     };
+    memory.note_kept(edited == *document);
     drop(edited);
     held
 }
 
 /// Whether the edits, made of the document, answer so.
-fn answers(alloc: Global, edits: &[Edit], document: &mut Value, wanted: Wanted<'_>) -> bool {
+fn answers(memory: &Memory, edits: &[Edit], document: &mut Value, wanted: Wanted<'_>) -> bool {
     if !are_whole(edits) || !document.is_whole() {
         return matches!(wanted, Wanted::NoCall);
     }
-    let answer = apply_edits(alloc, edits, document);
+    let answer = apply_edits(memory.alloc, edits, document);
     match wanted {
-        Wanted::Answer(index) => is_index(answer, index),
-        Wanted::Refused(kind) => refuses(answer, kind),
+        Wanted::Answer(index) => is_index(memory, answer, index),
+        Wanted::Refused(kind) => refuses(memory, answer, kind),
         Wanted::NoCall => false,
     }
 }
@@ -75,25 +76,28 @@ fn is_whole(edit: &Edit) -> bool
 }
 
 /// The edits that the steps are, or None where one is no edit, or memory ran out.
-fn edits_of(alloc: Global, steps: &[Value]) -> Option<Vec<Edit>> {
-    let mut edits = Vec::new(alloc);
+fn edits_of(memory: &Memory, steps: &[Value]) -> Option<Vec<Edit>> {
+    let mut edits = Vec::new(memory.alloc);
     for step in steps {
-        edits.push(edit_of(alloc, step)?).ok()?;
+        memory.ok(edits.push(edit_of(memory, step)?))?;
     }
     Some(edits)
 }
 
 /// The edit that a step is, or None where it is none, or memory ran out.
-fn edit_of(alloc: Global, step: &Value) -> Option<Edit> {
+fn edit_of(memory: &Memory, step: &Value) -> Option<Edit> {
     match (
         string_at(step, "delete"),
         string_at(step, "put"),
         step.get("value"),
     ) {
-        (Some(query), None, None) => Some(Edit::Delete(String::from_str(alloc, query).ok()?)),
+        (Some(query), None, None) => {
+            let query = memory.ok(String::from_str(memory.alloc, query))?;
+            Some(Edit::Delete(query))
+        }
         (None, Some(path), Some(new)) => {
-            let path = String::from_str(alloc, path).ok()?;
-            Some(Edit::Replace(path, new.clone().ok()?))
+            let path = memory.ok(String::from_str(memory.alloc, path))?;
+            Some(Edit::Replace(path, memory.ok(new.clone())?))
         }
         _ => None,
     }

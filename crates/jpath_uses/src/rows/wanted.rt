@@ -1,4 +1,5 @@
 //! What a row wants of a call: its member `answer`, or its member `refused`.
+use jpath_row::Memory;
 use jpath_row::members::{size, string_at};
 use jpath_row::refusal::is_refused;
 use jsonpath_rust::query::Queried;
@@ -26,13 +27,13 @@ pub fn wanted_of(row: &Value) -> Option<Wanted<'_>> {
 }
 
 /// Whether the answer is a refusal of that kind, at whatever place of a text.
-pub fn refuses<T: Drop>(answer: Queried<T>, kind: &str) -> bool {
-    is_refused(answer, kind, usize::MAX)
+pub fn refuses<T: Drop>(memory: &Memory, answer: Queried<T>, kind: &str) -> bool {
+    is_refused(memory, answer, kind, usize::MAX)
 }
 
 /// Whether the answer is this index; null stands for None.
-pub fn is_index(answer: Queried<Option<usize>>, wanted: &Value) -> bool {
-    match answer.ok() {
+pub fn is_index(memory: &Memory, answer: Queried<Option<usize>>, wanted: &Value) -> bool {
+    match memory.ok(answer) {
         Some(Some(index)) => size(wanted) == Some(index),
         Some(None) => wanted.is_null(),
         None => false,
