@@ -1,6 +1,7 @@
 //! Rows on the makers of trees: a maker, what it takes, and the tree that it makes, also as it is `shown`, or its refusal; and
 //! on what an argument is.
 use crate::production::{Reading, beside, shown_beside};
+use jpath_row::Memory;
 use jpath_row::members::{has_only, string_at};
 use jsonpath_build::{atom_test, cmp, comparable_lit, lit_int, test_rel};
 use jsonpath_parser::errors::{JsonPathError, Parsed};
@@ -13,7 +14,7 @@ use serde_json::Value;
 use std::alloc::Global;
 
 /// Whether a row on a maker, or on the kind of an argument, holds.
-pub fn holds(alloc: Global, row: &Value) -> bool {
+pub fn holds(memory: &Memory, row: &Value) -> bool {
     match (
         string_at(row, "maker"),
         string_at(row, "of"),
@@ -21,7 +22,7 @@ pub fn holds(alloc: Global, row: &Value) -> bool {
     ) {
         (Some("kind"), Some(argument), None) => {
             has_only(row, &["maker", "of", "kind"])
-                && match (kind(alloc, argument), string_at(row, "kind")) {
+                && match (kind(memory, argument), string_at(row, "kind")) {
                     (Some(kind), Some(wanted)) => kind == wanted,
                     _ => false,
                 }
@@ -30,7 +31,7 @@ pub fn holds(alloc: Global, row: &Value) -> bool {
             has_only(
                 row,
                 &["maker", "of", "arguments", "tree", "shown", "refused"],
-            ) && match made(alloc, row, (maker, of, arguments)) {
+            ) && match made(memory, row, (maker, of, arguments)) {
                 Reading::Tree => row.get("refused").is_none(),
                 Reading::Refusal => row.get("tree").is_none() && row.get("shown").is_none(),
                 Reading::Other => false,
@@ -41,35 +42,36 @@ pub fn holds(alloc: Global, row: &Value) -> bool {
 }
 
 /// What the maker makes, of an operator, or of a name and arguments as they are written, where it takes these.
-fn made(alloc: Global, row: &Value, maker: (&str, Option<&str>, Option<&str>)) -> Reading {
+fn made(memory: &Memory, row: &Value, maker: (&str, Option<&str>, Option<&str>)) -> Reading {
+    let alloc = memory.alloc;
     match maker {
-        ("query", None, None) => shown_beside(alloc, row, 0, query(alloc)),
+        ("query", None, None) => shown_beside(memory, row, 0, query(alloc)),
         ("slice", None, None) => {
-            shown_beside(alloc, row, 0, Ok(slice_from((None, Some(2), Some(3)))))
+            shown_beside(memory, row, 0, Ok(slice_from((None, Some(2), Some(3)))))
         }
         ("group", None, None) => {
             let negated = FilterAtom::filter(alloc, Filter::Or(Vec::new(alloc)), true);
-            shown_beside(alloc, row, 0, negated)
+            shown_beside(memory, row, 0, negated)
         }
         ("test", None, None) => {
             let test = FilterAtom::test(alloc, Test::RelQuery(Vec::new(alloc)), false);
-            shown_beside(alloc, row, 0, test)
+            shown_beside(memory, row, 0, test)
         }
         ("atom_test", None, None) => {
-            shown_beside(alloc, row, 0, atom_test(alloc, test_rel(Vec::new(alloc))))
+            shown_beside(memory, row, 0, atom_test(alloc, test_rel(Vec::new(alloc))))
         }
-        ("cmp", Some(operator), None) => shown_beside(alloc, row, 0, compared(alloc, operator)),
-        ("atom", Some(operator), None) => shown_beside(alloc, row, 0, atom(alloc, operator)),
+        ("cmp", Some(operator), None) => shown_beside(memory, row, 0, compared(alloc, operator)),
+        ("atom", Some(operator), None) => shown_beside(memory, row, 0, atom(alloc, operator)),
         ("comparison", Some(operator), None) => {
-            shown_beside(alloc, row, 0, comparison(alloc, operator))
+            shown_beside(memory, row, 0, comparison(alloc, operator))
         }
         // A pair has no `Display`.
         ("sides", Some(operator), None) if row.get("shown").is_none() => {
-            sides(alloc, row, operator)
+            sides(memory, row, operator)
         }
-        ("call", Some(name), Some(text)) => match arguments(alloc, text) {
+        ("call", Some(name), Some(text)) => match arguments(memory, text) {
             Some(arguments) => shown_beside(
-                alloc,
+                memory,
                 row,
                 0,
                 TestFunction::try_new(alloc, name, arguments),
@@ -107,17 +109,17 @@ fn atom(alloc: Global, operator: &str) -> Parsed<FilterAtom> {
 }
 
 /// Both sides of that comparison.
-fn sides(alloc: Global, row: &Value, operator: &str) -> Reading {
-    match comparison(alloc, operator).ok() {
-        Some(comparison) => beside(alloc, row, 0, Ok(comparison.vals())),
+fn sides(memory: &Memory, row: &Value, operator: &str) -> Reading {
+    match memory.ok(comparison(memory.alloc, operator)) {
+        Some(comparison) => beside(memory, row, 0, Ok(comparison.vals())),
         None => Reading::Other,
     }
 }
 
 /// The arguments that the text spells.
-fn arguments(alloc: Global, text: &str) -> Option<Vec<FnArg>> {
-    let call = format!(in alloc; "f({text})").ok()?;
-    match function_expr(alloc, &mut Cursor::new(call.as_str())).ok()? {
+fn arguments(memory: &Memory, text: &str) -> Option<Vec<FnArg>> {
+    let call = memory.ok(format!(in memory.alloc; "f({text})"))?;
+    match memory.ok(function_expr(memory.alloc, &mut Cursor::new(call.as_str())))? {
         TestFunction::Custom(_, arguments) => Some(arguments),
         other => {
             drop(other);
@@ -127,8 +129,8 @@ fn arguments(alloc: Global, text: &str) -> Option<Vec<FnArg>> {
 }
 
 /// What the argument of this text is, by its own calls and those of the test that it holds.
-fn kind(alloc: Global, text: &str) -> Option<&'static str> {
-    let arguments = arguments(alloc, text)?;
+fn kind(memory: &Memory, text: &str) -> Option<&'static str> {
+    let arguments = arguments(memory, text)?;
     match arguments.first() {
         Some(argument) => kind_of(argument),
         None => None,

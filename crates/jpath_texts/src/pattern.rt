@@ -1,8 +1,8 @@
 //! Rows on patterns: `found`, `pattern`, `finder`, `found_again`.
+use jpath_row::Memory;
 use jpath_row::members::list;
 use jsonpath_base::{Pattern, found, found_again};
 use serde_json::Value;
-use std::alloc::Global;
 
 /// A text, a pattern, and whether the pattern has to match the whole text.
 #[derive(Clone, Copy)]
@@ -24,7 +24,7 @@ fn search_of(arguments: &[Value]) -> Option<Search<'_>> {
 }
 
 /// Whether `found` answers so.
-pub fn is_found(alloc: Global, arguments: &[Value], answer: &Value) -> bool {
+pub fn is_found(memory: &Memory, arguments: &[Value], answer: &Value) -> bool {
     match search_of(arguments) {
         Some(
             Search {
@@ -32,7 +32,7 @@ pub fn is_found(alloc: Global, arguments: &[Value], answer: &Value) -> bool {
                 pattern,
                 whole,
             },
-        ) => is_truth(answer, found(alloc, text, pattern, whole).ok()),
+        ) => is_truth(answer, memory.ok(found(memory.alloc, text, pattern, whole))),
         None => false,
     }
 }
@@ -43,22 +43,22 @@ fn is_truth(answer: &Value, truth: Option<bool>) -> bool {
 }
 
 /// Whether a `Pattern` that was read before answers so, and tells what it was read from.
-pub fn is_found_by_pattern(alloc: Global, arguments: &[Value], answer: &Value) -> bool {
+pub fn is_found_by_pattern(memory: &Memory, arguments: &[Value], answer: &Value) -> bool {
     let Some(search) = search_of(arguments) else {
         return false;
     };
-    let Some(read) = Pattern::new(alloc, search.pattern, search.whole).ok() else {
+    let Some(read) = memory.ok(Pattern::new(memory.alloc, search.pattern, search.whole)) else {
         return false;
     };
     read.source() == search.pattern
         && read.is_whole() == search.whole
         && read.is_of(search.pattern, search.whole)
         && !read.is_of(search.pattern, !search.whole)
-        && is_truth(answer, read.is_found(alloc, search.text).ok())
+        && is_truth(answer, memory.ok(read.is_found(memory.alloc, search.text)))
 }
 
 /// Whether one `Finder`, asked of each text, answers so.
-pub fn are_found(alloc: Global, arguments: &[Value], answer: &Value) -> bool {
+pub fn are_found(memory: &Memory, arguments: &[Value], answer: &Value) -> bool {
     match (arguments, list(answer)) {
         (
             [
@@ -68,8 +68,8 @@ pub fn are_found(alloc: Global, arguments: &[Value], answer: &Value) -> bool {
             ],
             Some(answers),
         ) => {
-            match Pattern::new(alloc, pattern.as_str(), *whole).ok() {
-                Some(read) => finds(alloc, &read, texts.as_slice(), answers),
+            match memory.ok(Pattern::new(memory.alloc, pattern.as_str(), *whole)) {
+                Some(read) => finds(memory, &read, texts.as_slice(), answers),
                 None => false,
             }
         }
@@ -77,8 +77,8 @@ pub fn are_found(alloc: Global, arguments: &[Value], answer: &Value) -> bool {
     }
 }
 
-fn finds(alloc: Global, read: &Pattern, texts: &[Value], answers: &[Value]) -> bool {
-    let Some(mut finder) = read.finder(alloc).ok() else {
+fn finds(memory: &Memory, read: &Pattern, texts: &[Value], answers: &[Value]) -> bool {
+    let Some(mut finder) = memory.ok(read.finder(memory.alloc)) else {
         return false;
     };
     for (text, answer) in texts.iter().zip(answers) {
@@ -94,13 +94,13 @@ fn finds(alloc: Global, read: &Pattern, texts: &[Value], answers: &[Value]) -> b
 }
 
 /// Whether one kept pattern, asked again and again, answers so.
-pub fn are_found_again(alloc: Global, arguments: &[Value], answer: &Value) -> bool {
+pub fn are_found_again(memory: &Memory, arguments: &[Value], answer: &Value) -> bool {
     let Some(answers) = list(answer) else {
         return false;
     };
     let mut kept = None;
     for (search, answer) in arguments.iter().zip(answers) {
-        if !is_found_again(alloc, &mut kept, search, answer) {
+        if !is_found_again(memory, &mut kept, search, answer) {
             return false;
         }
     }
@@ -108,7 +108,7 @@ pub fn are_found_again(alloc: Global, arguments: &[Value], answer: &Value) -> bo
 }
 
 fn is_found_again(
-    alloc: Global,
+    memory: &Memory,
     kept: &mut Option<Pattern>,
     search: &Value,
     answer: &Value,
@@ -123,7 +123,10 @@ fn is_found_again(
                 pattern,
                 whole,
             },
-        ) => is_truth(answer, found_again(alloc, kept, text, pattern, whole).ok()),
+        ) => is_truth(
+            answer,
+            memory.ok(found_again(memory.alloc, kept, text, pattern, whole)),
+        ),
         None => false,
     }
 }

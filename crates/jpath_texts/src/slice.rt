@@ -1,8 +1,8 @@
 //! Rows on slices: `picked`, `slice_places`.
+use jpath_row::Memory;
 use jpath_row::members::{list, size};
 use jsonpath_base::{picked, slice_places};
 use serde_json::Value;
-use std::alloc::Global;
 
 /// A slice of a list of that length.
 #[derive(Clone, Copy)]
@@ -34,11 +34,17 @@ fn part(value: &Value) -> Option<Option<i64>> {
 }
 
 /// Whether `picked` answers these places.
-pub fn are_picked(alloc: Global, arguments: &[Value], answer: &Value) -> bool {
+pub fn are_picked(memory: &Memory, arguments: &[Value], answer: &Value) -> bool {
     let (Some(slice), Some(wanted)) = (slice_of(arguments), list(answer)) else {
         return false;
     };
-    let Some(places) = picked(alloc, slice.start, slice.end, slice.step, slice.length).ok() else {
+    let Some(places) = memory.ok(picked(
+        memory.alloc,
+        slice.start,
+        slice.end,
+        slice.step,
+        slice.length,
+    )) else {
         return false;
     };
     for (place, wanted) in places.iter().zip(wanted) {

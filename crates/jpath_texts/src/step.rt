@@ -1,22 +1,22 @@
 //! Rows on the steps of paths: `add_name`, `push_name`, `add_index`, `push_index`.
+use jpath_row::Memory;
 use jpath_row::members::size;
 use jsonpath_base::{add_index, add_name, push_index, push_name};
 use serde_json::Value;
-use std::alloc::Global;
 
 /// Whether the call of that name makes this path, of a path and the name or the index of a step behind it.
-pub fn answers(alloc: Global, name: &str, arguments: &[Value], answer: &Value) -> bool {
+pub fn answers(memory: &Memory, name: &str, arguments: &[Value], answer: &Value) -> bool {
     let [Value::String(path), step] = arguments else {
         return false;
     };
-    let Some(mut path) = path.clone().ok() else {
+    let Some(mut path) = memory.ok(path.clone()) else {
         return false;
     };
     let added = match (name, step.as_str(), size(step)) {
-        ("add_name", Some(name), _) => add_name(alloc, &mut path, name).ok(),
-        ("push_name", Some(name), _) => push_name(&mut path, name).ok(),
-        ("add_index", _, Some(index)) => add_index(alloc, &mut path, index).ok(),
-        ("push_index", _, Some(index)) => push_index(&mut path, index).ok(),
+        ("add_name", Some(name), _) => memory.ok(add_name(memory.alloc, &mut path, name)),
+        ("push_name", Some(name), _) => memory.ok(push_name(&mut path, name)),
+        ("add_index", _, Some(index)) => memory.ok(add_index(memory.alloc, &mut path, index)),
+        ("push_index", _, Some(index)) => memory.ok(push_index(&mut path, index)),
         _ => None,
     };
     added.is_some() && answer.as_str() == Some(path.as_str())

@@ -1,7 +1,7 @@
 //! Rows on query trees: `same_as` and `differs_from`. One of the two trees is a copy, so the rows ask of copies too.
+use jpath_row::Memory;
 use jsonpath_parser::model::JpQuery;
 use jsonpath_parser::{let_go, parse_json_path};
-use std::alloc::Global;
 
 /// How the trees of two texts compare.
 #[derive(Clone, Copy)]
@@ -13,10 +13,10 @@ pub enum Comparison {
 }
 
 /// Compares a copy of the tree that a text spells with the tree that another spells.
-pub fn compare(alloc: Global, text: &str, other: &str) -> Comparison {
-    match copied(alloc, text) {
+pub fn compare(memory: &Memory, text: &str, other: &str) -> Comparison {
+    match copied(memory, text) {
         Some(tree) => {
-            let found = compare_with(alloc, &tree, other);
+            let found = compare_with(memory, &tree, other);
             let_go(tree);
             found
         }
@@ -25,15 +25,15 @@ pub fn compare(alloc: Global, text: &str, other: &str) -> Comparison {
 }
 
 /// A copy of the tree that the text spells.
-fn copied(alloc: Global, text: &str) -> Option<JpQuery> {
-    let tree = parse_json_path(alloc, text).ok()?;
-    let copy = tree.try_clone(alloc).ok();
+fn copied(memory: &Memory, text: &str) -> Option<JpQuery> {
+    let tree = memory.ok(parse_json_path(memory.alloc, text))?;
+    let copy = memory.ok(tree.try_clone(memory.alloc));
     let_go(tree);
     copy
 }
 
-fn compare_with(alloc: Global, tree: &JpQuery, other: &str) -> Comparison {
-    match parse_json_path(alloc, other).ok() {
+fn compare_with(memory: &Memory, tree: &JpQuery, other: &str) -> Comparison {
+    match memory.ok(parse_json_path(memory.alloc, other)) {
         Some(other) => {
             let same = *tree == other;
             let_go(other);
