@@ -5,6 +5,7 @@ ghost use Rattle.jsonpath_node.specs.Answer.{shown, paths_of};
 
 use jpath_doc::document::are_equal;
 use jpath_doc::processed::is_by_process;
+use jpath_row::Memory;
 use jsonpath_parser::{let_go, parse_json_path_within};
 use jsonpath_rust::JsonPath;
 use jsonpath_rust::query::queryable::Queryable;
@@ -18,10 +19,11 @@ use std::slice;
 
 /// Whether the answer is the same nodes, in order.
 fn are_same<T: Queryable>(
+    memory: &Memory,
     nodes: &[QueryRef<'_, T>],
     answered: Queried<Vec<QueryRef<'_, T>>>,
 ) -> bool {
-    let Some(others) = answered.ok() else {
+    let Some(others) = memory.ok(answered) else {
         return false;
     };
     for (node, other) in nodes.iter().zip(&others) {
@@ -33,8 +35,12 @@ fn are_same<T: Queryable>(
 }
 
 /// Whether the answer is the values of the nodes, in order.
-fn are_values<T: Queryable>(nodes: &[QueryRef<'_, T>], answered: Queried<Vec<&T>>) -> bool {
-    let Some(values) = answered.ok() else {
+fn are_values<T: Queryable>(
+    memory: &Memory,
+    nodes: &[QueryRef<'_, T>],
+    answered: Queried<Vec<&T>>,
+) -> bool {
+    let Some(values) = memory.ok(answered) else {
         return false;
     };
     for (node, value) in nodes.iter().zip(&values) {
@@ -46,8 +52,12 @@ fn are_values<T: Queryable>(nodes: &[QueryRef<'_, T>], answered: Queried<Vec<&T>
 }
 
 /// Whether the answer is the paths of the nodes, in order.
-fn are_paths<T: Queryable>(nodes: &[QueryRef<'_, T>], answered: Queried<Vec<QueryPath>>) -> bool {
-    let Some(paths) = answered.ok() else {
+fn are_paths<T: Queryable>(
+    memory: &Memory,
+    nodes: &[QueryRef<'_, T>],
+    answered: Queried<Vec<QueryPath>>,
+) -> bool {
+    let Some(paths) = memory.ok(answered) else {
         return false;
     };
     for (node, path) in nodes.iter().zip(&paths) {
@@ -60,21 +70,21 @@ fn are_paths<T: Queryable>(nodes: &[QueryRef<'_, T>], answered: Queried<Vec<Quer
 
 /// Whether the calls that take a text, at the default depth, answer these nodes.
 pub fn is_by_text<T: Queryable>(
-    alloc: Global,
+    memory: &Memory,
     query: &str,
     document: &T,
     nodes: &[QueryRef<'_, T>],
 ) -> bool
     requires { IsTrue (T.is_whole document.now) }
 {
-    are_same(nodes, js_path(alloc, query, document))
-        && are_values(nodes, js_path_vals(alloc, query, document))
-        && are_paths(nodes, js_path_path(alloc, query, document))
+    are_same(memory, nodes, js_path(memory.alloc, query, document))
+        && are_values(memory, nodes, js_path_vals(memory.alloc, query, document))
+        && are_paths(memory, nodes, js_path_path(memory.alloc, query, document))
 }
 
 /// Whether the calls that take a tree answer these nodes.
 pub fn is_by_tree<T: Queryable>(
-    alloc: Global,
+    memory: &Memory,
     query: &str,
     depth: usize,
     document: &T,
@@ -82,12 +92,19 @@ pub fn is_by_tree<T: Queryable>(
 ) -> bool
     requires { IsTrue (T.is_whole document.now) }
 {
-    let Some(tree) = parse_json_path_within(alloc, query, depth).ok() else {
+    let Some(tree) = memory.ok(parse_json_path_within(memory.alloc, query, depth)) else {
         return false;
     };
-    let agrees = are_same(nodes, js_path_process(alloc, &tree, document))
-        && are_values(nodes, js_path_process_vals(alloc, &tree, document))
-        && (makes_too_many(query) || is_by_process(alloc, &tree, document, nodes));
+    let agrees = are_same(
+        memory,
+        nodes,
+        js_path_process(memory.alloc, &tree, document),
+    ) && are_values(
+        memory,
+        nodes,
+        js_path_process_vals(memory.alloc, &tree, document),
+    ) && (makes_too_many(query)
+        || memory.holds(is_by_process(memory.alloc, &tree, document, nodes)));
     let_go(tree);
     agrees
 }
@@ -134,37 +151,38 @@ fn methods_answers<'d, T: JsonPath>(
 }
 
 /// Whether the methods of a document, at the default depth, answer the same nodes as `js_path`.
-pub fn is_by_methods(alloc: Global, query: &str, document: &Value) -> bool
+pub fn is_by_methods(memory: &Memory, query: &str, document: &Value) -> bool
     requires { IsTrue (value_is_whole document.now) }
 {
-    let Some(nodes) = js_path(alloc, query, document).ok() else {
+    let Some(nodes) = memory.ok(js_path(memory.alloc, query, document)) else {
         return false;
     };
-    match methods_answers(alloc, query, document) {
-        Ok(
+    match memory.ok(methods_answers(memory.alloc, query, document)) {
+        Some(
             Answers {
                 nodes: others,
                 paths,
                 values,
             },
         ) => {
-            let same = are_same(&nodes, Ok(others));
-            let with_paths = are_paths(&nodes, Ok(paths));
-            let with_values = are_values(&nodes, Ok(values));
+            let same = are_same(memory, &nodes, Ok(others));
+            let with_paths = are_paths(memory, &nodes, Ok(paths));
+            let with_values = are_values(memory, &nodes, Ok(values));
             same && with_paths && with_values
         }
-        Err(_) => false,
+        None => false,
     }
 }
 
 /// Whether the path of each of these nodes of the document, asked as a query, gives that node alone.
-pub fn lead_back<T: Queryable>(alloc: Global, document: &T, nodes: &[QueryRef<'_, T>]) -> bool
+pub fn lead_back<T: Queryable>(memory: &Memory, document: &T, nodes: &[QueryRef<'_, T>]) -> bool
     requires { IsTrue (T.is_whole document.now) }
 {
     for node in nodes {
         if !are_same(
+            memory,
             slice::from_ref(node),
-            js_path(alloc, node.path.as_str(), document),
+            js_path(memory.alloc, node.path.as_str(), document),
         ) {
             return false;
         }

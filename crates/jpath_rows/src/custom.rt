@@ -4,13 +4,13 @@ ghost use Rattle.jsonpath_node.specs.Args.{arg_value};
 
 use jpath_doc::Doc;
 use jpath_doc::document::{Document, is_value};
+use jpath_row::Memory;
 use jpath_row::members::{Types, has_only, list_at, string_at, types_of};
 use jsonpath_rust::query::queryable::{Arg, Queryable};
 use serde_json::Value;
-use std::alloc::Global;
 
 /// Whether a row on a call of a document type, by its name, holds.
-pub fn holds(alloc: Global, row: &Value) -> bool {
+pub fn holds(memory: &Memory, row: &Value) -> bool {
     match (
         string_at(row, "call"),
         list_at(row, "arguments"),
@@ -19,71 +19,77 @@ pub fn holds(alloc: Global, row: &Value) -> bool {
     ) {
         (Some(name), Some(arguments), Some(answer), Some(types)) => {
             has_only(row, &["call", "arguments", "answer", "of"])
-                && answers(alloc, types, name, arguments, answer)
+                && answers(memory, types, name, arguments, answer)
         }
         _ => false,
     }
 }
 
 /// Whether the call answers so, of each of these types.
-fn answers(alloc: Global, types: Types, name: &str, arguments: &[Value], answer: &Value) -> bool {
+fn answers(memory: &Memory, types: Types, name: &str, arguments: &[Value], answer: &Value) -> bool {
     match types {
-        Types::Value => answers_of::<Value>(alloc, name, arguments, answer),
-        Types::Doc => answers_of::<Doc>(alloc, name, arguments, answer),
+        Types::Value => answers_of::<Value>(memory, name, arguments, answer),
+        Types::Doc => answers_of::<Doc>(memory, name, arguments, answer),
         Types::Both => {
-            answers_of::<Value>(alloc, name, arguments, answer)
-                && answers_of::<Doc>(alloc, name, arguments, answer)
+            answers_of::<Value>(memory, name, arguments, answer)
+                && answers_of::<Doc>(memory, name, arguments, answer)
         }
     }
 }
 
-fn answers_of<T: Document>(alloc: Global, name: &str, arguments: &[Value], answer: &Value) -> bool {
+fn answers_of<T: Document>(
+    memory: &Memory,
+    name: &str,
+    arguments: &[Value],
+    answer: &Value,
+) -> bool {
     match (name, arguments) {
-        ("equal", [left, right]) => are_equal_so::<T>(alloc, left, right, answer),
+        ("equal", [left, right]) => are_equal_so::<T>(memory, left, right, answer),
         ("extension_custom", [Value::String(name), values @ ..]) => {
-            answers_custom::<T>(alloc, name.as_str(), values, answer)
+            answers_custom::<T>(memory, name.as_str(), values, answer)
         }
         _ => false,
     }
 }
 
-fn are_equal_so<T: Document>(alloc: Global, left: &Value, right: &Value, answer: &Value) -> bool {
+fn are_equal_so<T: Document>(memory: &Memory, left: &Value, right: &Value, answer: &Value) -> bool {
     if !left.is_whole() || !right.is_whole() {
         return false;
     }
-    let Some(left) = T::made(alloc, left) else {
+    let Some(left) = memory.ok(T::made(memory.alloc, left)) else {
         return false;
     };
-    let Some(right) = T::made(alloc, right) else {
+    let Some(right) = memory.ok(T::made(memory.alloc, right)) else {
         return false;
     };
     left.is_whole() && right.is_whole() && answer.as_bool() == Some(left.equal(&right))
 }
 
 fn answers_custom<T: Document>(
-    alloc: Global,
+    memory: &Memory,
     name: &str,
     values: &[Value],
     answer: &Value,
 ) -> bool {
-    let Some(arguments) = arguments_of::<T>(alloc, values) else {
+    let Some(arguments) = arguments_of::<T>(memory, values) else {
         return false;
     };
     are_whole(&arguments)
-        && match T::extension_custom(alloc, name, &arguments).ok() {
-            Some(found) => is_value(alloc, &found, answer),
+        && match memory.ok(T::extension_custom(memory.alloc, name, &arguments)) {
+            Some(found) => memory.holds(is_value(memory.alloc, &found, answer)),
             None => false,
         }
 }
 
 /// The values, as arguments of their own; None where one is not whole, or memory ran out.
-fn arguments_of<T: Document>(alloc: Global, values: &[Value]) -> Option<Vec<Arg<'_, T>>> {
-    let mut arguments = Vec::new(alloc);
+fn arguments_of<'v, T: Document>(memory: &Memory, values: &'v [Value]) -> Option<Vec<Arg<'v, T>>> {
+    let mut arguments = Vec::new(memory.alloc);
     for value in values {
         if !value.is_whole() {
             return None;
         }
-        arguments.push(Arg::Owned(T::made(alloc, value)?)).ok()?;
+        let value = memory.ok(T::made(memory.alloc, value))?;
+        memory.ok(arguments.push(Arg::Owned(value)))?;
     }
     Some(arguments)
 }

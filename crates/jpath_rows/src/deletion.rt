@@ -3,7 +3,8 @@ ghost use Rattle.std.specs.Prelude.{IsTrue};
 ghost use Rattle.jsonpath_base.specs.Values.{value_is_whole};
 
 use jpath_doc::Doc;
-use jpath_doc::document::{Document, are_equal, is_value};
+use jpath_doc::document::{Document, are_equal};
+use jpath_row::Memory;
 use jpath_row::members::{Depth, Types, depth_of, has_only, size, string_at, types_of};
 use jpath_row::refusal::is_refused;
 use jsonpath_rust::query::queryable::{Deletable, Queryable};
@@ -12,7 +13,7 @@ use serde_json::Value;
 use std::alloc::Global;
 
 /// Whether a row on a deletion holds. The document has to be whole.
-pub fn holds(alloc: Global, row: &Value) -> bool {
+pub fn holds(memory: &Memory, row: &Value) -> bool {
     match (
         string_at(row, "delete"),
         row.get("document"),
@@ -20,18 +21,18 @@ pub fn holds(alloc: Global, row: &Value) -> bool {
     ) {
         (Some(query), Some(document), None) => {
             has_only(row, &["delete", "document", "depth", "count", "left"])
-                && leaves(alloc, row, query, document)
+                && leaves(memory, row, query, document)
         }
         (Some(query), Some(document), Some(kind)) => {
             has_only(row, &["delete", "document", "depth", "refused", "of"])
-                && refuses(alloc, row, query, document, kind)
+                && refuses(memory, row, query, document, kind)
         }
         _ => false,
     }
 }
 
 /// Whether deletion answers the row's count, and leaves the row's document.
-fn leaves(alloc: Global, row: &Value, query: &str, document: &Value) -> bool {
+fn leaves(memory: &Memory, row: &Value, query: &str, document: &Value) -> bool {
     let (Some(depth), Some(count), Some(wanted)) = (
         depth_of(row),
         row.get("count"),
@@ -39,22 +40,29 @@ fn leaves(alloc: Global, row: &Value, query: &str, document: &Value) -> bool {
     ) else {
         return false;
     };
-    let Some(mut left) = document.clone().ok() else {
+    let Some(mut left) = memory.ok(document.clone()) else {
         return false;
     };
-    let deleted = deleted(alloc, &mut left, query, depth);
+    let deleted = deleted(memory, document, &mut left, query, depth);
     let held = deleted.is_some() && deleted == size(count) && are_equal(&left, wanted);
     drop(left);
     held
 }
 
-/// What the call of that depth answers, where it answers.
-fn deleted(alloc: Global, document: &mut Value, query: &str, depth: Depth) -> Option<usize> {
-    if document.is_whole() {
-        answered(alloc, document, query, depth).ok()
-    } else {
-        None
+/// What the call of that depth answers, where it answers, asked of a copy of the document.
+fn deleted(
+    memory: &Memory,
+    document: &Value,
+    copy: &mut Value,
+    query: &str,
+    depth: Depth,
+) -> Option<usize> {
+    if !copy.is_whole() {
+        return None;
     }
+    let count = memory.ok(answered(memory.alloc, copy, query, depth));
+    memory.note_kept(are_equal(copy, document));
+    count
 }
 
 fn answered(alloc: Global, document: &mut Value, query: &str, depth: Depth) -> Queried<usize>
@@ -67,40 +75,62 @@ fn answered(alloc: Global, document: &mut Value, query: &str, depth: Depth) -> Q
 }
 
 /// Whether deletion is refused so, for this type of documents, and leaves the document as it was.
-fn refuses(alloc: Global, row: &Value, query: &str, document: &Value, kind: &str) -> bool {
+fn refuses(memory: &Memory, row: &Value, query: &str, document: &Value, kind: &str) -> bool {
     match (types_of(row), depth_of(row)) {
-        (Some(Types::Doc), Some(Depth::Default)) => doc_refuses(alloc, query, document, kind),
-        (Some(_), Some(depth)) => value_refuses(alloc, query, depth, document, kind),
+        (Some(Types::Doc), Some(Depth::Default)) => doc_refuses(memory, query, document, kind),
+        (Some(_), Some(depth)) => value_refuses(memory, query, depth, document, kind),
         _ => false,
     }
 }
 
-fn value_refuses(alloc: Global, query: &str, depth: Depth, document: &Value, kind: &str) -> bool {
-    let Some(mut kept) = document.clone().ok() else {
+fn value_refuses(memory: &Memory, query: &str, depth: Depth, document: &Value, kind: &str) -> bool {
+    let Some(mut kept) = memory.ok(document.clone()) else {
         return false;
     };
-    let held = kept.is_whole()
-        && is_refused(answered(alloc, &mut kept, query, depth), kind, query.len())
-        && are_equal(&kept, document);
+    let refused = kept.is_whole()
+        && is_refused(
+            memory,
+            answered(memory.alloc, &mut kept, query, depth),
+            kind,
+            query.len(),
+        );
+    let is_kept = are_equal(&kept, document);
+    memory.note_kept(is_kept);
     drop(kept);
+    refused && is_kept
+}
+
+fn doc_refuses(memory: &Memory, query: &str, document: &Value, kind: &str) -> bool {
+    let Some(document) = memory.ok(Doc::made(memory.alloc, document)) else {
+        return false;
+    };
+    let held = match memory.ok(document.try_clone(memory.alloc)) {
+        Some(copy) => copy_refuses(memory, query, &document, copy, kind),
+        None => false,
+    };
+    drop(document);
     held
 }
 
-fn doc_refuses(alloc: Global, query: &str, document: &Value, kind: &str) -> bool {
-    let Some(mut kept) = Doc::made(alloc, document) else {
-        return false;
-    };
-    let held = kept.is_whole()
-        && is_refused(kept.delete_by_path(alloc, query), kind, query.len())
-        && is_value(alloc, &kept, document);
-    drop(kept);
-    held
+/// Whether deletion from the copy is refused so, and leaves it as the document is.
+fn copy_refuses(memory: &Memory, query: &str, document: &Doc, mut copy: Doc, kind: &str) -> bool {
+    let refused = copy.is_whole()
+        && is_refused(
+            memory,
+            copy.delete_by_path(memory.alloc, query),
+            kind,
+            query.len(),
+        );
+    let is_kept = are_equal(&copy, document);
+    memory.note_kept(is_kept);
+    drop(copy);
+    refused && is_kept
 }
 
 /// Whether deletion answers and leaves the same as removing by the paths of the nodes that the query selects, one after the
 /// other, the last place in the document first.
 pub fn is_one_by_one(
-    alloc: Global,
+    memory: &Memory,
     query: &str,
     depth: usize,
     document: &Value,
@@ -108,19 +138,19 @@ pub fn is_one_by_one(
 ) -> bool
     requires { IsTrue (value_is_whole document.now) }
 {
-    let Some(places) = js_path_path(alloc, "$..*", document).ok() else {
+    let Some(places) = memory.ok(js_path_path(memory.alloc, "$..*", document)) else {
         return false;
     };
-    let Some(mut left) = document.clone().ok() else {
+    let Some(mut left) = memory.ok(document.clone()) else {
         return false;
     };
-    let count = removed_by_paths(alloc, &mut left, &places, nodes);
-    let Some(mut at_once) = document.clone().ok() else {
+    let count = removed_by_paths(memory, &mut left, &places, nodes);
+    let Some(mut at_once) = memory.ok(document.clone()) else {
         drop(left);
         return false;
     };
     let held = count.is_some()
-        && deleted(alloc, &mut at_once, query, Depth::Limit(depth)) == count
+        && deleted(memory, document, &mut at_once, query, Depth::Limit(depth)) == count
         && are_equal(&at_once, &left);
     drop(at_once);
     drop(left);
@@ -129,21 +159,21 @@ pub fn is_one_by_one(
 
 /// How many of these places are paths of nodes, once each of those is removed, the last first and the root at the end.
 fn removed_by_paths(
-    alloc: Global,
+    memory: &Memory,
     left: &mut Value,
     places: &[QueryPath],
     nodes: &[QueryRef<'_, Value>],
 ) -> Option<usize> {
     let mut count = 0usize;
     for place in places.iter().rev() {
-        count = count.saturating_add(removed_at(alloc, left, place.as_str(), nodes)?);
+        count = count.saturating_add(removed_at(memory, left, place.as_str(), nodes)?);
     }
-    Some(count.saturating_add(removed_at(alloc, left, "$", nodes)?))
+    Some(count.saturating_add(removed_at(memory, left, "$", nodes)?))
 }
 
 /// 1 where the path is that of a node, which is removed, else 0; None where it was not removed.
 fn removed_at(
-    alloc: Global,
+    memory: &Memory,
     left: &mut Value,
     path: &str,
     nodes: &[QueryRef<'_, Value>],
@@ -151,7 +181,10 @@ fn removed_at(
     if !has_path(nodes, path) {
         return Some(0);
     }
-    match deleted(alloc, left, path, Depth::Default) {
+    let before = memory.ok(left.clone())?;
+    let count = deleted(memory, &before, left, path, Depth::Default);
+    drop(before);
+    match count {
         Some(1) => Some(1),
         _ => None,
     }

@@ -13,8 +13,8 @@ mod results;
 mod row;
 mod suite;
 
-use jpath_row::ask_rows;
 use jpath_row::members::{list_at, string_at};
+use jpath_row::{Memory, ask_rows};
 use serde_json::Value;
 use std::io;
 use suite::Outcome;
@@ -40,7 +40,7 @@ fn ask_tests(rt: &HostRuntime, tests: &[Value]) -> io::Result<()> {
     let mut held = 0u64;
     let mut skipped = 0u64;
     for test in tests {
-        match suite::ask(rt.alloc(), test) {
+        match suite::ask(&Memory::new(rt.alloc()), test) {
             Outcome::Holds => held = held.saturating_add(1),
             Outcome::Skipped => skipped = skipped.saturating_add(1),
             Outcome::Fails => {

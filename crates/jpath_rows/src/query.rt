@@ -8,12 +8,12 @@ use crate::nodes::{Part, are_wanted};
 use crate::reference::refer_back;
 use jpath_doc::Doc;
 use jpath_doc::document::Document;
+use jpath_row::Memory;
 use jpath_row::members::{Depth, Types, depth_of, has_only, list, types_of};
 use jpath_row::text::{text_at, text_of};
 use jsonpath_rust::query::js_path_within;
 use jsonpath_rust::query::queryable::Queryable;
 use serde_json::Value;
-use std::alloc::Global;
 
 /// What a row asks, and what it wants of the nodes.
 #[derive(Clone, Copy)]
@@ -26,15 +26,15 @@ struct Question<'r> {
 }
 
 /// Whether a row on a query and a document holds.
-pub fn holds(alloc: Global, row: &Value) -> bool {
-    let Some(query) = text_at(alloc, row, "query") else {
+pub fn holds(memory: &Memory, row: &Value) -> bool {
+    let Some(query) = text_at(memory, row, "query") else {
         return false;
     };
-    let Some(document) = document_of(alloc, row) else {
+    let Some(document) = document_of(memory, row) else {
         return false;
     };
     let held = match question_of(row, query.as_str()) {
-        Some(question) => holds_of(alloc, &document, question),
+        Some(question) => holds_of(memory, &document, question),
         None => false,
     };
     drop(document);
@@ -42,12 +42,12 @@ pub fn holds(alloc: Global, row: &Value) -> bool {
 }
 
 /// The row's document, which stands there as JSON or as a text of JSON.
-fn document_of(alloc: Global, row: &Value) -> Option<Value> {
+fn document_of(memory: &Memory, row: &Value) -> Option<Value> {
     match (row.get("document"), row.get("json")) {
-        (Some(document), None) => document.clone().ok(),
+        (Some(document), None) => memory.ok(document.clone()),
         (None, Some(json)) => {
-            let json = text_of(alloc, json)?;
-            Value::from_str(alloc, json.as_str()).ok()
+            let json = text_of(memory, json)?;
+            memory.ok(Value::from_str(memory.alloc, json.as_str()))
         }
         _ => None,
     }
@@ -74,43 +74,44 @@ fn question_of<'r>(row: &'r Value, query: &'r str) -> Option<Question<'r>> {
     })
 }
 
-fn holds_of(alloc: Global, document: &Value, question: Question<'_>) -> bool {
+fn holds_of(memory: &Memory, document: &Value, question: Question<'_>) -> bool {
     match question.types {
-        Types::Value => holds_of_value(alloc, document, question),
-        Types::Doc => holds_of_doc(alloc, document, question),
+        Types::Value => holds_of_value(memory, document, question),
+        Types::Doc => holds_of_doc(memory, document, question),
         Types::Both => {
-            holds_of_value(alloc, document, question) && holds_of_doc(alloc, document, question)
+            holds_of_value(memory, document, question) && holds_of_doc(memory, document, question)
         }
     }
 }
 
-fn holds_of_value(alloc: Global, document: &Value, question: Question<'_>) -> bool {
+fn holds_of_value(memory: &Memory, document: &Value, question: Question<'_>) -> bool {
     document.is_whole()
-        && selects(alloc, document, question)
-        && is_read_and_deleted(alloc, document, question)
+        && selects(memory, document, question)
+        && is_read_and_deleted(memory, document, question)
         && match question.depth {
-            Depth::Default => is_by_methods(alloc, question.query, document),
+            Depth::Default => is_by_methods(memory, question.query, document),
             Depth::Limit(_) => true,
         }
 }
 
 /// Whether the paths of the nodes lead back by `reference`, and what is selected is deleted.
-fn is_read_and_deleted(alloc: Global, document: &Value, question: Question<'_>) -> bool
+fn is_read_and_deleted(memory: &Memory, document: &Value, question: Question<'_>) -> bool
     requires { IsTrue (value_is_whole document.now) }
 {
     let depth = question.depth.limit();
-    let Some(nodes) = js_path_within(alloc, question.query, depth, document).ok() else {
+    let Some(nodes) = memory.ok(js_path_within(memory.alloc, question.query, depth, document))
+    else {
         return false;
     };
-    refer_back(alloc, document, &nodes)
-        && is_one_by_one(alloc, question.query, depth, document, &nodes)
+    refer_back(memory, document, &nodes)
+        && is_one_by_one(memory, question.query, depth, document, &nodes)
 }
 
-fn holds_of_doc(alloc: Global, document: &Value, question: Question<'_>) -> bool {
+fn holds_of_doc(memory: &Memory, document: &Value, question: Question<'_>) -> bool {
     document.is_whole()
-        && match Doc::made(alloc, document) {
+        && match memory.ok(Doc::made(memory.alloc, document)) {
             Some(document) => {
-                let held = document.is_whole() && selects(alloc, &document, question);
+                let held = document.is_whole() && selects(memory, &document, question);
                 drop(document);
                 held
             }
@@ -119,7 +120,7 @@ fn holds_of_doc(alloc: Global, document: &Value, question: Question<'_>) -> bool
 }
 
 /// Whether the query selects what is wanted, by each call: also by those that have the default depth, where the row has it.
-fn selects<T: Document>(alloc: Global, document: &T, question: Question<'_>) -> bool
+fn selects<T: Document>(memory: &Memory, document: &T, question: Question<'_>) -> bool
     requires { IsTrue (T.is_whole document.now) }
 {
     let Question {
@@ -129,14 +130,14 @@ fn selects<T: Document>(alloc: Global, document: &T, question: Question<'_>) -> 
         ..
     } = question;
     let depth = question.depth.limit();
-    let Some(nodes) = js_path_within(alloc, query, depth, document).ok() else {
+    let Some(nodes) = memory.ok(js_path_within(memory.alloc, query, depth, document)) else {
         return false;
     };
-    are_wanted(alloc, &nodes, part, wanted)
-        && is_by_tree(alloc, query, depth, document, &nodes)
-        && lead_back(alloc, document, &nodes)
+    are_wanted(memory, &nodes, part, wanted)
+        && is_by_tree(memory, query, depth, document, &nodes)
+        && lead_back(memory, document, &nodes)
         && match question.depth {
-            Depth::Default => is_by_text(alloc, query, document, &nodes),
+            Depth::Default => is_by_text(memory, query, document, &nodes),
             Depth::Limit(_) => true,
         }
 }

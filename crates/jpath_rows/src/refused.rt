@@ -1,45 +1,55 @@
 //! Rows on texts that are refused: `refused`, by what is read and by what is asked of a document.
+use jpath_row::Memory;
 use jpath_row::members::{Depth, depth_of, has_only, string_at};
 use jpath_row::refusal::is_refused;
 use jpath_row::text::text_at;
 use jsonpath_parser::{MAX_NESTING_DEPTH, parse_json_path, parse_json_path_within};
 use jsonpath_rust::query::{js_path, js_path_within};
 use serde_json::Value;
-use std::alloc::Global;
 
 /// Whether the row's text is refused as it tells, at its depth, and where that is the default one also at a depth that is
 /// given.
-pub fn holds(alloc: Global, row: &Value) -> bool {
-    let Some(query) = text_at(alloc, row, "query") else {
+pub fn holds(memory: &Memory, row: &Value) -> bool {
+    let Some(query) = text_at(memory, row, "query") else {
         return false;
     };
     let query = query.as_str();
     has_only(row, &["query", "refused", "depth"])
         && match (string_at(row, "refused"), depth_of(row)) {
             (Some(kind), Some(Depth::Default)) => {
-                is_refused_at(alloc, query, Depth::Default, kind)
-                    && is_refused_at(alloc, query, Depth::Limit(MAX_NESTING_DEPTH), kind)
+                is_refused_at(memory, query, Depth::Default, kind)
+                    && is_refused_at(memory, query, Depth::Limit(MAX_NESTING_DEPTH), kind)
             }
-            (Some(kind), Some(depth)) => is_refused_at(alloc, query, depth, kind),
+            (Some(kind), Some(depth)) => is_refused_at(memory, query, depth, kind),
             _ => false,
         }
 }
 
 /// Whether the text is refused so, by itself and asked of a document.
-fn is_refused_at(alloc: Global, query: &str, depth: Depth, kind: &str) -> bool {
+fn is_refused_at(memory: &Memory, query: &str, depth: Depth, kind: &str) -> bool {
     let length = query.len();
     match depth {
         Depth::Default => {
-            is_refused(parse_json_path(alloc, query), kind, length)
-                && is_refused(js_path(alloc, query, &Value::Null), kind, length)
-        }
-        Depth::Limit(depth) => {
-            is_refused(parse_json_path_within(alloc, query, depth), kind, length)
+            is_refused(memory, parse_json_path(memory.alloc, query), kind, length)
                 && is_refused(
-                    js_path_within(alloc, query, depth, &Value::Null),
+                    memory,
+                    js_path(memory.alloc, query, &Value::Null),
                     kind,
                     length,
                 )
+        }
+        Depth::Limit(depth) => {
+            is_refused(
+                memory,
+                parse_json_path_within(memory.alloc, query, depth),
+                kind,
+                length,
+            ) && is_refused(
+                memory,
+                js_path_within(memory.alloc, query, depth, &Value::Null),
+                kind,
+                length,
+            )
         }
     }
 }

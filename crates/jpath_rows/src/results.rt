@@ -1,11 +1,11 @@
 //! What a test of a compliance suite wants of the nodes.
 use crate::nodes::{Part, are_wanted};
 use jpath_doc::document::Document;
+use jpath_row::Memory;
 use jpath_row::members::{has_only, list, list_at};
 use jsonpath_rust::query::QueryRef;
 use jsonpath_rust::query::queryable::Queryable;
 use serde_json::Value;
-use std::alloc::Global;
 use std::slice;
 
 /// What a test wants of the nodes: any of these results, each with its paths where these are given.
@@ -75,10 +75,14 @@ pub fn are_whole(wanted: Wanted<'_>) -> bool {
 }
 
 /// Whether the nodes are one of the wanted results.
-pub fn are_any<T: Document>(alloc: Global, nodes: &[QueryRef<'_, T>], wanted: Wanted<'_>) -> bool {
+pub fn are_any<T: Document>(
+    memory: &Memory,
+    nodes: &[QueryRef<'_, T>],
+    wanted: Wanted<'_>,
+) -> bool {
     for (at, values) in wanted.results.iter().enumerate() {
-        if is_result(alloc, nodes, Part::Value, values)
-            && have_paths(alloc, nodes, wanted.paths, at)
+        if is_result(memory, nodes, Part::Value, values)
+            && have_paths(memory, nodes, wanted.paths, at)
         {
             return true;
         }
@@ -87,20 +91,20 @@ pub fn are_any<T: Document>(alloc: Global, nodes: &[QueryRef<'_, T>], wanted: Wa
 }
 
 fn is_result<T: Document>(
-    alloc: Global,
+    memory: &Memory,
     nodes: &[QueryRef<'_, T>],
     part: Part,
     wanted: &Value,
 ) -> bool {
     match list(wanted) {
-        Some(wanted) => are_wanted(alloc, nodes, part, wanted),
+        Some(wanted) => are_wanted(memory, nodes, part, wanted),
         None => false,
     }
 }
 
 /// Whether the nodes have the paths of that result, where paths are given.
 fn have_paths<T: Document>(
-    alloc: Global,
+    memory: &Memory,
     nodes: &[QueryRef<'_, T>],
     paths: Option<&[Value]>,
     at: usize,
@@ -109,7 +113,7 @@ fn have_paths<T: Document>(
         return true;
     };
     match paths.get(at) {
-        Some(paths) => is_result(alloc, nodes, Part::Path, paths),
+        Some(paths) => is_result(memory, nodes, Part::Path, paths),
         None => false,
     }
 }

@@ -1,19 +1,19 @@
 //! One row: what it asks is told by its members. One with another member, or without one that it needs, does not hold.
 use crate::{custom, deletion, query, reference, refused};
+use jpath_row::Memory;
 use serde_json::Value;
-use std::alloc::Global;
 
 /// Whether the row holds.
-pub fn holds(alloc: Global, row: &Value) -> bool {
+pub fn holds(memory: &Memory, row: &Value) -> bool {
     if row.get("call").is_some() {
-        custom::holds(alloc, row)
+        custom::holds(memory, row)
     } else if row.get("delete").is_some() {
-        deletion::holds(alloc, row)
+        deletion::holds(memory, row)
     } else if row.get("reference").is_some() || row.get("replace").is_some() {
-        reference::holds(alloc, row)
+        reference::holds(memory, row)
     } else if row.get("nodes").is_some() || row.get("paths").is_some() {
-        query::holds(alloc, row)
+        query::holds(memory, row)
     } else {
-        refused::holds(alloc, row)
+        refused::holds(memory, row)
     }
 }

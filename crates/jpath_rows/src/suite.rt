@@ -4,12 +4,12 @@ ghost use Rattle.std.specs.Prelude.{IsTrue};
 use crate::results::{Order, Wanted, are_any, are_whole, wanted_of};
 use jpath_doc::Doc;
 use jpath_doc::document::Document;
+use jpath_row::Memory;
 use jpath_row::members::{Depth, has_only, string_at};
 use jpath_row::reading::{Reading, read};
 use jsonpath_rust::query::js_path;
 use jsonpath_rust::query::queryable::Queryable;
 use serde_json::Value;
-use std::alloc::Global;
 
 /// What asking a test answers.
 #[derive(Clone, Copy)]
@@ -31,7 +31,7 @@ impl Outcome {
 }
 
 /// Asks a test.
-pub fn ask(alloc: Global, test: &Value) -> Outcome {
+pub fn ask(memory: &Memory, test: &Value) -> Outcome {
     let Some(selector) = string_at(test, "selector") else {
         return Outcome::Fails;
     };
@@ -39,26 +39,26 @@ pub fn ask(alloc: Global, test: &Value) -> Outcome {
         (Some(invalid), _) => Outcome::of(
             invalid.as_bool() == Some(true)
                 && has_only(test, &["selector", "invalid_selector", "tags"])
-                && matches!(read(alloc, selector, Depth::Default), Reading::NoQuery),
+                && matches!(read(memory, selector, Depth::Default), Reading::NoQuery),
         ),
         (None, Some(document)) => match wanted_of(test) {
-            Some(wanted) => ask_of(alloc, selector, document, wanted),
+            Some(wanted) => ask_of(memory, selector, document, wanted),
             None => Outcome::Fails,
         },
         _ => Outcome::Fails,
     }
 }
 
-fn ask_of(alloc: Global, selector: &str, document: &Value, wanted: Wanted<'_>) -> Outcome {
+fn ask_of(memory: &Memory, selector: &str, document: &Value, wanted: Wanted<'_>) -> Outcome {
     if !document.is_whole() || !are_whole(wanted) {
         return Outcome::Skipped;
     }
-    match read(alloc, selector, Depth::Default) {
+    match read(memory, selector, Depth::Default) {
         Reading::Tree => Outcome::of(
-            selects(alloc, selector, document, wanted)
+            selects(memory, selector, document, wanted)
                 && match wanted.order {
                     Order::Matters => true,
-                    Order::IsFree => selects_in_doc(alloc, selector, document, wanted),
+                    Order::IsFree => selects_in_doc(memory, selector, document, wanted),
                 },
         ),
         Reading::NoNumber => Outcome::Skipped,
@@ -66,10 +66,10 @@ fn ask_of(alloc: Global, selector: &str, document: &Value, wanted: Wanted<'_>) -
     }
 }
 
-fn selects_in_doc(alloc: Global, selector: &str, document: &Value, wanted: Wanted<'_>) -> bool {
-    match Doc::made(alloc, document) {
+fn selects_in_doc(memory: &Memory, selector: &str, document: &Value, wanted: Wanted<'_>) -> bool {
+    match memory.ok(Doc::made(memory.alloc, document)) {
         Some(document) => {
-            let held = document.is_whole() && selects(alloc, selector, &document, wanted);
+            let held = document.is_whole() && selects(memory, selector, &document, wanted);
             drop(document);
             held
         }
@@ -77,11 +77,11 @@ fn selects_in_doc(alloc: Global, selector: &str, document: &Value, wanted: Wante
     }
 }
 
-fn selects<T: Document>(alloc: Global, selector: &str, document: &T, wanted: Wanted<'_>) -> bool
+fn selects<T: Document>(memory: &Memory, selector: &str, document: &T, wanted: Wanted<'_>) -> bool
     requires { IsTrue (T.is_whole document.now) }
 {
-    match js_path(alloc, selector, document).ok() {
-        Some(nodes) => are_any(alloc, &nodes, wanted),
+    match memory.ok(js_path(memory.alloc, selector, document)) {
+        Some(nodes) => are_any(memory, &nodes, wanted),
         None => false,
     }
 }
