@@ -180,8 +180,24 @@ fn asked_state<'r, T: Document>(memory: &Memory, asked: &Asked<'r, T>) -> Option
 {
     match asked.row.get("state") {
         Some(content) => state_of(memory, asked.document, content, asked.values),
-        None if asked.document.is_whole() => memory.ok(State::root(memory.alloc, asked.document)),
+        None if asked.document.is_whole() => root_state(memory, asked.document),
         None => None,
+    }
+}
+
+/// The state of the root; None where memory ran out.
+fn root_state<'r, T: Document>(memory: &Memory, document: &'r T) -> Option<State<'r, T>>
+    requires { IsTrue (T.is_whole document.now) }
+    ensures content { IfSome result (λ s. DataIsWhole T.is_whole s.content) }
+    ensures root { IfSome result (λ s. IsTrue (T.is_whole s.root.now)) }
+{
+    match State::root(memory.alloc, document) {
+        Ok(state) => Some(state),
+        Err(error) => {
+            memory.note(&error);
+            drop(error);
+            None
+        }
     }
 }
 
