@@ -5,6 +5,7 @@ pub mod PatternText
 pub mod SameLaws
 pub mod SameWalks
 pub mod SliceLemmas
+pub mod TextLength
 pub mod TextOrder
 pub mod Placing
 pub mod PutLaws
