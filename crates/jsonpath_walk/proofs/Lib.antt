@@ -6,6 +6,7 @@ pub mod Leaves
 pub mod LookupLaws
 pub mod NestingLaws
 pub mod NodelistLaws
+pub mod Passing
 pub mod PatternLaws
 pub mod Sinks
 pub mod Standing

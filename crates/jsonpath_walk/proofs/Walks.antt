@@ -79,13 +79,17 @@ below_more rest act l t = sym (ap (λ ns. flat_map rest (flat_map act ns)) (subt
 
 -- ---- measures
 
-work_less : (v w r x y : ℕ) → v < w → x < 3 * r + 3 → work v r x < work w r y
-work_less v w r x y h k = omega (arith, k, mul-le-mul_left (3 * r + 3) h)
+work_less : (v w r x y : ℕ) → v < w → x < 5 * r + 5 → work v r x < work w r y
+work_less v w r x y h k = omega (arith, k, mul-le-mul_left (5 * r + 5) h)
 
 -- a smaller part of the query, wherever in the document
-pub down : (v w r x y t : ℕ) → work w r y ≡ t → v < w → x < 3 * r + 3 → work v r x < t
+pub down : (v w r x y t : ℕ) → work w r y ≡ t → v < w → x < 5 * r + 5 → work v r x < t
 down v w r x y t e h k = omega (arith, e, work_less v w r x y h k)
 
 -- the same part, at a smaller place
 pub down_tree : (w r x y t : ℕ) → work w r y ≡ t → x < y → work w r x < t
 down_tree w r x y t e h = omega (arith, e, h)
+
+-- the same part in other words
+pub down_same : (v w r x y t : ℕ) → work w r y ≡ t → v ≡ w → x < y → work v r x < t
+down_same v w r x y t e f h = rw f (down_tree w r x y t e h)

@@ -3,6 +3,7 @@ pub mod Arguing
 pub mod Keeping
 pub mod Lookup
 pub mod Nesting
+pub mod Passing
 pub mod Sinks
 pub mod Standing
 pub mod Walking

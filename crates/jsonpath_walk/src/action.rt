@@ -1,12 +1,14 @@
 //! What a walk does at the children of a value.
-ghost use Rattle.std.specs.Prelude.{◌≡◌, [], IsTrue};
+ghost use Rattle.std.specs.Prelude.{◌≡◌, [], IsTrue, IfSome};
 ghost use Rattle.jsonpath_tree.specs.Location.{Location};
+ghost use Rattle.jsonpath_tree.specs.View.{segment_view};
 ghost use Rattle.jsonpath_node.specs.Document.{Document};
 ghost use Rattle.jsonpath_walk.specs.inner.Walking.{acted};
+ghost use Rattle.jsonpath_walk.specs.inner.Passing.{GoesToEachChild};
 
 use jsonpath_node::queryable::Queryable;
 use jsonpath_node::queryable::children::is_leaf;
-use jsonpath_tree::model::{Filter, Segment};
+use jsonpath_tree::model::{Filter, Segment, Selector};
 
 /// What is done at a child.
 #[derive(Clone, Copy)]
@@ -28,5 +30,20 @@ pub fn is_idle<T: Queryable>(action: Action<'_>, value: &T) -> bool
     match action {
         Action::Below(_) => is_leaf(value),
         _ => false,
+    }
+}
+
+/// What the segment does at each child, where that is all it does.
+#[inline(always)]
+pub fn of_each_child(segment: &Segment) -> Option<Action<'_>>
+    ensures { IfSome result (GoesToEachChild (segment_view segment.now)) }
+{
+    match segment {
+        Segment::Selector(selector) => match selector {
+            Selector::Wildcard => Some(Action::All),
+            Selector::Filter(filter) => Some(Action::If(filter)),
+            _ => None,
+        },
+        _ => None,
     }
 }

@@ -9,6 +9,7 @@ ghost use Rattle.jsonpath_walk.specs.inner.Standing.{Stands, Returns, IsHalt};
 ghost use Rattle.jsonpath_walk.specs.inner.Walking.{node_of};
 ghost use Rattle.jsonpath_node.specs.inner.Parts.{filters_in};
 
+use crate::existence::looked_up_test;
 use crate::sides::lent_compare;
 use crate::singular::singular_value;
 use crate::sink::Wanted;
@@ -104,6 +105,9 @@ impl<'a: 's, 's, T: Queryable> Task<'a, 's, T> {
         match atom {
             FilterAtom::Filter { expr, not } => Ok(self.filter_holds(expr, at, trail)? != *not),
             FilterAtom::Test { expr, not } => {
+                if let Some(held) = looked_up_test(expr, self.root, at) {
+                    return Ok(held != *not);
+                }
                 let tested = self.test(expr, Wanted::Any, at, trail)?;
                 Ok(tested.is_true(&trail.cache) != *not)
             }

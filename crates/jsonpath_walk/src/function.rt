@@ -14,7 +14,7 @@ ghost use Rattle.jsonpath_node.specs.inner.Parts.{arguments_in};
 
 use crate::argument::Argument;
 use crate::cache::Gathered;
-use crate::lookup::looked_up;
+use crate::lookup::{LastWildcard, looked_up};
 use crate::patterns::Origin;
 use crate::sink::Wanted;
 use crate::trail::Trail;
@@ -184,7 +184,9 @@ impl<'a: 's, 's, T: Queryable> Task<'a, 's, T> {
                 Ok(Argument::Nodes(Gathered::Own(nodes)))
             }
             Test::AbsQuery(query) => {
-                if let Some(nodes) = looked_up(self.alloc, &query.segments, wanted, self.root)? {
+                let last = LastWildcard::Walked;
+                let found = looked_up(self.alloc, &query.segments, wanted, self.root, last)?;
+                if let Some(nodes) = found {
                     return Ok(Argument::Nodes(Gathered::Own(nodes)));
                 }
                 let index = self.absolute(query, wanted, trail)?;

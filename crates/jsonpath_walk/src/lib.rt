@@ -5,6 +5,8 @@
 mod action;
 mod argument;
 mod cache;
+mod children;
+mod existence;
 mod filter;
 mod finders;
 mod function;

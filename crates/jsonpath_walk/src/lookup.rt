@@ -29,6 +29,15 @@ pub enum Followed<'a, T> {
     Open,
 }
 
+/// What becomes of `[*]` at the end of names and indexes.
+#[derive(Clone, Copy)]
+pub enum LastWildcard {
+    /// Its nodes are counted, or asked for one, without a walk.
+    Counted,
+    /// It is left to the walk.
+    Walked,
+}
+
 /// What the nodes of these segments, from a value on, give to a sink, where they are names and indexes as far as they lead.
 /// The cost goes with the steps that lead somewhere, not with the segments.
 pub fn looked_up<'a, T: Queryable>(
@@ -36,6 +45,7 @@ pub fn looked_up<'a, T: Queryable>(
     segments: &[Segment],
     wanted: Wanted,
     at: &'a T,
+    last: LastWildcard,
 ) -> Walked<Option<Sink<'a, T>>>
     requires { IsTrue (T.is_whole at.now) }
     ensures given { IfOk result (λ o. IfSome o (GivesThrough T.tree T.is_whole wanted (segments_in segments.now) (T.tree at.now))) }
@@ -44,26 +54,10 @@ pub fn looked_up<'a, T: Queryable>(
     match follow(segments, at) {
         Followed::To(value) => Ok(Some(Sink::of_one(alloc, wanted, value)?)),
         Followed::Nowhere => Ok(Some(Sink::start(alloc, wanted))),
-        Followed::Children(_) => Ok(None),
-        Followed::Open => Ok(None),
-    }
-}
-
-/// The same, also where all children are counted, or asked for one.
-pub fn looked_up_or_counted<'a, T: Queryable>(
-    alloc: Global,
-    segments: &[Segment],
-    wanted: Wanted,
-    at: &'a T,
-) -> Walked<Option<Sink<'a, T>>>
-    requires { IsTrue (T.is_whole at.now) }
-    ensures given { IfOk result (λ o. IfSome o (GivesThrough T.tree T.is_whole wanted (segments_in segments.now) (T.tree at.now))) }
-    ensures memory { IfErr result (λ h. h ≡ Memory) }
-{
-    match follow(segments, at) {
-        Followed::To(value) => Ok(Some(Sink::of_one(alloc, wanted, value)?)),
-        Followed::Nowhere => Ok(Some(Sink::start(alloc, wanted))),
-        Followed::Children(parent) => counted(alloc, wanted, parent),
+        Followed::Children(parent) => match last {
+            LastWildcard::Counted => counted(alloc, wanted, parent),
+            LastWildcard::Walked => Ok(None),
+        },
         Followed::Open => Ok(None),
     }
 }
@@ -105,7 +99,7 @@ fn child_count<T: Queryable>(alloc: Global, parent: &T) -> Walked<usize>
 }
 
 /// Where the segments lead.
-fn follow<'a, T: Queryable>(segments: &[Segment], at: &'a T) -> Followed<'a, T>
+pub fn follow<'a, T: Queryable>(segments: &[Segment], at: &'a T) -> Followed<'a, T>
     requires { IsTrue (T.is_whole at.now) }
     ensures leads { Leads T.tree (segments_in segments.now) (T.tree at.now) result }
     ensures whole { IsWholeThere T.is_whole result }

@@ -9,7 +9,7 @@ ghost use Rattle.jsonpath_walk.specs.inner.Standing.{Stands, Returns, IsHalt};
 ghost use Rattle.jsonpath_walk.specs.inner.Walking.{node_of, through};
 ghost use Rattle.jsonpath_node.specs.inner.Parts.{segments_in};
 
-use crate::lookup::looked_up_or_counted;
+use crate::lookup::{LastWildcard, looked_up};
 use crate::nested::nested_in;
 use crate::sink::{Sink, Wanted};
 use crate::trail::Trail;
@@ -36,7 +36,8 @@ impl<'a: 's, 's, T: Queryable> Task<'a, 's, T> {
         ensures returns { OnOk result (Returns T.tree T.is_whole T.custom self.now trail.old trail.new) }
         ensures refused { IfErr result (IsHalt (query_of self.now) (document T.tree T.custom self.now)) }
     {
-        if let Some(sink) = looked_up_or_counted(self.alloc, segments, wanted, at)? {
+        let last = LastWildcard::Counted;
+        if let Some(sink) = looked_up(self.alloc, segments, wanted, at, last)? {
             return Ok(sink);
         }
         let mut sink = Sink::start(self.alloc, wanted);

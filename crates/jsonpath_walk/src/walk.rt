@@ -16,8 +16,9 @@ ghost use Rattle.jsonpath_walk.specs.inner.Standing.{Stands, Returns, IsHalt};
 ghost use Rattle.jsonpath_walk.specs.inner.Walking.{through, node_of, step_of, acted, action_patterns};
 ghost use Rattle.jsonpath_node.specs.inner.Parts.{segments_in, selectors_in};
 
-use crate::action::{Action, is_idle};
+use crate::action::Action;
 use crate::cache::Cache;
+use crate::children::Child;
 use crate::finders::Finders;
 use crate::patterns::Places;
 use crate::sink::Sink;
@@ -37,13 +38,6 @@ pub struct Task<'a, 's, T> {
     pub alloc: Global,
     pub query: &'s JpQuery,
     pub root: &'a T,
-}
-
-/// A child of the value at hand, and the step that leads to it.
-#[derive(Clone, Copy)]
-struct Child<'a, 's, T> {
-    step: StepRef<'s>,
-    value: &'a T,
 }
 
 /// Gives to the sink the nodes of a query on a document. The result says whether to go on.
@@ -131,7 +125,7 @@ impl<'a: 's, 's, T: Queryable> Task<'a, 's, T> {
     /// The first segment here, and the rest from each node that it makes of this one.
     #[cycle(walk)]
     #[inline(always)]
-    fn pass(
+    pub fn pass(
         &self,
         first: &'s Segment,
         rest: &'s [Segment],
@@ -255,134 +249,5 @@ impl<'a: 's, 's, T: Queryable> Task<'a, 's, T> {
             }
         }
         Ok(true)
-    }
-
-    /// The action at each child, in walk order.
-    #[cycle(walk)]
-    fn each_child(
-        &self,
-        action: Action<'s>,
-        rest: &'s [Segment],
-        at: &'a T,
-        trail: &mut Trail<'a, 's, T>,
-        sink: &mut Sink<'a, T>,
-    ) -> Walked<bool>
-        requires stands { Stands T.tree T.is_whole T.custom self.now at.now trail.old.way.steps.items trail.old.cache }
-        requires part { StandIn (query_of self.now) (action_patterns action ++ segments_patterns (segments_in rest.now)) }
-        ensures gave { IfOk result (λ b. Took (seen T.tree T.is_whole sink.old)
-            (flat_map (through (segments_in rest.now) (document T.tree T.custom self.now))
-            (flat_map (acted action.entry (document T.tree T.custom self.now)) (children (node_of T.tree trail.old.way.steps.items at.now))))
-            (seen T.tree T.is_whole sink.new) b) }
-        ensures returns { OnOk result (Returns T.tree T.is_whole T.custom self.now trail.old trail.new) }
-        ensures refused { IfErr result (IsHalt (query_of self.now) (document T.tree T.custom self.now)) }
-    {
-        if let Some(items) = at.as_array() {
-            for (i, value) in items.iter().enumerate() {
-                let step = StepRef::Index(i);
-                if !self.at_child(action, rest, Child { step, value }, trail, sink)? {
-                    return Ok(false);
-                }
-            }
-        } else if let Some(members) = at.as_object(self.alloc)? {
-            for member in &members {
-                let step = StepRef::Name(member.0);
-                let value = member.1;
-                if !self.at_child(action, rest, Child { step, value }, trail, sink)? {
-                    return Ok(false);
-                }
-            }
-        }
-        Ok(true)
-    }
-
-    /// The action at a child, a step from here.
-    #[cycle(walk)]
-    #[inline(always)]
-    fn at_child(
-        &self,
-        action: Action<'s>,
-        rest: &'s [Segment],
-        child: Child<'a, 's, T>,
-        trail: &mut Trail<'a, 's, T>,
-        sink: &mut Sink<'a, T>,
-    ) -> Walked<bool>
-        requires stands { Stands T.tree T.is_whole T.custom self.now child.value.now (trail.old.way.steps.items ++ child.step ∷ []) trail.old.cache }
-        requires part { StandIn (query_of self.now) (action_patterns action ++ segments_patterns (segments_in rest.now)) }
-        ensures gave { IfOk result (λ b. Took (seen T.tree T.is_whole sink.old)
-            (flat_map (through (segments_in rest.now) (document T.tree T.custom self.now))
-            (acted action.entry (document T.tree T.custom self.now) (below (map step_of trail.old.way.steps.items) (step_of child.entry.step) (T.tree child.entry.value.now))))
-            (seen T.tree T.is_whole sink.new) b) }
-        ensures returns { OnOk result (Returns T.tree T.is_whole T.custom self.now trail.old trail.new) }
-        ensures refused { IfErr result (IsHalt (query_of self.now) (document T.tree T.custom self.now)) }
-    {
-        if is_idle(action, child.value) {
-            return Ok(true);
-        }
-        trail.way.push(child.step)?;
-        let goes_on = self.act(action, rest, child.value, trail, sink)?;
-        trail.way.pop();
-        Ok(goes_on)
-    }
-
-    /// Does the action at this value, and gives the rest from each node that it makes of it.
-    #[cycle(walk)]
-    #[inline(always)]
-    fn act(
-        &self,
-        action: Action<'s>,
-        rest: &'s [Segment],
-        at: &'a T,
-        trail: &mut Trail<'a, 's, T>,
-        sink: &mut Sink<'a, T>,
-    ) -> Walked<bool>
-        requires stands { Stands T.tree T.is_whole T.custom self.now at.now trail.old.way.steps.items trail.old.cache }
-        requires part { StandIn (query_of self.now) (action_patterns action ++ segments_patterns (segments_in rest.now)) }
-        ensures gave { IfOk result (λ b. Took (seen T.tree T.is_whole sink.old)
-            (flat_map (through (segments_in rest.now) (document T.tree T.custom self.now))
-            (acted action.entry (document T.tree T.custom self.now) (node_of T.tree trail.old.way.steps.items at.now)))
-            (seen T.tree T.is_whole sink.new) b) }
-        ensures returns { OnOk result (Returns T.tree T.is_whole T.custom self.now trail.old trail.new) }
-        ensures refused { IfErr result (IsHalt (query_of self.now) (document T.tree T.custom self.now)) }
-    {
-        match action {
-            Action::All => self.go_on(rest, at, trail, sink),
-            Action::If(filter) => {
-                if self.filter_holds(filter, at, trail)? {
-                    self.go_on(rest, at, trail, sink)
-                } else {
-                    Ok(true)
-                }
-            }
-            Action::Below(segment) => {
-                if self.pass(segment, rest, at, trail, sink)? {
-                    self.each_child(action, rest, at, trail, sink)
-                } else {
-                    Ok(false)
-                }
-            }
-        }
-    }
-    /// The rest from this value on. Where nothing is left the value is taken here, with no call for it.
-    #[cycle(walk)]
-    #[inline(always)]
-    fn go_on(
-        &self,
-        rest: &'s [Segment],
-        at: &'a T,
-        trail: &mut Trail<'a, 's, T>,
-        sink: &mut Sink<'a, T>,
-    ) -> Walked<bool>
-        requires stands { Stands T.tree T.is_whole T.custom self.now at.now trail.old.way.steps.items trail.old.cache }
-        requires part { StandIn (query_of self.now) (segments_patterns (segments_in rest.now)) }
-        ensures gave { IfOk result (λ b. Took (seen T.tree T.is_whole sink.old)
-            (through (segments_in rest.now) (document T.tree T.custom self.now) (node_of T.tree trail.old.way.steps.items at.now))
-            (seen T.tree T.is_whole sink.new) b) }
-        ensures returns { OnOk result (Returns T.tree T.is_whole T.custom self.now trail.old trail.new) }
-        ensures refused { IfErr result (IsHalt (query_of self.now) (document T.tree T.custom self.now)) }
-    {
-        match rest.split_first() {
-            None => sink.take(self.alloc, at, &mut trail.way),
-            Some(_) => self.walk(rest, at, trail, sink),
-        }
     }
 }

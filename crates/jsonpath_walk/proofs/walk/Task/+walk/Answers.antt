@@ -13,7 +13,7 @@ use Rattle.jsonpath_base.specs.Tree.{get, truth}
 use Rattle.jsonpath_base.specs.Slice.{slice_of}
 use Rattle.jsonpath_node.specs.Node.{below, children, subtree, root_node}
 use Rattle.jsonpath_node.specs.Meaning.{picks, all_pick, replaced, indexed, element, holds, some_holds, each_holds, atom_holds, comparison_holds, value_of, answer, negated, nodelist, all_trees, argued, tested}
-use Rattle.jsonpath_walk.proofs.Work.{action_weight}
+use Rattle.jsonpath_walk.specs.inner.Passing.{action_weight}
 use Rattle.jsonpath_node.proofs.Weight.{segment_weight, selectors_weight, selector_weight, segments_weight, filter_weight, filters_weight, atom_weight, test_weight, comparison_weight, comparable_weight, call_weight, argument_weight, arguments_weight}
 use Rattle.jsonpath_node.specs.Patterns.{segments_patterns, segment_patterns, selectors_patterns, selector_patterns, filter_patterns, filters_patterns, atom_patterns, test_patterns, comparison_patterns, comparable_patterns, call_patterns, argument_patterns, arguments_patterns}
 use Rattle.jsonpath_walk.specs.inner.Walking.{action_patterns, through, node_of, step_of, acted}
@@ -23,7 +23,7 @@ use Rattle.jsonpath_walk.specs.inner.Keeping.{document, query_of}
 use Rattle.jsonpath_walk.specs.inner.Nesting.{IsNested}
 use Rattle.jsonpath_walk.specs.declared.way.StepRef.TheVariants.{Name, Index}
 use Rattle.jsonpath_walk.proofs.Sinks.{took_none, took_as, took_stop, result_as, result_then, true_false}
-use Rattle.jsonpath_walk.proofs.Walks.{down, down_tree, turn_next, turn_stop, turn_end, selector_turns, element_turns, member_turns, place_next, place_stop, below_more, flat_map-alone, flat_map-filter}
+use Rattle.jsonpath_walk.proofs.Walks.{down, down_tree, down_same, turn_next, turn_stop, turn_end, selector_turns, element_turns, member_turns, place_next, place_stop, below_more, flat_map-alone, flat_map-filter}
 use Rattle.jsonpath_walk.proofs.Leading.{leads_below, leads_indexed}
 use Rattle.jsonpath_node.proofs.NodesAt.{member_there}
 use Rattle.jsonpath_walk.proofs.PatternLaws.{part_as, part_in, part_left, part_right, part_both, part_at, part_rest, pattern_asked}
@@ -64,13 +64,10 @@ act-go_on-requires-then-branch g t c κs within =
     let e = ap action_weight c.in-If.is in
     (down _ _ _ _ _ _ c.decreases (omega (arith, e)) (omega (arith, c.requires.stands.within)), (within, (still c.requires.stands c.in_ok-filter_holds-in-If.ensures.returns, part_right _ _ _ c.requires.part)))
 
-pub act-pass-requires : goal.act-pass-requires
-act-pass-requires g t c κs within =
+pub act-descend-requires : goal.act-descend-requires
+act-descend-requires g t c κs within =
     let e = ap action_weight c.in-Below.is in
-    (down _ _ _ _ _ _ c.decreases (omega (arith, e)) (omega (arith, c.requires.stands.within)), (within, (c.requires.stands, part_as (λ z. action_patterns z ++ segments_patterns (segments_in c.args.rest.now)) _ _ _ c.in-Below.is c.requires.part)))
-
-pub act-each_child-requires : goal.act-each_child-requires
-act-each_child-requires g t c κs within = (down_tree _ _ _ _ _ c.decreases (omega arith), (within, (still c.requires.stands c.in_ok-pass-in-Below.ensures.returns, c.requires.part)))
+    (down_same _ _ _ _ _ _ c.decreases (omega (arith, e)) (omega arith), (within, (c.requires.stands, part_as (λ z. action_patterns z ++ segments_patterns (segments_in c.args.rest.now)) _ _ _ c.in-Below.is c.requires.part)))
 
 pub act-returns-in-All-clause-gave : goal.act-returns-in-All-clause-gave
 act-returns-in-All-clause-gave g t c =
@@ -98,26 +95,105 @@ act-returns-else-branch-clause-gave g t c =
     let h = c.in_ok-filter_holds-in-If.ensures in
     took_none _ _ (ap (λ a. flat_map rest (acted a d n)) c.in-If.is ∙ kept_false rest (holds (filter_view c.in-If.filter.now) d) n (sym h.holds ∙ c.if-branch.false))
 
-pub act-returns-then-branch-2-clause-gave : goal.act-returns-then-branch-2-clause-gave
-act-returns-then-branch-2-clause-gave g t c =
+pub act-returns-in-Below-clause-gave : goal.act-returns-in-Below-clause-gave
+act-returns-in-Below-clause-gave g t c =
     let tree = g.T.Queryable.tree in
     let d = document tree g.T.Queryable.custom c.args.self.now in
     let n = node_of tree c.args.trail.now.way.steps.items c.args.at.now in
     let rest = through (segments_in c.args.rest.now) d in
-    let h = replaced (segment_view c.in-Below.segment.now) d in
-    let here = flat_map rest (h n) in
-    let same = ap (λ q. here ++ flat_map rest (flat_map (acted c.args.action d) (children (node_of tree q c.args.at.now)))) c.in_ok-pass-in-Below.ensures.returns.same in
-    let below_it = ap (λ a. here ++ flat_map rest (flat_map (acted a d) (children n))) c.in-Below.is in
-    result_then _ _ _ _ _ _ _ _ (same ∙ below_it ∙ below_more rest h n.location n.tree ∙ ap (λ a. flat_map rest (acted a d n)) (sym c.in-Below.is)) c.in_ok-pass-in-Below.ensures.gave c.each_child.ensures.gave
+    result_as _ _ _ _ _ (ap (λ a. flat_map rest (acted a d n)) (sym c.in-Below.is)) c.descend.ensures.gave
 
-pub act-returns-else-branch-2-clause-gave : goal.act-returns-else-branch-2-clause-gave
-act-returns-else-branch-2-clause-gave g t c =
+pub descend-each_member-requires : goal.descend-each_member-requires
+descend-each_member-requires g t c κs within =
+    let tree = g.T.Queryable.tree in
+    let P : List _ → Type 0 = All (λ m. IsTrue (g.T.Queryable.is_whole m.1.now)) in
+    let first = c.in-Some.ensures in (
+      down _ _ _ _ _ _ c.decreases (omega (arith, first.lighter)) (omega (arith, c.requires.stands.within)),
+      (
+        within,
+        (
+          c.requires.stands,
+          (
+            record {
+              list = ap (λ xs. Some (map (λ m. (m.0.now, tree m.1.now)) xs)) c.deref.ensures.value ∙ rw c.in-Some-2.is at (c.in_ok-listed.ensures.value c.requires.stands.whole);
+              whole = subst P (sym c.deref.ensures.value) (rw c.in-Some-2.is at (c.in_ok-listed.ensures.whole c.requires.stands.whole));
+            },
+            part_as (λ ps. ps ++ segments_patterns (segments_in c.args.rest.now)) _ _ _ (sym first.patterns) c.requires.part,
+          ),
+        ),
+      ),
+    )
+
+pub descend-each_member-requires-in-Some-2 : goal.descend-each_member-requires-in-Some-2
+descend-each_member-requires-in-Some-2 g t c κs within =
+    let tree = g.T.Queryable.tree in
+    let P : List _ → Type 0 = All (λ m. IsTrue (g.T.Queryable.is_whole m.1.now)) in (
+      down_tree _ _ _ _ _ c.decreases (omega arith),
+      (
+        within,
+        (
+          still c.requires.stands c.in_ok-each_member.ensures.returns,
+          (
+            record {
+              list = ap (λ xs. Some (map (λ m. (m.0.now, tree m.1.now)) xs)) c.deref.ensures.value ∙ rw c.in-Some-2.is at (c.in_ok-listed.ensures.value c.requires.stands.whole);
+              whole = subst P (sym c.deref.ensures.value) (rw c.in-Some-2.is at (c.in_ok-listed.ensures.whole c.requires.stands.whole));
+            },
+            c.requires.part,
+          ),
+        ),
+      ),
+    )
+
+pub descend-returns-in-Some-2-clause-gave : goal.descend-returns-in-Some-2-clause-gave
+descend-returns-in-Some-2-clause-gave g t c =
     let tree = g.T.Queryable.tree in
     let d = document tree g.T.Queryable.custom c.args.self.now in
     let n = node_of tree c.args.trail.now.way.steps.items c.args.at.now in
     let rest = through (segments_in c.args.rest.now) d in
-    let h = replaced (segment_view c.in-Below.segment.now) d in
-    took_stop _ _ _ _ _ _ _ (below_more rest h n.location n.tree ∙ ap (λ a. flat_map rest (acted a d n)) (sym c.in-Below.is)) c.in_ok-pass-in-Below.ensures.gave c.if-branch-2.false
+    let h = replaced (segment_view c.args.segment.now) d in
+    let here = flat_map rest (flat_map (acted c.in-Some.action d) (children n)) in
+    let further = flat_map rest (flat_map (λ m. flat_map h (subtree m)) (children n)) in
+    let same = ap (λ q. here ++ flat_map rest (flat_map (λ m. flat_map h (subtree m)) (children (node_of tree q c.args.at.now)))) c.in_ok-each_member.ensures.returns.same in
+    let makes = ap (λ ns. flat_map rest ns ++ further) (c.in-Some.ensures.makes d n) in
+    result_then _ _ _ _ _ _ _ _ (same ∙ makes ∙ below_more rest h n.location n.tree) c.in_ok-each_member.ensures.gave c.each_member-in-Some-2.ensures.gave
+
+pub descend-pass-requires : goal.descend-pass-requires
+descend-pass-requires g t c κs within =
+    (down _ _ _ _ _ _ c.decreases (omega arith) (omega (arith, c.requires.stands.within)), (within, (c.requires.stands, c.requires.part)))
+
+pub descend-each_child-requires : goal.descend-each_child-requires
+descend-each_child-requires g t c κs within = (down_tree _ _ _ _ _ c.decreases (omega arith), (within, (still c.requires.stands c.in_ok-pass.ensures.returns, c.requires.part)))
+
+pub descend-returns-clause-gave : goal.descend-returns-clause-gave
+descend-returns-clause-gave g t c =
+    let tree = g.T.Queryable.tree in
+    let d = document tree g.T.Queryable.custom c.args.self.now in
+    let n = node_of tree c.args.trail.now.way.steps.items c.args.at.now in
+    let rest = through (segments_in c.args.rest.now) d in
+    let h = replaced (segment_view c.args.segment.now) d in
+    let here = flat_map rest (h n) in
+    let same = ap (λ q. here ++ flat_map rest (flat_map (λ m. flat_map h (subtree m)) (children (node_of tree q c.args.at.now)))) c.in_ok-pass.ensures.returns.same in
+    result_then _ _ _ _ _ _ _ _ (same ∙ below_more rest h n.location n.tree) c.in_ok-pass.ensures.gave c.each_child.ensures.gave
+
+pub descend-returns-then-not-branch-clause-gave : goal.descend-returns-then-not-branch-clause-gave
+descend-returns-then-not-branch-clause-gave g t c =
+    let tree = g.T.Queryable.tree in
+    let d = document tree g.T.Queryable.custom c.args.self.now in
+    let n = node_of tree c.args.trail.now.way.steps.items c.args.at.now in
+    let rest = through (segments_in c.args.rest.now) d in
+    let h = replaced (segment_view c.args.segment.now) d in
+    let further = flat_map rest (flat_map (λ m. flat_map h (subtree m)) (children n)) in
+    let makes = ap (λ ns. flat_map rest ns ++ further) (c.in-Some.ensures.makes d n) in
+    took_stop _ _ _ _ _ _ _ (makes ∙ below_more rest h n.location n.tree) c.in_ok-each_member.ensures.gave c.if-not-branch.true
+
+pub descend-returns-then-not-branch-2-clause-gave : goal.descend-returns-then-not-branch-2-clause-gave
+descend-returns-then-not-branch-2-clause-gave g t c =
+    let tree = g.T.Queryable.tree in
+    let d = document tree g.T.Queryable.custom c.args.self.now in
+    let n = node_of tree c.args.trail.now.way.steps.items c.args.at.now in
+    let rest = through (segments_in c.args.rest.now) d in
+    let h = replaced (segment_view c.args.segment.now) d in
+    took_stop _ _ _ _ _ _ _ (below_more rest h n.location n.tree) c.in_ok-pass.ensures.gave c.if-not-branch-2.true
 
 pub go_on-take-requires : goal.go_on-take-requires
 go_on-take-requires g t c = c.requires.stands.whole
@@ -157,16 +233,15 @@ each_child-at_child-requires g t c κs within =
     let was = still c.requires.stands c.loop-i.invariant.returns in
     (down_tree _ _ _ _ _ c.decreases (omega (arith, s)), (within, (record { whole = all_at (λ x. IsTrue (g.T.Queryable.is_whole x)) items c.loop-i.i c.value-item.result whole c.loop-i-test.true c.value-item.is; within = omega (arith, s, c.requires.stands.within); here = leads_below c.loop-i.trail.way.steps.items (Index c.loop-i.i) (tree c.args.self.now.root.now) _ _ was.here (child_there tree (tree c.args.at.now) items c.loop-i.i c.value-item.result some c.loop-i-test.true c.value-item.is); ready = was.ready }, c.requires.part)))
 
-pub each_child-at_child-requires-in-loop-member : goal.each_child-at_child-requires-in-loop-member
-each_child-at_child-requires-in-loop-member g t c κs within =
+pub each_member-at_child-requires : goal.each_member-at_child-requires
+each_member-at_child-requires g t c κs within =
     let tree = g.T.Queryable.tree in
-    let items = c.deref-member-items.result.now in
-    let P : List _ → Type 0 = All (λ m. IsTrue (g.T.Queryable.is_whole m.1.now)) in
-    let some = ap (λ xs. Some (map (λ m. (m.0.now, tree m.1.now)) xs)) c.deref-member-items.ensures.value ∙ rw c.in-Some-2.is at (c.in_ok-members.ensures.value c.requires.stands.whole) in
-    let whole = subst P (sym c.deref-member-items.ensures.value) (rw c.in-Some-2.is at (c.in_ok-members.ensures.whole c.requires.stands.whole)) in
-    let s = pair_size (λ m. (m.0.now, tree m.1.now)) (tree c.args.at.now) items c.loop-member.member-index c.member-item.result some c.loop-member-test.true c.member-item.is in
+    let items = c.args.members.now.list.now in
+    let some = c.requires.listed.list in
+    let whole = c.requires.listed.whole in
+    let s = pair_size (λ m. (m.0.now, tree m.1.now)) (tree c.args.members.now.of.now) items c.loop-member.member-index c.member-item.result some c.loop-member-test.true c.member-item.is in
     let was = still c.requires.stands c.loop-member.invariant.returns in
-    let there = member_there (λ m. (m.0.now, tree m.1.now)) (tree c.args.at.now) items c.loop-member.member-index c.member-item.result (g.met.T.Queryable.distinct c.args.at.now c.requires.stands.whole) some c.loop-member-test.true c.member-item.is in
+    let there = member_there (λ m. (m.0.now, tree m.1.now)) (tree c.args.members.now.of.now) items c.loop-member.member-index c.member-item.result (g.met.T.Queryable.distinct c.args.members.now.of.now c.requires.stands.whole) some c.loop-member-test.true c.member-item.is in
     (down_tree _ _ _ _ _ c.decreases (omega (arith, s)), (within, (record { whole = all_at (λ m. IsTrue (g.T.Queryable.is_whole m.1.now)) items c.loop-member.member-index c.member-item.result whole c.loop-member-test.true c.member-item.is; within = omega (arith, s, c.requires.stands.within); here = leads_below c.loop-member.trail.way.steps.items (Name c.member-item.result.0) (tree c.args.self.now.root.now) _ _ was.here there; ready = was.ready }, c.requires.part)))
 
 pub each_child-returns-then-not-branch-clause-gave : goal.each_child-returns-then-not-branch-clause-gave
@@ -191,27 +266,47 @@ each_child-loop-i-preserved g t c =
     let k = took_as _ _ _ _ _ (ap (λ q. flat_map rest (act (below (map step_of q) (index c.loop-i.i) (tree c.value-item.result)))) inv.returns.same) c.in_ok-at_child.ensures.gave in
     record { returns = on inv.returns c.in_ok-at_child.ensures.returns; given = turn_next _ _ (element_turns tree n.location rest act) c.deref-value-items.result.now c.loop-i.i c.value-item.result _ _ _ _ c.loop-i-test.true c.value-item.is k inv.given }
 
-pub each_child-returns-then-not-branch-2-clause-gave : goal.each_child-returns-then-not-branch-2-clause-gave
-each_child-returns-then-not-branch-2-clause-gave g t c =
+pub each_child-each_member-requires : goal.each_child-each_member-requires
+each_child-each_member-requires g t c κs within =
     let tree = g.T.Queryable.tree in
-    let d = document tree g.T.Queryable.custom c.args.self.now in
-    let n = node_of tree c.args.trail.now.way.steps.items c.args.at.now in
-    let rest = through (segments_in c.args.rest.now) d in
-    let act = acted c.args.action d in
-    let inv = c.loop-member.invariant in
-    let k = took_as _ _ _ _ _ (ap (λ q. flat_map rest (act (below (map step_of q) (name c.member-item.result.0.now) (tree c.member-item.result.1.now)))) inv.returns.same) c.in_ok-at_child-2.ensures.gave in
-    record { given = turn_stop _ _ (member_turns (λ m. (m.0.now, tree m.1.now)) n.location rest act) c.deref-member-items.result.now c.loop-member.member-index c.member-item.result _ _ _ _ c.loop-member-test.true c.member-item.is k c.if-not-branch-2.true inv.given; stopped = λ _. k.stopped c.if-not-branch-2.true }
+    let P : List _ → Type 0 = All (λ m. IsTrue (g.T.Queryable.is_whole m.1.now)) in (
+      down_tree _ _ _ _ _ c.decreases (omega arith),
+      (
+        within,
+        (
+          c.requires.stands,
+          (
+            record {
+              list = ap (λ xs. Some (map (λ m. (m.0.now, tree m.1.now)) xs)) c.deref.ensures.value ∙ rw c.in-Some-2.is at (c.in_ok-listed.ensures.value c.requires.stands.whole);
+              whole = subst P (sym c.deref.ensures.value) (rw c.in-Some-2.is at (c.in_ok-listed.ensures.whole c.requires.stands.whole));
+            },
+            c.requires.part,
+          ),
+        ),
+      ),
+    )
 
-pub each_child-loop-member-preserved : goal.each_child-loop-member-preserved
-each_child-loop-member-preserved g t c =
+pub each_member-returns-then-not-branch-clause-gave : goal.each_member-returns-then-not-branch-clause-gave
+each_member-returns-then-not-branch-clause-gave g t c =
     let tree = g.T.Queryable.tree in
     let d = document tree g.T.Queryable.custom c.args.self.now in
-    let n = node_of tree c.args.trail.now.way.steps.items c.args.at.now in
+    let n = node_of tree c.args.trail.now.way.steps.items c.args.members.now.of.now in
     let rest = through (segments_in c.args.rest.now) d in
     let act = acted c.args.action d in
     let inv = c.loop-member.invariant in
-    let k = took_as _ _ _ _ _ (ap (λ q. flat_map rest (act (below (map step_of q) (name c.member-item.result.0.now) (tree c.member-item.result.1.now)))) inv.returns.same) c.in_ok-at_child-2.ensures.gave in
-    record { returns = on inv.returns c.in_ok-at_child-2.ensures.returns; given = turn_next _ _ (member_turns (λ m. (m.0.now, tree m.1.now)) n.location rest act) c.deref-member-items.result.now c.loop-member.member-index c.member-item.result _ _ _ _ c.loop-member-test.true c.member-item.is k inv.given }
+    let k = took_as _ _ _ _ _ (ap (λ q. flat_map rest (act (below (map step_of q) (name c.member-item.result.0.now) (tree c.member-item.result.1.now)))) inv.returns.same) c.in_ok-at_child.ensures.gave in
+    record { given = turn_stop _ _ (member_turns (λ m. (m.0.now, tree m.1.now)) n.location rest act) c.args.members.now.list.now c.loop-member.member-index c.member-item.result _ _ _ _ c.loop-member-test.true c.member-item.is k c.if-not-branch.true inv.given; stopped = λ _. k.stopped c.if-not-branch.true }
+
+pub each_member-loop-member-preserved : goal.each_member-loop-member-preserved
+each_member-loop-member-preserved g t c =
+    let tree = g.T.Queryable.tree in
+    let d = document tree g.T.Queryable.custom c.args.self.now in
+    let n = node_of tree c.args.trail.now.way.steps.items c.args.members.now.of.now in
+    let rest = through (segments_in c.args.rest.now) d in
+    let act = acted c.args.action d in
+    let inv = c.loop-member.invariant in
+    let k = took_as _ _ _ _ _ (ap (λ q. flat_map rest (act (below (map step_of q) (name c.member-item.result.0.now) (tree c.member-item.result.1.now)))) inv.returns.same) c.in_ok-at_child.ensures.gave in
+    record { returns = on inv.returns c.in_ok-at_child.ensures.returns; given = turn_next _ _ (member_turns (λ m. (m.0.now, tree m.1.now)) n.location rest act) c.args.members.now.list.now c.loop-member.member-index c.member-item.result _ _ _ _ c.loop-member-test.true c.member-item.is k inv.given }
 
 pub pass-pick-requires : goal.pass-pick-requires
 pass-pick-requires g t c κs within =
@@ -483,8 +578,8 @@ at_child-returns-clause-returns g t c =
 pub act-returns-then-branch-clause-returns : goal.act-returns-then-branch-clause-returns
 act-returns-then-branch-clause-returns g t c = on_ok _ _ c.in_ok-filter_holds-in-If.ensures.returns c.go_on-then-branch.ensures.returns
 
-pub act-returns-then-branch-2-clause-returns : goal.act-returns-then-branch-2-clause-returns
-act-returns-then-branch-2-clause-returns g t c = on_ok _ _ c.in_ok-pass-in-Below.ensures.returns c.each_child.ensures.returns
+pub descend-returns-clause-returns : goal.descend-returns-clause-returns
+descend-returns-clause-returns g t c = on_ok _ _ c.in_ok-pass.ensures.returns c.each_child.ensures.returns
 
 pub filter_holds-some_holds-requires : goal.filter_holds-some_holds-requires
 filter_holds-some_holds-requires g t c κs within =
@@ -695,10 +790,19 @@ side-returns-in-SingularQuery-clause-value g t c =
 pub atom_holds-test-requires : goal.atom_holds-test-requires
 atom_holds-test-requires g t c κs within =
     let e = ap atom_view c.in-Test.is ∙ atom_view-Test c.in-Test.expr c.in-Test.not in
-    (down _ _ _ _ _ _ c.decreases (omega (arith, ap atom_weight e, ap (λ (x : Test). test_weight (test_view x)) c.deref-in-Test.ensures)) (omega (arith, c.requires.stands.within)), (within, (c.requires.stands, part_as (λ (x : Test). test_patterns (test_view x)) _ _ _ (sym c.deref-in-Test.ensures) (part_as atom_patterns _ _ _ e c.requires.part))))
+    (down _ _ _ _ _ _ c.decreases (omega (arith, ap atom_weight e, ap (λ (x : Test). test_weight (test_view x)) c.deref-in-Test-2.ensures)) (omega (arith, c.requires.stands.within)), (within, (c.requires.stands, part_as (λ (x : Test). test_patterns (test_view x)) _ _ _ (sym c.deref-in-Test-2.ensures) (part_as atom_patterns _ _ _ e c.requires.part))))
 
 pub atom_holds-is_true-requires : goal.atom_holds-is_true-requires
 atom_holds-is_true-requires g t c = c.in_ok-tested-in-Test.ensures.within
+
+pub atom_holds-returns-in-Some-clause-holds : goal.atom_holds-returns-in-Some-clause-holds
+atom_holds-returns-in-Some-clause-holds g t c =
+    let tree = g.T.Queryable.tree in
+    let d = document tree g.T.Queryable.custom c.args.self.now in
+    let n = node_of tree c.args.trail.now.way.steps.items c.args.at.now in
+    let e = ap atom_view c.in-Test.is ∙ atom_view-Test c.in-Test.expr c.in-Test.not in
+    let seen = c.in-Some.ensures n refl ∙ ap (λ (q : Test). as_truth (tested (test_view q) d n)) c.deref-in-Test.ensures in
+    differs _ _ ∙ ap (negated c.in-Test.not) seen ∙ sym (ap (λ a. atom_holds a d n) e)
 
 pub atom_holds-returns-in_ok-tested-in-Test-clause-holds : goal.atom_holds-returns-in_ok-tested-in-Test-clause-holds
 atom_holds-returns-in_ok-tested-in-Test-clause-holds g t c =
@@ -706,7 +810,7 @@ atom_holds-returns-in_ok-tested-in-Test-clause-holds g t c =
     let d = document tree g.T.Queryable.custom c.args.self.now in
     let n = node_of tree c.args.trail.now.way.steps.items c.args.at.now in
     let e = ap atom_view c.in-Test.is ∙ atom_view-Test c.in-Test.expr c.in-Test.not in
-    let seen = c.is_true.ensures ∙ ap truth_held c.in_ok-tested-in-Test.ensures.held ∙ as_truth_held (tested (test_view c.deref-in-Test.result.now) d n) ∙ ap (λ (q : Test). as_truth (tested (test_view q) d n)) c.deref-in-Test.ensures in
+    let seen = c.is_true.ensures ∙ ap truth_held c.in_ok-tested-in-Test.ensures.held ∙ as_truth_held (tested (test_view c.deref-in-Test-2.result.now) d n) ∙ ap (λ (q : Test). as_truth (tested (test_view q) d n)) c.deref-in-Test-2.ensures in
     differs _ _ ∙ ap (negated c.in-Test.not) seen ∙ sym (ap (λ a. atom_holds a d n) e)
 
 pub comparison_holds-returns-clause-returns : goal.comparison_holds-returns-clause-returns
@@ -978,7 +1082,7 @@ test-returns-in-Some-clause-held g t c =
     let d = document tree g.T.Queryable.custom c.args.self.now in
     let n = node_of tree c.args.trail.now.way.steps.items c.args.at.now in
     let e = ap test_view c.in-AbsQuery.is ∙ test_view-AbsQuery c.in-AbsQuery.query in
-    let found = rw c.in-Some.is at c.in_ok-nodes-in-AbsQuery.ensures.given in
+    let found = rw c.in-Some.is at c.in_ok-found-in-AbsQuery.ensures.given in
     let all = ap (λ (gs : List Segment). through (segments_in gs) d (root_node d.root)) c.deref-in-AbsQuery.ensures.value ∙ nodelist-through (segments_in c.in-AbsQuery.query.segments.items) d ∙ ap (λ q. nodelist q d) (sym (query_view-segments c.in-AbsQuery.query)) in
     ap nodes (found.given d (root_node d.root) refl ∙ ap (give (start c.args.wanted)) all) ∙ sym (ap (λ q. holding c.args.wanted (tested q d n)) e)
 

@@ -12,81 +12,88 @@ use Rattle.jsonpath_walk.specs.inner.Keeping.{document}
 use Rattle.jsonpath_walk.specs.inner.Standing.{Returns}
 use Rattle.jsonpath_node.specs.inner.Operands.{arg_trees, AreWhole}
 use Rattle.jsonpath_node.specs.inner.Size.{size}
-use Rattle.jsonpath_walk.proofs.Work.{work, action_weight}
+use Rattle.jsonpath_walk.proofs.Work.{work}
+use Rattle.jsonpath_walk.specs.inner.Passing.{action_weight}
 use Rattle.jsonpath_node.proofs.Weight.{segments_weight, segment_weight, selectors_weight, selector_weight, filter_weight, filters_weight, atom_weight, test_weight, comparison_weight, comparable_weight, call_weight, argument_weight, arguments_weight}
 use Rattle.jsonpath_walk.proofs.walk.Task.+walk.Given as goal
 
 abbrev pub decreases-walk : goal.decreases-walk
-decreases-walk g l = let tree = g.T.Queryable.tree in work (segments_weight (segments_in l.segments.now) + 1) (size (tree l.self.now.root.now)) (3 * size (tree l.at.now))
+decreases-walk g l = let tree = g.T.Queryable.tree in work (segments_weight (segments_in l.segments.now) + 1) (size (tree l.self.now.root.now)) (5 * size (tree l.at.now))
 
 abbrev pub decreases-pass : goal.decreases-pass
-decreases-pass g l = let tree = g.T.Queryable.tree in work (segment_weight (segment_view l.first.now) + segments_weight (segments_in l.rest.now)) (size (tree l.self.now.root.now)) (3 * size (tree l.at.now))
+decreases-pass g l = let tree = g.T.Queryable.tree in work (segment_weight (segment_view l.first.now) + segments_weight (segments_in l.rest.now)) (size (tree l.self.now.root.now)) (5 * size (tree l.at.now))
 
 abbrev pub decreases-pick_each : goal.decreases-pick_each
-decreases-pick_each g l = let tree = g.T.Queryable.tree in work (selectors_weight (selectors_in l.selectors.now) + 1 + segments_weight (segments_in l.rest.now)) (size (tree l.self.now.root.now)) (3 * size (tree l.at.now))
+decreases-pick_each g l = let tree = g.T.Queryable.tree in work (selectors_weight (selectors_in l.selectors.now) + 1 + segments_weight (segments_in l.rest.now)) (size (tree l.self.now.root.now)) (5 * size (tree l.at.now))
 
 abbrev pub decreases-pick : goal.decreases-pick
-decreases-pick g l = let tree = g.T.Queryable.tree in work (selector_weight (selector_view l.selector.now) + segments_weight (segments_in l.rest.now)) (size (tree l.self.now.root.now)) (3 * size (tree l.at.now))
+decreases-pick g l = let tree = g.T.Queryable.tree in work (selector_weight (selector_view l.selector.now) + segments_weight (segments_in l.rest.now)) (size (tree l.self.now.root.now)) (5 * size (tree l.at.now))
 
 abbrev pub decreases-pick_slice : goal.decreases-pick_slice
-decreases-pick_slice g l = let tree = g.T.Queryable.tree in work (segments_weight (segments_in l.rest.now) + 3) (size (tree l.self.now.root.now)) (3 * size (tree l.at.now))
+decreases-pick_slice g l = let tree = g.T.Queryable.tree in work (segments_weight (segments_in l.rest.now) + 3) (size (tree l.self.now.root.now)) (5 * size (tree l.at.now))
 
 abbrev pub decreases-each_child : goal.decreases-each_child
-decreases-each_child g l = let tree = g.T.Queryable.tree in work (action_weight l.action + segments_weight (segments_in l.rest.now)) (size (tree l.self.now.root.now)) (3 * size (tree l.at.now))
+decreases-each_child g l = let tree = g.T.Queryable.tree in work (action_weight l.action + segments_weight (segments_in l.rest.now)) (size (tree l.self.now.root.now)) (5 * size (tree l.at.now) + 1)
+
+abbrev pub decreases-each_member : goal.decreases-each_member
+decreases-each_member g l = let tree = g.T.Queryable.tree in work (action_weight l.action + segments_weight (segments_in l.rest.now)) (size (tree l.self.now.root.now)) (5 * size (tree l.members.now.of.now))
+
+abbrev pub decreases-descend : goal.decreases-descend
+decreases-descend g l = let tree = g.T.Queryable.tree in work (segment_weight (segment_view l.segment.now) + 1 + segments_weight (segments_in l.rest.now)) (size (tree l.self.now.root.now)) (5 * size (tree l.at.now) + 2)
 
 abbrev pub decreases-at_child : goal.decreases-at_child
-decreases-at_child g l = let tree = g.T.Queryable.tree in work (action_weight l.action + segments_weight (segments_in l.rest.now)) (size (tree l.self.now.root.now)) (3 * size (tree l.child.value.now) + 2)
+decreases-at_child g l = let tree = g.T.Queryable.tree in work (action_weight l.action + segments_weight (segments_in l.rest.now)) (size (tree l.self.now.root.now)) (5 * size (tree l.child.value.now) + 4)
 
 abbrev pub decreases-act : goal.decreases-act
-decreases-act g l = let tree = g.T.Queryable.tree in work (action_weight l.action + segments_weight (segments_in l.rest.now)) (size (tree l.self.now.root.now)) (3 * size (tree l.at.now) + 1)
+decreases-act g l = let tree = g.T.Queryable.tree in work (action_weight l.action + segments_weight (segments_in l.rest.now)) (size (tree l.self.now.root.now)) (5 * size (tree l.at.now) + 3)
 
 abbrev pub decreases-go_on : goal.decreases-go_on
-decreases-go_on g l = let tree = g.T.Queryable.tree in work (segments_weight (segments_in l.rest.now) + 1) (size (tree l.self.now.root.now)) (3 * size (tree l.at.now) + 1)
+decreases-go_on g l = let tree = g.T.Queryable.tree in work (segments_weight (segments_in l.rest.now) + 1) (size (tree l.self.now.root.now)) (5 * size (tree l.at.now) + 1)
 
 abbrev pub decreases-filter_holds : goal.decreases-filter_holds
-decreases-filter_holds g l = let tree = g.T.Queryable.tree in work (filter_weight (filter_view l.filter.now)) (size (tree l.self.now.root.now)) (3 * size (tree l.at.now))
+decreases-filter_holds g l = let tree = g.T.Queryable.tree in work (filter_weight (filter_view l.filter.now)) (size (tree l.self.now.root.now)) (5 * size (tree l.at.now))
 
 abbrev pub decreases-some_holds : goal.decreases-some_holds
-decreases-some_holds g l = let tree = g.T.Queryable.tree in work (filters_weight (filters_in l.parts.now) + 1) (size (tree l.self.now.root.now)) (3 * size (tree l.at.now))
+decreases-some_holds g l = let tree = g.T.Queryable.tree in work (filters_weight (filters_in l.parts.now) + 1) (size (tree l.self.now.root.now)) (5 * size (tree l.at.now))
 
 abbrev pub decreases-each_holds : goal.decreases-each_holds
-decreases-each_holds g l = let tree = g.T.Queryable.tree in work (filters_weight (filters_in l.parts.now) + 1) (size (tree l.self.now.root.now)) (3 * size (tree l.at.now))
+decreases-each_holds g l = let tree = g.T.Queryable.tree in work (filters_weight (filters_in l.parts.now) + 1) (size (tree l.self.now.root.now)) (5 * size (tree l.at.now))
 
 abbrev pub decreases-atom_holds : goal.decreases-atom_holds
-decreases-atom_holds g l = let tree = g.T.Queryable.tree in work (atom_weight (atom_view l.atom.now)) (size (tree l.self.now.root.now)) (3 * size (tree l.at.now))
+decreases-atom_holds g l = let tree = g.T.Queryable.tree in work (atom_weight (atom_view l.atom.now)) (size (tree l.self.now.root.now)) (5 * size (tree l.at.now))
 
 abbrev pub decreases-comparison_holds : goal.decreases-comparison_holds
-decreases-comparison_holds g l = let tree = g.T.Queryable.tree in work (comparison_weight (comparison_view l.comparison.now)) (size (tree l.self.now.root.now)) (3 * size (tree l.at.now))
+decreases-comparison_holds g l = let tree = g.T.Queryable.tree in work (comparison_weight (comparison_view l.comparison.now)) (size (tree l.self.now.root.now)) (5 * size (tree l.at.now))
 
 abbrev pub decreases-side : goal.decreases-side
-decreases-side g l = let tree = g.T.Queryable.tree in work (comparable_weight (comparable_view l.comparable.now)) (size (tree l.self.now.root.now)) (3 * size (tree l.at.now))
+decreases-side g l = let tree = g.T.Queryable.tree in work (comparable_weight (comparable_view l.comparable.now)) (size (tree l.self.now.root.now)) (5 * size (tree l.at.now))
 
 abbrev pub decreases-answer : goal.decreases-answer
-decreases-answer g l = let tree = g.T.Queryable.tree in work (call_weight (call_view l.function.now)) (size (tree l.self.now.root.now)) (3 * size (tree l.at.now))
+decreases-answer g l = let tree = g.T.Queryable.tree in work (call_weight (call_view l.function.now)) (size (tree l.self.now.root.now)) (5 * size (tree l.at.now))
 
 abbrev pub decreases-match_or_search : goal.decreases-match_or_search
-decreases-match_or_search g l = let tree = g.T.Queryable.tree in work (argument_weight (argument_view l.args.0.now) + argument_weight (argument_view l.args.1.now) + 1) (size (tree l.self.now.root.now)) (3 * size (tree l.at.now))
+decreases-match_or_search g l = let tree = g.T.Queryable.tree in work (argument_weight (argument_view l.args.0.now) + argument_weight (argument_view l.args.1.now) + 1) (size (tree l.self.now.root.now)) (5 * size (tree l.at.now))
 
 abbrev pub decreases-custom : goal.decreases-custom
-decreases-custom g l = let tree = g.T.Queryable.tree in work (arguments_weight (arguments_in l.args.now) + 1) (size (tree l.self.now.root.now)) (3 * size (tree l.at.now))
+decreases-custom g l = let tree = g.T.Queryable.tree in work (arguments_weight (arguments_in l.args.now) + 1) (size (tree l.self.now.root.now)) (5 * size (tree l.at.now))
 
 abbrev pub decreases-value : goal.decreases-value
-decreases-value g l = let tree = g.T.Queryable.tree in work (argument_weight (argument_view l.arg.now)) (size (tree l.self.now.root.now)) (3 * size (tree l.at.now) + 1)
+decreases-value g l = let tree = g.T.Queryable.tree in work (argument_weight (argument_view l.arg.now)) (size (tree l.self.now.root.now)) (5 * size (tree l.at.now) + 1)
 
 abbrev pub decreases-argument : goal.decreases-argument
-decreases-argument g l = let tree = g.T.Queryable.tree in work (argument_weight (argument_view l.arg.now)) (size (tree l.self.now.root.now)) (3 * size (tree l.at.now))
+decreases-argument g l = let tree = g.T.Queryable.tree in work (argument_weight (argument_view l.arg.now)) (size (tree l.self.now.root.now)) (5 * size (tree l.at.now))
 
 abbrev pub decreases-test : goal.decreases-test
-decreases-test g l = let tree = g.T.Queryable.tree in work (test_weight (test_view l.test.now)) (size (tree l.self.now.root.now)) (3 * size (tree l.at.now))
+decreases-test g l = let tree = g.T.Queryable.tree in work (test_weight (test_view l.test.now)) (size (tree l.self.now.root.now)) (5 * size (tree l.at.now))
 
 abbrev pub decreases-gather : goal.decreases-gather
-decreases-gather g l = let tree = g.T.Queryable.tree in work (segments_weight (segments_in l.segments.now) + 2) (size (tree l.self.now.root.now)) (3 * size (tree l.at.now))
+decreases-gather g l = let tree = g.T.Queryable.tree in work (segments_weight (segments_in l.segments.now) + 2) (size (tree l.self.now.root.now)) (5 * size (tree l.at.now))
 
 abbrev pub decreases-absolute : goal.decreases-absolute
-decreases-absolute g l = let tree = g.T.Queryable.tree in work (segments_weight (query_view l.query.now) + 3) (size (tree l.self.now.root.now)) (3 * size (tree l.self.now.root.now))
+decreases-absolute g l = let tree = g.T.Queryable.tree in work (segments_weight (query_view l.query.now) + 3) (size (tree l.self.now.root.now)) (5 * size (tree l.self.now.root.now))
 
 abbrev pub decreases-settle : goal.decreases-settle
-decreases-settle g l = let tree = g.T.Queryable.tree in work (segments_weight (query_view l.query.now) + 2) (size (tree l.self.now.root.now)) (3 * size (tree l.self.now.root.now))
+decreases-settle g l = let tree = g.T.Queryable.tree in work (segments_weight (query_view l.query.now) + 2) (size (tree l.self.now.root.now)) (5 * size (tree l.self.now.root.now))
 
 -- what was given, with what is left, is what all of them give
 abbrev pub invariant-pick_each-loop-selector : goal.invariant-pick_each-loop-selector
@@ -126,12 +133,12 @@ invariant-each_child-loop-i g l =
       given : give (seen tree whole l.sink) (flat_map rest (flat_map (acted l.action d) (element_nodes n.location l.i (map tree (drop l.i l.value-items))))) ≡ give (seen tree whole l.initial.sink) (flat_map rest (flat_map (acted l.action d) (children n)));
     }
 
-abbrev pub invariant-each_child-loop-member : goal.invariant-each_child-loop-member
-invariant-each_child-loop-member g l =
+abbrev pub invariant-each_member-loop-member : goal.invariant-each_member-loop-member
+invariant-each_member-loop-member g l =
     let tree = g.T.Queryable.tree in
     let whole = g.T.Queryable.is_whole in
     let d = document tree g.T.Queryable.custom l.self in
-    let n = node_of tree l.initial.trail.way.steps.items l.at in
+    let n = node_of tree l.initial.trail.way.steps.items l.members.of.now in
     let rest = through (segments_in l.rest) d in
     record {
       returns : Returns tree whole g.T.Queryable.custom l.self l.initial.trail l.trail;
