@@ -1,14 +1,11 @@
 //! Asks a JSONPath query of the JSON on standard input.
 #![tactic(auto)]
 
-mod fault;
-mod output;
-mod run;
 #[cfg(test)]
 mod tests;
-mod words;
 
-use fault::Fault;
+use jpath_program::fault::Fault;
+use jpath_program::run::run;
 use std::io::ErrorKind;
 use std::process::ExitCode;
 use std::{env, io};
@@ -16,7 +13,7 @@ use std::{env, io};
 /// Runs with the words of the command line and the standard streams.
 fn run_with(rt: &HostRuntime) -> Result<(), Fault> {
     let words = words_of(rt)?;
-    run::run(
+    run(
         rt.alloc(),
         words.as_slice(),
         &mut rt.reader(),
