@@ -10,6 +10,7 @@ ghost use Rattle.jsonpath_node.specs.declared.halt.Halt.TheVariants.{Memory};
 ghost use Rattle.jsonpath_walk.specs.inner.Sinks.{seen, start, give};
 ghost use Rattle.jsonpath_walk.specs.inner.Keeping.{seen_at, AreRight, nodelists_of, gathered, IsGathered};
 
+use crate::catalogue::Catalogue;
 use crate::finders::{Asked, Finders};
 use crate::patterns::Origin;
 use crate::round::around;
@@ -53,6 +54,8 @@ pub struct Cache<'a, 's, T> {
     pub nodelists: Vec<CachedNodelist<'a, 's, T>>,
     /// The index in it of the nodelist that is likely to be asked next.
     pub likely: usize,
+    /// Where those stand that were kept first, once there are many.
+    catalogue: Catalogue,
     /// What asks patterns.
     pub finders: Finders<'s>,
 }
@@ -65,21 +68,44 @@ impl<'a, 's, T: Queryable> Cache<'a, 's, T> {
         Cache {
             nodelists: Vec::new(alloc),
             likely: 0,
+            catalogue: Catalogue::new(alloc),
             finders,
         }
     }
 
-    /// The index of the nodelist of a query, if it is kept. It is looked for from where the
-    /// last one was found, for a filter asks its queries in turn at one node after the other.
-    pub fn find(&mut self, query: &JpQuery, wanted: Wanted) -> Option<usize>
+    /// The index of the nodelist of a query, if it is kept. It is looked for from where the last one was found, for a filter
+    /// asks its queries in turn at one node after the other, and where it is not near, by its hash.
+    pub fn find(&mut self, query: &JpQuery, wanted: Wanted) -> Result<Option<usize>, AllocError>
         ensures same { nodelists_of self.new ≡ nodelists_of self.old }
-        ensures within { IfSome result (λ i. i < length (nodelists_of self.new)) }
-        ensures right { (doc : Document) → AreRight T.tree T.is_whole doc (nodelists_of self.old) → IfSome result (λ i.
-            seen_at T.tree T.is_whole (nodelists_of self.new) i ≡ give (start wanted) (nodelist (query_view query.now) doc)) }
+        ensures within { IfOk result (λ o. IfSome o (λ i. i < length (nodelists_of self.new))) }
+        ensures right { (doc : Document) → AreRight T.tree T.is_whole doc (nodelists_of self.old) → IfOk result (λ o. IfSome o (λ i.
+            seen_at T.tree T.is_whole (nodelists_of self.new) i ≡ give (start wanted) (nodelist (query_view query.now) doc))) }
     {
-        let index = found_from(self.likely, &self.nodelists, query, wanted)?;
+        let near = found_from(self.likely, NEAR, &self.nodelists, query, wanted);
+        if let Some(index) = near {
+            self.likely = index.saturating_add(1);
+            return Ok(Some(index));
+        }
+        self.find_far(query, wanted)
+    }
+
+    /// The same, by the hash of the query. All of a few are near.
+    fn find_far(&mut self, query: &JpQuery, wanted: Wanted) -> Result<Option<usize>, AllocError>
+        ensures same { nodelists_of self.new ≡ nodelists_of self.old }
+        ensures within { IfOk result (λ o. IfSome o (λ i. i < length (nodelists_of self.new))) }
+        ensures right { (doc : Document) → AreRight T.tree T.is_whole doc (nodelists_of self.old) → IfOk result (λ o. IfSome o (λ i.
+            seen_at T.tree T.is_whole (nodelists_of self.new) i ≡ give (start wanted) (nodelist (query_view query.now) doc))) }
+    {
+        let count = self.nodelists.len();
+        if count <= NEAR {
+            return Ok(None);
+        }
+        enter_rest(&mut self.catalogue, &self.nodelists)?;
+        let Some(index) = self.catalogue.index_of(query, wanted) else {
+            return Ok(None);
+        };
         self.likely = index.saturating_add(1);
-        Some(index)
+        Ok(found_from(index, count, &self.nodelists, query, wanted))
     }
 
     /// Keeps the nodelist of a query, and tells its index.
@@ -146,10 +172,13 @@ impl<'a, 's, T: Queryable> Cache<'a, 's, T> {
     }
 }
 
-/// The index of the nodelist of a query, if it is among these. They are tried from `likely`
-/// on, round to it.
+/// How many nodelists are near.
+const NEAR: usize = 8;
+
+/// The index of the nodelist of a query, if it is one of these: so many from `first` on, in a round.
 fn found_from<T: Queryable>(
-    likely: usize,
+    first: usize,
+    most: usize,
     nodelists: &Vec<CachedNodelist<'_, '_, T>>,
     query: &JpQuery,
     wanted: Wanted,
@@ -159,8 +188,8 @@ fn found_from<T: Queryable>(
         seen_at T.tree T.is_whole nodelists.now.items i ≡ give (start wanted) (nodelist (query_view query.now) doc)) }
 {
     let count = nodelists.len();
-    for turn in 0..count {
-        let index = around(likely, turn, count);
+    for turn in 0..count.min(most) {
+        let index = around(first, turn, count);
         if let Some(cached) = nodelists.get(index) {
             if cached.is_of(query, wanted) {
                 return Some(index);
@@ -168,6 +197,19 @@ fn found_from<T: Queryable>(
         }
     }
     None
+}
+
+/// Enters the nodelists that are not in the catalogue yet.
+fn enter_rest<T>(
+    catalogue: &mut Catalogue,
+    nodelists: &Vec<CachedNodelist<'_, '_, T>>,
+) -> Result<(), AllocError> {
+    for index in catalogue.next()..nodelists.len() {
+        if let Some(cached) = nodelists.get(index) {
+            catalogue.enter(cached.query, cached.wanted)?;
+        }
+    }
+    Ok(())
 }
 
 /// Whether the same is wanted.

@@ -5,6 +5,7 @@
 mod action;
 mod argument;
 mod cache;
+mod catalogue;
 mod children;
 mod existence;
 mod filter;

@@ -24,7 +24,7 @@ pub enum Only<'a, T> {
 }
 
 /// What is wanted of the nodes of a query inside a filter.
-#[derive(Clone, Copy)]
+#[derive(Clone, Copy, Debug)]
 pub enum Wanted {
     /// Whether there is one.
     Any,

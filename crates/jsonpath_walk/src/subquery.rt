@@ -61,7 +61,8 @@ impl<'a: 's, 's, T: Queryable> Task<'a, 's, T> {
         ensures returns { OnOk result (Returns T.tree T.is_whole T.custom self.now trail.old trail.new) }
         ensures refused { IfErr result (IsHalt (query_of self.now) (document T.tree T.custom self.now)) }
     {
-        if let Some(index) = trail.cache.find(query, wanted) {
+        let kept = trail.cache.find(query, wanted)?;
+        if let Some(index) = kept {
             return Ok(index);
         }
         self.settle(query, trail)?;

@@ -1131,12 +1131,12 @@ absolute-gather-requires g t c κs within =
     (down _ _ _ _ _ _ c.decreases (omega (arith, ap segments_weight e, ap (λ (xs : List Segment). segments_weight (segments_in xs)) gs)) (omega arith), (within, (root, part_as (λ (xs : List Segment). segments_patterns (segments_in xs)) _ _ _ (sym gs) (part_as segments_patterns _ _ _ e c.requires.part))))
 
 pub absolute-returns-in-Some-clause-within : goal.absolute-returns-in-Some-clause-within
-absolute-returns-in-Some-clause-within g t c = c.in-Some.ensures.within
+absolute-returns-in-Some-clause-within g t c = rw c.in-Some.is at c.in_ok-kept.ensures.within
 
 pub absolute-returns-in-Some-clause-right : goal.absolute-returns-in-Some-clause-right
 absolute-returns-in-Some-clause-right g t c =
     let d = document g.T.Queryable.tree g.T.Queryable.custom c.args.self.now in
-    c.in-Some.ensures.right d c.requires.ready.nodelists
+    rw c.in-Some.is at c.in_ok-kept.ensures.right d c.requires.ready.nodelists
 
 pub absolute-returns-in-Some-clause-returns : goal.absolute-returns-in-Some-clause-returns
 absolute-returns-in-Some-clause-returns g t c = record { same = refl; ready = ready_as g.T.Queryable.tree g.T.Queryable.is_whole g.T.Queryable.custom c.args.self.now c.args.trail.now.cache c.find.new.self c.find.ensures.same c.requires.ready }
