@@ -34,8 +34,7 @@ impl Catalogue {
 
     /// Enters the next nodelist.
     pub fn enter(&mut self, query: &JpQuery, wanted: Wanted) -> Result<(), AllocError> {
-        self.indexes
-            .insert(fingerprint(query, wanted), self.count)?;
+        self.indexes.insert(fingerprint(query, wanted), self.count)?;
         self.count = self.count.saturating_add(1);
         Ok(())
     }
