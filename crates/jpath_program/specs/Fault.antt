@@ -1,7 +1,7 @@
 -- How a run that ends early shows it: the exit status, and the line on standard error.
 use Rattle.std.specs.Prelude.{ℕ, List, ◌++◌, codes, decimal}
-use Rattle.jsonpath_tree.specs.declared.errors.JsonPathError.{JsonPathError}
-use Rattle.jsonpath_tree.specs.declared.errors.JsonPathError.TheVariants.{InvalidNumber, MaxNestingDepthExceeded, InvalidJsonPath, OutOfMemory}
+use Rattle.jsonpath_core.specs.declared.errors.JsonPathError.{JsonPathError}
+use Rattle.jsonpath_core.specs.declared.errors.JsonPathError.TheVariants.{InvalidNumber, MaxNestingDepthExceeded, InvalidJsonPath, OutOfMemory}
 use Rattle.jpath_program.specs.declared.fault.Fault as fault
 use Rattle.jpath_program.specs.declared.fault.Fault.TheVariants.{Usage, Query, NotJson, NotWhole, Io, Memory}
 

@@ -1,5 +1,5 @@
 //! The texts of errors, and their copies.
-use jsonpath_tree::errors::JsonPathError;
+use jsonpath_core::errors::JsonPathError;
 use std::alloc::Global;
 
 /// Errors by their names, or by the makers that no variant is named for, and their texts.

@@ -1,7 +1,7 @@
 //! Nodes that are made by hand, and the error for a value that is none.
+use jsonpath_core::errors::JsonPathError;
 use jsonpath_node::queryable::Queryable;
 use jsonpath_node::{QueryRef, not_a_reference};
-use jsonpath_tree::errors::JsonPathError;
 use serde_json::Value;
 use std::alloc::Global;
 

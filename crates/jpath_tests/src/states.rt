@@ -1,8 +1,8 @@
 //! What the rows of `jpath_states` cannot ask of states: `flat_map`, whose closure no row writes, and states in two documents.
+use jsonpath_core::errors::JsonPathError;
 use jsonpath_node::Queried;
 use jsonpath_node::queryable::Queryable;
 use jsonpath_state::state::{Data, Pointer, State};
-use jsonpath_tree::errors::JsonPathError;
 use serde_json::Value;
 use std::alloc::Global;
 

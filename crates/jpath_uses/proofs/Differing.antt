@@ -2,7 +2,7 @@
 use Rattle.std.proofs.Common.{◌≡◌, ℕ, zero, suc, ◌<◌, List, [], ◌∷◌, map, length, take, get_or, Option, Some, None, IfSome, IfNone, IsTrue, slice_get, refl, sym, ap, ap₂, ◌∙◌, subst, arith}
 use Rattle.std.proofs.lemmas.Bool.{false≢true}
 use Rattle.std.specs.List.{AllZip, filter_map, cons_option}
-use Rattle.jsonpath_tree.specs.Location.{Location}
+use Rattle.jsonpath_core.specs.Location.{Location}
 use Rattle.jsonpath_base.specs.Places.{at}
 use Rattle.jsonpath_base.specs.Same.{same}
 use Rattle.jsonpath_base.specs.Tree.{Tree}

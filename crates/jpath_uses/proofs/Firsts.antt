@@ -4,7 +4,7 @@ use Rattle.std.proofs.lemmas.List.{take_all, length-map, get_or-map}
 use Rattle.std.proofs.lemmas.List.Elements.{All-more}
 use Rattle.std.proofs.lemmas.Option.{slice_get_read, slice_get-map}
 use Rattle.std.specs.List.{AllZip}
-use Rattle.jsonpath_tree.specs.Location.{Location}
+use Rattle.jsonpath_core.specs.Location.{Location}
 use Rattle.jsonpath_tree.specs.Syntax.{Query}
 use Rattle.jsonpath_base.specs.Tree.{Tree}
 use Rattle.jsonpath_node.specs.Answer.{IsNodeAt, shown}

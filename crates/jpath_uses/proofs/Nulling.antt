@@ -1,7 +1,7 @@
 -- What null is put at, and what it leaves.
 use Rattle.std.proofs.Common.{◌≡◌, List, [], ◌∷◌, All, Option, Some, None, IfSome, option_map, option_and_then, inl, inr, refl, sym, ap, ◌∙◌, subst}
 use Rattle.std.proofs.lemmas.List.Elements.{All-nil, All-cons, All-head, All-tail}
-use Rattle.jsonpath_tree.specs.Location.{Step, name, index, Location, Begins}
+use Rattle.jsonpath_core.specs.Location.{Step, name, index, Location, Begins}
 use Rattle.jsonpath_base.proofs.PutLaws.{IsWritten, child_written, child_same, put_leaves_the_rest}
 use Rattle.jsonpath_base.specs.Places.{child, at}
 use Rattle.jsonpath_base.specs.Put.{with_child, put}

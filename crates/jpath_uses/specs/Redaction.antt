@@ -1,9 +1,9 @@
 -- What is left of a document in which values are replaced by null.
 use Rattle.std.specs.Prelude.{◌≡◌, List, [], ◌∷◌, All, IfSome}
 use Rattle.std.specs.List.{Contains, flat_map}
-use Rattle.jsonpath_tree.specs.Location.{Location, Begins}
+use Rattle.jsonpath_core.specs.Location.{Location, Begins}
 use Rattle.jsonpath_tree.specs.View.{query_view}
-use Rattle.jsonpath_tree.specs.declared.errors.JsonPathError.{JsonPathError}
+use Rattle.jsonpath_core.specs.declared.errors.JsonPathError.{JsonPathError}
 use Rattle.jsonpath_tree.specs.declared.model.JpQuery.{JpQuery}
 use Rattle.jsonpath_base.specs.Places.{at}
 use Rattle.jsonpath_base.specs.Put.{put}

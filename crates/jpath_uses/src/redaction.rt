@@ -1,6 +1,6 @@
 //! Redaction: what queries select in a document is replaced by null.
 ghost use Rattle.std.specs.Prelude.{◌≡◌, All, IsTrue, IfOk, IfErr, OnOk, OnErr, map};
-ghost use Rattle.jsonpath_tree.specs.Location.{Location};
+ghost use Rattle.jsonpath_core.specs.Location.{Location};
 ghost use Rattle.jsonpath_base.specs.Places.{at};
 ghost use Rattle.jsonpath_base.specs.SetFunctions.{set_function};
 ghost use Rattle.jsonpath_base.specs.Steps.{location_view};

@@ -3,9 +3,9 @@ ghost use Rattle.std.specs.Prelude.{◌≡◌, IfOk, IfErr};
 ghost use Rattle.jsonpath_tree.specs.Making.{Makes, typed_call_of};
 ghost use Rattle.jsonpath_tree.specs.Syntax as tree;
 ghost use Rattle.jsonpath_tree.specs.View.{literal_view, argument_view, call_view, filter_view, test_view};
-ghost use Rattle.jsonpath_tree.specs.declared.errors.JsonPathError.TheVariants.{OutOfMemory};
+ghost use Rattle.jsonpath_core.specs.declared.errors.JsonPathError.TheVariants.{OutOfMemory};
 
-use jsonpath_tree::errors::Parsed;
+use jsonpath_core::errors::Parsed;
 use jsonpath_tree::model::{Filter, FnArg, Literal, Test, TestFunction};
 use std::alloc::Global;
 

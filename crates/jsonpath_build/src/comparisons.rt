@@ -4,7 +4,7 @@ ghost use Rattle.jsonpath_tree.specs.Making.{Makes, comparison_of, operator_of};
 ghost use Rattle.jsonpath_tree.specs.Syntax as tree;
 ghost use Rattle.jsonpath_tree.specs.View.{call_view, comparable_view, comparison_view, literal_view, singular_view};
 
-use jsonpath_tree::errors::Parsed;
+use jsonpath_core::errors::Parsed;
 use jsonpath_tree::model::{Comparable, Comparison, Literal, SingularQuery, TestFunction};
 use std::alloc::Global;
 

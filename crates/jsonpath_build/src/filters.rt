@@ -3,10 +3,10 @@ ghost use Rattle.std.specs.Prelude.{◌≡◌, true, false, IfOk, IfErr, option_
 ghost use Rattle.jsonpath_tree.specs.Making.{Makes, comparison_of};
 ghost use Rattle.jsonpath_tree.specs.Syntax as tree;
 ghost use Rattle.jsonpath_tree.specs.View.{atom_view, call_view, comparable_view, filter_view, filters_view, query_view, segments_view, test_view};
-ghost use Rattle.jsonpath_tree.specs.declared.errors.JsonPathError.TheVariants.{OutOfMemory};
+ghost use Rattle.jsonpath_core.specs.declared.errors.JsonPathError.TheVariants.{OutOfMemory};
 
 use crate::comparisons::cmp;
-use jsonpath_tree::errors::Parsed;
+use jsonpath_core::errors::Parsed;
 use jsonpath_tree::model::{Comparable, Filter, FilterAtom, JpQuery, Segment, Test, TestFunction};
 use std::alloc::Global;
 

@@ -2,9 +2,9 @@
 ghost use Rattle.std.specs.Prelude.{◌≡◌, [], ◌∷◌, map, IfOk, IfErr};
 ghost use Rattle.jsonpath_tree.specs.Syntax as tree;
 ghost use Rattle.jsonpath_tree.specs.View.{step_view, singular_view};
-ghost use Rattle.jsonpath_tree.specs.declared.errors.JsonPathError.TheVariants.{OutOfMemory};
+ghost use Rattle.jsonpath_core.specs.declared.errors.JsonPathError.TheVariants.{OutOfMemory};
 
-use jsonpath_tree::errors::Parsed;
+use jsonpath_core::errors::Parsed;
 use jsonpath_tree::model::{SingularQuery, SingularQuerySegment};
 use std::alloc::Global;
 

@@ -3,7 +3,7 @@ use Rattle.std.proofs.Common.{◌≡◌, ℕ, ◌<◌, ℤ, List, [], ◌∷◌,
 use Rattle.std.proofs.lemmas.Bool.{and_parts, and_from, false≢true}
 use Rattle.std.specs.List.{flat_map}
 use Rattle.jsonpath_parser.specs.Derives.{Derives}
-use Rattle.jsonpath_tree.specs.Location.{Step, name, index, Location}
+use Rattle.jsonpath_core.specs.Location.{Step, name, index, Location}
 use Rattle.jsonpath_tree.specs.Syntax as syntax
 use Rattle.jsonpath_tree.specs.Syntax.{Selector, Segment, one, several, descendant, Segments, no_segments, segment, Query}
 use Rattle.jsonpath_tree.specs.Typing.{is_step, is_singular}

@@ -7,11 +7,11 @@ use Rattle.std.proofs.result.Result.TheLaws as result_laws
 use Rattle.serde_json.specs.contracts.value.Value.{the_row as R}
 use Rattle.serde_json.proofs.value.Value.TheLaws.{the_row_laws as R-laws}
 use Rattle.serde_json.specs.declared.value.Value.{Value}
-use Rattle.jsonpath_tree.specs.Location.{Location}
-use Rattle.jsonpath_tree.specs.contracts.errors.JsonPathError.{the_row as E}
-use Rattle.jsonpath_tree.proofs.errors.JsonPathError.TheLaws.{the_row_laws as E-laws}
-use Rattle.jsonpath_tree.specs.declared.errors.JsonPathError.{JsonPathError}
-use Rattle.jsonpath_tree.specs.declared.errors.JsonPathError.TheVariants.{OutOfMemory}
+use Rattle.jsonpath_core.specs.Location.{Location}
+use Rattle.jsonpath_core.specs.contracts.errors.JsonPathError.{the_row as E}
+use Rattle.jsonpath_core.proofs.errors.JsonPathError.TheLaws.{the_row_laws as E-laws}
+use Rattle.jsonpath_core.specs.declared.errors.JsonPathError.{JsonPathError}
+use Rattle.jsonpath_core.specs.declared.errors.JsonPathError.TheVariants.{OutOfMemory}
 use Rattle.jsonpath_base.specs.SetFunctions.{set_function}
 use Rattle.jsonpath_base.specs.Steps.{location_view}
 use Rattle.jsonpath_base.specs.Tree.{Tree}

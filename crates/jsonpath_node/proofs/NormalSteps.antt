@@ -7,8 +7,8 @@ use Rattle.std.specs.Prelude.{nat_lt}
 use Rattle.jsonpath_parser.proofs.NormalQueries.{normal_derives}
 use Rattle.jsonpath_parser.proofs.Unambiguous.{no_text_derives_two_trees}
 use Rattle.jsonpath_parser.specs.Derives.{Derives}
-use Rattle.jsonpath_tree.specs.Location.{Step, name, index, Location}
-use Rattle.jsonpath_tree.specs.Normal.{IsNormal}
+use Rattle.jsonpath_core.specs.Location.{Step, name, index, Location}
+use Rattle.jsonpath_core.specs.Normal.{IsNormal}
 use Rattle.jsonpath_tree.specs.Steps.{HasIndexesInRange, step_segment, steps_query}
 use Rattle.jsonpath_tree.specs.Typing.{is_singular}
 use Rattle.jsonpath_base.proofs.PutLaws.{put_nowhere}

@@ -4,7 +4,7 @@ use Rattle.std.proofs.lemmas.Option.{slice_get-map, slice_get_read}
 use Rattle.std.proofs.lemmas.List.Elements.{All-get_or}
 use Rattle.std.specs.List.{flat_map, slice_get}
 use Rattle.std.specs.Str.{bytes_eq}
-use Rattle.jsonpath_tree.specs.Location.{Location, name, index}
+use Rattle.jsonpath_core.specs.Location.{Location, name, index}
 use Rattle.jsonpath_base.specs.Tree.{Tree, null, truth, number, text, list, object, Trees, no_trees, tree, Members, no_members, member, elements, pairs, as_list, as_members, find, get}
 use Rattle.jsonpath_base.specs.Places.{child, item_at}
 use Rattle.jsonpath_node.specs.Node.{Node, below, element_nodes, member_nodes, children_at, subtree, subtree_at, subtrees_at, member_subtrees}

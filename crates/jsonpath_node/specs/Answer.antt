@@ -1,8 +1,8 @@
 -- What a query answers.
 use Rattle.std.specs.Prelude.{◌≡◌, ℕ, List, map, Some, option_to_list, string_bytes, String}
 use Rattle.std.specs.List.{AllZip}
-use Rattle.jsonpath_tree.specs.Location.{Location}
-use Rattle.jsonpath_tree.specs.Normal.{IsNormal, IsOnlyPath}
+use Rattle.jsonpath_core.specs.Location.{Location}
+use Rattle.jsonpath_core.specs.Normal.{IsNormal, IsOnlyPath}
 use Rattle.jsonpath_tree.specs.Syntax.{Query}
 use Rattle.jsonpath_parser.specs.Derives.{Derives}
 use Rattle.jsonpath_base.specs.Tree.{Tree}

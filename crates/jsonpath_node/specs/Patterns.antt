@@ -4,8 +4,8 @@ use Rattle.std.specs.List.{Contains}
 use Rattle.jsonpath_tree.specs.Syntax as syntax
 use Rattle.jsonpath_tree.specs.Syntax.{Selector, wildcard, slice, Selectors, no_selectors, selector, Segment, one, several, descendant, Segments, no_segments, segment, Filter, or, and, atom, Filters, no_filters, filter_then, Atom, group, test, comparison, Comparison, compare, Comparable, literal, function, singular, Test, relative, absolute, call, Call, custom_call, length_call, value_call, count_call, search_call, match_call, Argument, literal_argument, test_argument, filter_argument, Arguments, no_arguments, argument, Query}
 use Rattle.jsonpath_parser.specs.Derives.{Derives, IsRefusal}
-use Rattle.jsonpath_tree.specs.declared.errors.JsonPathError.{JsonPathError}
-use Rattle.jsonpath_tree.specs.declared.errors.JsonPathError.TheVariants.{InvalidJsonPath, OutOfMemory}
+use Rattle.jsonpath_core.specs.declared.errors.JsonPathError.{JsonPathError}
+use Rattle.jsonpath_core.specs.declared.errors.JsonPathError.TheVariants.{InvalidJsonPath, OutOfMemory}
 use Rattle.jsonpath_base.specs.Pattern.{pattern_sought}
 use Rattle.jsonpath_base.specs.Tree as tree
 use Rattle.jsonpath_base.specs.Tree.{Tree}

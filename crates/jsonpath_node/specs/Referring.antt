@@ -1,7 +1,7 @@
 -- The one location that a singular query means, and what is read and written there (RFC 9535, 2.3.5.1).
 use Rattle.std.specs.Prelude.{◌≡◌, ℕ, List, [], ◌∷◌, Bool, Option, Some, None, IsTrue, IfSome, is_some}
 use Rattle.jsonpath_parser.specs.Derives.{Derives}
-use Rattle.jsonpath_tree.specs.Location.{Location}
+use Rattle.jsonpath_core.specs.Location.{Location}
 use Rattle.jsonpath_tree.specs.Syntax.{Query}
 use Rattle.jsonpath_tree.specs.Typing.{is_singular}
 use Rattle.jsonpath_base.specs.Places.{at}

@@ -1,6 +1,6 @@
 //! Why a walk halts. It becomes an error once, where the walk began, so that no step of it carries a text.
 ghost use Rattle.std.specs.Prelude.{◌≡◌};
-ghost use Rattle.jsonpath_tree.specs.declared.errors.JsonPathError.TheVariants as error;
+ghost use Rattle.jsonpath_core.specs.declared.errors.JsonPathError.TheVariants as error;
 ghost use Rattle.jsonpath_node.specs.Patterns.{IsInvalid};
 ghost use Rattle.jsonpath_node.specs.declared.halt.Halt.TheVariants.{Memory, Pattern};
 
@@ -57,7 +57,7 @@ impl<T: Drop> From<AllocFailed<T>> for Halt {
 
 /// Of calls that refuse by `OutOfMemory`, or by another error for a pattern.
 impl From<JsonPathError> for Halt {
-    ghost use Rattle.jsonpath_tree.specs.declared.errors.JsonPathError.TheVariants.{OutOfMemory};
+    ghost use Rattle.jsonpath_core.specs.declared.errors.JsonPathError.TheVariants.{OutOfMemory};
     ghost use Rattle.jsonpath_node.specs.declared.halt.Halt.TheVariants.{Memory};
 
     ghost from_gives = { λ e h. e ≡ OutOfMemory → h ≡ Memory };

@@ -1,7 +1,7 @@
 //! The nodes that a query selects.
 ghost use Rattle.std.specs.Prelude.{◌≡◌, ◌&&◌, IsTrue, IfOk, IfErr, bytes_eq, string_bytes};
 ghost use Rattle.jsonpath_base.specs.Same.{same};
-ghost use Rattle.jsonpath_tree.specs.declared.errors.JsonPathError.TheVariants.{OutOfMemory};
+ghost use Rattle.jsonpath_core.specs.declared.errors.JsonPathError.TheVariants.{OutOfMemory};
 
 use crate::Queried;
 use crate::queryable::Queryable;

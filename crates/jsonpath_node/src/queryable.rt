@@ -2,7 +2,7 @@
 ghost use Rattle.std.specs.Prelude.{◌≡◌, ℕ, Bool, false, List, map, length, Option, Some, None, option_map, All, IsTrue, IfOk, IfErr, IfSome};
 ghost use Rattle.jsonpath_base.specs.Tree.{Tree, null, truth, number, text, get, as_list, as_members, as_text, as_int, as_bool, has_distinct_names};
 ghost use Rattle.jsonpath_base.specs.Same.{same};
-ghost use Rattle.jsonpath_tree.specs.declared.errors.JsonPathError.TheVariants.{OutOfMemory};
+ghost use Rattle.jsonpath_core.specs.declared.errors.JsonPathError.TheVariants.{OutOfMemory};
 ghost use Rattle.jsonpath_node.specs.Args.{arg_value};
 
 use crate::Queried;

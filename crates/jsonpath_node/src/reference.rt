@@ -1,12 +1,12 @@
 //! Reading and writing at the one location that a singular query means (RFC 9535, 2.3.5.1): each of its segments is one
 //! name or one index. The steps are followed down from the root; the value is not walked.
 ghost use Rattle.std.specs.Prelude.{◌≡◌, [], Some, IsTrue, IfOk, IfErr, IfSome, IsSome, OnErr, option_map};
-ghost use Rattle.jsonpath_tree.specs.Location as location;
-ghost use Rattle.jsonpath_tree.specs.Location.{Location};
-ghost use Rattle.jsonpath_tree.specs.Normal.{IsNormal};
+ghost use Rattle.jsonpath_core.specs.Location as location;
+ghost use Rattle.jsonpath_core.specs.Location.{Location};
+ghost use Rattle.jsonpath_core.specs.Normal.{IsNormal};
 ghost use Rattle.jsonpath_tree.specs.Steps.{HasIndexesInRange};
 ghost use Rattle.jsonpath_tree.specs.View.{segment_view, selector_view};
-ghost use Rattle.jsonpath_tree.specs.declared.errors.JsonPathError.TheVariants.{OutOfMemory};
+ghost use Rattle.jsonpath_core.specs.declared.errors.JsonPathError.TheVariants.{OutOfMemory};
 ghost use Rattle.jsonpath_base.specs.Places as places;
 ghost use Rattle.jsonpath_base.specs.SetFunctions.{set_function};
 ghost use Rattle.jsonpath_base.specs.Steps.{location_view};

@@ -9,8 +9,8 @@ use Rattle.jsonpath_parser.specs.Parts.{text_of, rest_of, Spelling, IsPartRefusa
 use Rattle.jsonpath_lexical.specs.inner.Reading.{Read, Gives, Reads}
 use Rattle.jsonpath_parser.specs.inner.ReadingParts.{IsCursorRefusal, taken_at, Takes, StaysInText, IsAnswer}
 use Rattle.jsonpath_parser.specs.Values.{IsValued, IsAny}
-use Rattle.jsonpath_tree.specs.declared.errors.JsonPathError.{JsonPathError}
-use Rattle.jsonpath_tree.specs.declared.errors.JsonPathError.TheVariants as error
+use Rattle.jsonpath_core.specs.declared.errors.JsonPathError.{JsonPathError}
+use Rattle.jsonpath_core.specs.declared.errors.JsonPathError.TheVariants as error
 use Rattle.jsonpath_parser.specs.declared.grammar.literals.Numbers.{Numbers}
 use Rattle.jsonpath_parser.specs.declared.grammar.literals.Numbers.TheVariants.{Valued, Any}
 use Rattle.jsonpath_parser.specs.declared.cursor.Cursor.{Cursor}

@@ -9,8 +9,8 @@ use Rattle.jsonpath_lexical.specs.Numbers.{SpellsNumber}
 use Rattle.jsonpath_tree.specs.Syntax.{Query}
 use Rattle.jsonpath_tree.specs.Typing.{Typed, is_typed}
 use Rattle.jsonpath_parser.specs.Values.{IsValued}
-use Rattle.jsonpath_tree.specs.declared.errors.JsonPathError.{JsonPathError}
-use Rattle.jsonpath_tree.specs.declared.errors.JsonPathError.TheVariants.{PestError, InvalidNumber, MaxNestingDepthExceeded, OutOfMemory}
+use Rattle.jsonpath_core.specs.declared.errors.JsonPathError.{JsonPathError}
+use Rattle.jsonpath_core.specs.declared.errors.JsonPathError.TheVariants.{PestError, InvalidNumber, MaxNestingDepthExceeded, OutOfMemory}
 use Rattle.jsonpath_parser.specs.declared.grammar.literals.Numbers.TheVariants.{Valued, Any}
 use Rattle.jsonpath_parser.proofs.Complete.{complete_valued, complete_any}
 use Rattle.jsonpath_parser.proofs.Sound.{sound_valued, sound_any}

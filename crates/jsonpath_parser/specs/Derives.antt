@@ -8,8 +8,8 @@ use Rattle.jsonpath_parser.specs.Valueless.{IsValuelessIn}
 use Rattle.jsonpath_parser.specs.Values.{IsValued, IsAny}
 use Rattle.jsonpath_tree.specs.View.{query_view}
 use Rattle.jsonpath_tree.specs.declared.model.JpQuery.{JpQuery}
-use Rattle.jsonpath_tree.specs.declared.errors.JsonPathError.{JsonPathError}
-use Rattle.jsonpath_tree.specs.declared.errors.JsonPathError.TheVariants.{PestError, InvalidNumber, MaxNestingDepthExceeded, OutOfMemory}
+use Rattle.jsonpath_core.specs.declared.errors.JsonPathError.{JsonPathError}
+use Rattle.jsonpath_core.specs.declared.errors.JsonPathError.TheVariants.{PestError, InvalidNumber, MaxNestingDepthExceeded, OutOfMemory}
 
 -- the text is the query of this tree: it nests no deeper than the limit, spells the tree, each number literal as its value, and the tree is well-typed
 pub record Derives (limit : ℕ) (text : List ℕ) (tree : Query) : Type 0 where

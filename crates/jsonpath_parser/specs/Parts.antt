@@ -5,8 +5,8 @@ use Rattle.jsonpath_lexical.specs.Numbers.{SpellsNumber}
 use Rattle.jsonpath_tree.specs.Syntax.{SingularStep, SingularQuery, Segment, descendant, Segments, relative}
 use Rattle.jsonpath_parser.specs.Valueless.{IsValuelessIn}
 use Rattle.jsonpath_parser.specs.Values.{IsValued, IsAny}
-use Rattle.jsonpath_tree.specs.declared.errors.JsonPathError.{JsonPathError}
-use Rattle.jsonpath_tree.specs.declared.errors.JsonPathError.TheVariants.{PestError, InvalidNumber, OutOfMemory}
+use Rattle.jsonpath_core.specs.declared.errors.JsonPathError.{JsonPathError}
+use Rattle.jsonpath_core.specs.declared.errors.JsonPathError.TheVariants.{PestError, InvalidNumber, OutOfMemory}
 use Rattle.jsonpath_parser.specs.declared.cursor.Cursor.{Cursor}
 
 -- the text of a cursor

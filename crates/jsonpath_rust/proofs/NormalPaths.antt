@@ -1,12 +1,12 @@
 -- A Normalized Path selects the node at its location.
 use Rattle.std.proofs.Common.{◌≡◌, ℕ, List, [], ◌∷◌, map, Option, Some, None, option_to_list, Result, Ok, Err, IfOk, IfErr, MatchResult, refl, sym, ap, ◌∙◌, subst}
 use Rattle.std.specs.List.{AllZip}
-use Rattle.jsonpath_tree.specs.Location.{name, index, Location}
-use Rattle.jsonpath_tree.specs.Normal.{IsNormal}
+use Rattle.jsonpath_core.specs.Location.{name, index, Location}
+use Rattle.jsonpath_core.specs.Normal.{IsNormal}
 use Rattle.jsonpath_tree.specs.Steps.{steps_query}
 use Rattle.jsonpath_tree.specs.Syntax.{Query}
-use Rattle.jsonpath_tree.specs.declared.errors.JsonPathError.{JsonPathError}
-use Rattle.jsonpath_tree.specs.declared.errors.JsonPathError.TheVariants.{OutOfMemory}
+use Rattle.jsonpath_core.specs.declared.errors.JsonPathError.{JsonPathError}
+use Rattle.jsonpath_core.specs.declared.errors.JsonPathError.TheVariants.{OutOfMemory}
 use Rattle.jsonpath_base.specs.Places.{at}
 use Rattle.jsonpath_base.specs.Tree.{Tree}
 use Rattle.jsonpath_node.specs.Answer.{IsNodeAt, node_there}

@@ -2,11 +2,11 @@
 ghost use Rattle.std.specs.Prelude.{◌≡◌, map, All, IsTrue, IfOk, IfErr, MatchResult};
 ghost use Rattle.std.specs.List.{AllZip};
 ghost use Rattle.jsonpath_parser.specs.Derives.{Derives};
-ghost use Rattle.jsonpath_tree.specs.Location.{Location};
-ghost use Rattle.jsonpath_tree.specs.Normal.{IsNormal};
+ghost use Rattle.jsonpath_core.specs.Location.{Location};
+ghost use Rattle.jsonpath_core.specs.Normal.{IsNormal};
 ghost use Rattle.jsonpath_tree.specs.Steps.{HasIndexesInRange};
 ghost use Rattle.jsonpath_tree.specs.Syntax.{Query};
-ghost use Rattle.jsonpath_tree.specs.declared.errors.JsonPathError.TheVariants.{OutOfMemory};
+ghost use Rattle.jsonpath_core.specs.declared.errors.JsonPathError.TheVariants.{OutOfMemory};
 ghost use Rattle.jsonpath_node.specs.Document.{document_of};
 ghost use Rattle.jsonpath_node.specs.Meaning.{selected};
 ghost use Rattle.jsonpath_node.specs.Patterns.{IsStop, IsQueryRefusal};

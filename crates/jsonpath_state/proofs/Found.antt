@@ -2,8 +2,8 @@
 use Rattle.std.proofs.Common.{◌≡◌, ℕ, suc, ◌+◌, ◌<◌, ◌≤◌, List, [], ◌∷◌, ◌++◌, map, filter, cond, length, get_or, drop, drop-cons, add-one, append_assoc, append-nil, refl, sym, ◌∙◌, ap, arith, Bool, true, false, Option, Some, None, option_map}
 use Rattle.std.proofs.lemmas.List.{map-append, at_drop_all}
 use Rattle.std.specs.List.{flat_map}
-use Rattle.jsonpath_tree.specs.Location.{Location, name, index}
-use Rattle.jsonpath_tree.specs.Normal.{step_text, steps_text}
+use Rattle.jsonpath_core.specs.Location.{Location, name, index}
+use Rattle.jsonpath_core.specs.Normal.{step_text, steps_text}
 use Rattle.jsonpath_base.specs.Tree as base
 use Rattle.jsonpath_base.specs.Tree.{Tree, null, truth, number, text, list, object, Trees, no_trees, Members, no_members, elements, pairs, as_list, as_members}
 use Rattle.jsonpath_node.specs.Node.{Node, root_node, element_nodes, member_nodes, children, children_at, subtree, subtree_at, subtrees_at, member_subtrees}

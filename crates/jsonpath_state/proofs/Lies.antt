@@ -1,7 +1,7 @@
 -- Every node that a query answers on a state lies in the document or in a node of the state.
 use Rattle.std.proofs.Common.{◌≡◌, ℕ, zero, suc, ◌<◌, List, [], ◌∷◌, ◌++◌, length, get_or, map, refl, ◌∙◌, ap, subst, arith, Bool, true, false, Some, option_and_then, IsTrue}
 use Rattle.std.specs.List.{AllByRecursion, Contains}
-use Rattle.jsonpath_tree.specs.Location.{Location}
+use Rattle.jsonpath_core.specs.Location.{Location}
 use Rattle.jsonpath_tree.specs.Syntax as syntax
 use Rattle.jsonpath_tree.specs.Syntax.{Selector, wildcard, slice, Selectors, no_selectors, selector, Segment, several, descendant}
 use Rattle.jsonpath_base.specs.Tree.{Tree, null, truth, number, text, list, object, has_distinct_names}

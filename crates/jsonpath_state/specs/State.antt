@@ -2,7 +2,7 @@
 -- not a query from the root would ever make it.
 use Rattle.std.specs.Prelude.{◌≡◌, ◌⊎◌, ℕ, ℤ, List, [], ◌∷◌, ◌++◌, map, filter, Bool, true, false, Option, Some, None, ◌&&◌, bytes_eq, codes, string_bytes, IsTrue, All}
 use Rattle.std.specs.List.{flat_map, AllZip}
-use Rattle.jsonpath_tree.specs.Normal.{steps_text}
+use Rattle.jsonpath_core.specs.Normal.{steps_text}
 use Rattle.jsonpath_base.specs.Same.{same}
 use Rattle.jsonpath_base.specs.Tree.{Tree, list, object}
 use Rattle.jsonpath_node.specs.Document.{Document}

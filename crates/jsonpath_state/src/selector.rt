@@ -1,6 +1,6 @@
 //! What one name or one index finds from a pointer (RFC 9535, 2.3.1 and 2.3.3).
 ghost use Rattle.std.specs.Prelude.{◌≡◌, IsTrue, IfOk, IfErr};
-ghost use Rattle.jsonpath_tree.specs.declared.errors.JsonPathError.TheVariants.{OutOfMemory};
+ghost use Rattle.jsonpath_core.specs.declared.errors.JsonPathError.TheVariants.{OutOfMemory};
 ghost use Rattle.jsonpath_state.specs.State.{named_from, indexed_from, place_of, content_of, DataIsWhole};
 
 use crate::evaluate::found::{element_from, named};

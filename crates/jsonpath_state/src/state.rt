@@ -1,7 +1,7 @@
 //! States: what a part of a query is asked of, and what it answers.
 ghost use Rattle.std.specs.Prelude.{◌≡◌, ◌↔◌, ◌⊎◌, ◌&&◌, codes, Ok, Err, IsTrue, IfOk, IfErr, option_map};
 ghost use Rattle.std.specs.List.{AllByRecursion};
-ghost use Rattle.jsonpath_tree.specs.declared.errors.JsonPathError.TheVariants.{OutOfMemory};
+ghost use Rattle.jsonpath_core.specs.declared.errors.JsonPathError.TheVariants.{OutOfMemory};
 ghost use Rattle.jsonpath_base.specs.Same.{same};
 ghost use Rattle.jsonpath_base.specs.Tree.{truth, number, text};
 ghost use Rattle.jsonpath_state.specs.State.{Content, ref, value, nothing, content_of, pointers, DataIsWhole, ok_refs, ok_value, contents_same, reduced, Made, SomeHas};

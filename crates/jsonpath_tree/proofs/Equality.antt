@@ -1,10 +1,10 @@
 -- `==` of trees is equality of what they stand for.
-use Rattle.std.proofs.Common.{◌≡◌, ℕ, ℤ, int_eq, ◌&&◌, Bool, true, false, true≢false, List, [], ◌∷◌, map, Option, Some, None, String, Global, string_bytes, refl, ap, sym, ◌∙◌, rules, arith}
-use Rattle.std.proofs.lemmas.Bool.Decides.{Decides-and, Decides-int_eq}
+use Rattle.std.proofs.Common.{◌≡◌, ℕ, ℤ, int_eq, Bool, true, false, true≢false, List, [], ◌∷◌, map, Option, Some, None, string_bytes, refl, ap, sym, ◌∙◌, rules, arith}
+use Rattle.std.proofs.lemmas.Bool.Decides.{Decides-int_eq}
 use Rattle.std.specs.Bool.{Decides, beq}
-use Rattle.std.specs.Cmp.Lexicographic.{pointwise, bytes_decides}
+use Rattle.std.specs.Cmp.Lexicographic.{pointwise}
 use Rattle.std.specs.Option.{option_eq}
-use Rattle.std.specs.String.{string_eq}
+use Rattle.jsonpath_core.proofs.Deciding.{under, both, under_two, differ, string_same}
 use Rattle.jsonpath_tree.specs.Syntax as tree
 use Rattle.jsonpath_tree.specs.View.{literal_view, step_view, singular_view, segments_of, selectors_of, filters_of, arguments_of, comparable_view, comparison_view, filter_view, atom_view, argument_view, segment_view, selector_view, test_view, call_view, query_view}
 use Rattle.jsonpath_tree.proofs.ViewEquations.{query_view-segments}
@@ -63,34 +63,11 @@ use Rattle.jsonpath_tree.specs.declared.model.TestFunction.TheVariants as call_v
 -- how a value opens into its variant and its parts
 ruleset layers = (rules, the_lemmas, filter_variants.outs-Or', filter_variants.outs-And', atom_variants.outs-Filter', atom_variants.outs-Test', atom_variants.outs-Comparison', argument_variants.outs-Test', segment_variants.outs-Descendant', segment_variants.outs-Selectors', test_variants.outs-RelQuery', test_variants.outs-AbsQuery', test_variants.outs-Function', call_variants.outs-Custom', call_variants.outs-Length', items_shown-the_row-Filter-0, items_shown-the_row-Selector-1, items_shown-the_row-Segment-2, items_shown-the_row-FnArg-3)
 
--- a test of a tree by its one, two or three parts
-
-pub under : {S T : Type 0} (C : S → T) → ((s t : S) → C s ≡ C t → s ≡ t) → {u v : T} {s t : S} {r b : Bool} → Decides b (s ≡ t) → r ≡ b → u ≡ C s → v ≡ C t → Decides r (u ≡ v)
-under C inj {s = s} {t = t} d e left right = (λ h. left ∙ ap C (d.0 (sym e ∙ h)) ∙ sym right, λ h. e ∙ d.1 (inj s t (sym left ∙ h ∙ right)))
-
-both : {A B : Type 0} {a c : A} {b d : B} → (a ≡ c) × (b ≡ d) → ◌≡◌ {A = A × B} (a, b) (c, d)
-both e = λ i. (e.0 i, e.1 i)
-
-pub under_two : {A B T : Type 0} (C : A → B → T) → ((a c : A) (b d : B) → C a b ≡ C c d → (a ≡ c) × (b ≡ d)) → {u v : T} {a c : A} {b d : B} {r p q : Bool}
-    → Decides p (a ≡ c) → Decides q (b ≡ d) → r ≡ (p && q) → u ≡ C a b → v ≡ C c d → Decides r (u ≡ v)
-under_two C inj {a = a} {c = c} {b = b} {d = d} {p = p} {q = q} m n e left right =
-    let k = Decides-and p q m n in (
-      λ h. left ∙ (λ i. C ((k.0 (sym e ∙ h)).0 i) ((k.0 (sym e ∙ h)).1 i)) ∙ sym right,
-      λ h. e ∙ k.1 (inj a c b d (sym left ∙ h ∙ right)),
-    )
-
--- trees of two kinds
-pub differ : {T : Type 0} {u v : T} {r : Bool} → r ≡ false → (u ≡ v → ⊥) → Decides r (u ≡ v)
-differ e n = (λ h. absurd (true≢false (sym h ∙ e)), λ h. absurd (n h))
-
 bool_same : (a b : Bool) → Decides (beq a b) (a ≡ b)
 bool_same true true = (λ _. refl, λ _. refl)
 bool_same true false = (λ h. absurd (true≢false (sym h)), λ h. absurd (true≢false h))
 bool_same false true = (λ h. absurd (true≢false (sym h)), λ h. absurd (true≢false (sym h)))
 bool_same false false = (λ _. refl, λ _. refl)
-
-pub string_same : (a b : String Global) → Decides (string_eq a b) (string_bytes a ≡ string_bytes b)
-string_same a b = bytes_decides (string_bytes a) (string_bytes b)
 
 -- a part of a slice
 part_same : (a b : Option ℤ) → Decides (option_eq int_eq a b) (a ≡ b)

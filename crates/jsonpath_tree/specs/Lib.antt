@@ -1,6 +1,3 @@
-pub mod Errors
-pub mod Location
-pub mod Normal
 pub mod Syntax
 pub mod Steps
 pub mod View

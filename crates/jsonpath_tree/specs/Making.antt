@@ -2,8 +2,8 @@
 use Rattle.std.specs.Prelude.{◌≡◌, ℕ, Bool, true, false, not, List, Option, Some, None, Result, MatchResult, ⊤, is_none, bytes_eq, codes, option_map, option_and_then, if◌then◌else◌}
 use Rattle.jsonpath_tree.specs.Syntax.{Operator, equal, not_equal, greater, greater_or_equal, less, less_or_equal, Comparable, Comparison, compare, Test, relative, absolute, call, Call, Argument, literal_argument, test_argument, filter_argument, Arguments}
 use Rattle.jsonpath_tree.specs.Typing.{call_of, gives_value, takes}
-use Rattle.jsonpath_tree.specs.declared.errors.JsonPathError.{JsonPathError}
-use Rattle.jsonpath_tree.specs.declared.errors.JsonPathError.TheVariants.{InvalidJsonPath, OutOfMemory}
+use Rattle.jsonpath_core.specs.declared.errors.JsonPathError.{JsonPathError}
+use Rattle.jsonpath_core.specs.declared.errors.JsonPathError.TheVariants.{InvalidJsonPath, OutOfMemory}
 
 -- The refusals of a maker: `InvalidJsonPath` where there is nothing to make, or `OutOfMemory`.
 abbrev pub IsMakersRefusal : Bool → JsonPathError → Type 0

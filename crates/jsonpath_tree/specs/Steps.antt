@@ -1,6 +1,6 @@
 -- A location as a query: one name or one index for each step (RFC 9535, 2.7).
 use Rattle.std.specs.Prelude.{◌^◌, ◌<◌, pos, [], ◌∷◌}
-use Rattle.jsonpath_tree.specs.Location.{Step, name, index, Location}
+use Rattle.jsonpath_core.specs.Location.{Step, name, index, Location}
 use Rattle.jsonpath_tree.specs.Syntax as syntax
 use Rattle.jsonpath_tree.specs.Syntax.{Segment, one, no_segments, segment, Query}
 

@@ -1,8 +1,6 @@
-//! Query trees (RFC 9535, 2.1 to 2.5), and the errors of all calls: what stands below `jsonpath_parser`, which re-exports what
-//! of it is public.
+//! Query trees (RFC 9535, 2.1 to 2.5): what stands below `jsonpath_parser`, which re-exports what of it is public.
 #![tactic(auto)]
 
-pub mod errors;
 pub mod model;
 mod release;
 pub mod typing;

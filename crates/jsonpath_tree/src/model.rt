@@ -3,7 +3,7 @@ ghost use Rattle.std.specs.Prelude.{◌≡◌, IfOk, IfErr, IsOk, IsSome};
 ghost use Rattle.jsonpath_tree.specs.Making.{Makes, comparison_of, operator_of, sides};
 ghost use Rattle.jsonpath_tree.specs.Syntax as tree;
 ghost use Rattle.jsonpath_tree.specs.View.{segment_view, selector_view, filter_view, atom_view, comparison_view, comparable_view, operator_view, test_view};
-ghost use Rattle.jsonpath_tree.specs.declared.errors.JsonPathError.TheVariants.{OutOfMemory};
+ghost use Rattle.jsonpath_core.specs.declared.errors.JsonPathError.TheVariants.{OutOfMemory};
 
 pub mod call;
 mod clone;
@@ -13,7 +13,7 @@ mod refusal;
 
 pub use self::operator::Operator;
 use self::refusal::invalid;
-use crate::errors::{JsonPathError, Parsed};
+use jsonpath_core::errors::{JsonPathError, Parsed};
 use std::alloc::Global;
 
 /// A query: its segments, in order.

@@ -2,9 +2,9 @@
 use Rattle.std.proofs.Common.{◌≡◌, ◌↔◌, ℕ, List, [], ◌∷◌, map, Bool, true, false, Option, None, Some, option_map, IfSome, IfNone, IsTrue, IsFalse, sym, ◌∙◌, ap, subst, refl}
 use Rattle.std.proofs.lemmas.Bool.{false≢true}
 use Rattle.std.specs.List.{AllByRecursion, AllZip}
-use Rattle.jsonpath_tree.proofs.NormalLemmas.{only_path}
+use Rattle.jsonpath_core.proofs.NormalLemmas.{only_path}
 use Rattle.jsonpath_tree.specs.Syntax.{Query}
-use Rattle.jsonpath_tree.specs.Normal.{normal}
+use Rattle.jsonpath_core.specs.Normal.{normal}
 use Rattle.jsonpath_base.specs.Tree.{Tree, has_distinct_names}
 use Rattle.jsonpath_base.specs.Places.{at}
 use Rattle.jsonpath_node.specs.Document.{Document}

@@ -1,7 +1,7 @@
 -- What is looked up is what the walk would select.
 use Rattle.std.proofs.Common.{◌≡◌, ℕ, suc, ℤ, Bool, Option, IfSome, true, false, nat_lt, min, List, [], ◌∷◌, length, append-nil, refl, sym, ◌∙◌, ap, subst, Some, None, option_map, arith}
 use Rattle.std.specs.List.{flat_map}
-use Rattle.jsonpath_tree.specs.Location.{Location, index}
+use Rattle.jsonpath_core.specs.Location.{Location, index}
 use Rattle.jsonpath_tree.specs.Syntax as syntax
 use Rattle.jsonpath_tree.specs.Syntax.{Segment, one, wildcard, Segments, no_segments, segment}
 use Rattle.jsonpath_base.specs.Tree.{Tree, null, truth, number, text, list, object, elements, pairs, as_list, as_members, get}

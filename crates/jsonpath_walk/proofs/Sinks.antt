@@ -4,8 +4,8 @@ use Rattle.std.proofs.lemmas.List.Elements.{All-from_recursion}
 use Rattle.std.proofs.lemmas.Result.{IfOk-weaker}
 use Rattle.std.proofs.lemmas.Bool.{false≢true}
 use Rattle.std.specs.List.{AllByRecursion}
-use Rattle.jsonpath_tree.specs.Location.{Location}
-use Rattle.jsonpath_tree.specs.Normal.{normal}
+use Rattle.jsonpath_core.specs.Location.{Location}
+use Rattle.jsonpath_core.specs.Normal.{normal}
 use Rattle.jsonpath_base.specs.Tree.{Tree, number}
 use Rattle.jsonpath_node.specs.Node.{Node, has_node}
 use Rattle.jsonpath_node.specs.Functions.{count_value, count_of, only_value}

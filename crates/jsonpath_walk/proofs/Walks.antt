@@ -4,7 +4,7 @@ use Rattle.std.proofs.Math.Nat.{mul-le-mul_left}
 use Rattle.std.proofs.lemmas.Grind.{flat_map-append}
 use Rattle.std.proofs.lemmas.List.{at_drop_all}
 use Rattle.std.specs.List.{flat_map}
-use Rattle.jsonpath_tree.specs.Location.{Location, name, index}
+use Rattle.jsonpath_core.specs.Location.{Location, name, index}
 use Rattle.jsonpath_tree.specs.View.{selector_view}
 use Rattle.jsonpath_base.specs.Tree.{Tree}
 use Rattle.jsonpath_node.specs.Document.{Document}

@@ -4,8 +4,8 @@ use Rattle.std.proofs.Math.Seq.{take-append_seam, take-length, get_or-append_sea
 use Rattle.std.proofs.lemmas.List.{length-append, take-append-le, take_more, get_or_append_left}
 use Rattle.std.proofs.lemmas.Str.{IsCharBoundary-before_ascii}
 use Rattle.std.specs.String.Boundary.{IsSplitPoint}
-use Rattle.jsonpath_tree.specs.Location.{Step, name, index}
-use Rattle.jsonpath_tree.specs.Normal.{step_text}
+use Rattle.jsonpath_core.specs.Location.{Step, name, index}
+use Rattle.jsonpath_core.specs.Normal.{step_text}
 use Rattle.jsonpath_walk.specs.inner.Walking.{step_of}
 use Rattle.jsonpath_walk.specs.inner.Way.{spelled, IsSpelled}
 use Rattle.jsonpath_walk.specs.declared.way.StepRef.{StepRef}

@@ -1,6 +1,6 @@
 -- What a prepared query asks, and the first node of a query.
 use Rattle.std.specs.Prelude.{◌≡◌, ℕ, List, ◌∷◌}
-use Rattle.jsonpath_tree.specs.Location.{Location}
+use Rattle.jsonpath_core.specs.Location.{Location}
 use Rattle.jsonpath_tree.specs.Syntax.{Query}
 use Rattle.jsonpath_tree.specs.View.{query_view}
 use Rattle.jsonpath_base.specs.Tree.{Tree}

@@ -1,6 +1,6 @@
 //! What a walk does at the children of a value.
 ghost use Rattle.std.specs.Prelude.{◌≡◌, [], IsTrue, IfSome};
-ghost use Rattle.jsonpath_tree.specs.Location.{Location};
+ghost use Rattle.jsonpath_core.specs.Location.{Location};
 ghost use Rattle.jsonpath_tree.specs.View.{segment_view};
 ghost use Rattle.jsonpath_node.specs.Document.{Document};
 ghost use Rattle.jsonpath_walk.specs.inner.Walking.{acted};

@@ -2,7 +2,7 @@
 ghost use Rattle.std.specs.Prelude.{◌≡◌, ◌↔◌, [], map, All, IsTrue, IsFalse, IfOk, IfErr, IfSome, IfNone, string_bytes};
 ghost use Rattle.std.specs.List.{AllZip};
 ghost use Rattle.jsonpath_tree.specs.View.{query_view};
-ghost use Rattle.jsonpath_tree.specs.declared.errors.JsonPathError.TheVariants.{OutOfMemory};
+ghost use Rattle.jsonpath_core.specs.declared.errors.JsonPathError.TheVariants.{OutOfMemory};
 ghost use Rattle.jsonpath_node.specs.Answer.{IsNodeAt, IsPathAt, IsValueAt, shown, paths_of};
 ghost use Rattle.jsonpath_node.specs.Document.{document_of};
 ghost use Rattle.jsonpath_node.specs.Meaning.{selected, nodelist};

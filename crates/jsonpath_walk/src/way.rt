@@ -1,6 +1,6 @@
 //! The way from the root to the value at hand, and what is spelled of its Normalized Path (RFC 9535, 2.7).
 ghost use Rattle.std.specs.Prelude.{◌≡◌, List, [], ◌∷◌, ◌++◌, length, map, IfOk, IfErr, OnOk, OnErr, string_bytes};
-ghost use Rattle.jsonpath_tree.specs.Normal.{normal, step_text};
+ghost use Rattle.jsonpath_core.specs.Normal.{normal, step_text};
 ghost use Rattle.jsonpath_base.specs.Steps.{step_view, location_view};
 ghost use Rattle.jsonpath_node.specs.declared.halt.Halt.TheVariants.{Memory};
 ghost use Rattle.jsonpath_walk.specs.inner.Walking.{step_of};

@@ -1,7 +1,7 @@
 -- How the segments of a singular query are followed, for the contracts of `reference` alone: the definitions here are no part of what a query
 -- means.
 use Rattle.std.specs.Prelude.{ℤ, [], ◌∷◌, ◌++◌, length, Option, Some, None, option_map, option_and_then}
-use Rattle.jsonpath_tree.specs.Location.{Step, name, index, Location}
+use Rattle.jsonpath_core.specs.Location.{Step, name, index, Location}
 use Rattle.jsonpath_tree.specs.Syntax as syntax
 use Rattle.jsonpath_tree.specs.Syntax.{Selector, Segment, one, several, descendant, Segments, no_segments, segment}
 use Rattle.jsonpath_base.specs.Places.{child}

@@ -5,8 +5,8 @@ use Rattle.std.specs.Option.{OnSome}
 use Rattle.std.specs.Borrow.{LendsSo, MutBor, Fml}
 use Rattle.serde_json.specs.contracts.value.Value.{the_row}
 use Rattle.serde_json.specs.declared.value.Value.{Value}
-use Rattle.jsonpath_tree.specs.Location.{Location}
-use Rattle.jsonpath_tree.specs.declared.errors.JsonPathError.{JsonPathError}
+use Rattle.jsonpath_core.specs.Location.{Location}
+use Rattle.jsonpath_core.specs.declared.errors.JsonPathError.{JsonPathError}
 use Rattle.jsonpath_base.specs.Steps.{location_view}
 use Rattle.jsonpath_base.specs.Values.{value_tree}
 use Rattle.jsonpath_base.specs.declared.step.Step.{Step}

@@ -1,7 +1,7 @@
 //! What a walk asks of the children of a value.
 ghost use Rattle.std.specs.Prelude.{◌≡◌, ◌<◌, map, None, option_to_list, IsTrue, IfSome};
-ghost use Rattle.jsonpath_tree.specs.Location.{Location};
-ghost use Rattle.jsonpath_tree.specs.Location as location;
+ghost use Rattle.jsonpath_core.specs.Location.{Location};
+ghost use Rattle.jsonpath_core.specs.Location as location;
 ghost use Rattle.jsonpath_base.specs.Tree.{as_list, as_members};
 ghost use Rattle.jsonpath_node.specs.Node.{below};
 ghost use Rattle.jsonpath_node.specs.Meaning as meaning;

@@ -7,7 +7,7 @@ ghost use Rattle.jsonpath_base.specs.Tree.{as_list, find, pairs};
 ghost use Rattle.jsonpath_base.specs.SetFunctions.{set_function};
 ghost use Rattle.jsonpath_base.specs.Values.{value_tree, value_is_whole, has_whole_numbers, members_of};
 ghost use Rattle.jsonpath_base.proofs.Views.{whole_distinct};
-ghost use Rattle.jsonpath_tree.specs.declared.errors.JsonPathError.TheVariants.{OutOfMemory};
+ghost use Rattle.jsonpath_core.specs.declared.errors.JsonPathError.TheVariants.{OutOfMemory};
 ghost use Rattle.jsonpath_node.specs.Document.{document_of};
 ghost use Rattle.jsonpath_node.specs.Lending.{LendsReferred, lent_in};
 ghost use Rattle.jsonpath_node.specs.Referring.{IsReferred};

@@ -7,8 +7,8 @@ use Rattle.jsonpath_lexical.specs.inner.ReadingNumbers.{number_at}
 use Rattle.jsonpath_tree.specs.Syntax.{Query}
 use Rattle.jsonpath_tree.specs.Typing.{is_typed}
 use Rattle.jsonpath_parser.specs.Valueless.{IsValuelessIn}
-use Rattle.jsonpath_tree.specs.declared.errors.JsonPathError.{JsonPathError}
-use Rattle.jsonpath_tree.specs.declared.errors.JsonPathError.TheVariants.{PestError, InvalidNumber, MaxNestingDepthExceeded, OutOfMemory}
+use Rattle.jsonpath_core.specs.declared.errors.JsonPathError.{JsonPathError}
+use Rattle.jsonpath_core.specs.declared.errors.JsonPathError.TheVariants.{PestError, InvalidNumber, MaxNestingDepthExceeded, OutOfMemory}
 use Rattle.jsonpath_parser.specs.declared.grammar.literals.Numbers.{Numbers}
 use Rattle.jsonpath_parser.specs.declared.grammar.literals.Numbers.TheVariants.{Valued, Any}
 

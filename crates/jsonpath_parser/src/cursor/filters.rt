@@ -7,7 +7,7 @@ ghost use Rattle.jsonpath_tree.specs.View.{filter_view, atom_view, comparison_vi
 use super::Cursor;
 use super::part::part;
 use crate::grammar::productions;
-use jsonpath_tree::errors::Parsed;
+use jsonpath_core::errors::Parsed;
 use jsonpath_tree::model::{
     Comparable, Comparison, Filter, FilterAtom, Literal, Test, TestFunction,
 };

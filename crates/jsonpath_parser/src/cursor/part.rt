@@ -6,8 +6,8 @@ ghost use Rattle.jsonpath_parser.specs.declared.grammar.literals.Numbers.TheVari
 use super::Cursor;
 use crate::grammar::Numbers;
 use crate::parse::literal_at;
+use jsonpath_core::errors::{JsonPathError, Parsed};
 use jsonpath_lexical::stop::Stop;
-use jsonpath_tree::errors::{JsonPathError, Parsed};
 use std::alloc::Global;
 
 /// The refusal of a text whose reading stopped; `again` is what reading gives where any number literal is taken.

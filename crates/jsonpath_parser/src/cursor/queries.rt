@@ -8,7 +8,7 @@ ghost use Rattle.jsonpath_tree.specs.View.{query_view, segments_view, segment_vi
 use super::Cursor;
 use super::part::part;
 use crate::grammar::productions;
-use jsonpath_tree::errors::Parsed;
+use jsonpath_core::errors::Parsed;
 use jsonpath_tree::model::{JpQuery, Segment, Selector, SingularQuery, SingularQuerySegment};
 use jsonpath_tree::typing;
 use std::alloc::Global;

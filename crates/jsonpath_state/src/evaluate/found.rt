@@ -1,7 +1,7 @@
 //! What is found from a pointer: nodes below its value, each under the pointer's path and the steps to it.
 ghost use Rattle.std.specs.Prelude.{◌≡◌, ◌++◌, [], All, map, option_map, IsTrue, IfOk, IfErr, IfSome, OnOk};
-ghost use Rattle.jsonpath_tree.specs.Location as location;
-ghost use Rattle.jsonpath_tree.specs.declared.errors.JsonPathError.TheVariants.{OutOfMemory};
+ghost use Rattle.jsonpath_core.specs.Location as location;
+ghost use Rattle.jsonpath_core.specs.declared.errors.JsonPathError.TheVariants.{OutOfMemory};
 ghost use Rattle.jsonpath_node.specs.Node.{below, element_nodes, member_nodes};
 ghost use Rattle.jsonpath_state.specs.State.{under, named_from, indexed_from, children_from, sliced_from, parents_in, parents_from, place_of, places_of, content_of, PointersAreWhole, DataIsWhole};
 ghost use Rattle.jsonpath_state.specs.inner.Evaluating.{parts_from};

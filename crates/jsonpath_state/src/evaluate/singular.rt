@@ -1,7 +1,7 @@
 //! Singular queries, from each node of a state or from the root (RFC 9535, 2.3.5.1).
 ghost use Rattle.std.specs.Prelude.{◌≡◌, map, string_bytes, IsTrue, IfOk, IfErr};
 ghost use Rattle.jsonpath_tree.specs.View.{singular_view, step_view};
-ghost use Rattle.jsonpath_tree.specs.declared.errors.JsonPathError.TheVariants.{OutOfMemory};
+ghost use Rattle.jsonpath_core.specs.declared.errors.JsonPathError.TheVariants.{OutOfMemory};
 ghost use Rattle.jsonpath_node.specs.Document.{document_of};
 ghost use Rattle.jsonpath_state.specs.Process.{step_content, steps_content, singular_content};
 ghost use Rattle.jsonpath_state.specs.State.{mapped, named_from, indexed_from, content_of, DataIsWhole};

@@ -2,7 +2,7 @@
 ghost use Rattle.std.specs.Prelude.{◌≡◌, ◌∷◌, [], ◌++◌, cond, IsTrue, IfOk, IfErr, OnOk};
 ghost use Rattle.jsonpath_tree.specs.Making.{is_truth_call};
 ghost use Rattle.jsonpath_tree.specs.View.{test_view};
-ghost use Rattle.jsonpath_tree.specs.declared.errors.JsonPathError.TheVariants.{OutOfMemory};
+ghost use Rattle.jsonpath_core.specs.declared.errors.JsonPathError.TheVariants.{OutOfMemory};
 ghost use Rattle.jsonpath_state.specs.Process as process;
 ghost use Rattle.jsonpath_state.specs.Process.{is_truth, test_truth};
 ghost use Rattle.jsonpath_state.specs.State.{places, place_of, places_of, content_of, PointersAreWhole, DataIsWhole};

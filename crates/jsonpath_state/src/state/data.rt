@@ -1,7 +1,7 @@
 //! What a state holds.
 ghost use Rattle.std.specs.Prelude.{◌≡◌, ◌⊎◌, ◌++◌, map, Ok, Err, IsTrue, IfOk, IfErr, OnOk, option_map};
 ghost use Rattle.std.specs.List.{AllByRecursion};
-ghost use Rattle.jsonpath_tree.specs.declared.errors.JsonPathError.TheVariants.{OutOfMemory};
+ghost use Rattle.jsonpath_core.specs.declared.errors.JsonPathError.TheVariants.{OutOfMemory};
 ghost use Rattle.jsonpath_state.specs.State.{Content, ref, refs, nothing, place_of, places_of, content_of, pointers, PointersAreWhole, DataIsWhole, ok_refs, ok_value, contents_same, places_same, reduced, Made, SomeHas};
 
 use crate::state::pointer::Pointer;

@@ -1,8 +1,8 @@
 //! A value that is lent, with the text of a path.
 ghost use Rattle.std.specs.Prelude.{◌≡◌, ◌↔◌, ◌++◌, [], IsTrue, IfOk, IfErr, string_bytes};
-ghost use Rattle.jsonpath_tree.specs.Location.{name, index};
-ghost use Rattle.jsonpath_tree.specs.Normal.{step_text};
-ghost use Rattle.jsonpath_tree.specs.declared.errors.JsonPathError.TheVariants.{OutOfMemory};
+ghost use Rattle.jsonpath_core.specs.Location.{name, index};
+ghost use Rattle.jsonpath_core.specs.Normal.{step_text};
+ghost use Rattle.jsonpath_core.specs.declared.errors.JsonPathError.TheVariants.{OutOfMemory};
 ghost use Rattle.jsonpath_state.specs.State.{ref, place_of, contents_same};
 
 use jsonpath_base::{add_index, add_name};

@@ -1,7 +1,7 @@
 -- What a refusal of the makers says. No public contract cites it.
 use Rattle.std.specs.Prelude.{◌≡◌, ℕ, List, string_bytes, ⊤}
-use Rattle.jsonpath_tree.specs.declared.errors.JsonPathError.{JsonPathError}
-use Rattle.jsonpath_tree.specs.declared.errors.JsonPathError.TheVariants.{InvalidJsonPath}
+use Rattle.jsonpath_core.specs.declared.errors.JsonPathError.{JsonPathError}
+use Rattle.jsonpath_core.specs.declared.errors.JsonPathError.TheVariants.{InvalidJsonPath}
 
 -- the text of an `InvalidJsonPath`
 abbrev pub IsSaid : List ℕ → JsonPathError → Type 0

@@ -7,7 +7,7 @@ ghost use Rattle.jsonpath_tree.specs.View.{segment_view, segments_of, argument_v
 
 use super::refusal::invalid;
 use super::{FnArg, Segment, Selector, Test, TestFunction};
-use crate::errors::Parsed;
+use jsonpath_core::errors::Parsed;
 use std::alloc::{AllocError, Global};
 
 fn is_step(segment: &Segment) -> bool

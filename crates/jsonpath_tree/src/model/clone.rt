@@ -1,13 +1,13 @@
 //! Copies of the query tree and of its parts.
 ghost use Rattle.std.specs.Prelude.{◌≡◌, IfOk, IfErr, map};
 ghost use Rattle.jsonpath_tree.specs.View.{literal_view, step_view, singular_view, comparable_view, comparison_view, filter_view, atom_view, argument_view, segment_view, selector_view, test_view, call_view, query_view};
-ghost use Rattle.jsonpath_tree.specs.declared.errors.JsonPathError.TheVariants.{OutOfMemory};
+ghost use Rattle.jsonpath_core.specs.declared.errors.JsonPathError.TheVariants.{OutOfMemory};
 
 use super::{
     Comparable, Comparison, Filter, FilterAtom, FnArg, JpQuery, Literal, Operator, Segment,
     Selector, SingularQuery, SingularQuerySegment, Test, TestFunction,
 };
-use crate::errors::Parsed;
+use jsonpath_core::errors::Parsed;
 use std::alloc::Global;
 
 impl JpQuery {

@@ -3,7 +3,7 @@ ghost use Rattle.std.specs.Prelude.{true, ◌++◌};
 ghost use Rattle.jsonpath_tree.specs.Making.{IsMakersRefusal};
 ghost use Rattle.jsonpath_tree.specs.inner.Refusals.{IsSaid};
 
-use crate::errors::JsonPathError;
+use jsonpath_core::errors::JsonPathError;
 use std::alloc::Global;
 
 /// `InvalidJsonPath` with these words and this text, or `OutOfMemory` where a growth for them was refused.

@@ -1,7 +1,7 @@
 -- What a walk gives to a sink, for the contracts of the walk alone: the definitions here are no part of what a query means.
 use Rattle.std.specs.Prelude.{◌≡◌, ℕ, suc, min, List, [], ◌∷◌, ◌++◌, map, Bool, true, false, Option, Some, None, is_some, option_map, IsTrue, All, string_bytes}
-use Rattle.jsonpath_tree.specs.Location.{Location}
-use Rattle.jsonpath_tree.specs.Normal.{normal}
+use Rattle.jsonpath_core.specs.Location.{Location}
+use Rattle.jsonpath_core.specs.Normal.{normal}
 use Rattle.jsonpath_base.specs.Steps.{location_view}
 use Rattle.jsonpath_base.specs.Tree.{Tree}
 use Rattle.jsonpath_node.specs.Node.{Node}

@@ -1,7 +1,7 @@
 -- How a walk meets the nodes of a query, for the contracts of the walk alone: the definitions here are no part of what a query means.
 use Rattle.std.specs.Prelude.{◌≡◌, List, Bool, [], ◌∷◌, map, filter, Some}
 use Rattle.std.specs.List.{flat_map}
-use Rattle.jsonpath_tree.specs.Location.{Step, name, index}
+use Rattle.jsonpath_core.specs.Location.{Step, name, index}
 use Rattle.jsonpath_tree.specs.Syntax.{Segments, no_segments, segment, Argument}
 use Rattle.jsonpath_tree.specs.View.{segment_view, filter_view}
 use Rattle.jsonpath_base.specs.Places.{at}

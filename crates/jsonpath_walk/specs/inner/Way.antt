@@ -1,6 +1,6 @@
 -- What is spelled of a way, for the contracts of the walk alone: the definitions here are no part of what a query means.
 use Rattle.std.specs.Prelude.{◌≡◌, ℕ, ◌<◌, ◌≤◌, List, map, length, take, get_or}
-use Rattle.jsonpath_tree.specs.Normal.{steps_text}
+use Rattle.jsonpath_core.specs.Normal.{steps_text}
 use Rattle.jsonpath_walk.specs.inner.Walking.{step_of}
 use Rattle.jsonpath_walk.specs.declared.way.StepRef.{StepRef}
 

@@ -1,6 +1,6 @@
 use Rattle.std.proofs.Common.{refl, sym, arith}
 use Rattle.std.proofs.lemmas.Result.{err_from_is_err_and}
-use Rattle.jsonpath_tree.specs.declared.errors.JsonPathError.TheVariants.{OutOfMemory}
+use Rattle.jsonpath_core.specs.declared.errors.JsonPathError.TheVariants.{OutOfMemory}
 use Rattle.jsonpath_base.specs.SetFunctions.{set_function}
 use Rattle.jsonpath_base.specs.Values.{value_tree}
 use Rattle.jsonpath_node.specs.Document.{document_of}

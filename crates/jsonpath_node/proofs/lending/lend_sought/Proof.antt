@@ -19,7 +19,7 @@ use denote.Slice.{ShrSlice, shr_slice_vals}
 use denote.Triple.Clauses.{Lasts}
 use mir.Val.{Val, of_list}
 use Rattle.serde_json.specs.contracts.value.Value.{the_row as R}
-use Rattle.jsonpath_tree.specs.Location.{Location}
+use Rattle.jsonpath_core.specs.Location.{Location}
 use Rattle.jsonpath_base.specs.Lending.{LendsAt}
 use Rattle.jsonpath_base.specs.Places.{at}
 use Rattle.jsonpath_base.specs.Steps.{location_view}

@@ -26,8 +26,8 @@ use mir.Syntax.{erased}
 use mir.Val.{Val, vptr}
 use Rattle.serde_json.specs.contracts.value.Value.{the_row as R}
 use Rattle.serde_json.proofs.value.Value.TheLaws.{the_row_laws as R-laws}
-use Rattle.jsonpath_tree.specs.contracts.errors.JsonPathError.{the_row as E}
-use Rattle.jsonpath_tree.specs.declared.errors.JsonPathError.TheVariants.{OutOfMemory}
+use Rattle.jsonpath_core.specs.contracts.errors.JsonPathError.{the_row as E}
+use Rattle.jsonpath_core.specs.declared.errors.JsonPathError.TheVariants.{OutOfMemory}
 use Rattle.jsonpath_base.specs.SetFunctions.{set_function}
 use Rattle.jsonpath_base.specs.Values.{value_tree}
 use Rattle.jsonpath_node.specs.Document.{document_of}

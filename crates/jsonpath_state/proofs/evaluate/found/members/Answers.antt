@@ -1,6 +1,6 @@
 use Rattle.std.proofs.Common.{◌∷◌, ◌++◌, [], map, ap, ◌∙◌, refl, string_bytes, subst, sym, IsTrue}
 use Rattle.std.proofs.lemmas.List.{map-append}
-use Rattle.jsonpath_tree.specs.Location.{name}
+use Rattle.jsonpath_core.specs.Location.{name}
 use Rattle.jsonpath_node.specs.Node.{below, member_nodes}
 use Rattle.jsonpath_state.specs.State.{under, place_of}
 use Rattle.jsonpath_node.proofs.Parts.{joined_next, all_more}

@@ -1,6 +1,6 @@
 use Rattle.std.proofs.Common.{rules, w64}
 use Rattle.std.proofs.lemmas.Int.{to_z-of_z}
-use Rattle.jsonpath_tree.specs.declared.errors.JsonPathError.TheVariants.{OutOfMemory}
+use Rattle.jsonpath_core.specs.declared.errors.JsonPathError.TheVariants.{OutOfMemory}
 use Rattle.jsonpath_state.specs.State.{indexed_from, pointers}
 use Rattle.jsonpath_state.proofs.Maps.{made_content, made_whole, only_this}
 use Rattle.jsonpath_node.proofs.Parts.{ok_so, err_so}

@@ -1,5 +1,5 @@
 use Rattle.std.proofs.Common.{rules, string_bytes}
-use Rattle.jsonpath_tree.specs.declared.errors.JsonPathError.TheVariants.{OutOfMemory}
+use Rattle.jsonpath_core.specs.declared.errors.JsonPathError.TheVariants.{OutOfMemory}
 use Rattle.jsonpath_state.specs.State.{named_from, pointers}
 use Rattle.jsonpath_state.proofs.Maps.{made_content, made_whole, only_this}
 use Rattle.jsonpath_node.proofs.Parts.{ok_so, err_so}

@@ -4,7 +4,7 @@ use Rattle.std.proofs.lemmas.Int.{to_z-of_z}
 use Rattle.std.proofs.lemmas.List.{map-append}
 use Rattle.std.proofs.lemmas.List.Elements.{All-head, All-tail, All-nil}
 use Rattle.std.specs.List.{flat_map}
-use Rattle.jsonpath_tree.specs.Location.{name, index}
+use Rattle.jsonpath_core.specs.Location.{name, index}
 use Rattle.jsonpath_tree.specs.View.{segment_view, selector_view, filter_view, atom_view, test_view, comparison_view, comparable_view, call_view, argument_view, operator_view, query_view}
 use Rattle.jsonpath_tree.specs.declared.model.Segment.{Segment}
 use Rattle.jsonpath_tree.specs.declared.model.Selector.{Selector}

@@ -13,8 +13,8 @@ use denote.Ref.{NamedLft}
 use denote.Text.{Str, StrRefOf, str-laws}
 use denote.Triple.Clauses.{Lasts}
 use Rattle.serde_json.specs.contracts.value.Value.{the_row as R}
-use Rattle.jsonpath_tree.specs.contracts.errors.JsonPathError.{the_row as E}
-use Rattle.jsonpath_tree.specs.declared.errors.JsonPathError.TheVariants.{OutOfMemory}
+use Rattle.jsonpath_core.specs.contracts.errors.JsonPathError.{the_row as E}
+use Rattle.jsonpath_core.specs.declared.errors.JsonPathError.TheVariants.{OutOfMemory}
 use Rattle.jsonpath_base.specs.SetFunctions.{set_function}
 use Rattle.jsonpath_base.specs.Values.{value_tree}
 use Rattle.jsonpath_node.specs.Document.{document_of}

@@ -3,7 +3,7 @@ use Rattle.std.specs.Vec.Iter.{into_iter_items, into_iter_len}
 use Rattle.std.specs.List.{AllByRecursion}
 use Rattle.jsonpath_state.specs.State.{SomeHas}
 use Rattle.jsonpath_state.specs.inner.Evaluating.{Completes}
-use Rattle.jsonpath_tree.specs.declared.errors.JsonPathError.{JsonPathError}
+use Rattle.jsonpath_core.specs.declared.errors.JsonPathError.{JsonPathError}
 use Rattle.jsonpath_state.proofs.state.data.Data.flat_map.Given as goal
 
 abbrev pub invariant-loop-p : goal.invariant-loop-p

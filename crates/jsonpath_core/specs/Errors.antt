@@ -1,7 +1,7 @@
 -- What an error holds, without where it lies in memory: its variant, the bytes of its texts, its number.
 use Rattle.std.specs.Prelude.{ℕ, List, string_bytes}
-use Rattle.jsonpath_tree.specs.declared.errors.JsonPathError.{JsonPathError}
-use Rattle.jsonpath_tree.specs.declared.errors.JsonPathError.TheVariants as code
+use Rattle.jsonpath_core.specs.declared.errors.JsonPathError.{JsonPathError}
+use Rattle.jsonpath_core.specs.declared.errors.JsonPathError.TheVariants as code
 
 pub data Error : Type 0 where
   pest_error : ℕ → Error

@@ -1,8 +1,8 @@
 //! What a call of the crates answers in place of a result.
 ghost use Rattle.std.specs.Prelude.{◌≡◌, ℕ, List, IfOk, IfErr};
-ghost use Rattle.jsonpath_tree.specs.Errors as error;
-ghost use Rattle.jsonpath_tree.specs.Errors.{error_view};
-ghost use Rattle.jsonpath_tree.specs.declared.errors.JsonPathError.TheVariants.{OutOfMemory};
+ghost use Rattle.jsonpath_core.specs.Errors as error;
+ghost use Rattle.jsonpath_core.specs.Errors.{error_view};
+ghost use Rattle.jsonpath_core.specs.declared.errors.JsonPathError.TheVariants.{OutOfMemory};
 
 use std::alloc::{AllocError, AllocFailed, Global};
 use std::num::ParseIntError;

@@ -1,12 +1,12 @@
 -- `==` of errors is equality of what they hold.
 use Rattle.std.proofs.Common.{◌≡◌, refl}
 use Rattle.std.specs.Bool.{Decides}
-use Rattle.jsonpath_tree.specs.Errors as error
-use Rattle.jsonpath_tree.specs.Errors.{error_view}
-use Rattle.jsonpath_tree.proofs.Equality.{under, under_two, differ, string_same}
-use Rattle.jsonpath_tree.specs.declared.errors.JsonPathError.{JsonPathError}
-use Rattle.jsonpath_tree.specs.declared.errors.JsonPathError.TheVariants as code
-use Rattle.jsonpath_tree.specs.contracts.errors.JsonPathErrorPartialEq.TheImpl as error_eq
+use Rattle.jsonpath_core.specs.Errors as error
+use Rattle.jsonpath_core.specs.Errors.{error_view}
+use Rattle.jsonpath_core.proofs.Deciding.{under, under_two, differ, string_same}
+use Rattle.jsonpath_core.specs.declared.errors.JsonPathError.{JsonPathError}
+use Rattle.jsonpath_core.specs.declared.errors.JsonPathError.TheVariants as code
+use Rattle.jsonpath_core.specs.contracts.errors.JsonPathErrorPartialEq.TheImpl as error_eq
 use Rattle.std.proofs.lemmas.Bool.Decides.{Decides-eqb}
 
 pub error_same : (a b : JsonPathError) → Decides (error_eq.eq-value.it a b) (error_view a ≡ error_view b)

@@ -3,7 +3,7 @@ use Rattle.std.specs.Prelude.{◌≡◌, ◌↔◌, ℕ, ◌+◌, ◌-◌, List,
 use Rattle.std.specs.Char.{digit_char}
 use Rattle.std.specs.Int.Digits.{digits_of}
 use Rattle.std.specs.Str.{byte}
-use Rattle.jsonpath_tree.specs.Location.{Step, name, index, Location, Begins}
+use Rattle.jsonpath_core.specs.Location.{Step, name, index, Location, Begins}
 
 -- How a character of a name is spelled. It goes byte by byte: a character from U+0080 on has bytes from 128 on alone, and each stands for itself.
 abbrev pub name_char : ℕ → List ℕ

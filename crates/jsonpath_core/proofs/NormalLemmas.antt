@@ -8,8 +8,8 @@ use Rattle.std.specs.Prelude.{if◌then◌else◌, ◌==◌, nat_lt}
 use Rattle.std.specs.Char.{digit_char}
 use Rattle.std.specs.Int.Digits.{digits_of, AllBelowBase}
 use Rattle.std.proofs.lemmas.Int.Digits.{same_from_digits_of, all_below_base_digits_of, first_digits_of}
-use Rattle.jsonpath_tree.specs.Location.{Step, name, index, Location, Begins}
-use Rattle.jsonpath_tree.specs.Normal.{name_char, name_chars, index_digits, step_text, steps_text, normal, IsNormal, IsOnlyPath}
+use Rattle.jsonpath_core.specs.Location.{Step, name, index, Location, Begins}
+use Rattle.jsonpath_core.specs.Normal.{name_char, name_chars, index_digits, step_text, steps_text, normal, IsNormal, IsOnlyPath}
 
 abbrev hex_value : ℕ → ℕ
 hex_value d = if nat_lt d 58 then d - 48 else d - 87

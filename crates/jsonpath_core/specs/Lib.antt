@@ -1,0 +1,3 @@
+pub mod Errors
+pub mod Location
+pub mod Normal

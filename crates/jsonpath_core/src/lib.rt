@@ -1,0 +1,5 @@
+//! What stands below all crates of queries: the errors of their calls, where a value lies in a document, and the Normalized
+//! Path of that place (RFC 9535, 2.7). `jsonpath_parser` re-exports the errors.
+#![tactic(auto)]
+
+pub mod errors;
