@@ -1,5 +1,8 @@
 pub mod Answers
 pub mod Arguing
+pub mod CensusLaws
+pub mod ContentLaws
+pub mod FindingLaws
 pub mod Kept
 pub mod Leading
 pub mod Leaves

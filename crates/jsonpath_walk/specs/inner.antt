@@ -1,5 +1,7 @@
 -- What the crate's own contracts and proofs say. Nothing here is part of what a query means.
 pub mod Arguing
+pub mod Census
+pub mod Contents
 pub mod Keeping
 pub mod Lookup
 pub mod Nesting

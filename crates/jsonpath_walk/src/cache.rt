@@ -1,5 +1,6 @@
 //! What one call of the evaluator keeps: the nodelists of queries from the root inside filters, and patterns.
 ghost use Rattle.std.specs.Prelude.{◌≡◌, ◌<◌, length, IsTrue, IfOk, IfErr, IfSome, OnOk};
+ghost use Rattle.jsonpath_tree.specs.Syntax.{Query};
 ghost use Rattle.jsonpath_tree.specs.View.{query_view};
 ghost use Rattle.jsonpath_node.specs.Document.{Document};
 ghost use Rattle.jsonpath_node.specs.Meaning.{nodelist};
@@ -8,10 +9,14 @@ ghost use Rattle.jsonpath_node.specs.inner.Operands.{operand_tree, operand_is_wh
 ghost use Rattle.jsonpath_node.specs.Patterns.{IsPattern};
 ghost use Rattle.jsonpath_node.specs.declared.halt.Halt.TheVariants.{Memory};
 ghost use Rattle.jsonpath_walk.specs.inner.Sinks.{seen, start, give};
-ghost use Rattle.jsonpath_walk.specs.inner.Keeping.{seen_at, AreRight, nodelists_of, gathered, IsGathered};
+ghost use Rattle.jsonpath_walk.specs.inner.Census.{Tells, AreAlike, IsKnownBy};
+ghost use Rattle.jsonpath_walk.specs.inner.Contents.{IsOwn};
+ghost use Rattle.jsonpath_walk.specs.inner.Keeping.{seen_at, AreRight, Keeps, IsAsBefore, nodelists_of, gathered, IsGathered};
 
 use crate::catalogue::Catalogue;
+use crate::census::Census;
 use crate::finders::{Asked, Finders};
+use crate::identity::Sought;
 use crate::patterns::Origin;
 use crate::round::around;
 use crate::sink::{Sink, Wanted};
@@ -31,12 +36,13 @@ pub struct CachedNodelist<'a, 's, T> {
 }
 
 impl<'a, 's, T: Queryable> CachedNodelist<'a, 's, T> {
-    /// Whether it is that of this query, for what is wanted.
+    /// Whether it is the one that is looked for.
     #[inline(always)]
-    fn is_of(&self, query: &JpQuery, wanted: Wanted) -> bool
-        ensures { IsTrue result → (self.now.wanted ≡ wanted) × (query_view self.now.query.now ≡ query_view query.now) }
+    fn is_sought(&self, sought: Sought<'_>) -> bool
+        ensures { IsTrue result → (self.now.wanted ≡ sought.entry.wanted) × AreAlike sought.entry.identity (query_view self.now.query.now) (query_view sought.entry.query.now) }
     {
-        is_same_wanted(self.wanted, wanted) && is_same_query(self.query, query)
+        is_same_wanted(self.wanted, sought.wanted)
+            && sought.identity.is_alike(self.query, sought.query)
     }
 }
 
@@ -56,6 +62,8 @@ pub struct Cache<'a, 's, T> {
     pub likely: usize,
     /// Where those stand that were kept first, once there are many.
     catalogue: Catalogue,
+    /// The queries from the root that stand in the query that is asked, from the first on that is kept.
+    pub census: Census<'s>,
     /// What asks patterns.
     pub finders: Finders<'s>,
 }
@@ -63,12 +71,13 @@ pub struct Cache<'a, 's, T> {
 impl<'a, 's, T: Queryable> Cache<'a, 's, T> {
     /// With no nodelists yet.
     pub fn new(alloc: Global, finders: Finders<'s>) -> Self
-        ensures { (doc : Document) → AreRight T.tree T.is_whole doc (nodelists_of result) }
+        ensures { (q : Query) (doc : Document) → Keeps T.tree T.is_whole q doc result }
     {
         Cache {
             nodelists: Vec::new(alloc),
             likely: 0,
             catalogue: Catalogue::new(alloc),
+            census: Census::new(alloc),
             finders,
         }
     }
@@ -76,36 +85,52 @@ impl<'a, 's, T: Queryable> Cache<'a, 's, T> {
     /// The index of the nodelist of a query, if it is kept. It is looked for from where the last one was found, for a filter
     /// asks its queries in turn at one node after the other, and where it is not near, by its hash.
     pub fn find(&mut self, query: &JpQuery, wanted: Wanted) -> Result<Option<usize>, AllocError>
-        ensures same { nodelists_of self.new ≡ nodelists_of self.old }
+        ensures same { IsAsBefore self.old self.new }
         ensures within { IfOk result (λ o. IfSome o (λ i. i < length (nodelists_of self.new))) }
-        ensures right { (doc : Document) → AreRight T.tree T.is_whole doc (nodelists_of self.old) → IfOk result (λ o. IfSome o (λ i.
+        ensures right { (q : Query) (doc : Document) → Keeps T.tree T.is_whole q doc self.old → IsOwn q (query_view query.now) → IfOk result (λ o. IfSome o (λ i.
             seen_at T.tree T.is_whole (nodelists_of self.new) i ≡ give (start wanted) (nodelist (query_view query.now) doc))) }
     {
-        let near = found_from(self.likely, NEAR, &self.nodelists, query, wanted);
+        let sought = Sought {
+            query,
+            wanted,
+            identity: self.census.identity_of(query),
+        };
+        let near = found_from(self.likely, NEAR, &self.nodelists, sought);
         if let Some(index) = near {
             self.likely = index.saturating_add(1);
             return Ok(Some(index));
         }
-        self.find_far(query, wanted)
+        self.find_far(sought)
     }
 
-    /// The same, by the hash of the query. All of a few are near.
-    fn find_far(&mut self, query: &JpQuery, wanted: Wanted) -> Result<Option<usize>, AllocError>
-        ensures same { nodelists_of self.new ≡ nodelists_of self.old }
+    /// The same, by a hash. All of a few are near.
+    fn find_far(&mut self, sought: Sought<'_>) -> Result<Option<usize>, AllocError>
+        ensures same { IsAsBefore self.old self.new }
         ensures within { IfOk result (λ o. IfSome o (λ i. i < length (nodelists_of self.new))) }
-        ensures right { (doc : Document) → AreRight T.tree T.is_whole doc (nodelists_of self.old) → IfOk result (λ o. IfSome o (λ i.
-            seen_at T.tree T.is_whole (nodelists_of self.new) i ≡ give (start wanted) (nodelist (query_view query.now) doc))) }
+        ensures right { (q : Query) (doc : Document) → AreRight T.tree T.is_whole q doc (nodelists_of self.old) → IsKnownBy q sought.entry.identity (query_view sought.entry.query.now) → IfOk result (λ o. IfSome o (λ i.
+            seen_at T.tree T.is_whole (nodelists_of self.new) i ≡ give (start sought.entry.wanted) (nodelist (query_view sought.entry.query.now) doc))) }
     {
         let count = self.nodelists.len();
         if count <= NEAR {
             return Ok(None);
         }
-        enter_rest(&mut self.catalogue, &self.nodelists)?;
-        let Some(index) = self.catalogue.index_of(query, wanted) else {
+        enter_rest(&mut self.catalogue, &self.census, &self.nodelists)?;
+        let Some(index) = self.catalogue.index_of(sought) else {
             return Ok(None);
         };
         self.likely = index.saturating_add(1);
-        Ok(found_from(index, count, &self.nodelists, query, wanted))
+        Ok(found_from(index, count, &self.nodelists, sought))
+    }
+
+    /// Meets the queries from the root that stand in the query that is asked, if none was met yet.
+    pub fn survey(&mut self, alloc: Global, asked: &'s JpQuery) -> Result<(), AllocError>
+        ensures same { OnOk result (nodelists_of self.new ≡ nodelists_of self.old) }
+        ensures tells { Tells (query_view asked.now) self.old.census → OnOk result (Tells (query_view asked.now) self.new.census) }
+    {
+        if self.census.is_empty() {
+            self.census = Census::of(alloc, asked)?;
+        }
+        Ok(())
     }
 
     /// Keeps the nodelist of a query, and tells its index.
@@ -117,7 +142,7 @@ impl<'a, 's, T: Queryable> Cache<'a, 's, T> {
     ) -> Result<usize, AllocError>
         ensures within { IfOk result (λ i. i < length (nodelists_of self.new)) }
         ensures value { IfOk result (λ i. seen_at T.tree T.is_whole (nodelists_of self.new) i ≡ seen T.tree T.is_whole nodes.entry) }
-        ensures right { (doc : Document) → seen T.tree T.is_whole nodes.entry ≡ give (start wanted) (nodelist (query_view query.now) doc) → AreRight T.tree T.is_whole doc (nodelists_of self.old) → OnOk result (AreRight T.tree T.is_whole doc (nodelists_of self.new)) }
+        ensures right { (q : Query) (doc : Document) → IsOwn q (query_view query.now) → seen T.tree T.is_whole nodes.entry ≡ give (start wanted) (nodelist (query_view query.now) doc) → Keeps T.tree T.is_whole q doc self.old → OnOk result (Keeps T.tree T.is_whole q doc self.new) }
     {
         let index = self.nodelists.len();
         self.nodelists.push(CachedNodelist {
@@ -161,7 +186,7 @@ impl<'a, 's, T: Queryable> Cache<'a, 's, T> {
         requires text { IsTrue (operand_is_whole T.is_whole text.now) }
         requires pattern { IsTrue (operand_is_whole T.is_whole pattern.now) }
         ensures value { IfOk result (λ b. b ≡ is_matched (is_entire extent) (operand_tree T.tree text.now) (operand_tree T.tree pattern.now)) }
-        ensures keeps { OnOk result (nodelists_of self.new ≡ nodelists_of self.old) }
+        ensures same { OnOk result (IsAsBefore self.old self.new) }
         ensures refused { IfErr result (λ h. (h ≡ Memory → ⊥) → IsPattern (is_entire extent) (operand_tree T.tree pattern.now)) }
     {
         let (Some(text), Some(pattern)) = (text.as_text(), pattern.as_text()) else {
@@ -175,23 +200,22 @@ impl<'a, 's, T: Queryable> Cache<'a, 's, T> {
 /// How many nodelists are near.
 const NEAR: usize = 8;
 
-/// The index of the nodelist of a query, if it is one of these: so many from `first` on, in a round.
+/// The index of the nodelist that is looked for, if it is one of these: so many from `first` on, in a round.
 fn found_from<T: Queryable>(
     first: usize,
     most: usize,
     nodelists: &Vec<CachedNodelist<'_, '_, T>>,
-    query: &JpQuery,
-    wanted: Wanted,
+    sought: Sought<'_>,
 ) -> Option<usize>
     ensures within { IfSome result (λ i. i < length nodelists.now.items) }
-    ensures right { (doc : Document) → AreRight T.tree T.is_whole doc nodelists.now.items → IfSome result (λ i.
-        seen_at T.tree T.is_whole nodelists.now.items i ≡ give (start wanted) (nodelist (query_view query.now) doc)) }
+    ensures right { (q : Query) (doc : Document) → AreRight T.tree T.is_whole q doc nodelists.now.items → IsKnownBy q sought.entry.identity (query_view sought.entry.query.now) → IfSome result (λ i.
+        seen_at T.tree T.is_whole nodelists.now.items i ≡ give (start sought.entry.wanted) (nodelist (query_view sought.entry.query.now) doc)) }
 {
     let count = nodelists.len();
     for turn in 0..count.min(most) {
         let index = around(first, turn, count);
         if let Some(cached) = nodelists.get(index) {
-            if cached.is_of(query, wanted) {
+            if cached.is_sought(sought) {
                 return Some(index);
             }
         }
@@ -202,11 +226,16 @@ fn found_from<T: Queryable>(
 /// Enters the nodelists that are not in the catalogue yet.
 fn enter_rest<T>(
     catalogue: &mut Catalogue,
+    census: &Census<'_>,
     nodelists: &Vec<CachedNodelist<'_, '_, T>>,
 ) -> Result<(), AllocError> {
     for index in catalogue.next()..nodelists.len() {
         if let Some(cached) = nodelists.get(index) {
-            catalogue.enter(cached.query, cached.wanted)?;
+            catalogue.enter(Sought {
+                query: cached.query,
+                wanted: cached.wanted,
+                identity: census.identity_of(cached.query),
+            })?;
         }
     }
     Ok(())
@@ -224,12 +253,4 @@ fn is_same_wanted(left: Wanted, right: Wanted) -> bool
         (Wanted::Values, Wanted::Values) => true,
         _ => false,
     }
-}
-
-/// Whether the queries are the same tree.
-#[tactic(auto, using(jsonpath_tree::proofs::Equality::query_same))]
-fn is_same_query(left: &JpQuery, right: &JpQuery) -> bool
-    ensures { IsTrue result → query_view left.now ≡ query_view right.now }
-{
-    left == right
 }

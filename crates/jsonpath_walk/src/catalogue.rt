@@ -1,8 +1,7 @@
 //! Where each kept nodelist stands, by a hash of its query and of what was wanted of it. So one of many is found with no look
 //! at the others.
 
-use crate::sink::Wanted;
-use jsonpath_tree::model::JpQuery;
+use crate::identity::{Identity, Sought};
 use std::alloc::{AllocError, Global};
 use std::collections::BTreeMap;
 use std::fmt::{self, Write};
@@ -32,30 +31,35 @@ impl Catalogue {
         self.count
     }
 
-    /// Enters the next nodelist.
-    pub fn enter(&mut self, query: &JpQuery, wanted: Wanted) -> Result<(), AllocError> {
-        self.indexes.insert(fingerprint(query, wanted), self.count)?;
+    /// Enters the next nodelist, as it will be looked for.
+    pub fn enter(&mut self, sought: Sought<'_>) -> Result<(), AllocError> {
+        self.indexes.insert(fingerprint(sought), self.count)?;
         self.count = self.count.saturating_add(1);
         Ok(())
     }
 
-    /// The index under which a nodelist of this query was entered, or of another with its hash.
-    pub fn index_of(&self, query: &JpQuery, wanted: Wanted) -> Option<usize> {
-        self.indexes.get(&fingerprint(query, wanted)).copied()
+    /// The index under which the nodelist was entered, or another with its hash.
+    pub fn index_of(&self, sought: Sought<'_>) -> Option<usize> {
+        self.indexes.get(&fingerprint(sought)).copied()
     }
 }
 
 /// How many bytes of the text of a query are hashed: so many that few queries of a longer text have room in one query.
 const MOST: usize = 32_768;
 
-/// A hash of a query and of what is wanted of it: of the text that `Debug` writes of them.
-fn fingerprint(query: &JpQuery, wanted: Wanted) -> u64 {
+/// A hash of by what a query is known, and of what is wanted of it: of the text that `Debug` writes of them.
+fn fingerprint(sought: Sought<'_>) -> u64 {
     let mut written = Written {
         hasher: DefaultHasher::new(),
         room: MOST,
     };
+    let wanted = sought.wanted;
+    let query = sought.query;
     // Where the text is longer, it is left off.
-    let _ = write!(written, "{wanted:?} of {query:?}");
+    let _ = match sought.identity {
+        Identity::SegmentCount => write!(written, "{wanted:?} of {}", query.segments.len()),
+        Identity::Tree => write!(written, "{wanted:?} of {query:?}"),
+    };
     written.hasher.finish()
 }
 

@@ -4,11 +4,11 @@ ghost use Rattle.std.specs.List.{flat_map};
 ghost use Rattle.jsonpath_tree.specs.View.{segment_view};
 ghost use Rattle.jsonpath_node.specs.Node.{below, children, subtree};
 ghost use Rattle.jsonpath_node.specs.Meaning.{replaced};
-ghost use Rattle.jsonpath_node.specs.Patterns.{segments_patterns, segment_patterns};
+ghost use Rattle.jsonpath_walk.specs.inner.Contents.{StandIn, segments_contents, segment_contents};
 ghost use Rattle.jsonpath_walk.specs.inner.Sinks.{Took, seen};
-ghost use Rattle.jsonpath_walk.specs.inner.Keeping.{StandIn, document, query_of};
+ghost use Rattle.jsonpath_walk.specs.inner.Keeping.{document, query_of};
 ghost use Rattle.jsonpath_walk.specs.inner.Standing.{Stands, Returns, IsHalt, AreMembers};
-ghost use Rattle.jsonpath_walk.specs.inner.Walking.{through, node_of, step_of, acted, action_patterns};
+ghost use Rattle.jsonpath_walk.specs.inner.Walking.{through, node_of, step_of, acted, action_contents};
 ghost use Rattle.jsonpath_node.specs.inner.Parts.{segments_in};
 
 use crate::action::{Action, is_idle, of_each_child};
@@ -46,7 +46,7 @@ impl<'a: 's, 's, T: Queryable> Task<'a, 's, T> {
         sink: &mut Sink<'a, T>,
     ) -> Walked<bool>
         requires stands { Stands T.tree T.is_whole T.custom self.now at.now trail.old.way.steps.items trail.old.cache }
-        requires part { StandIn (query_of self.now) (action_patterns action ++ segments_patterns (segments_in rest.now)) }
+        requires part { StandIn (query_of self.now) (action_contents action ++ segments_contents (segments_in rest.now)) }
         ensures gave { IfOk result (λ b. Took (seen T.tree T.is_whole sink.old)
             (flat_map (through (segments_in rest.now) (document T.tree T.custom self.now))
             (flat_map (acted action.entry (document T.tree T.custom self.now)) (children (node_of T.tree trail.old.way.steps.items at.now))))
@@ -83,7 +83,7 @@ impl<'a: 's, 's, T: Queryable> Task<'a, 's, T> {
     ) -> Walked<bool>
         requires stands { Stands T.tree T.is_whole T.custom self.now members.now.of.now trail.old.way.steps.items trail.old.cache }
         requires listed { AreMembers T.tree T.is_whole members.now }
-        requires part { StandIn (query_of self.now) (action_patterns action ++ segments_patterns (segments_in rest.now)) }
+        requires part { StandIn (query_of self.now) (action_contents action ++ segments_contents (segments_in rest.now)) }
         ensures gave { IfOk result (λ b. Took (seen T.tree T.is_whole sink.old)
             (flat_map (through (segments_in rest.now) (document T.tree T.custom self.now))
             (flat_map (acted action.entry (document T.tree T.custom self.now)) (children (node_of T.tree trail.old.way.steps.items members.now.of.now))))
@@ -113,7 +113,7 @@ impl<'a: 's, 's, T: Queryable> Task<'a, 's, T> {
         sink: &mut Sink<'a, T>,
     ) -> Walked<bool>
         requires stands { Stands T.tree T.is_whole T.custom self.now child.value.now (trail.old.way.steps.items ++ child.step ∷ []) trail.old.cache }
-        requires part { StandIn (query_of self.now) (action_patterns action ++ segments_patterns (segments_in rest.now)) }
+        requires part { StandIn (query_of self.now) (action_contents action ++ segments_contents (segments_in rest.now)) }
         ensures gave { IfOk result (λ b. Took (seen T.tree T.is_whole sink.old)
             (flat_map (through (segments_in rest.now) (document T.tree T.custom self.now))
             (acted action.entry (document T.tree T.custom self.now) (below (map step_of trail.old.way.steps.items) (step_of child.entry.step) (T.tree child.entry.value.now))))
@@ -142,7 +142,7 @@ impl<'a: 's, 's, T: Queryable> Task<'a, 's, T> {
         sink: &mut Sink<'a, T>,
     ) -> Walked<bool>
         requires stands { Stands T.tree T.is_whole T.custom self.now at.now trail.old.way.steps.items trail.old.cache }
-        requires part { StandIn (query_of self.now) (action_patterns action ++ segments_patterns (segments_in rest.now)) }
+        requires part { StandIn (query_of self.now) (action_contents action ++ segments_contents (segments_in rest.now)) }
         ensures gave { IfOk result (λ b. Took (seen T.tree T.is_whole sink.old)
             (flat_map (through (segments_in rest.now) (document T.tree T.custom self.now))
             (acted action.entry (document T.tree T.custom self.now) (node_of T.tree trail.old.way.steps.items at.now)))
@@ -175,7 +175,7 @@ impl<'a: 's, 's, T: Queryable> Task<'a, 's, T> {
         sink: &mut Sink<'a, T>,
     ) -> Walked<bool>
         requires stands { Stands T.tree T.is_whole T.custom self.now at.now trail.old.way.steps.items trail.old.cache }
-        requires part { StandIn (query_of self.now) (segment_patterns (segment_view segment.now) ++ segments_patterns (segments_in rest.now)) }
+        requires part { StandIn (query_of self.now) (segment_contents (segment_view segment.now) ++ segments_contents (segments_in rest.now)) }
         ensures gave { IfOk result (λ b. Took (seen T.tree T.is_whole sink.old)
             (flat_map (through (segments_in rest.now) (document T.tree T.custom self.now))
             (flat_map (replaced (segment_view segment.now) (document T.tree T.custom self.now)) (subtree (node_of T.tree trail.old.way.steps.items at.now))))
@@ -213,7 +213,7 @@ impl<'a: 's, 's, T: Queryable> Task<'a, 's, T> {
         sink: &mut Sink<'a, T>,
     ) -> Walked<bool>
         requires stands { Stands T.tree T.is_whole T.custom self.now at.now trail.old.way.steps.items trail.old.cache }
-        requires part { StandIn (query_of self.now) (segments_patterns (segments_in rest.now)) }
+        requires part { StandIn (query_of self.now) (segments_contents (segments_in rest.now)) }
         ensures gave { IfOk result (λ b. Took (seen T.tree T.is_whole sink.old)
             (through (segments_in rest.now) (document T.tree T.custom self.now) (node_of T.tree trail.old.way.steps.items at.now))
             (seen T.tree T.is_whole sink.new) b) }

@@ -3,8 +3,8 @@ ghost use Rattle.std.specs.Prelude.{◌≡◌, IsTrue, IfOk, IfErr, OnOk};
 ghost use Rattle.jsonpath_tree.specs.View.{filter_view, atom_view, comparison_view, comparable_view};
 ghost use Rattle.jsonpath_node.specs.Meaning.{holds, some_holds, each_holds, atom_holds, comparison_holds, value_of};
 ghost use Rattle.jsonpath_node.specs.inner.Operands.{operand_tree, operand_is_whole};
-ghost use Rattle.jsonpath_node.specs.Patterns.{filter_patterns, filters_patterns, atom_patterns, comparison_patterns, comparable_patterns};
-ghost use Rattle.jsonpath_walk.specs.inner.Keeping.{StandIn, document, query_of};
+ghost use Rattle.jsonpath_walk.specs.inner.Contents.{StandIn, filter_contents, filters_contents, atom_contents, comparison_contents, comparable_contents};
+ghost use Rattle.jsonpath_walk.specs.inner.Keeping.{document, query_of};
 ghost use Rattle.jsonpath_walk.specs.inner.Standing.{Stands, Returns, IsHalt};
 ghost use Rattle.jsonpath_walk.specs.inner.Walking.{node_of};
 ghost use Rattle.jsonpath_node.specs.inner.Parts.{filters_in};
@@ -31,7 +31,7 @@ impl<'a: 's, 's, T: Queryable> Task<'a, 's, T> {
         trail: &mut Trail<'a, 's, T>,
     ) -> Walked<bool>
         requires stands { Stands T.tree T.is_whole T.custom self.now at.now trail.old.way.steps.items trail.old.cache }
-        requires part { StandIn (query_of self.now) (filter_patterns (filter_view filter.now)) }
+        requires part { StandIn (query_of self.now) (filter_contents (filter_view filter.now)) }
         ensures holds { IfOk result (λ b. b ≡ holds (filter_view filter.now) (document T.tree T.custom self.now) (node_of T.tree trail.old.way.steps.items at.now)) }
         ensures returns { OnOk result (Returns T.tree T.is_whole T.custom self.now trail.old trail.new) }
         ensures refused { IfErr result (IsHalt (query_of self.now) (document T.tree T.custom self.now)) }
@@ -52,7 +52,7 @@ impl<'a: 's, 's, T: Queryable> Task<'a, 's, T> {
         trail: &mut Trail<'a, 's, T>,
     ) -> Walked<bool>
         requires stands { Stands T.tree T.is_whole T.custom self.now at.now trail.old.way.steps.items trail.old.cache }
-        requires part { StandIn (query_of self.now) (filters_patterns (filters_in parts.now)) }
+        requires part { StandIn (query_of self.now) (filters_contents (filters_in parts.now)) }
         ensures holds { IfOk result (λ b. b ≡ some_holds (filters_in parts.now) (document T.tree T.custom self.now) (node_of T.tree trail.old.way.steps.items at.now)) }
         ensures returns { OnOk result (Returns T.tree T.is_whole T.custom self.now trail.old trail.new) }
         ensures refused { IfErr result (IsHalt (query_of self.now) (document T.tree T.custom self.now)) }
@@ -74,7 +74,7 @@ impl<'a: 's, 's, T: Queryable> Task<'a, 's, T> {
         trail: &mut Trail<'a, 's, T>,
     ) -> Walked<bool>
         requires stands { Stands T.tree T.is_whole T.custom self.now at.now trail.old.way.steps.items trail.old.cache }
-        requires part { StandIn (query_of self.now) (filters_patterns (filters_in parts.now)) }
+        requires part { StandIn (query_of self.now) (filters_contents (filters_in parts.now)) }
         ensures holds { IfOk result (λ b. b ≡ each_holds (filters_in parts.now) (document T.tree T.custom self.now) (node_of T.tree trail.old.way.steps.items at.now)) }
         ensures returns { OnOk result (Returns T.tree T.is_whole T.custom self.now trail.old trail.new) }
         ensures refused { IfErr result (IsHalt (query_of self.now) (document T.tree T.custom self.now)) }
@@ -97,7 +97,7 @@ impl<'a: 's, 's, T: Queryable> Task<'a, 's, T> {
         trail: &mut Trail<'a, 's, T>,
     ) -> Walked<bool>
         requires stands { Stands T.tree T.is_whole T.custom self.now at.now trail.old.way.steps.items trail.old.cache }
-        requires part { StandIn (query_of self.now) (atom_patterns (atom_view atom.now)) }
+        requires part { StandIn (query_of self.now) (atom_contents (atom_view atom.now)) }
         ensures holds { IfOk result (λ b. b ≡ atom_holds (atom_view atom.now) (document T.tree T.custom self.now) (node_of T.tree trail.old.way.steps.items at.now)) }
         ensures returns { OnOk result (Returns T.tree T.is_whole T.custom self.now trail.old trail.new) }
         ensures refused { IfErr result (IsHalt (query_of self.now) (document T.tree T.custom self.now)) }
@@ -124,7 +124,7 @@ impl<'a: 's, 's, T: Queryable> Task<'a, 's, T> {
         trail: &mut Trail<'a, 's, T>,
     ) -> Walked<bool>
         requires stands { Stands T.tree T.is_whole T.custom self.now at.now trail.old.way.steps.items trail.old.cache }
-        requires part { StandIn (query_of self.now) (comparison_patterns (comparison_view comparison.now)) }
+        requires part { StandIn (query_of self.now) (comparison_contents (comparison_view comparison.now)) }
         ensures holds { IfOk result (λ b. b ≡ comparison_holds (comparison_view comparison.now) (document T.tree T.custom self.now) (node_of T.tree trail.old.way.steps.items at.now)) }
         ensures returns { OnOk result (Returns T.tree T.is_whole T.custom self.now trail.old trail.new) }
         ensures refused { IfErr result (IsHalt (query_of self.now) (document T.tree T.custom self.now)) }
@@ -147,7 +147,7 @@ impl<'a: 's, 's, T: Queryable> Task<'a, 's, T> {
         trail: &mut Trail<'a, 's, T>,
     ) -> Walked<Operand<'a, 's, T>>
         requires stands { Stands T.tree T.is_whole T.custom self.now at.now trail.old.way.steps.items trail.old.cache }
-        requires part { StandIn (query_of self.now) (comparable_patterns (comparable_view comparable.now)) }
+        requires part { StandIn (query_of self.now) (comparable_contents (comparable_view comparable.now)) }
         ensures value { IfOk result (λ o. operand_tree T.tree o ≡ value_of (comparable_view comparable.now) (document T.tree T.custom self.now) (node_of T.tree trail.old.way.steps.items at.now)) }
         ensures whole { IfOk result (λ o. IsTrue (operand_is_whole T.is_whole o)) }
         ensures returns { OnOk result (Returns T.tree T.is_whole T.custom self.now trail.old trail.new) }

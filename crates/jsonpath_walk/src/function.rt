@@ -6,8 +6,8 @@ ghost use Rattle.jsonpath_node.specs.Functions.{is_matched, as_value};
 ghost use Rattle.jsonpath_node.specs.Meaning.{answer, argued, tested, all_trees};
 ghost use Rattle.jsonpath_walk.specs.inner.Arguing.{held, holding, IsHeld};
 ghost use Rattle.jsonpath_node.specs.inner.Operands.{operand_tree, operand_is_whole, is_entire};
-ghost use Rattle.jsonpath_node.specs.Patterns.{call_patterns, argument_patterns, arguments_patterns, test_patterns};
-ghost use Rattle.jsonpath_walk.specs.inner.Keeping.{StandIn, document, query_of};
+ghost use Rattle.jsonpath_walk.specs.inner.Contents.{StandIn, pattern, call_contents, argument_contents, arguments_contents, test_contents};
+ghost use Rattle.jsonpath_walk.specs.inner.Keeping.{document, query_of};
 ghost use Rattle.jsonpath_walk.specs.inner.Standing.{Stands, Returns, IsHalt};
 ghost use Rattle.jsonpath_walk.specs.inner.Walking.{node_of};
 ghost use Rattle.jsonpath_node.specs.inner.Parts.{arguments_in};
@@ -35,7 +35,7 @@ impl<'a: 's, 's, T: Queryable> Task<'a, 's, T> {
         trail: &mut Trail<'a, 's, T>,
     ) -> Walked<Operand<'a, 's, T>>
         requires stands { Stands T.tree T.is_whole T.custom self.now at.now trail.old.way.steps.items trail.old.cache }
-        requires part { StandIn (query_of self.now) (call_patterns (call_view function.now)) }
+        requires part { StandIn (query_of self.now) (call_contents (call_view function.now)) }
         ensures value { IfOk result (λ o. operand_tree T.tree o ≡ answer (call_view function.now) (document T.tree T.custom self.now) (node_of T.tree trail.old.way.steps.items at.now)) }
         ensures whole { IfOk result (λ o. IsTrue (operand_is_whole T.is_whole o)) }
         ensures returns { OnOk result (Returns T.tree T.is_whole T.custom self.now trail.old trail.new) }
@@ -76,7 +76,7 @@ impl<'a: 's, 's, T: Queryable> Task<'a, 's, T> {
         trail: &mut Trail<'a, 's, T>,
     ) -> Walked<Operand<'a, 's, T>>
         requires stands { Stands T.tree T.is_whole T.custom self.now at.now trail.old.way.steps.items trail.old.cache }
-        requires part { StandIn (query_of self.now) ((is_entire extent, argument_view args.1.now) ∷ (argument_patterns (argument_view args.0.now) ++ argument_patterns (argument_view args.1.now))) }
+        requires part { StandIn (query_of self.now) (pattern (is_entire extent) (argument_view args.1.now) ∷ (argument_contents (argument_view args.0.now) ++ argument_contents (argument_view args.1.now))) }
         ensures value { IfOk result (λ o. operand_tree T.tree o ≡ Some (truth (is_matched (is_entire extent)
             (as_value (argued (argument_view args.entry.0.now) (document T.tree T.custom self.now) (node_of T.tree trail.old.way.steps.items at.now)))
             (as_value (argued (argument_view args.entry.1.now) (document T.tree T.custom self.now) (node_of T.tree trail.old.way.steps.items at.now)))))) }
@@ -103,7 +103,7 @@ impl<'a: 's, 's, T: Queryable> Task<'a, 's, T> {
         trail: &mut Trail<'a, 's, T>,
     ) -> Walked<Operand<'a, 's, T>>
         requires stands { Stands T.tree T.is_whole T.custom self.now at.now trail.old.way.steps.items trail.old.cache }
-        requires part { StandIn (query_of self.now) (arguments_patterns (arguments_in args.now)) }
+        requires part { StandIn (query_of self.now) (arguments_contents (arguments_in args.now)) }
         ensures value { IfOk result (λ o. operand_tree T.tree o ≡ Some (T.custom (string_bytes name.now) (all_trees (arguments_in args.now) (document T.tree T.custom self.now) (node_of T.tree trail.old.way.steps.items at.now)))) }
         ensures whole { IfOk result (λ o. IsTrue (operand_is_whole T.is_whole o)) }
         ensures returns { OnOk result (Returns T.tree T.is_whole T.custom self.now trail.old trail.new) }
@@ -126,7 +126,7 @@ impl<'a: 's, 's, T: Queryable> Task<'a, 's, T> {
         trail: &mut Trail<'a, 's, T>,
     ) -> Walked<Operand<'a, 's, T>>
         requires stands { Stands T.tree T.is_whole T.custom self.now at.now trail.old.way.steps.items trail.old.cache }
-        requires part { StandIn (query_of self.now) (argument_patterns (argument_view arg.now)) }
+        requires part { StandIn (query_of self.now) (argument_contents (argument_view arg.now)) }
         ensures value { IfOk result (λ o. operand_tree T.tree o ≡ as_value (argued (argument_view arg.now) (document T.tree T.custom self.now) (node_of T.tree trail.old.way.steps.items at.now))) }
         ensures whole { IfOk result (λ o. IsTrue (operand_is_whole T.is_whole o)) }
         ensures returns { OnOk result (Returns T.tree T.is_whole T.custom self.now trail.old trail.new) }
@@ -146,7 +146,7 @@ impl<'a: 's, 's, T: Queryable> Task<'a, 's, T> {
         trail: &mut Trail<'a, 's, T>,
     ) -> Walked<Argument<'a, 's, T>>
         requires stands { Stands T.tree T.is_whole T.custom self.now at.now trail.old.way.steps.items trail.old.cache }
-        requires part { StandIn (query_of self.now) (argument_patterns (argument_view arg.now)) }
+        requires part { StandIn (query_of self.now) (argument_contents (argument_view arg.now)) }
         ensures held { IfOk result (λ a. held T.tree T.is_whole trail.new.cache a ≡ holding wanted (argued (argument_view arg.now) (document T.tree T.custom self.now) (node_of T.tree trail.old.way.steps.items at.now))) }
         ensures within { IfOk result (IsHeld T.is_whole trail.new.cache) }
         ensures returns { OnOk result (Returns T.tree T.is_whole T.custom self.now trail.old trail.new) }
@@ -172,7 +172,7 @@ impl<'a: 's, 's, T: Queryable> Task<'a, 's, T> {
         trail: &mut Trail<'a, 's, T>,
     ) -> Walked<Argument<'a, 's, T>>
         requires stands { Stands T.tree T.is_whole T.custom self.now at.now trail.old.way.steps.items trail.old.cache }
-        requires part { StandIn (query_of self.now) (test_patterns (test_view test.now)) }
+        requires part { StandIn (query_of self.now) (test_contents (test_view test.now)) }
         ensures held { IfOk result (λ a. held T.tree T.is_whole trail.new.cache a ≡ holding wanted (tested (test_view test.now) (document T.tree T.custom self.now) (node_of T.tree trail.old.way.steps.items at.now))) }
         ensures within { IfOk result (IsHeld T.is_whole trail.new.cache) }
         ensures returns { OnOk result (Returns T.tree T.is_whole T.custom self.now trail.old trail.new) }

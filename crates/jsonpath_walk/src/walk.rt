@@ -9,11 +9,12 @@ ghost use Rattle.jsonpath_tree.specs.View.{selector_view, segment_view, query_vi
 ghost use Rattle.jsonpath_node.specs.Document.{document_of};
 ghost use Rattle.jsonpath_node.specs.Node.{below, children};
 ghost use Rattle.jsonpath_node.specs.Meaning.{picks, all_pick, replaced, sliced, nodelist};
-ghost use Rattle.jsonpath_node.specs.Patterns.{IsStop, segments_patterns, segment_patterns, selectors_patterns, selector_patterns};
+ghost use Rattle.jsonpath_node.specs.Patterns.{IsStop};
+ghost use Rattle.jsonpath_walk.specs.inner.Contents.{StandIn, segments_contents, segment_contents, selectors_contents, selector_contents};
 ghost use Rattle.jsonpath_walk.specs.inner.Sinks.{Took, seen};
-ghost use Rattle.jsonpath_walk.specs.inner.Keeping.{StandIn, document, query_of};
+ghost use Rattle.jsonpath_walk.specs.inner.Keeping.{document, query_of};
 ghost use Rattle.jsonpath_walk.specs.inner.Standing.{Stands, Returns, IsHalt};
-ghost use Rattle.jsonpath_walk.specs.inner.Walking.{through, node_of, step_of, acted, action_patterns};
+ghost use Rattle.jsonpath_walk.specs.inner.Walking.{through, node_of, step_of, acted, action_contents};
 ghost use Rattle.jsonpath_node.specs.inner.Parts.{segments_in, selectors_in};
 
 use crate::action::Action;
@@ -109,7 +110,7 @@ impl<'a: 's, 's, T: Queryable> Task<'a, 's, T> {
         sink: &mut Sink<'a, T>,
     ) -> Walked<bool>
         requires stands { Stands T.tree T.is_whole T.custom self.now at.now trail.old.way.steps.items trail.old.cache }
-        requires part { StandIn (query_of self.now) (segments_patterns (segments_in segments.now)) }
+        requires part { StandIn (query_of self.now) (segments_contents (segments_in segments.now)) }
         ensures gave { IfOk result (λ b. Took (seen T.tree T.is_whole sink.old)
             (through (segments_in segments.now) (document T.tree T.custom self.now) (node_of T.tree trail.old.way.steps.items at.now))
             (seen T.tree T.is_whole sink.new) b) }
@@ -134,7 +135,7 @@ impl<'a: 's, 's, T: Queryable> Task<'a, 's, T> {
         sink: &mut Sink<'a, T>,
     ) -> Walked<bool>
         requires stands { Stands T.tree T.is_whole T.custom self.now at.now trail.old.way.steps.items trail.old.cache }
-        requires part { StandIn (query_of self.now) (segment_patterns (segment_view first.now) ++ segments_patterns (segments_in rest.now)) }
+        requires part { StandIn (query_of self.now) (segment_contents (segment_view first.now) ++ segments_contents (segments_in rest.now)) }
         ensures gave { IfOk result (λ b. Took (seen T.tree T.is_whole sink.old)
             (flat_map (through (segments_in rest.now) (document T.tree T.custom self.now))
             (replaced (segment_view first.now) (document T.tree T.custom self.now) (node_of T.tree trail.old.way.steps.items at.now)))
@@ -160,7 +161,7 @@ impl<'a: 's, 's, T: Queryable> Task<'a, 's, T> {
         sink: &mut Sink<'a, T>,
     ) -> Walked<bool>
         requires stands { Stands T.tree T.is_whole T.custom self.now at.now trail.old.way.steps.items trail.old.cache }
-        requires part { StandIn (query_of self.now) (selectors_patterns (selectors_in selectors.now) ++ segments_patterns (segments_in rest.now)) }
+        requires part { StandIn (query_of self.now) (selectors_contents (selectors_in selectors.now) ++ segments_contents (segments_in rest.now)) }
         ensures gave { IfOk result (λ b. Took (seen T.tree T.is_whole sink.old)
             (flat_map (through (segments_in rest.now) (document T.tree T.custom self.now))
             (all_pick (selectors_in selectors.now) (document T.tree T.custom self.now) (node_of T.tree trail.old.way.steps.items at.now)))
@@ -188,7 +189,7 @@ impl<'a: 's, 's, T: Queryable> Task<'a, 's, T> {
         sink: &mut Sink<'a, T>,
     ) -> Walked<bool>
         requires stands { Stands T.tree T.is_whole T.custom self.now at.now trail.old.way.steps.items trail.old.cache }
-        requires part { StandIn (query_of self.now) (selector_patterns (selector_view selector.now) ++ segments_patterns (segments_in rest.now)) }
+        requires part { StandIn (query_of self.now) (selector_contents (selector_view selector.now) ++ segments_contents (segments_in rest.now)) }
         ensures gave { IfOk result (λ b. Took (seen T.tree T.is_whole sink.old)
             (flat_map (through (segments_in rest.now) (document T.tree T.custom self.now))
             (picks (selector_view selector.now) (document T.tree T.custom self.now) (node_of T.tree trail.old.way.steps.items at.now)))
@@ -230,7 +231,7 @@ impl<'a: 's, 's, T: Queryable> Task<'a, 's, T> {
         sink: &mut Sink<'a, T>,
     ) -> Walked<bool>
         requires stands { Stands T.tree T.is_whole T.custom self.now at.now trail.old.way.steps.items trail.old.cache }
-        requires part { StandIn (query_of self.now) (segments_patterns (segments_in rest.now)) }
+        requires part { StandIn (query_of self.now) (segments_contents (segments_in rest.now)) }
         ensures gave { IfOk result (λ b. Took (seen T.tree T.is_whole sink.old)
             (flat_map (through (segments_in rest.now) (document T.tree T.custom self.now))
             (sliced slice.0 slice.1 slice.2 (node_of T.tree trail.old.way.steps.items at.now)))

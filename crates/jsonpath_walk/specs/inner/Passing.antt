@@ -7,8 +7,8 @@ use Rattle.jsonpath_node.proofs.Weight.{segment_weight, filter_weight}
 use Rattle.jsonpath_node.specs.Document.{Document}
 use Rattle.jsonpath_node.specs.Meaning.{replaced}
 use Rattle.jsonpath_node.specs.Node.{Node, children}
-use Rattle.jsonpath_node.specs.Patterns.{segment_patterns}
-use Rattle.jsonpath_walk.specs.inner.Walking.{acted, action_patterns}
+use Rattle.jsonpath_walk.specs.inner.Contents.{segment_contents}
+use Rattle.jsonpath_walk.specs.inner.Walking.{acted, action_contents}
 use Rattle.jsonpath_walk.specs.declared.action.Action.{Action}
 use Rattle.jsonpath_walk.specs.declared.action.Action.TheVariants.{All, If, Below}
 
@@ -21,5 +21,5 @@ action_weight (Below g) = segment_weight (segment_view g.now) + 1
 -- the action at each child makes the nodes of the segment
 pub record GoesToEachChild (g : Segment) (action : Action) : Type 0 where
   pub makes : (d : Document) (n : Node) → flat_map (acted action d) (children n) ≡ replaced g d n
-  pub patterns : action_patterns action ≡ segment_patterns g
+  pub contents : action_contents action ≡ segment_contents g
   pub lighter : action_weight action ≤ segment_weight g

@@ -5,7 +5,7 @@ use Rattle.jsonpath_tree.proofs.ViewEquations.{segment_view-Selector, selector_v
 use Rattle.jsonpath_node.proofs.Weight.{segment_weight}
 use Rattle.jsonpath_node.specs.Meaning.{replaced, holds}
 use Rattle.jsonpath_node.specs.Node.{children}
-use Rattle.jsonpath_node.specs.Patterns.{segment_patterns}
+use Rattle.jsonpath_walk.specs.inner.Contents.{segment_contents}
 use Rattle.jsonpath_walk.proofs.Passing.{wildcard_goes}
 use Rattle.jsonpath_walk.proofs.Walks.{flat_map-filter}
 use Rattle.jsonpath_walk.proofs.action.of_each_child.Goals as goal
@@ -21,6 +21,6 @@ returns-in-Filter c =
     let e = ap segment_view c.in-Selector.is ∙ segment_view-Selector c.in-Selector.selector ∙ ap one s in
     record {
       makes = λ d n. flat_map-filter (holds (filter_view c.in-Filter.filter) d) (children n) ∙ sym (ap (λ g. replaced g d n) e);
-      patterns = sym (ap segment_patterns e);
+      contents = sym (ap segment_contents e);
       lighter = omega (arith, ap segment_weight e);
     }

@@ -1,4 +1,5 @@
 use Rattle.std.proofs.Common.{ap, sym, ◌∙◌, List, []}
+use Rattle.jsonpath_tree.specs.View.{query_view}
 use Rattle.jsonpath_tree.specs.declared.model.Segment.{Segment}
 use Rattle.jsonpath_tree.proofs.ViewEquations.{query_view-segments}
 use Rattle.jsonpath_node.specs.Document.{document_of}
@@ -12,7 +13,7 @@ use Rattle.jsonpath_walk.proofs.Standing.{at_root}
 use Rattle.jsonpath_walk.proofs.walk.give_from_root.Goals as goal
 
 pub walk-requires-clause-stands : goal.walk-requires-clause-stands
-walk-requires-clause-stands g c = at_root c.new-way.ensures (record { root = c.requires; nodelists = c.new-cache.ensures (document_of g.T.Queryable.tree g.T.Queryable.custom c.args.root.now) })
+walk-requires-clause-stands g c = at_root c.new-way.ensures (record { root = c.requires; kept = c.new-cache.ensures (query_view c.args.query.now) (document_of g.T.Queryable.tree g.T.Queryable.custom c.args.root.now) })
 
 pub returns-clause-gave : goal.returns-clause-gave
 returns-clause-gave g c =

@@ -15,8 +15,8 @@ use Rattle.jsonpath_node.specs.Node.{below, children, subtree, root_node}
 use Rattle.jsonpath_node.specs.Meaning.{picks, all_pick, replaced, indexed, element, holds, some_holds, each_holds, atom_holds, comparison_holds, value_of, answer, negated, nodelist, all_trees, argued, tested}
 use Rattle.jsonpath_walk.specs.inner.Passing.{action_weight}
 use Rattle.jsonpath_node.proofs.Weight.{segment_weight, selectors_weight, selector_weight, segments_weight, filter_weight, filters_weight, atom_weight, test_weight, comparison_weight, comparable_weight, call_weight, argument_weight, arguments_weight}
-use Rattle.jsonpath_node.specs.Patterns.{segments_patterns, segment_patterns, selectors_patterns, selector_patterns, filter_patterns, filters_patterns, atom_patterns, test_patterns, comparison_patterns, comparable_patterns, call_patterns, argument_patterns, arguments_patterns}
-use Rattle.jsonpath_walk.specs.inner.Walking.{action_patterns, through, node_of, step_of, acted}
+use Rattle.jsonpath_walk.specs.inner.Contents.{from_root, segments_contents, segment_contents, selectors_contents, selector_contents, filter_contents, filters_contents, atom_contents, test_contents, comparison_contents, comparable_contents, call_contents, argument_contents, arguments_contents}
+use Rattle.jsonpath_walk.specs.inner.Walking.{action_contents, through, node_of, step_of, acted}
 use Rattle.jsonpath_node.specs.inner.Parts.{segments_in, selectors_in, filters_in, arguments_in}
 use Rattle.jsonpath_walk.specs.inner.Sinks.{seen, give, start}
 use Rattle.jsonpath_walk.specs.inner.Keeping.{document, query_of}
@@ -26,10 +26,11 @@ use Rattle.jsonpath_walk.proofs.Sinks.{took_none, took_as, took_stop, result_as,
 use Rattle.jsonpath_walk.proofs.Walks.{down, down_tree, down_same, turn_next, turn_stop, turn_end, selector_turns, element_turns, member_turns, place_next, place_stop, below_more, flat_map-alone, flat_map-filter}
 use Rattle.jsonpath_walk.proofs.Leading.{leads_below, leads_indexed}
 use Rattle.jsonpath_node.proofs.NodesAt.{member_there}
-use Rattle.jsonpath_walk.proofs.PatternLaws.{part_as, part_in, part_left, part_right, part_both, part_at, part_rest, pattern_asked}
+use Rattle.jsonpath_walk.proofs.ContentLaws.{part_as, part_in, part_left, part_right, part_both, part_at, part_rest}
+use Rattle.jsonpath_walk.proofs.PatternLaws.{pattern_asked}
 use Rattle.jsonpath_node.proofs.Trees.{child_there, all_at, element_size, pair_size, member_size, element_at, sliced-list, named_some, named_none}
 use Rattle.jsonpath_node.proofs.Parts.{part_of, kept_true, kept_false, some_found, some_next, each_failed, each_next, parts_end, ok_as, ok_through, differs, passed_on, joined_next}
-use Rattle.jsonpath_walk.proofs.Kept.{ready_as}
+use Rattle.jsonpath_walk.proofs.Kept.{ready_as, ready_surveyed}
 use Rattle.jsonpath_tree.specs.declared.model.Filter.{Filter}
 use Rattle.jsonpath_tree.specs.declared.model.Test.{Test}
 use Rattle.jsonpath_tree.specs.declared.model.Comparison.{Comparison}
@@ -57,7 +58,7 @@ act-go_on-requires g t c κs within =
 pub act-filter_holds-requires : goal.act-filter_holds-requires
 act-filter_holds-requires g t c κs within =
     let e = ap action_weight c.in-If.is in
-    (down _ _ _ _ _ _ c.decreases (omega (arith, e)) (omega (arith, c.requires.stands.within)), (within, (c.requires.stands, part_as action_patterns _ _ _ c.in-If.is (part_left _ _ _ c.requires.part))))
+    (down _ _ _ _ _ _ c.decreases (omega (arith, e)) (omega (arith, c.requires.stands.within)), (within, (c.requires.stands, part_as action_contents _ _ _ c.in-If.is (part_left _ _ _ c.requires.part))))
 
 pub act-go_on-requires-then-branch : goal.act-go_on-requires-then-branch
 act-go_on-requires-then-branch g t c κs within =
@@ -67,7 +68,7 @@ act-go_on-requires-then-branch g t c κs within =
 pub act-descend-requires : goal.act-descend-requires
 act-descend-requires g t c κs within =
     let e = ap action_weight c.in-Below.is in
-    (down_same _ _ _ _ _ _ c.decreases (omega (arith, e)) (omega arith), (within, (c.requires.stands, part_as (λ z. action_patterns z ++ segments_patterns (segments_in c.args.rest.now)) _ _ _ c.in-Below.is c.requires.part)))
+    (down_same _ _ _ _ _ _ c.decreases (omega (arith, e)) (omega arith), (within, (c.requires.stands, part_as (λ z. action_contents z ++ segments_contents (segments_in c.args.rest.now)) _ _ _ c.in-Below.is c.requires.part)))
 
 pub act-returns-in-All-clause-gave : goal.act-returns-in-All-clause-gave
 act-returns-in-All-clause-gave g t c =
@@ -118,7 +119,7 @@ descend-each_member-requires g t c κs within =
               list = ap (λ xs. Some (map (λ m. (m.0.now, tree m.1.now)) xs)) c.deref.ensures.value ∙ rw c.in-Some-2.is at (c.in_ok-listed.ensures.value c.requires.stands.whole);
               whole = subst P (sym c.deref.ensures.value) (rw c.in-Some-2.is at (c.in_ok-listed.ensures.whole c.requires.stands.whole));
             },
-            part_as (λ ps. ps ++ segments_patterns (segments_in c.args.rest.now)) _ _ _ (sym first.patterns) c.requires.part,
+            part_as (λ ps. ps ++ segments_contents (segments_in c.args.rest.now)) _ _ _ (sym first.contents) c.requires.part,
           ),
         ),
       ),
@@ -311,17 +312,17 @@ each_member-loop-member-preserved g t c =
 pub pass-pick-requires : goal.pass-pick-requires
 pass-pick-requires g t c κs within =
     let e = ap segment_view c.in-Selector.is ∙ segment_view-Selector c.in-Selector.selector in
-    (down _ _ _ _ _ _ c.decreases (omega (arith, ap segment_weight e)) (omega (arith, c.requires.stands.within)), (within, (c.requires.stands, part_as (λ z. segment_patterns z ++ segments_patterns (segments_in c.args.rest.now)) _ _ _ e c.requires.part)))
+    (down _ _ _ _ _ _ c.decreases (omega (arith, ap segment_weight e)) (omega (arith, c.requires.stands.within)), (within, (c.requires.stands, part_as (λ z. segment_contents z ++ segments_contents (segments_in c.args.rest.now)) _ _ _ e c.requires.part)))
 
 pub pass-pick_each-requires : goal.pass-pick_each-requires
 pass-pick_each-requires g t c κs within =
     let e = ap segment_view c.in-Selectors.is ∙ segment_view-Selectors c.in-Selectors.selectors in
-    (down _ _ _ _ _ _ c.decreases (omega (arith, ap segment_weight e, ap (λ (xs : List Selector). selectors_weight (selectors_in xs)) c.deref.ensures.value)) (omega (arith, c.requires.stands.within)), (within, (c.requires.stands, part_as (λ (xs : List Selector). selectors_patterns (selectors_in xs) ++ segments_patterns (segments_in c.args.rest.now)) _ _ _ (sym c.deref.ensures.value) (part_as (λ z. segment_patterns z ++ segments_patterns (segments_in c.args.rest.now)) _ _ _ e c.requires.part))))
+    (down _ _ _ _ _ _ c.decreases (omega (arith, ap segment_weight e, ap (λ (xs : List Selector). selectors_weight (selectors_in xs)) c.deref.ensures.value)) (omega (arith, c.requires.stands.within)), (within, (c.requires.stands, part_as (λ (xs : List Selector). selectors_contents (selectors_in xs) ++ segments_contents (segments_in c.args.rest.now)) _ _ _ (sym c.deref.ensures.value) (part_as (λ z. segment_contents z ++ segments_contents (segments_in c.args.rest.now)) _ _ _ e c.requires.part))))
 
 pub pass-act-requires : goal.pass-act-requires
 pass-act-requires g t c κs within =
     let e = ap segment_view c.in-Descendant.is ∙ segment_view-Descendant c.in-Descendant.inner in
-    (down _ _ _ _ _ _ c.decreases (omega (arith, ap segment_weight e, ap (λ (x : Segment). segment_weight (segment_view x)) c.deref-in-Descendant.ensures)) (omega (arith, c.requires.stands.within)), (within, (c.requires.stands, part_as (λ (x : Segment). segment_patterns (segment_view x) ++ segments_patterns (segments_in c.args.rest.now)) _ _ _ (sym c.deref-in-Descendant.ensures) (part_as (λ z. segment_patterns z ++ segments_patterns (segments_in c.args.rest.now)) _ _ _ e c.requires.part))))
+    (down _ _ _ _ _ _ c.decreases (omega (arith, ap segment_weight e, ap (λ (x : Segment). segment_weight (segment_view x)) c.deref-in-Descendant.ensures)) (omega (arith, c.requires.stands.within)), (within, (c.requires.stands, part_as (λ (x : Segment). segment_contents (segment_view x) ++ segments_contents (segments_in c.args.rest.now)) _ _ _ (sym c.deref-in-Descendant.ensures) (part_as (λ z. segment_contents z ++ segments_contents (segments_in c.args.rest.now)) _ _ _ e c.requires.part))))
 
 pub pass-returns-in-Selector-clause-gave : goal.pass-returns-in-Selector-clause-gave
 pass-returns-in-Selector-clause-gave g t c =
@@ -381,7 +382,7 @@ pick-pick_slice-requires g t c κs within =
 pub pick-each_child-requires-in-Filter : goal.pick-each_child-requires-in-Filter
 pick-each_child-requires-in-Filter g t c κs within =
     let e = ap selector_view c.in-Filter.is ∙ selector_view-Filter c.in-Filter.filter in
-    (down _ _ _ _ _ _ c.decreases (omega (arith, ap selector_weight e)) (omega (arith, c.requires.stands.within)), (within, (c.requires.stands, part_as (λ z. selector_patterns z ++ segments_patterns (segments_in c.args.rest.now)) _ _ _ e c.requires.part)))
+    (down _ _ _ _ _ _ c.decreases (omega (arith, ap selector_weight e)) (omega (arith, c.requires.stands.within)), (within, (c.requires.stands, part_as (λ z. selector_contents z ++ segments_contents (segments_in c.args.rest.now)) _ _ _ e c.requires.part)))
 
 pub pick-returns-in-Some-clause-gave : goal.pick-returns-in-Some-clause-gave
 pick-returns-in-Some-clause-gave g t c =
@@ -457,7 +458,7 @@ pick-returns-in-Filter-clause-gave g t c =
 pub pick_each-pick-requires : goal.pick_each-pick-requires
 pick_each-pick-requires g t c κs within =
     let w = part_of (λ (x : Selector). selector_weight (selector_view x)) (λ xs. selectors_weight (selectors_in xs)) (λ x xs. refl) c.args.selectors.now c.loop-selector.selector-index c.selector-item.result c.loop-selector-test.true c.selector-item.is in
-    (down _ _ _ _ _ _ c.decreases (omega (arith, w)) (omega (arith, c.requires.stands.within)), (within, (still c.requires.stands c.loop-selector.invariant.returns, part_both _ _ _ (part_at (λ (x : Selector). selector_patterns (selector_view x)) (λ xs. selectors_patterns (selectors_in xs)) (λ x xs. refl) _ c.args.selectors.now c.loop-selector.selector-index c.selector-item.result c.loop-selector-test.true c.selector-item.is (part_left _ _ _ c.requires.part)) (part_right _ _ _ c.requires.part))))
+    (down _ _ _ _ _ _ c.decreases (omega (arith, w)) (omega (arith, c.requires.stands.within)), (within, (still c.requires.stands c.loop-selector.invariant.returns, part_both _ _ _ (part_at (λ (x : Selector). selector_contents (selector_view x)) (λ xs. selectors_contents (selectors_in xs)) (λ x xs. refl) _ c.args.selectors.now c.loop-selector.selector-index c.selector-item.result c.loop-selector-test.true c.selector-item.is (part_left _ _ _ c.requires.part)) (part_right _ _ _ c.requires.part))))
 
 pub pick_each-returns-then-not-branch-clause-gave : goal.pick_each-returns-then-not-branch-clause-gave
 pick_each-returns-then-not-branch-clause-gave g t c =
@@ -584,17 +585,17 @@ descend-returns-clause-returns g t c = on_ok _ _ c.in_ok-pass.ensures.returns c.
 pub filter_holds-some_holds-requires : goal.filter_holds-some_holds-requires
 filter_holds-some_holds-requires g t c κs within =
     let e = ap filter_view c.in-Or.is ∙ filter_view-Or c.in-Or.parts in
-    (down _ _ _ _ _ _ c.decreases (omega (arith, ap filter_weight e, ap (λ (xs : List Filter). filters_weight (filters_in xs)) c.deref.ensures.value)) (omega (arith, c.requires.stands.within)), (within, (c.requires.stands, part_as (λ (xs : List Filter). filters_patterns (filters_in xs)) _ _ _ (sym c.deref.ensures.value) (part_as filter_patterns _ _ _ e c.requires.part))))
+    (down _ _ _ _ _ _ c.decreases (omega (arith, ap filter_weight e, ap (λ (xs : List Filter). filters_weight (filters_in xs)) c.deref.ensures.value)) (omega (arith, c.requires.stands.within)), (within, (c.requires.stands, part_as (λ (xs : List Filter). filters_contents (filters_in xs)) _ _ _ (sym c.deref.ensures.value) (part_as filter_contents _ _ _ e c.requires.part))))
 
 pub filter_holds-each_holds-requires : goal.filter_holds-each_holds-requires
 filter_holds-each_holds-requires g t c κs within =
     let e = ap filter_view c.in-And.is ∙ filter_view-And c.in-And.parts in
-    (down _ _ _ _ _ _ c.decreases (omega (arith, ap filter_weight e, ap (λ (xs : List Filter). filters_weight (filters_in xs)) c.deref-in-And.ensures.value)) (omega (arith, c.requires.stands.within)), (within, (c.requires.stands, part_as (λ (xs : List Filter). filters_patterns (filters_in xs)) _ _ _ (sym c.deref-in-And.ensures.value) (part_as filter_patterns _ _ _ e c.requires.part))))
+    (down _ _ _ _ _ _ c.decreases (omega (arith, ap filter_weight e, ap (λ (xs : List Filter). filters_weight (filters_in xs)) c.deref-in-And.ensures.value)) (omega (arith, c.requires.stands.within)), (within, (c.requires.stands, part_as (λ (xs : List Filter). filters_contents (filters_in xs)) _ _ _ (sym c.deref-in-And.ensures.value) (part_as filter_contents _ _ _ e c.requires.part))))
 
 pub filter_holds-atom_holds-requires : goal.filter_holds-atom_holds-requires
 filter_holds-atom_holds-requires g t c κs within =
     let e = ap filter_view c.in-Atom.is ∙ filter_view-Atom c.in-Atom.atom in
-    (down _ _ _ _ _ _ c.decreases (omega (arith, ap filter_weight e)) (omega (arith, c.requires.stands.within)), (within, (c.requires.stands, part_as filter_patterns _ _ _ e c.requires.part)))
+    (down _ _ _ _ _ _ c.decreases (omega (arith, ap filter_weight e)) (omega (arith, c.requires.stands.within)), (within, (c.requires.stands, part_as filter_contents _ _ _ e c.requires.part)))
 
 pub filter_holds-returns-in-Or-clause-holds : goal.filter_holds-returns-in-Or-clause-holds
 filter_holds-returns-in-Or-clause-holds g t c =
@@ -623,7 +624,7 @@ filter_holds-returns-in-Atom-clause-holds g t c =
 pub some_holds-filter_holds-requires : goal.some_holds-filter_holds-requires
 some_holds-filter_holds-requires g t c κs within =
     let w = part_of (λ (x : Filter). filter_weight (filter_view x)) (λ xs. filters_weight (filters_in xs)) (λ x xs. refl) c.args.parts.now c.loop-part.part-index c.part-item.result c.loop-part-test.true c.part-item.is in
-    (down _ _ _ _ _ _ c.decreases (omega (arith, w)) (omega (arith, c.requires.stands.within)), (within, (still c.requires.stands c.loop-part.invariant.returns, part_at (λ (x : Filter). filter_patterns (filter_view x)) (λ xs. filters_patterns (filters_in xs)) (λ x xs. refl) _ c.args.parts.now c.loop-part.part-index c.part-item.result c.loop-part-test.true c.part-item.is c.requires.part)))
+    (down _ _ _ _ _ _ c.decreases (omega (arith, w)) (omega (arith, c.requires.stands.within)), (within, (still c.requires.stands c.loop-part.invariant.returns, part_at (λ (x : Filter). filter_contents (filter_view x)) (λ xs. filters_contents (filters_in xs)) (λ x xs. refl) _ c.args.parts.now c.loop-part.part-index c.part-item.result c.loop-part-test.true c.part-item.is c.requires.part)))
 
 pub some_holds-returns-then-branch-clause-holds : goal.some_holds-returns-then-branch-clause-holds
 some_holds-returns-then-branch-clause-holds g t c =
@@ -655,7 +656,7 @@ some_holds-returns-clause-holds g t c =
 pub each_holds-filter_holds-requires : goal.each_holds-filter_holds-requires
 each_holds-filter_holds-requires g t c κs within =
     let w = part_of (λ (x : Filter). filter_weight (filter_view x)) (λ xs. filters_weight (filters_in xs)) (λ x xs. refl) c.args.parts.now c.loop-part.part-index c.part-item.result c.loop-part-test.true c.part-item.is in
-    (down _ _ _ _ _ _ c.decreases (omega (arith, w)) (omega (arith, c.requires.stands.within)), (within, (still c.requires.stands c.loop-part.invariant.returns, part_at (λ (x : Filter). filter_patterns (filter_view x)) (λ xs. filters_patterns (filters_in xs)) (λ x xs. refl) _ c.args.parts.now c.loop-part.part-index c.part-item.result c.loop-part-test.true c.part-item.is c.requires.part)))
+    (down _ _ _ _ _ _ c.decreases (omega (arith, w)) (omega (arith, c.requires.stands.within)), (within, (still c.requires.stands c.loop-part.invariant.returns, part_at (λ (x : Filter). filter_contents (filter_view x)) (λ xs. filters_contents (filters_in xs)) (λ x xs. refl) _ c.args.parts.now c.loop-part.part-index c.part-item.result c.loop-part-test.true c.part-item.is c.requires.part)))
 
 pub each_holds-returns-then-not-branch-clause-holds : goal.each_holds-returns-then-not-branch-clause-holds
 each_holds-returns-then-not-branch-clause-holds g t c =
@@ -687,12 +688,12 @@ each_holds-returns-clause-holds g t c =
 pub atom_holds-filter_holds-requires : goal.atom_holds-filter_holds-requires
 atom_holds-filter_holds-requires g t c κs within =
     let e = ap atom_view c.in-Filter.is ∙ atom_view-Filter c.in-Filter.expr c.in-Filter.not in
-    (down _ _ _ _ _ _ c.decreases (omega (arith, ap atom_weight e, ap (λ (x : Filter). filter_weight (filter_view x)) c.deref.ensures)) (omega (arith, c.requires.stands.within)), (within, (c.requires.stands, part_as (λ (x : Filter). filter_patterns (filter_view x)) _ _ _ (sym c.deref.ensures) (part_as atom_patterns _ _ _ e c.requires.part))))
+    (down _ _ _ _ _ _ c.decreases (omega (arith, ap atom_weight e, ap (λ (x : Filter). filter_weight (filter_view x)) c.deref.ensures)) (omega (arith, c.requires.stands.within)), (within, (c.requires.stands, part_as (λ (x : Filter). filter_contents (filter_view x)) _ _ _ (sym c.deref.ensures) (part_as atom_contents _ _ _ e c.requires.part))))
 
 pub atom_holds-comparison_holds-requires : goal.atom_holds-comparison_holds-requires
 atom_holds-comparison_holds-requires g t c κs within =
     let e = ap atom_view c.in-Comparison.is ∙ atom_view-Comparison c.in-Comparison.comparison in
-    (down _ _ _ _ _ _ c.decreases (omega (arith, ap atom_weight e, ap (λ (x : Comparison). comparison_weight (comparison_view x)) c.deref-in-Comparison.ensures)) (omega (arith, c.requires.stands.within)), (within, (c.requires.stands, part_as (λ (x : Comparison). comparison_patterns (comparison_view x)) _ _ _ (sym c.deref-in-Comparison.ensures) (part_as atom_patterns _ _ _ e c.requires.part))))
+    (down _ _ _ _ _ _ c.decreases (omega (arith, ap atom_weight e, ap (λ (x : Comparison). comparison_weight (comparison_view x)) c.deref-in-Comparison.ensures)) (omega (arith, c.requires.stands.within)), (within, (c.requires.stands, part_as (λ (x : Comparison). comparison_contents (comparison_view x)) _ _ _ (sym c.deref-in-Comparison.ensures) (part_as atom_contents _ _ _ e c.requires.part))))
 
 pub atom_holds-returns-in_ok-filter_holds-in-Filter-clause-holds : goal.atom_holds-returns-in_ok-filter_holds-in-Filter-clause-holds
 atom_holds-returns-in_ok-filter_holds-in-Filter-clause-holds g t c =
@@ -713,12 +714,12 @@ atom_holds-returns-in-Comparison-clause-holds g t c =
 pub comparison_holds-side-requires : goal.comparison_holds-side-requires
 comparison_holds-side-requires g t c κs within =
     let s = c.parts-operator.ensures in
-    (down _ _ _ _ _ _ c.decreases (omega (arith, ap comparison_weight s)) (omega (arith, c.requires.stands.within)), (within, (c.requires.stands, part_left _ _ _ (part_as comparison_patterns _ _ _ s c.requires.part))))
+    (down _ _ _ _ _ _ c.decreases (omega (arith, ap comparison_weight s)) (omega (arith, c.requires.stands.within)), (within, (c.requires.stands, part_left _ _ _ (part_as comparison_contents _ _ _ s c.requires.part))))
 
 pub comparison_holds-side-requires-2 : goal.comparison_holds-side-requires-2
 comparison_holds-side-requires-2 g t c κs within =
     let s = c.parts-operator.ensures in
-    (down _ _ _ _ _ _ c.decreases (omega (arith, ap comparison_weight s)) (omega (arith, c.requires.stands.within)), (within, (still c.requires.stands c.in_ok-left.ensures.returns, part_right _ _ _ (part_as comparison_patterns _ _ _ s c.requires.part))))
+    (down _ _ _ _ _ _ c.decreases (omega (arith, ap comparison_weight s)) (omega (arith, c.requires.stands.within)), (within, (still c.requires.stands c.in_ok-left.ensures.returns, part_right _ _ _ (part_as comparison_contents _ _ _ s c.requires.part))))
 
 pub comparison_holds-lent_compare-requires-clause-root : goal.comparison_holds-lent_compare-requires-clause-root
 comparison_holds-lent_compare-requires-clause-root g t c = c.requires.stands.ready.root
@@ -752,7 +753,7 @@ comparison_holds-returns-clause-holds g t c =
 pub side-answer-requires : goal.side-answer-requires
 side-answer-requires g t c κs within =
     let e = ap comparable_view c.in-Function.is ∙ comparable_view-Function c.in-Function.function in
-    (down _ _ _ _ _ _ c.decreases (omega (arith, ap comparable_weight e)) (omega (arith, c.requires.stands.within)), (within, (c.requires.stands, part_as comparable_patterns _ _ _ e c.requires.part)))
+    (down _ _ _ _ _ _ c.decreases (omega (arith, ap comparable_weight e)) (omega (arith, c.requires.stands.within)), (within, (c.requires.stands, part_as comparable_contents _ _ _ e c.requires.part)))
 
 pub side-singular_value-requires-clause-root : goal.side-singular_value-requires-clause-root
 side-singular_value-requires-clause-root g t c = c.requires.stands.ready.root
@@ -790,7 +791,7 @@ side-returns-in-SingularQuery-clause-value g t c =
 pub atom_holds-test-requires : goal.atom_holds-test-requires
 atom_holds-test-requires g t c κs within =
     let e = ap atom_view c.in-Test.is ∙ atom_view-Test c.in-Test.expr c.in-Test.not in
-    (down _ _ _ _ _ _ c.decreases (omega (arith, ap atom_weight e, ap (λ (x : Test). test_weight (test_view x)) c.deref-in-Test-2.ensures)) (omega (arith, c.requires.stands.within)), (within, (c.requires.stands, part_as (λ (x : Test). test_patterns (test_view x)) _ _ _ (sym c.deref-in-Test-2.ensures) (part_as atom_patterns _ _ _ e c.requires.part))))
+    (down _ _ _ _ _ _ c.decreases (omega (arith, ap atom_weight e, ap (λ (x : Test). test_weight (test_view x)) c.deref-in-Test-2.ensures)) (omega (arith, c.requires.stands.within)), (within, (c.requires.stands, part_as (λ (x : Test). test_contents (test_view x)) _ _ _ (sym c.deref-in-Test-2.ensures) (part_as atom_contents _ _ _ e c.requires.part))))
 
 pub atom_holds-is_true-requires : goal.atom_holds-is_true-requires
 atom_holds-is_true-requires g t c = c.in_ok-tested-in-Test.ensures.within
@@ -819,12 +820,12 @@ comparison_holds-returns-clause-returns g t c = on c.in_ok-left.ensures.returns 
 pub answer-custom-requires : goal.answer-custom-requires
 answer-custom-requires g t c κs within =
     let e = ap call_view c.in-Custom.is ∙ call_view-Custom c.in-Custom.name c.in-Custom.args in
-    (down _ _ _ _ _ _ c.decreases (omega (arith, ap call_weight e, ap (λ (xs : List FnArg). arguments_weight (arguments_in xs)) c.deref.ensures.value)) (omega (arith, c.requires.stands.within)), (within, (c.requires.stands, part_as (λ (xs : List FnArg). arguments_patterns (arguments_in xs)) _ _ _ (sym c.deref.ensures.value) (part_as call_patterns _ _ _ e c.requires.part))))
+    (down _ _ _ _ _ _ c.decreases (omega (arith, ap call_weight e, ap (λ (xs : List FnArg). arguments_weight (arguments_in xs)) c.deref.ensures.value)) (omega (arith, c.requires.stands.within)), (within, (c.requires.stands, part_as (λ (xs : List FnArg). arguments_contents (arguments_in xs)) _ _ _ (sym c.deref.ensures.value) (part_as call_contents _ _ _ e c.requires.part))))
 
 pub answer-value-requires : goal.answer-value-requires
 answer-value-requires g t c κs within =
     let e = ap call_view c.in-Length.is ∙ call_view-Length c.in-Length.arg in
-    (down _ _ _ _ _ _ c.decreases (omega (arith, ap call_weight e, ap (λ (x : FnArg). argument_weight (argument_view x)) c.deref-in-Length.ensures)) (omega (arith, c.requires.stands.within)), (within, (c.requires.stands, part_as (λ (x : FnArg). argument_patterns (argument_view x)) _ _ _ (sym c.deref-in-Length.ensures) (part_as call_patterns _ _ _ e c.requires.part))))
+    (down _ _ _ _ _ _ c.decreases (omega (arith, ap call_weight e, ap (λ (x : FnArg). argument_weight (argument_view x)) c.deref-in-Length.ensures)) (omega (arith, c.requires.stands.within)), (within, (c.requires.stands, part_as (λ (x : FnArg). argument_contents (argument_view x)) _ _ _ (sym c.deref-in-Length.ensures) (part_as call_contents _ _ _ e c.requires.part))))
 
 pub answer-length-requires : goal.answer-length-requires
 answer-length-requires g t c = c.in_ok-value-in-Length.ensures.whole
@@ -832,12 +833,12 @@ answer-length-requires g t c = c.in_ok-value-in-Length.ensures.whole
 pub answer-argument-requires : goal.answer-argument-requires
 answer-argument-requires g t c κs within =
     let e = ap call_view c.in-Value.is ∙ call_view-Value c.in-Value.arg in
-    (down _ _ _ _ _ _ c.decreases (omega (arith, ap call_weight e)) (omega (arith, c.requires.stands.within)), (within, (c.requires.stands, part_as call_patterns _ _ _ e c.requires.part)))
+    (down _ _ _ _ _ _ c.decreases (omega (arith, ap call_weight e)) (omega (arith, c.requires.stands.within)), (within, (c.requires.stands, part_as call_contents _ _ _ e c.requires.part)))
 
 pub answer-argument-requires-in-Count : goal.answer-argument-requires-in-Count
 answer-argument-requires-in-Count g t c κs within =
     let e = ap call_view c.in-Count.is ∙ call_view-Count c.in-Count.arg in
-    (down _ _ _ _ _ _ c.decreases (omega (arith, ap call_weight e)) (omega (arith, c.requires.stands.within)), (within, (c.requires.stands, part_as call_patterns _ _ _ e c.requires.part)))
+    (down _ _ _ _ _ _ c.decreases (omega (arith, ap call_weight e)) (omega (arith, c.requires.stands.within)), (within, (c.requires.stands, part_as call_contents _ _ _ e c.requires.part)))
 
 pub answer-only-requires-clause-within : goal.answer-only-requires-clause-within
 answer-only-requires-clause-within g t c = c.in_ok-argument-in-Value.ensures.within
@@ -855,12 +856,12 @@ answer-count-requires g t c = c.in_ok-argument-in-Count.ensures.within
 pub answer-match_or_search-requires : goal.answer-match_or_search-requires
 answer-match_or_search-requires g t c κs within =
     let e = ap call_view c.in-Search.is ∙ call_view-Search c.in-Search.text c.in-Search.pattern in
-    (down _ _ _ _ _ _ c.decreases (omega (arith, ap call_weight e)) (omega (arith, c.requires.stands.within)), (within, (c.requires.stands, part_as call_patterns _ _ _ e c.requires.part)))
+    (down _ _ _ _ _ _ c.decreases (omega (arith, ap call_weight e)) (omega (arith, c.requires.stands.within)), (within, (c.requires.stands, part_as call_contents _ _ _ e c.requires.part)))
 
 pub answer-match_or_search-requires-in-Match : goal.answer-match_or_search-requires-in-Match
 answer-match_or_search-requires-in-Match g t c κs within =
     let e = ap call_view c.in-Match.is ∙ call_view-Match c.in-Match.text c.in-Match.pattern in
-    (down _ _ _ _ _ _ c.decreases (omega (arith, ap call_weight e)) (omega (arith, c.requires.stands.within)), (within, (c.requires.stands, part_as call_patterns _ _ _ e c.requires.part)))
+    (down _ _ _ _ _ _ c.decreases (omega (arith, ap call_weight e)) (omega (arith, c.requires.stands.within)), (within, (c.requires.stands, part_as call_contents _ _ _ e c.requires.part)))
 
 pub answer-returns-in-Custom-clause-value : goal.answer-returns-in-Custom-clause-value
 answer-returns-in-Custom-clause-value g t c =
@@ -936,7 +937,7 @@ pub match_or_search-returns-clause-returns : goal.match_or_search-returns-clause
 match_or_search-returns-clause-returns g t c =
     let tree = g.T.Queryable.tree in
     let back = on c.in_ok-text.ensures.returns c.in_ok-pattern.ensures.returns in
-    record { same = back.same; ready = ready_as tree g.T.Queryable.is_whole g.T.Queryable.custom c.args.self.now _ _ c.in_ok-found.ensures.keeps back.ready }
+    record { same = back.same; ready = ready_as tree g.T.Queryable.is_whole g.T.Queryable.custom c.args.self.now _ _ c.in_ok-found.ensures.same back.ready }
 
 pub match_or_search-returns-in_err-found-clause-refused : goal.match_or_search-returns-in_err-found-clause-refused
 match_or_search-returns-in_err-found-clause-refused g t c =
@@ -951,7 +952,7 @@ match_or_search-returns-in_err-found-clause-refused g t c =
 pub custom-argument-requires : goal.custom-argument-requires
 custom-argument-requires g t c κs within =
     let w = part_of (λ (x : FnArg). argument_weight (argument_view x)) (λ xs. arguments_weight (arguments_in xs)) (λ x xs. refl) c.args.args.now c.loop-arg.arg-index c.arg-item.result c.loop-arg-test.true c.arg-item.is in
-    (down _ _ _ _ _ _ c.decreases (omega (arith, w)) (omega (arith, c.requires.stands.within)), (within, (still c.requires.stands c.loop-arg.invariant.returns, part_at (λ (x : FnArg). argument_patterns (argument_view x)) (λ xs. arguments_patterns (arguments_in xs)) (λ x xs. refl) _ c.args.args.now c.loop-arg.arg-index c.arg-item.result c.loop-arg-test.true c.arg-item.is c.requires.part)))
+    (down _ _ _ _ _ _ c.decreases (omega (arith, w)) (omega (arith, c.requires.stands.within)), (within, (still c.requires.stands c.loop-arg.invariant.returns, part_at (λ (x : FnArg). argument_contents (argument_view x)) (λ xs. arguments_contents (arguments_in xs)) (λ x xs. refl) _ c.args.args.now c.loop-arg.arg-index c.arg-item.result c.loop-arg-test.true c.arg-item.is c.requires.part)))
 
 pub custom-push_to-requires-clause-within : goal.custom-push_to-requires-clause-within
 custom-push_to-requires-clause-within g t c = c.in_ok-argument.ensures.within
@@ -1021,12 +1022,12 @@ value-returns-clause-value g t c =
 pub argument-test-requires : goal.argument-test-requires
 argument-test-requires g t c κs within =
     let e = ap argument_view c.in-Test.is ∙ argument_view-Test c.in-Test.test in
-    (down _ _ _ _ _ _ c.decreases (omega (arith, ap argument_weight e, ap (λ (x : Test). test_weight (test_view x)) c.deref.ensures)) (omega (arith, c.requires.stands.within)), (within, (c.requires.stands, part_as (λ (x : Test). test_patterns (test_view x)) _ _ _ (sym c.deref.ensures) (part_as argument_patterns _ _ _ e c.requires.part))))
+    (down _ _ _ _ _ _ c.decreases (omega (arith, ap argument_weight e, ap (λ (x : Test). test_weight (test_view x)) c.deref.ensures)) (omega (arith, c.requires.stands.within)), (within, (c.requires.stands, part_as (λ (x : Test). test_contents (test_view x)) _ _ _ (sym c.deref.ensures) (part_as argument_contents _ _ _ e c.requires.part))))
 
 pub argument-filter_holds-requires : goal.argument-filter_holds-requires
 argument-filter_holds-requires g t c κs within =
     let e = ap argument_view c.in-Filter.is ∙ argument_view-Filter c.in-Filter.filter in
-    (down _ _ _ _ _ _ c.decreases (omega (arith, ap argument_weight e)) (omega (arith, c.requires.stands.within)), (within, (c.requires.stands, part_as argument_patterns _ _ _ e c.requires.part)))
+    (down _ _ _ _ _ _ c.decreases (omega (arith, ap argument_weight e)) (omega (arith, c.requires.stands.within)), (within, (c.requires.stands, part_as argument_contents _ _ _ e c.requires.part)))
 
 pub argument-returns-in-Literal-clause-held : goal.argument-returns-in-Literal-clause-held
 argument-returns-in-Literal-clause-held g t c =
@@ -1055,17 +1056,17 @@ argument-returns-in_ok-truth-in-Filter-clause-held g t c =
 pub test-gather-requires : goal.test-gather-requires
 test-gather-requires g t c κs within =
     let e = ap test_view c.in-RelQuery.is ∙ test_view-RelQuery c.in-RelQuery.segments in
-    (down _ _ _ _ _ _ c.decreases (omega (arith, ap test_weight e, ap (λ (xs : List Segment). segments_weight (segments_in xs)) c.deref.ensures.value)) (omega (arith, c.requires.stands.within)), (within, (c.requires.stands, part_as (λ (xs : List Segment). segments_patterns (segments_in xs)) _ _ _ (sym c.deref.ensures.value) (part_as test_patterns _ _ _ e c.requires.part))))
+    (down _ _ _ _ _ _ c.decreases (omega (arith, ap test_weight e, ap (λ (xs : List Segment). segments_weight (segments_in xs)) c.deref.ensures.value)) (omega (arith, c.requires.stands.within)), (within, (c.requires.stands, part_as (λ (xs : List Segment). segments_contents (segments_in xs)) _ _ _ (sym c.deref.ensures.value) (part_as test_contents _ _ _ e c.requires.part))))
 
 pub test-absolute-requires : goal.test-absolute-requires
 test-absolute-requires g t c κs within =
     let e = ap test_view c.in-AbsQuery.is ∙ test_view-AbsQuery c.in-AbsQuery.query in
-    (down _ _ _ _ _ _ c.decreases (omega (arith, ap test_weight e)) (omega (arith, c.requires.stands.within)), (within, (part_as test_patterns _ _ _ e c.requires.part, c.requires.stands.ready)))
+    (down _ _ _ _ _ _ c.decreases (omega (arith, ap test_weight e)) (omega (arith, c.requires.stands.within)), (within, (part_as test_contents _ _ _ e c.requires.part, c.requires.stands.ready)))
 
 pub test-answer-requires : goal.test-answer-requires
 test-answer-requires g t c κs within =
     let e = ap test_view c.in-Function.is ∙ test_view-Function c.in-Function.function in
-    (down _ _ _ _ _ _ c.decreases (omega (arith, ap test_weight e, ap (λ (x : TestFunction). call_weight (call_view x)) c.deref-in-Function.ensures)) (omega (arith, c.requires.stands.within)), (within, (c.requires.stands, part_as (λ (x : TestFunction). call_patterns (call_view x)) _ _ _ (sym c.deref-in-Function.ensures) (part_as test_patterns _ _ _ e c.requires.part))))
+    (down _ _ _ _ _ _ c.decreases (omega (arith, ap test_weight e, ap (λ (x : TestFunction). call_weight (call_view x)) c.deref-in-Function.ensures)) (omega (arith, c.requires.stands.within)), (within, (c.requires.stands, part_as (λ (x : TestFunction). call_contents (call_view x)) _ _ _ (sym c.deref-in-Function.ensures) (part_as test_contents _ _ _ e c.requires.part))))
 
 pub test-returns-in_ok-nodes-in-RelQuery-clause-held : goal.test-returns-in_ok-nodes-in-RelQuery-clause-held
 test-returns-in_ok-nodes-in-RelQuery-clause-held g t c =
@@ -1120,15 +1121,16 @@ gather-returns-clause-given g t c =
 
 pub absolute-settle-requires : goal.absolute-settle-requires
 absolute-settle-requires g t c κs within =
-    let ready = ready_as g.T.Queryable.tree g.T.Queryable.is_whole g.T.Queryable.custom c.args.self.now c.args.trail.now.cache c.find.new.self c.find.ensures.same c.requires.ready in
-    (down _ _ _ _ _ _ c.decreases (omega arith) (omega arith), (within, (c.requires.part, ready)))
+    let found = ready_as g.T.Queryable.tree g.T.Queryable.is_whole g.T.Queryable.custom c.args.self.now c.args.trail.now.cache c.find.new.self c.find.ensures.same c.requires.ready in
+    let ready = ready_surveyed g.T.Queryable.tree g.T.Queryable.is_whole g.T.Queryable.custom c.args.self.now c.find.new.self c.survey.new.self c.in_ok-survey.ensures.same c.in_ok-survey.ensures.tells found in
+    (down _ _ _ _ _ _ c.decreases (omega arith) (omega arith), (within, (part_rest _ _ _ c.requires.part, ready)))
 
 pub absolute-gather-requires : goal.absolute-gather-requires
 absolute-gather-requires g t c κs within =
     let e = query_view-segments c.args.query.now in
     let gs = c.deref.ensures.value in
     let root = at_root (ap (λ w. w.steps.items) c.replace-here.ensures.after ∙ c.new-root.ensures) c.in_ok-settle.ensures.returns.ready in
-    (down _ _ _ _ _ _ c.decreases (omega (arith, ap segments_weight e, ap (λ (xs : List Segment). segments_weight (segments_in xs)) gs)) (omega arith), (within, (root, part_as (λ (xs : List Segment). segments_patterns (segments_in xs)) _ _ _ (sym gs) (part_as segments_patterns _ _ _ e c.requires.part))))
+    (down _ _ _ _ _ _ c.decreases (omega (arith, ap segments_weight e, ap (λ (xs : List Segment). segments_weight (segments_in xs)) gs)) (omega arith), (within, (root, part_as (λ (xs : List Segment). segments_contents (segments_in xs)) _ _ _ (sym gs) (part_as segments_contents _ _ _ e (part_rest _ _ _ c.requires.part)))))
 
 pub absolute-returns-in-Some-clause-within : goal.absolute-returns-in-Some-clause-within
 absolute-returns-in-Some-clause-within g t c = rw c.in-Some.is at c.in_ok-kept.ensures.within
@@ -1136,7 +1138,8 @@ absolute-returns-in-Some-clause-within g t c = rw c.in-Some.is at c.in_ok-kept.e
 pub absolute-returns-in-Some-clause-right : goal.absolute-returns-in-Some-clause-right
 absolute-returns-in-Some-clause-right g t c =
     let d = document g.T.Queryable.tree g.T.Queryable.custom c.args.self.now in
-    rw c.in-Some.is at c.in_ok-kept.ensures.right d c.requires.ready.nodelists
+    let q = query_of c.args.self.now in
+    rw c.in-Some.is at c.in_ok-kept.ensures.right q d c.requires.ready.kept (c.requires.part.all (from_root (query_view c.args.query.now)) (0, omega arith, refl))
 
 pub absolute-returns-in-Some-clause-returns : goal.absolute-returns-in-Some-clause-returns
 absolute-returns-in-Some-clause-returns g t c = record { same = refl; ready = ready_as g.T.Queryable.tree g.T.Queryable.is_whole g.T.Queryable.custom c.args.self.now c.args.trail.now.cache c.find.new.self c.find.ensures.same c.requires.ready }
@@ -1160,7 +1163,7 @@ absolute-returns-clause-returns g t c =
     let at = λ (q : List StepRef) (gs : List Segment). through (segments_in gs) d (node_of tree q c.args.self.now.root.now) in
     let all = ap (λ q. at q c.deref.result.now) (ap (λ w. w.steps.items) c.replace-here.ensures.after ∙ c.new-root.ensures) ∙ ap (at []) c.deref.ensures.value ∙ nodelist-through (segments_in c.args.query.now.segments.items) d ∙ ap (λ q. nodelist q d) (sym (query_view-segments c.args.query.now)) in
     let given = c.in_ok-nodes.ensures.given ∙ ap (give (start c.args.wanted)) all in
-    record { same = ap (λ w. w.steps.items) c.replace-here.ensures.value ∙ c.in_ok-settle.ensures.returns.same; ready = record { root = c.requires.ready.root; nodelists = c.in_ok-keep.ensures.right d given c.in_ok-nodes.ensures.returns.ready.nodelists } }
+    record { same = ap (λ w. w.steps.items) c.replace-here.ensures.value ∙ c.in_ok-settle.ensures.returns.same; ready = record { root = c.requires.ready.root; kept = c.in_ok-keep.ensures.right (query_of c.args.self.now) d (c.requires.part.all (from_root (query_view c.args.query.now)) (0, omega arith, refl)) given c.in_ok-nodes.ensures.returns.ready.kept } }
 
 pub settle-absolute-requires : goal.settle-absolute-requires
 settle-absolute-requires g t c κs within =
