@@ -1,10 +1,10 @@
 -- What a write at a location leaves.
-use Rattle.std.proofs.Common.{◌≡◌, ℕ, zero, suc, List, [], ◌∷◌, ◌⊎◌, inl, inr, Bool, true, false, cond, Option, Some, None, option_map, option_and_then, refl, sym, ap, ◌∙◌}
+use Rattle.std.proofs.Common.{◌≡◌, ℕ, zero, suc, List, [], ◌∷◌, ◌++◌, ◌⊎◌, inl, inr, Bool, true, false, cond, Option, Some, None, option_map, option_and_then, refl, sym, ap, ◌∙◌}
 use Rattle.std.proofs.lemmas.Slice.Eq.{bytes_eq-Decides}
 use Rattle.std.specs.Str.{bytes_eq}
 use Rattle.jsonpath_core.specs.Location.{Step, name, index, Location, Begins}
 use Rattle.jsonpath_base.specs.Places.{child, item_at, at}
-use Rattle.jsonpath_base.specs.Put.{with_element, with_member, with_child, put, PutLeavesTheRest}
+use Rattle.jsonpath_base.specs.Put.{with_element, with_member, with_child, put, PutLeavesTheRest, PutIsThere, PutIsSeenAbove}
 use Rattle.jsonpath_base.specs.Tree.{Tree, null, truth, number, text, list, object, Trees, no_trees, tree, Members, no_members, member, find, pairs}
 
 -- the child at r, where the child at s is written: it is the one that was written, or it is as it was
@@ -112,6 +112,24 @@ child_same (name k) f null = refl
 child_same (name k) f (truth b) = refl
 child_same (name k) f (number n) = refl
 child_same (name k) f (text k') = refl
+
+-- ---- what is there after a write
+
+pub put_is_there : PutIsThere
+put_is_there [] m u t = refl
+put_is_there (s ∷ l) m u t = ap (option_and_then (at (l ++ m))) (child_same s (put l u) t) ∙ below (child s t) (λ c. put_is_there l m u c)
+  where
+    below : (o : Option Tree) → ((c : Tree) → at (l ++ m) (put l u c) ≡ option_and_then (λ d. at m u) (at l c)) → option_and_then (at (l ++ m)) (option_map (put l u) o) ≡ option_and_then (λ c. at m u) (option_and_then (at l) o)
+    below None more = refl
+    below (Some c) more = more c
+
+pub put_is_seen_above : PutIsSeenAbove
+put_is_seen_above [] m u t = refl
+put_is_seen_above (s ∷ l) m u t = ap (option_and_then (at l)) (child_same s (put (l ++ m) u) t) ∙ below (child s t) (λ c. put_is_seen_above l m u c)
+  where
+    below : (o : Option Tree) → ((c : Tree) → at l (put (l ++ m) u c) ≡ option_map (put m u) (at l c)) → option_and_then (at l) (option_map (put (l ++ m) u) o) ≡ option_map (put m u) (option_and_then (at l) o)
+    below None more = refl
+    below (Some c) more = more c
 
 -- ---- where nothing is there, nothing is written
 

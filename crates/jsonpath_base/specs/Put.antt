@@ -1,5 +1,5 @@
 -- A tree with another tree at a location (RFC 9535, 1.1).
-use Rattle.std.specs.Prelude.{◌≡◌, ℕ, zero, suc, List, [], ◌∷◌, if◌then◌else◌}
+use Rattle.std.specs.Prelude.{◌≡◌, ℕ, zero, suc, List, [], ◌∷◌, ◌++◌, if◌then◌else◌, option_map, option_and_then}
 use Rattle.std.specs.Str.{bytes_eq}
 use Rattle.jsonpath_core.specs.Location.{Step, name, index, Location, Begins}
 use Rattle.jsonpath_base.specs.Places.{at}
@@ -27,3 +27,11 @@ put (s ∷ l) u t = with_child s (put l u) t
 -- A write leaves every location as it was that lies neither inside nor above its own: that does not begin with it, and that it does not begin with.
 abbrev pub PutLeavesTheRest : Type 0
 PutLeavesTheRest = (l m : Location) (u t : Tree) → (Begins l m → ⊥) → (Begins m l → ⊥) → at m (put l u t) ≡ at m t
+
+-- Where something was, what was written stands there: at the location, and below it the parts of what was written.
+abbrev pub PutIsThere : Type 0
+PutIsThere = (l m : Location) (u t : Tree) → at (l ++ m) (put l u t) ≡ option_and_then (λ c. at m u) (at l t)
+
+-- Above the location of a write stands what was there, with the same write in it.
+abbrev pub PutIsSeenAbove : Type 0
+PutIsSeenAbove = (l m : Location) (u t : Tree) → at l (put (l ++ m) u t) ≡ option_map (put m u) (at l t)
