@@ -1,5 +1,6 @@
 pub mod StepLemmas
 pub mod Views
+pub mod WholeParts
 pub mod PatternReading
 pub mod PatternText
 pub mod SameLaws

@@ -106,7 +106,7 @@ pub all_items_whole : (vs : List Value) → items_are_whole (items_view vs) ≡ 
 all_items_whole [] h = All-nil (λ x. IsTrue (value_is_whole x))
 all_items_whole (v ∷ vs) h = All-cons (λ x. IsTrue (value_is_whole x)) v vs (first_item_whole (view v) (items_view vs) h) (all_items_whole vs (more_items_whole (view v) (items_view vs) h))
 
-array_whole : (d : Data) → data_whole d ≡ true → IfSome (json_find.as_array d) (λ ds. items_are_whole ds ≡ true)
+pub array_whole : (d : Data) → data_whole d ≡ true → IfSome (json_find.as_array d) (λ ds. items_are_whole ds ≡ true)
 array_whole json.null h = tt
 array_whole (json.boolean b) h = tt
 array_whole (json.number n) h = tt
@@ -171,7 +171,7 @@ get_data_whole k (json.string s) h = tt
 get_data_whole k (json.array ds) h = tt
 get_data_whole k (json.object ms) h = member_whole k ms (object_members_whole ms h)
 
-found_whole : (r : Option (Bor Value)) → IfSome (option_map (λ v. view v.now) r) (λ x. data_whole x ≡ true) → IfSome r (λ v. IsTrue (value_is_whole v.now))
+pub found_whole : (r : Option (Bor Value)) → IfSome (option_map (λ v. view v.now) r) (λ x. data_whole x ≡ true) → IfSome r (λ v. IsTrue (value_is_whole v.now))
 found_whole None h = tt
 found_whole (Some v) h = h
 

@@ -13,7 +13,6 @@ pub mod Slice
 pub mod SliceSteps
 pub mod Texts
 pub mod inner
-
 -- What the public contracts of this crate cite of the crates below it, so that a caller names it here and lists this crate alone.
 pub use Rattle.jsonpath_core.specs.Errors
 pub use Rattle.jsonpath_core.specs.Location

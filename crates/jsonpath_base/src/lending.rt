@@ -1,12 +1,12 @@
 //! The value at a location, lent for writing. All that is asked comes first, so that the functions that lend cannot fail: they
 //! go straight down, and count the steps that are left.
-ghost use Rattle.std.specs.Prelude.{◌≡◌, ◌<◌, ◌≤◌, IsSome, Some, is_some, length, option_map};
+ghost use Rattle.std.specs.Prelude.{◌≡◌, ◌<◌, ◌≤◌, IfSome, IsSome, IsTrue, Some, is_some, length, option_map};
 ghost use Rattle.std.specs.Borrow.{sem};
 ghost use Rattle.std.specs.Map.{lookup};
 ghost use Rattle.jsonpath_base.specs.Lending.{LendsAt};
 ghost use Rattle.jsonpath_base.specs.Places as places;
 ghost use Rattle.jsonpath_base.specs.Steps.{location_view};
-ghost use Rattle.jsonpath_base.specs.Values.{value_tree};
+ghost use Rattle.jsonpath_base.specs.Values.{value_tree, value_is_whole};
 ghost use Rattle.jsonpath_base.specs.inner.Lent.{LendsFound, LendsRest, is_entry, name_in, next, rest};
 
 mod parts;
@@ -21,6 +21,7 @@ use serde_json::{Map, Value};
 pub fn at_mut<'v>(value: &'v mut Value, steps: &[Step]) -> Option<&'v mut Value>
     ensures* writes_back { sem 𝓛 (LendsAt (location_view steps.now) value.entry result) }
     ensures value { option_map (λ v. value_tree v.now) result ≡ places.at (location_view steps.now) (value_tree value.old) }
+    ensures whole { IsTrue (value_is_whole value.old) → IfSome result (λ v. IsTrue (value_is_whole v.now)) }
 {
     let left = count(steps);
     let found = is_there(value, steps);
@@ -50,6 +51,7 @@ fn place_mut<'v>(value: &'v mut Value, steps: &[Step], left: usize) -> &'v mut V
     requires { (left ≤ length steps.now) × IsSome (places.at (rest steps.now left) (value_tree value.old)) }
     ensures* writes_back { sem 𝓛 (LendsRest steps.now left value.entry result) }
     ensures value { Some (value_tree result.now) ≡ places.at (rest steps.now left) (value_tree value.old) }
+    ensures whole { IsTrue (value_is_whole value.old) → IsTrue (value_is_whole result.now) }
 {
     if left == 0 {
         return value;

@@ -1,5 +1,5 @@
 //! The value at a location, to be read and to be written.
-ghost use Rattle.std.specs.Prelude.{◌≡◌, IsTrue, option_map, is_some};
+ghost use Rattle.std.specs.Prelude.{◌≡◌, IfSome, IsTrue, option_map, is_some};
 ghost use Rattle.jsonpath_base.specs.Places as places;
 ghost use Rattle.jsonpath_base.specs.Put.{put, PutIsSeenAbove, PutIsThere, PutLeavesTheRest};
 ghost use Rattle.jsonpath_base.specs.Steps.{location_view, step_view};
@@ -13,7 +13,8 @@ use std::mem;
 /// linear in the steps and in the names that they hold, times the logarithm of an object's members.
 #[cycle(at)]
 pub fn at<'v>(value: &'v Value, steps: &[Step]) -> Option<&'v Value>
-    ensures { option_map (λ v. value_tree v.now) result ≡ places.at (location_view steps.now) (value_tree value.now) }
+    ensures value { option_map (λ v. value_tree v.now) result ≡ places.at (location_view steps.now) (value_tree value.now) }
+    ensures whole { IsTrue (value_is_whole value.now) → IfSome result (λ v. IsTrue (value_is_whole v.now)) }
 {
     match steps.split_first() {
         None => Some(value),
@@ -26,7 +27,8 @@ pub fn at<'v>(value: &'v Value, steps: &[Step]) -> Option<&'v Value>
 
 /// The child that a step leads to, or None.
 fn child<'v>(value: &'v Value, step: &Step) -> Option<&'v Value>
-    ensures { option_map (λ v. value_tree v.now) result ≡ places.child (step_view step.now) (value_tree value.now) }
+    ensures value { option_map (λ v. value_tree v.now) result ≡ places.child (step_view step.now) (value_tree value.now) }
+    ensures whole { IsTrue (value_is_whole value.now) → IfSome result (λ v. IsTrue (value_is_whole v.now)) }
 {
     match step {
         Step::Name(name) => value.get(name.as_str()),

@@ -3,7 +3,7 @@ use Rattle.jsonpath_base.proofs.LoanTies.{follows_itself, so_from, so_chain, so_
 use Rattle.jsonpath_base.proofs.Loans.{rest_index, rest_name, list_there, item_there, at_item, object_there, member_there, at_member, positive, is_true, is_false}
 use Rattle.jsonpath_base.proofs.Putting.{put_element, put_member}
 use Rattle.jsonpath_base.proofs.LoanWords.{MutBor, owned, peeks, shows, only, no_more, and_then, use3, uint_Makes, prop}
-use Rattle.std.proofs.Common.{◌^◌, ◌-◌, eqb→eq, IsSome, is_some, Some, Bool, true, false, length}
+use Rattle.std.proofs.Common.{◌^◌, ◌-◌, eqb→eq, IsSome, IsTrue, is_some, Some, Bool, true, false, length}
 use Rattle.std.specs.Vec.{with_item}
 use Rattle.std.specs.Prelude.{⊤, vec_len, slice_index_or}
 use mathlib.Core.Option as maybe
@@ -17,7 +17,8 @@ use Rattle.std.specs.Map.{lookup, set_value}
 use Rattle.jsonpath_core.specs.Location.{name, index}
 use Rattle.jsonpath_base.specs.Places.{at}
 use Rattle.jsonpath_base.specs.Put.{put}
-use Rattle.jsonpath_base.specs.Values.{value_tree}
+use Rattle.jsonpath_base.specs.Values.{value_tree, value_is_whole}
+use Rattle.jsonpath_base.proofs.WholeParts.{item_whole, member_whole}
 use Rattle.std.specs.Option.{OnSome}
 use denote.Triple.Clauses.{Lasts}
 use denote.Builtin.{bool}
@@ -74,10 +75,10 @@ unfolding tables_of
     let z : W.Ghost = ((y.0.0, y.0.1, y.0.2, a, (mut_vals value, (shr_slice_vals path, (uint_vals w64 k, tt)))), tt) in
     let Ref = λ (r : MutBor R.Denot). (MutRef (named 0) κ R).own_val r (mut_vals r) in let Path = (ShrSlice (named 1) κp S).own_val path (shr_slice_vals path) in
     let So = λ (r : MutBor R.Denot). follows_so R R value.ghost_name (maybe.some r.ghost_name) (λ w n. value_tree n ≡ put (rest path.now k) (value_tree w) (value_tree value.now)) (λ n. ⊤) in
-    let out : (r : MutBor R.Denot) → Some (value_tree r.now) ≡ at (rest path.now k) (value_tree value.now) → Sq 𝓛 (‵ (Ref r) ∷ ‵ (flft κ q) ∷ ‵ (flft κp qp) ∷ ‵ (So r) ∷ []) (prop (W.post z (vptr r.ref_ptr.0 r.ref_ptr.1))) = λ r r_is.
+    let out : (r : MutBor R.Denot) → Some (value_tree r.now) ≡ at (rest path.now k) (value_tree value.now) → (IsTrue (value_is_whole value.now) → IsTrue (value_is_whole r.now)) → Sq 𝓛 (‵ (Ref r) ∷ ‵ (flft κ q) ∷ ‵ (flft κp qp) ∷ ‵ (So r) ∷ []) (prop (W.post z (vptr r.ref_ptr.0 r.ref_ptr.1))) = λ r r_is r_whole.
     suffices ! _ (ends_at 𝓛 f.ended stayed c z (vptr r.ref_ptr.0 r.ref_ptr.1) r (tt, (tt, (tt, tt))) (tt, (tt, (tt, tt)))) $
     nothing ! $ nothing ! $ fjoin ! $ nothing ! $ fjoin ! $ nothing ! $ fjoin ! $ join ! $
-    nothing ! $ move ! (3 ∷ 0 ∷ []) $ join ! $ move ! (2 ∷ 0 ∷ []) $ join ! $ join ! $ frame ! $ says ! r_is $ done ! in
+    nothing ! $ move ! (3 ∷ 0 ∷ []) $ join ! $ move ! (2 ∷ 0 ∷ []) $ join ! $ join ! $ frame ! $ frame ! $ says ! r_whole $ use0 𝓛 (raw (fact 𝓤 (Some (value_tree r.now) ≡ at (rest path.now k) (value_tree value.now)))) (fact_i 𝓤 _ (emp 𝓤) r_is) $ done ! in
     qed 𝓛 (((‵ (flft κ q) ⊛ ‵ (flft κp qp) ⊛ ‵ ftrue) ⊛ (‵ ((MutRef (named 0) κ R).own_val value (mut_vals value)) ⊛ ‵ ((ShrSlice (named 1) κp S).own_val path (shr_slice_vals path)) ⊛ ‵ (usize.own_val k (vint w64 k ∷ [])) ⊛ ‵ ftrue))
     ∷ raw ((c y.0.0 a).requires tt) ∷ []) ∵
     move ! (1 ∷ []) $ heard ! _ (λ given. split ! $ split ! $ move ! (1 ∷ []) $ split ! $ move ! (3 ∷ []) $ split ! $ move ! (1 ∷ []) $ split ! $ keep ! (2 ∷ 0 ∷ 5 ∷ 3 ∷ []) $
@@ -88,7 +89,7 @@ unfolding tables_of
     returns_within ! (W.post z) refl (look_at ! 0 refl) $ free_all ! refl $ keep ! (0 ∷ 2 ∷ 3 ∷ []) $
     use0 𝓛 (‵ (So value)) (via 𝓤 _ (follows_itself 𝓛 R value.ghost_name) (so_from 𝓛 R R value.ghost_name value.ghost_name (λ w n. value_tree n ≡ put (rest path.now k) (value_tree w) (value_tree value.now)) (λ w. w) value.now
     (λ w. ap (λ m. put (rest path.now m) (value_tree w) (value_tree value.now)) (sym (eqb→eq k 0 none))))) $
-    move ! (1 ∷ 2 ∷ 3 ∷ 0 ∷ []) $ out value (ap (λ m. at (rest path.now m) (value_tree value.now)) (sym (eqb→eq k 0 none))))
+    move ! (1 ∷ 2 ∷ 3 ∷ 0 ∷ []) $ out value (ap (λ m. at (rest path.now m) (value_tree value.now)) (sym (eqb→eq k 0 none))) (λ h. h))
     (λ some_left. skips ! $ exec ! 𝓣.C 𝓣.Λ (env fn.locals l) (after 2 fn.body) (at_ret (env fn.locals l) (W.post z)) $
     let j = k - 1 in let suc_is = (positive k some_left).1 in
     let way = rest path.now j in
@@ -153,15 +154,15 @@ unfolding tables_of
     calls_from ! (framed 𝓤 𝓛.H 𝓜 𝓣) (raw (G₃.pre z₃)) (G₃.args z₃) (G₃.post z₃) (smaller j less z₃ refl) (and_then ! (get ! refl) (and_then ! (get ! refl) (and_then ! (get ! refl) (no_more !)))) (λ v₃.
     let P₃ = λ (w n : R.Denot). value_tree n ≡ put way (value_tree w) (value_tree item.now) in
     use1 𝓛 (later (some (λ (r : MutBor R.Denot). ((‵ (flft κ q) ⊛ ‵ (flft κp qp) ⊛ ‵ ftrue) ⊛ ‵ ((MutRef (named 0) κ R).own_val r (v₃ ∷ []))) ⊛
-    some (λ (ws : Unit {0} × (Unit {0} × (Unit {0} × Unit {0}))). ‵ (lasts f.ended z₃.0.0 z₃.0.3 ws) ⊛ ‵ (follows_so R R item.ghost_name (maybe.some r.ghost_name) P₃ (λ n. ⊤)) ⊛ raw (fact 𝓤 (Some (value_tree r.now) ≡ at way (value_tree item.now))))))) (id⊢ 𝓤 _) $
-    await ! tt $ pick ! (λ last. split ! $ split ! $ split ! $ move ! (1 ∷ []) $ split ! $ move ! (4 ∷ []) $ pick ! (λ ws₃. split ! $ drop ! $ split ! $ move ! (1 ∷ []) $ heard ! _ (λ last_is.
+    some (λ (ws : Unit {0} × (Unit {0} × (Unit {0} × Unit {0}))). ‵ (lasts f.ended z₃.0.0 z₃.0.3 ws) ⊛ ‵ (follows_so R R item.ghost_name (maybe.some r.ghost_name) P₃ (λ n. ⊤)) ⊛ (raw (fact 𝓤 (Some (value_tree r.now) ≡ at way (value_tree item.now))) ⊛ raw (fact 𝓤 (IsTrue (value_is_whole item.now) → IsTrue (value_is_whole r.now)))))))) (id⊢ 𝓤 _) $
+    await ! tt $ pick ! (λ last. split ! $ split ! $ split ! $ move ! (1 ∷ []) $ split ! $ move ! (4 ∷ []) $ pick ! (λ ws₃. split ! $ drop ! $ split ! $ move ! (1 ∷ []) $ split ! $ heard ! _ (λ last_is. heard ! _ (λ last_whole.
     -- [the third tie; the token of κp; nothing; the token of κ; the result; the second tie; the first tie]
     move ! (4 ∷ []) $ peeks ! (MutRef (named 0) κ R) _ (shows 𝓛 (MutRef (named 0) κ R)) last (v₃ ∷ []) (λ at₃.
     rewrite ! 0 (λ vs. ‵ ((MutRef (named 0) κ R).own_val last vs)) at₃.0 refl $ lands_as ! (ap only at₃.0) refl (tt, tt) $
     returns_within ! (W.post z) refl (look_at ! 0 refl) $ free_all ! refl $ move ! (6 ∷ 5 ∷ 1 ∷ []) $
     use3 𝓛 (‵ (So last)) (so_chain 𝓛 R L value.ghost_name list.ghost_name item.ghost_name last.ghost_name Array (with_item list.now (i)) (λ w n. value_tree n ≡ put (rest path.now k) (value_tree w) (value_tree value.now)) P₃ value.now
     (λ w n is. put_element value.now list.now (with_item list.now i n) i way item.now n (value_tree w) held within item_is refl is ∙ ap (λ s. put s (value_tree w) (value_tree value.now)) (sym steps_are))) $
-    keep ! (1 ∷ 4 ∷ 2 ∷ 0 ∷ []) $ out last (last_is ∙ sym below ∙ ap (λ s. at s (value_tree value.now)) (sym steps_are))))))))))))))))))
+    keep ! (1 ∷ 4 ∷ 2 ∷ 0 ∷ []) $ out last (last_is ∙ sym below ∙ ap (λ s. at s (value_tree value.now)) (sym steps_are)) (λ h. last_whole (item_whole value.now list.now i item.now held within item_is h)))))))))))))))))))
     (λ no_index. skips ! $ exec ! 𝓣.C 𝓣.Λ (env fn.locals l) (after 4 fn.body) (at_ret _ (W.post z)) $
     let here : has_index (next path.now k) ≡ false = sym b_is ∙ is_false b no_index in
     let text = name_in (next path.now k) in let steps_are = rest_name path.now k j suc_is given.0 here in
@@ -207,8 +208,8 @@ unfolding tables_of
     calls_from ! (framed 𝓤 𝓛.H 𝓜 𝓣) (raw (G₃.pre z₃)) (G₃.args z₃) (G₃.post z₃) (smaller j less z₃ refl) (and_then ! (get ! refl) (and_then ! (get ! refl) (and_then ! (get ! refl) (no_more !)))) (λ v₃.
     let P₃ = λ (w n : R.Denot). value_tree n ≡ put way (value_tree w) (value_tree item.now) in
     use1 𝓛 (later (some (λ (r : MutBor R.Denot). ((‵ (flft κ q) ⊛ ‵ (flft κp qp) ⊛ ‵ ftrue) ⊛ ‵ ((MutRef (named 0) κ R).own_val r (v₃ ∷ []))) ⊛
-    some (λ (ws : Unit {0} × (Unit {0} × (Unit {0} × Unit {0}))). ‵ (lasts f.ended z₃.0.0 z₃.0.3 ws) ⊛ ‵ (follows_so R R item.ghost_name (maybe.some r.ghost_name) P₃ (λ n. ⊤)) ⊛ raw (fact 𝓤 (Some (value_tree r.now) ≡ at way (value_tree item.now))))))) (id⊢ 𝓤 _) $
-    await ! tt $ pick ! (λ last. split ! $ split ! $ split ! $ move ! (1 ∷ []) $ split ! $ move ! (4 ∷ []) $ pick ! (λ ws₃. split ! $ drop ! $ split ! $ move ! (1 ∷ []) $ heard ! _ (λ last_is.
+    some (λ (ws : Unit {0} × (Unit {0} × (Unit {0} × Unit {0}))). ‵ (lasts f.ended z₃.0.0 z₃.0.3 ws) ⊛ ‵ (follows_so R R item.ghost_name (maybe.some r.ghost_name) P₃ (λ n. ⊤)) ⊛ (raw (fact 𝓤 (Some (value_tree r.now) ≡ at way (value_tree item.now))) ⊛ raw (fact 𝓤 (IsTrue (value_is_whole item.now) → IsTrue (value_is_whole r.now)))))))) (id⊢ 𝓤 _) $
+    await ! tt $ pick ! (λ last. split ! $ split ! $ split ! $ move ! (1 ∷ []) $ split ! $ move ! (4 ∷ []) $ pick ! (λ ws₃. split ! $ drop ! $ split ! $ move ! (1 ∷ []) $ split ! $ heard ! _ (λ last_is. heard ! _ (λ last_whole.
     -- [the third tie; the token of κp; nothing; the token of κ; the result; the second tie; the first tie]
     move ! (4 ∷ []) $ peeks ! (MutRef (named 0) κ R) _ (shows 𝓛 (MutRef (named 0) κ R)) last (v₃ ∷ []) (λ at₃.
     rewrite ! 0 (λ vs. ‵ ((MutRef (named 0) κ R).own_val last vs)) at₃.0 refl $ lands_as ! (ap only at₃.0) refl (tt, tt) $
@@ -216,4 +217,4 @@ unfolding tables_of
     use3 𝓛 (‵ (So last)) (so_so 𝓛 R K value.ghost_name map.ghost_name item.ghost_name last.ghost_name Object (λ w n. value_tree n ≡ put (rest path.now k) (value_tree w) (value_tree value.now))
     (λ w n. OnSome (Some item) (n.entries ≡ set_value (is_entry text) map.now.entries w)) (λ n. n ≡ map.now) P₃ value.now
     (λ w n m is written. put_member value.now map.now m text way item.now n (value_tree w) held (sym item_is) written is ∙ ap (λ s. put s (value_tree w) (value_tree value.now)) (sym steps_are))) $
-    keep ! (1 ∷ 4 ∷ 2 ∷ 0 ∷ []) $ out last (last_is ∙ sym below ∙ ap (λ s. at s (value_tree value.now)) (sym steps_are))))))))))))))))))))))))))))))
+    keep ! (1 ∷ 4 ∷ 2 ∷ 0 ∷ []) $ out last (last_is ∙ sym below ∙ ap (λ s. at s (value_tree value.now)) (sym steps_are)) (λ h. last_whole (member_whole value.now map.now text item.now held item_is h)))))))))))))))))))))))))))))))

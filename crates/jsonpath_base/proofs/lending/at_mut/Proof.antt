@@ -4,7 +4,7 @@ use Rattle.jsonpath_base.proofs.LoanTies.{so_weaker, so_none}
 use Rattle.jsonpath_base.proofs.Loans.{is_true, is_false, rest_all, no_tree}
 use Rattle.jsonpath_base.specs.contracts.step.Step.{the_row as S}
 use Rattle.std.proofs.VecSteps.Shapes.{after}
-use Rattle.std.proofs.Common.{w64, arith, IsSome, is_some, Some, None, length, ◌∙◌}
+use Rattle.std.proofs.Common.{w64, arith, IsSome, IsTrue, is_some, option_map, Some, None, length, ◌∙◌}
 use Rattle.std.specs.Prelude.{⊤}
 use Rattle.std.specs.contracts.option.Option as OP
 use Rattle.std.proofs.VecSteps.Element.{Some-of, none_of}
@@ -22,7 +22,7 @@ use Rattle.serde_json.specs.contracts.value.Value.{the_row as R}
 use Rattle.jsonpath_base.specs.Places.{at}
 use Rattle.jsonpath_base.specs.Put.{put}
 use Rattle.jsonpath_base.specs.Steps.{location_view}
-use Rattle.jsonpath_base.specs.Values.{value_tree}
+use Rattle.jsonpath_base.specs.Values.{value_tree, value_is_whole}
 use Rattle.jsonpath_base.specs.inner.Lent.{rest}
 use Rattle.jsonpath_base.specs.contracts.lending.at_mut as f
 use Rattle.jsonpath_base.proofs.lending.at_mut.Statement.{statement}
@@ -121,8 +121,8 @@ at_mut_spec 𝓤 𝓛 𝓜 𝓡 wired =
     calls_at ! (framed 𝓤 𝓛.H 𝓜 𝓣) G₂ (met₂ 𝓤 𝓛 𝓜 𝓡 (code.calls-jsonpath_base::lending::place_mut 𝓡.env wired)) z₂ (and_then ! (get ! refl) (and_then ! (get ! refl) (and_then ! (get ! refl) (no_more !)))) (λ v₂.
     let P₂ = λ (w n : R.Denot). value_tree n ≡ put (rest path.now k) (value_tree w) (value_tree value.now) in let Q₂ = λ (w n : R.Denot). value_tree n ≡ put (location_view path.now) (value_tree w) (value_tree value.now) in
     use1 𝓛 (later (some (λ (r : MutBor R.Denot). ((‵ (flft κ q) ⊛ ‵ (flft κp qp) ⊛ ‵ ftrue) ⊛ ‵ ((MutRef (named 0) κ R).own_val r (v₂ ∷ []))) ⊛
-    some (λ (ws : Unit {0} × (Unit {0} × (Unit {0} × Unit {0}))). ‵ (lasts g₂.ended z₂.0.0 z₂.0.3 ws) ⊛ ‵ (follows_so R R value.ghost_name (maybe.some r.ghost_name) P₂ (λ n. ⊤)) ⊛ raw (fact 𝓤 (Some (value_tree r.now) ≡ at (rest path.now k) (value_tree value.now))))))) (id⊢ 𝓤 _) $
-    await ! tt $ pick ! (λ last. split ! $ split ! $ split ! $ move ! (1 ∷ []) $ split ! $ move ! (4 ∷ []) $ pick ! (λ ws₂. split ! $ drop ! $ split ! $ move ! (1 ∷ []) $ heard ! _ (λ last_is.
+    some (λ (ws : Unit {0} × (Unit {0} × (Unit {0} × Unit {0}))). ‵ (lasts g₂.ended z₂.0.0 z₂.0.3 ws) ⊛ ‵ (follows_so R R value.ghost_name (maybe.some r.ghost_name) P₂ (λ n. ⊤)) ⊛ (raw (fact 𝓤 (Some (value_tree r.now) ≡ at (rest path.now k) (value_tree value.now))) ⊛ raw (fact 𝓤 (IsTrue (value_is_whole value.now) → IsTrue (value_is_whole r.now)))))))) (id⊢ 𝓤 _) $
+    await ! tt $ pick ! (λ last. split ! $ split ! $ split ! $ move ! (1 ∷ []) $ split ! $ move ! (4 ∷ []) $ pick ! (λ ws₂. split ! $ drop ! $ split ! $ move ! (1 ∷ []) $ split ! $ heard ! _ (λ last_is. heard ! _ (λ last_whole.
     -- [the tie; the token of κp; nothing; the token of κ; the result]
     move ! (4 ∷ []) $ peeks ! (MutRef (named 0) κ R) _ (shows 𝓛 (MutRef (named 0) κ R)) last (v₂ ∷ []) (λ at₂.
     rewrite ! 0 (λ vs. ‵ ((MutRef (named 0) κ R).own_val last vs)) at₂.0 refl $ lands_as ! (ap only at₂.0) refl (tt, tt) $
@@ -135,7 +135,8 @@ at_mut_spec 𝓤 𝓛 𝓜 𝓡 wired =
     keep ! (1 ∷ 4 ∷ 2 ∷ 0 ∷ []) $ use1 𝓛 (‵ ((OP.the_row (MutRef (named 0) κ R)).own_val (Some last) (out ∷ []))) (Some-of 𝓛 (MutRef (named 0) κ R) last (vptr last.ref_ptr.0 last.ref_ptr.1)) $
     suffices ! _ (ends_at 𝓛 f.ended stayed c z out (Some last) (tt, (tt, tt)) (tt, (tt, tt))) $
     nothing ! $ nothing ! $ fjoin ! $ nothing ! $ fjoin ! $ join ! $
-    nothing ! $ move ! (3 ∷ 0 ∷ []) $ join ! $ move ! (2 ∷ 0 ∷ []) $ join ! $ join ! $ frame ! $ says ! (last_is ∙ ap (λ s. at s (value_tree value.now)) all) $ done !))))))
+    nothing ! $ move ! (3 ∷ 0 ∷ []) $ join ! $ move ! (2 ∷ 0 ∷ []) $ join ! $ join ! $ frame ! $ frame ! $ says ! last_whole $
+    use0 𝓛 (raw (fact 𝓤 (option_map (λ (v : MutBor R.Denot). value_tree v.now) (Some last) ≡ at (location_view path.now) (value_tree value.now)))) (fact_i 𝓤 _ (emp 𝓤) (last_is ∙ ap (λ s. at s (value_tree value.now)) all)) $ done !)))))))
     (λ is_not. skips ! $ exec ! 𝓣.C 𝓣.Λ (env (code.function).locals l) (after 5 (code.function).body) (at_ret _ (W.post z)) $
     sets ! (agg ! (and_then ! (lit ! tt) (no_more !))) refl (tt, (record { fits = lit< tt }, tt)) $
     returns ! (look_at ! 0 refl) $ free_all ! refl $ fsplit3 ! $ move ! (1 ∷ []) $
@@ -146,4 +147,5 @@ at_mut_spec 𝓤 𝓛 𝓜 𝓡 wired =
     keep ! (4 ∷ 5 ∷ 0 ∷ []) $ use0 𝓛 (‵ ((OP.the_row (MutRef (named 0) κ R)).own_val None (out ∷ []))) (none_of 𝓛 (MutRef (named 0) κ R)) $
     suffices ! _ (ends_at 𝓛 f.ended stayed c z out None (tt, (tt, tt)) (tt, (tt, tt))) $
     nothing ! $ nothing ! $ fjoin ! $ nothing ! $ fjoin ! $ join ! $
-    nothing ! $ move ! (3 ∷ 0 ∷ []) $ join ! $ move ! (2 ∷ 0 ∷ []) $ join ! $ join ! $ frame ! $ says ! (no_tree _ (sym found_is ∙ is_false found is_not)) $ done !))))))))))))))))
+    nothing ! $ move ! (3 ∷ 0 ∷ []) $ join ! $ move ! (2 ∷ 0 ∷ []) $ join ! $ join ! $ frame ! $ frame ! $ says ! (λ h. tt) $
+    use0 𝓛 (raw (fact 𝓤 (None ≡ at (location_view path.now) (value_tree value.now)))) (fact_i 𝓤 _ (emp 𝓤) (no_tree _ (sym found_is ∙ is_false found is_not))) $ done !))))))))))))))))
