@@ -2,12 +2,12 @@
 use Rattle.std.proofs.Common.{◌≡◌, ℕ, zero, suc, ◌<◌, List, [], ◌∷◌, map, length, take, get_or, Option, Some, None, IfSome, IfNone, IsTrue, slice_get, refl, sym, ap, ap₂, ◌∙◌, subst, arith}
 use Rattle.std.proofs.lemmas.Bool.{false≢true}
 use Rattle.std.specs.List.{AllZip, filter_map, cons_option}
-use Rattle.jsonpath_core.specs.Location.{Location}
-use Rattle.jsonpath_base.specs.Places.{at}
-use Rattle.jsonpath_base.specs.Same.{same}
-use Rattle.jsonpath_base.specs.Tree.{Tree}
-use Rattle.jsonpath_node.specs.Answer.{IsValueAt}
-use Rattle.jsonpath_node.specs.Document.{Document}
+use Rattle.jsonpath_rust.specs.Location.{Location}
+use Rattle.jsonpath_rust.specs.Places.{at}
+use Rattle.jsonpath_rust.specs.Same.{same}
+use Rattle.jsonpath_rust.specs.Tree.{Tree}
+use Rattle.jsonpath_rust.specs.Answer.{IsValueAt}
+use Rattle.jsonpath_rust.specs.Document.{Document}
 use Rattle.jpath_uses.specs.Difference.{AreSame, IsDifferent, IsFirstDifference}
 use Rattle.jpath_uses.specs.declared.difference.Difference.{Difference}
 use Rattle.jpath_uses.specs.declared.difference.Missing.{Missing}

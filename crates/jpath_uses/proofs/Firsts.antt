@@ -4,13 +4,13 @@ use Rattle.std.proofs.lemmas.List.{take_all, length-map, get_or-map}
 use Rattle.std.proofs.lemmas.List.Elements.{All-more}
 use Rattle.std.proofs.lemmas.Option.{slice_get_read, slice_get-map}
 use Rattle.std.specs.List.{AllZip}
-use Rattle.jsonpath_core.specs.Location.{Location}
-use Rattle.jsonpath_tree.specs.Syntax.{Query}
-use Rattle.jsonpath_base.specs.Tree.{Tree}
-use Rattle.jsonpath_node.specs.Answer.{IsNodeAt, shown}
-use Rattle.jsonpath_node.specs.Document.{Document}
-use Rattle.jsonpath_node.specs.Meaning.{selected}
-use Rattle.jsonpath_node.specs.declared.node.QueryRef.{QueryRef}
+use Rattle.jsonpath_rust.specs.Location.{Location}
+use Rattle.jsonpath_rust.specs.Syntax.{Query}
+use Rattle.jsonpath_rust.specs.Tree.{Tree}
+use Rattle.jsonpath_rust.specs.Answer.{IsNodeAt, shown}
+use Rattle.jsonpath_rust.specs.Document.{Document}
+use Rattle.jsonpath_rust.specs.Meaning.{selected}
+use Rattle.jsonpath_rust.specs.QueryRef.{QueryRef}
 use Rattle.jpath_uses.specs.First.{IsSilent, IsFirst, IsFirstPath}
 
 -- the first node has the path of the first location

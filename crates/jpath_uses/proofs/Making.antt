@@ -1,6 +1,6 @@
 -- The edits that find something, one after the other.
 use Rattle.std.proofs.Common.{◌≡◌, ℕ, zero, suc, ◌<◌, List, [], ◌∷◌, length, take, get_or, true, refl, subst, arith}
-use Rattle.jsonpath_base.specs.Tree.{Tree}
+use Rattle.jsonpath_rust.specs.Tree.{Tree}
 use Rattle.jpath_uses.specs.Script.{AllMake, Makes}
 use Rattle.jpath_uses.specs.declared.script.Edit.{Edit}
 

@@ -1,65 +1,110 @@
--- What null is put at, and what it leaves.
-use Rattle.std.proofs.Common.{◌≡◌, List, [], ◌∷◌, All, Option, Some, None, IfSome, option_map, option_and_then, inl, inr, refl, sym, ap, ◌∙◌, subst}
+-- What null is put at, and what it leaves, by the laws of a write.
+use Rattle.std.proofs.Common.{◌≡◌, ℕ, List, [], ◌∷◌, ◌++◌, ◌⊎◌, inl, inr, Bool, true, false, All, Option, Some, None, IfSome, option_map, option_and_then, append-nil, refl, sym, ap, ◌∙◌, subst}
+use Rattle.std.proofs.lemmas.Bool.Decides.{Decides-eqb}
 use Rattle.std.proofs.lemmas.List.Elements.{All-nil, All-cons, All-head, All-tail}
-use Rattle.jsonpath_core.specs.Location.{Step, name, index, Location, Begins}
-use Rattle.jsonpath_base.proofs.PutLaws.{IsWritten, child_written, child_same, put_leaves_the_rest}
-use Rattle.jsonpath_base.specs.Places.{child, at}
-use Rattle.jsonpath_base.specs.Put.{with_child, put}
-use Rattle.jsonpath_base.specs.Tree.{Tree, null}
+use Rattle.std.proofs.lemmas.Slice.Eq.{bytes_eq-Decides}
+use Rattle.std.specs.Bool.{Decides}
+use Rattle.jsonpath_rust.specs.Location.{Step, name, index, Location, Begins}
+use Rattle.jsonpath_rust.specs.Places.{at}
+use Rattle.jsonpath_rust.specs.Put.{put, PutIsThere, PutIsSeenAbove, PutLeavesTheRest}
+use Rattle.jsonpath_rust.specs.Tree.{Tree, null}
 use Rattle.jpath_uses.specs.Redaction.{nulled, IsHidden, IsApart}
 
+-- ---- how one location lies to another
+
+-- the one begins the other, the other begins the one, or neither does
+abbrev IsRelated : Location → Location → Type 0
+IsRelated l m = Begins l m ⊎ (Begins m l ⊎ ((Begins l m → ⊥) × (Begins m l → ⊥)))
+
+decided : {P : Type 0} (b : Bool) → Decides b P → P ⊎ (P → ⊥)
+decided true d = inl (d.0 refl)
+decided false d = inr (λ p. let e : false ≡ true = d.1 p in absurd cc)
+
+same_step : (s r : Step) → (s ≡ r) ⊎ (s ≡ r → ⊥)
+same_step (name k) (index j) = inr (λ e. absurd cc)
+same_step (index i) (name k) = inr (λ e. absurd cc)
+same_step (name k) (name j) = step (decided _ (bytes_eq-Decides k j))
+  where
+    step : (k ≡ j) ⊎ (k ≡ j → ⊥) → (name k ≡ name j) ⊎ (name k ≡ name j → ⊥)
+    step (inl e) = inl (ap name e)
+    step (inr other) = inr (λ e. other cc)
+same_step (index i) (index j) = step (decided _ (Decides-eqb i j))
+  where
+    step : (i ≡ j) ⊎ (i ≡ j → ⊥) → (index i ≡ index j) ⊎ (index i ≡ index j → ⊥)
+    step (inl e) = inl (ap index e)
+    step (inr other) = inr (λ e. other cc)
+
+longer : (s r : Step) (l m : Location) → s ≡ r → Begins l m → Begins (s ∷ l) (r ∷ m)
+longer s r l m e (rest, is) = (rest, ap (λ z. z ∷ m) (sym e) ∙ ap (λ z. s ∷ z) is)
+
+first_same : (s r : Step) (l m : Location) → Begins (s ∷ l) (r ∷ m) → s ≡ r
+first_same s r l m (rest, is) = cc
+
+shorter : (s r : Step) (l m : Location) → Begins (s ∷ l) (r ∷ m) → Begins l m
+shorter s r l m (rest, is) = (rest, cc)
+
+related : (l m : Location) → IsRelated l m
+related [] m = inl (m, refl)
+related (s ∷ l) [] = inr (inl (s ∷ l, refl))
+related (s ∷ l) (r ∷ m) = step (same_step s r) (related l m)
+  where
+    step : (s ≡ r) ⊎ (s ≡ r → ⊥) → IsRelated l m → IsRelated (s ∷ l) (r ∷ m)
+    step (inl e) (inl b) = inl (longer s r l m e b)
+    step (inl e) (inr (inl b)) = inr (inl (longer r s m l (sym e) b))
+    step (inl e) (inr (inr neither)) = inr (inr (λ b. neither.0 (shorter s r l m b), λ b. neither.1 (shorter r s m l b)))
+    step (inr other) more = inr (inr (λ b. other (first_same s r l m b), λ b. other (sym (first_same r s m l b))))
+
 -- ---- what is hidden
+
+abbrev IsNull : Option Tree → Type 0
+IsNull o = IfSome o (λ u. u ≡ null)
 
 in_null : (l : Location) → IsHidden null l
 in_null [] = refl
 in_null (name k ∷ l) = tt
 in_null (index i ∷ l) = tt
 
-null_stays : (s : Step) (f : Tree → Tree) → with_child s f null ≡ null
-null_stays (name k) f = refl
-null_stays (index i) f = refl
+null_stays : (l : Location) → put l null null ≡ null
+null_stays [] = refl
+null_stays (name k ∷ l) = refl
+null_stays (index i ∷ l) = refl
 
--- what of the child at a step is at the rest of a location
-abbrev IsHiddenBelow : Location → Option Tree → Type 0
-IsHiddenBelow l o = IfSome (option_and_then (at l) o) (λ u. u ≡ null)
+null_below : (l : Location) (o : Option Tree) → IsNull (option_and_then (λ c. at l null) o)
+null_below l None = tt
+null_below l (Some c) = in_null l
 
-hidden_in : (l : Location) (f : Tree → Tree) (o : Option Tree) → ((c : Tree) → IsHidden c l → IsHidden (f c) l) → IsHiddenBelow l o → IsHiddenBelow l (option_map f o)
-hidden_in l f None more h = tt
-hidden_in l f (Some c) more h = more c h
+null_written : (l : Location) (o : Option Tree) → IsNull o → IsNull (option_map (put l null) o)
+null_written l None h = tt
+null_written l (Some c) h = ap (put l null) h ∙ null_stays l
 
-hidden_stays : (l m : Location) (t : Tree) → IsHidden t l → IsHidden (put m null t) l
-hidden_stays l [] t h = in_null l
-hidden_stays [] (r ∷ m) t h = ap (with_child r (put m null)) h ∙ null_stays r (put m null)
-hidden_stays (s ∷ l) (r ∷ m) t h = step (child_written r s (put m null) t) (λ c k. hidden_stays l m c k)
+hidden_stays : (there : PutIsThere) (above : PutIsSeenAbove) (leaves : PutLeavesTheRest) (l m : Location) (t : Tree) → IsHidden t l → IsHidden (put m null t) l
+hidden_stays there above leaves l m t h = step (related m l)
   where
-    step : IsWritten r s (put m null) (child s t) (child s (with_child r (put m null) t)) → ((c : Tree) → IsHidden c l → IsHidden (put m null c) l) → IsHiddenBelow l (child s (with_child r (put m null) t))
-    step (inl (same, is)) more = subst (IsHiddenBelow l) (sym is) (hidden_in l (put m null) (child s t) more h)
-    step (inr is) more = subst (IsHiddenBelow l) (sym is) h
+    step : IsRelated m l → IsHidden (put m null t) l
+    step (inl (r, is)) = subst (λ k. IsNull (at k (put m null t))) (sym is) (subst IsNull (sym (there m r null t)) (null_below r (at m t)))
+    step (inr (inl (r, is))) = subst (λ k. IsNull (at l (put k null t))) (sym is) (subst IsNull (sym (above l r null t)) (null_written r (at l t) h))
+    step (inr (inr neither)) = subst IsNull (sym (leaves m l null t neither.0 neither.1)) h
 
-below_put : (l : Location) (o : Option Tree) → ((c : Tree) → IsHidden (put l null c) l) → IsHiddenBelow l (option_map (put l null) o)
-below_put l None more = tt
-below_put l (Some c) more = more c
+hidden_where_put : PutIsThere → (l : Location) (t : Tree) → IsHidden (put l null t) l
+hidden_where_put there l t = subst (λ k. IsNull (at k (put l null t))) (append-nil l) (subst IsNull (sym (there l [] null t)) (null_below [] (at l t)))
 
-hidden_where_put : (l : Location) (t : Tree) → IsHidden (put l null t) l
-hidden_where_put [] t = refl
-hidden_where_put (s ∷ l) t = subst (IsHiddenBelow l) (sym (child_same s (put l null) t)) (below_put l (child s t) (λ c. hidden_where_put l c))
-
-stays_hidden : (ls : List Location) (l : Location) (t : Tree) → IsHidden t l → IsHidden (nulled ls t) l
-stays_hidden [] l t h = h
-stays_hidden (m ∷ ls) l t h = stays_hidden ls l (put m null t) (hidden_stays l m t h)
+stays_hidden : (there : PutIsThere) (above : PutIsSeenAbove) (leaves : PutLeavesTheRest) (ls : List Location) (l : Location) (t : Tree) → IsHidden t l → IsHidden (nulled ls t) l
+stays_hidden there above leaves [] l t h = h
+stays_hidden there above leaves (m ∷ ls) l t h = stays_hidden there above leaves ls l (put m null t) (hidden_stays there above leaves l m t h)
 
 -- each of the locations is hidden
-pub all_hidden : (ls : List Location) (t : Tree) → All (IsHidden (nulled ls t)) ls
-all_hidden [] t = All-nil (IsHidden t)
-all_hidden (l ∷ ls) t = All-cons (IsHidden (nulled ls (put l null t))) l ls (stays_hidden ls l (put l null t) (hidden_where_put l t)) (all_hidden ls (put l null t))
+pub all_hidden : (there : PutIsThere) (above : PutIsSeenAbove) (leaves : PutLeavesTheRest) (ls : List Location) (t : Tree) → All (IsHidden (nulled ls t)) ls
+all_hidden there above leaves [] t = All-nil (IsHidden t)
+all_hidden there above leaves (l ∷ ls) t =
+    All-cons (IsHidden (nulled ls (put l null t))) l ls (stays_hidden there above leaves ls l (put l null t) (hidden_where_put there l t)) (all_hidden there above leaves ls (put l null t))
 
 -- ---- what is left as it was
 
 abbrev IsNeither : Location → Location → Type 0
 IsNeither m l = (Begins l m → ⊥) × (Begins m l → ⊥)
 
-pub apart_stays : (ls : List Location) (m : Location) (t : Tree) → IsApart ls m → at m (nulled ls t) ≡ at m t
-apart_stays [] m t h = refl
-apart_stays (l ∷ ls) m t h =
+pub apart_stays : PutLeavesTheRest → (ls : List Location) (m : Location) (t : Tree) → IsApart ls m → at m (nulled ls t) ≡ at m t
+apart_stays leaves [] m t h = refl
+apart_stays leaves (l ∷ ls) m t h =
     let first = All-head (IsNeither m) l ls h in
-    apart_stays ls m (put l null t) (All-tail (IsNeither m) l ls h) ∙ put_leaves_the_rest l m null t first.0 first.1
+    apart_stays leaves ls m (put l null t) (All-tail (IsNeither m) l ls h) ∙ leaves l m null t first.0 first.1

@@ -1,13 +1,13 @@
 -- Where two lists of values differ.
 use Rattle.std.specs.Prelude.{List, Option, Some, None, IsTrue, IsFalse, take, slice_get}
 use Rattle.std.specs.List.{AllZip, filter_map}
-use Rattle.jsonpath_tree.specs.View.{query_view}
-use Rattle.jsonpath_tree.specs.declared.model.JpQuery.{JpQuery}
-use Rattle.jsonpath_base.specs.Places.{at}
-use Rattle.jsonpath_base.specs.Same.{same}
-use Rattle.jsonpath_base.specs.Tree.{Tree}
-use Rattle.jsonpath_node.specs.Document.{Document}
-use Rattle.jsonpath_node.specs.Meaning.{selected}
+use Rattle.jsonpath_rust.specs.View.{query_view}
+use Rattle.jsonpath_rust.specs.JpQuery.{JpQuery}
+use Rattle.jsonpath_rust.specs.Places.{at}
+use Rattle.jsonpath_rust.specs.Same.{same}
+use Rattle.jsonpath_rust.specs.Tree.{Tree}
+use Rattle.jsonpath_rust.specs.Document.{Document}
+use Rattle.jsonpath_rust.specs.Meaning.{selected}
 use Rattle.jpath_uses.specs.declared.difference.Difference.{Difference}
 use Rattle.jpath_uses.specs.declared.difference.Missing.{Missing}
 use Rattle.jpath_uses.specs.declared.difference.Missing.TheVariants.{Neither, First, Second}

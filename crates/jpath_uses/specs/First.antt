@@ -1,12 +1,12 @@
 -- The first query of a list that selects something in a document.
 use Rattle.std.specs.Prelude.{◌≡◌, ℕ, List, [], ◌∷◌, Some, All, take, slice_get}
-use Rattle.jsonpath_core.specs.Location.{Location}
-use Rattle.jsonpath_tree.specs.Syntax.{Query}
-use Rattle.jsonpath_core.specs.declared.errors.JsonPathError.{JsonPathError}
-use Rattle.jsonpath_node.specs.Answer.{IsPathAt}
-use Rattle.jsonpath_node.specs.Document.{Document}
-use Rattle.jsonpath_node.specs.Meaning.{selected}
-use Rattle.jsonpath_node.specs.Patterns.{IsStop}
+use Rattle.jsonpath_rust.specs.Location.{Location}
+use Rattle.jsonpath_rust.specs.Syntax.{Query}
+use Rattle.jsonpath_rust.specs.JsonPathError.{JsonPathError}
+use Rattle.jsonpath_rust.specs.Answer.{IsPathAt}
+use Rattle.jsonpath_rust.specs.Document.{Document}
+use Rattle.jsonpath_rust.specs.Meaning.{selected}
+use Rattle.jsonpath_rust.specs.Patterns.{IsStop}
 
 -- the query selects nothing in the document
 abbrev pub IsSilent : Document → Query → Type 0

@@ -1,3 +1,4 @@
+pub mod Again
 pub mod Difference
 pub mod First
 pub mod Redaction

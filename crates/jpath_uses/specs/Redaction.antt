@@ -1,16 +1,16 @@
 -- What is left of a document in which values are replaced by null.
 use Rattle.std.specs.Prelude.{◌≡◌, List, [], ◌∷◌, All, IfSome}
 use Rattle.std.specs.List.{Contains, flat_map}
-use Rattle.jsonpath_core.specs.Location.{Location, Begins}
-use Rattle.jsonpath_tree.specs.View.{query_view}
-use Rattle.jsonpath_core.specs.declared.errors.JsonPathError.{JsonPathError}
-use Rattle.jsonpath_tree.specs.declared.model.JpQuery.{JpQuery}
-use Rattle.jsonpath_base.specs.Places.{at}
-use Rattle.jsonpath_base.specs.Put.{put}
-use Rattle.jsonpath_base.specs.Tree.{Tree, null}
-use Rattle.jsonpath_node.specs.Document.{Document}
-use Rattle.jsonpath_node.specs.Meaning.{selected}
-use Rattle.jsonpath_node.specs.Patterns.{IsStop}
+use Rattle.jsonpath_rust.specs.Location.{Location, Begins}
+use Rattle.jsonpath_rust.specs.View.{query_view}
+use Rattle.jsonpath_rust.specs.JsonPathError.{JsonPathError}
+use Rattle.jsonpath_rust.specs.JpQuery.{JpQuery}
+use Rattle.jsonpath_rust.specs.Places.{at}
+use Rattle.jsonpath_rust.specs.Put.{put}
+use Rattle.jsonpath_rust.specs.Tree.{Tree, null}
+use Rattle.jsonpath_rust.specs.Document.{Document}
+use Rattle.jsonpath_rust.specs.Meaning.{selected}
+use Rattle.jsonpath_rust.specs.Patterns.{IsStop}
 
 -- the locations that the queries select in a document, those of the first query first
 abbrev pub all_selected : List JpQuery → Document → List Location

@@ -1,13 +1,13 @@
 -- What a list of edits makes of a document.
 use Rattle.std.specs.Prelude.{◌≡◌, ℕ, List, [], ◌∷◌, Bool, true, false, Some, IsTrue, nat_lt, string_bytes, take, slice_get}
-use Rattle.jsonpath_core.specs.declared.errors.JsonPathError.{JsonPathError}
-use Rattle.jsonpath_core.specs.declared.errors.JsonPathError.TheVariants.{OutOfMemory}
-use Rattle.jsonpath_base.specs.SetFunctions.{set_function}
-use Rattle.jsonpath_base.specs.Tree.{Tree}
-use Rattle.jsonpath_base.specs.Values.{value_tree, value_is_whole}
-use Rattle.jsonpath_node.specs.Document.{Document}
-use Rattle.jsonpath_node.specs.Patterns.{IsQueryRefusal}
-use Rattle.jsonpath_node.specs.Referring.{IsReplaced}
+use Rattle.jsonpath_rust.specs.JsonPathError.{JsonPathError}
+use Rattle.jsonpath_rust.specs.JsonPathError.TheVariants.{OutOfMemory}
+use Rattle.jsonpath_rust.specs.SetFunctions.{set_function}
+use Rattle.jsonpath_rust.specs.Tree.{Tree}
+use Rattle.jsonpath_rust.specs.base.Values.{value_tree, value_is_whole}
+use Rattle.jsonpath_rust.specs.Document.{Document}
+use Rattle.jsonpath_rust.specs.Patterns.{IsQueryRefusal}
+use Rattle.jsonpath_rust.specs.Referring.{IsReplaced}
 use Rattle.jsonpath_rust.specs.Deleting.{Deletes}
 use Rattle.jpath_uses.specs.declared.script.Edit.{Edit}
 use Rattle.jpath_uses.specs.declared.script.Edit.TheVariants.{Delete, Replace}

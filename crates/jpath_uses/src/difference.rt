@@ -1,11 +1,11 @@
 //! Whether two queries answer the same values, for a test that says what differs.
 ghost use Rattle.std.specs.Prelude.{◌≡◌, ◌⊎◌, None, All, IsTrue, IfOk, IfErr, IfSome, IfNone, map};
-ghost use Rattle.jsonpath_tree.specs.View.{query_view};
-ghost use Rattle.jsonpath_node.specs.Document.{document_of};
-ghost use Rattle.jsonpath_node.specs.Patterns.{IsStop};
+ghost use Rattle.jsonpath_rust.specs.View.{query_view};
+ghost use Rattle.jsonpath_rust.specs.Document.{document_of};
+ghost use Rattle.jsonpath_rust.specs.Patterns.{IsStop};
 ghost use Rattle.jpath_uses.specs.Difference.{values_of, AreSame, IsFirstDifference};
 
-use jsonpath_parser::model::JpQuery;
+use jsonpath_rust::parser::model::JpQuery;
 use jsonpath_rust::query::queryable::Queryable;
 use jsonpath_rust::query::{Queried, selected_values};
 use std::alloc::Global;

@@ -1,11 +1,11 @@
 //! The first node that a query selects.
 ghost use Rattle.std.specs.Prelude.{IsTrue, IfOk, IfErr, IfSome, IfNone, string_bytes};
-ghost use Rattle.jsonpath_tree.specs.View.{query_view};
-ghost use Rattle.jsonpath_node.specs.Document.{document_of};
-ghost use Rattle.jsonpath_node.specs.Patterns.{IsStop};
+ghost use Rattle.jsonpath_rust.specs.View.{query_view};
+ghost use Rattle.jsonpath_rust.specs.Document.{document_of};
+ghost use Rattle.jsonpath_rust.specs.Patterns.{IsStop};
 ghost use Rattle.jpath_uses.specs.First.{IsSilent, IsFirstPath};
 
-use jsonpath_parser::model::JpQuery;
+use jsonpath_rust::parser::model::JpQuery;
 use jsonpath_rust::query::queryable::Queryable;
 use jsonpath_rust::query::{Queried, QueryPath, selected_nodes};
 use std::alloc::Global;

@@ -2,6 +2,7 @@
 //! that asks rows of them, on standard input.
 #![tactic(auto)]
 
+pub mod again;
 pub mod difference;
 pub mod first;
 pub mod first_steps;

@@ -1,11 +1,11 @@
 //! A policy: queries that are to select nothing in a document.
 ghost use Rattle.std.specs.Prelude.{All, IsTrue, IfOk, IfErr, IfSome, IfNone, map, string_bytes};
-ghost use Rattle.jsonpath_tree.specs.View.{query_view};
-ghost use Rattle.jsonpath_node.specs.Document.{document_of};
+ghost use Rattle.jsonpath_rust.specs.View.{query_view};
+ghost use Rattle.jsonpath_rust.specs.Document.{document_of};
 ghost use Rattle.jpath_uses.specs.First.{IsSilent, IsFirst, IsFirstPath, IsStopped};
 
 use crate::first::first_path;
-use jsonpath_parser::model::JpQuery;
+use jsonpath_rust::parser::model::JpQuery;
 use jsonpath_rust::query::queryable::Queryable;
 use jsonpath_rust::query::{Queried, QueryPath};
 use std::alloc::Global;

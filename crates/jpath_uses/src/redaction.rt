@@ -1,17 +1,17 @@
 //! Redaction: what queries select in a document is replaced by null.
 ghost use Rattle.std.specs.Prelude.{◌≡◌, All, IsTrue, IfOk, IfErr, OnOk, OnErr, map};
-ghost use Rattle.jsonpath_core.specs.Location.{Location};
-ghost use Rattle.jsonpath_base.specs.Places.{at};
-ghost use Rattle.jsonpath_base.specs.SetFunctions.{set_function};
-ghost use Rattle.jsonpath_base.specs.Steps.{location_view};
-ghost use Rattle.jsonpath_base.specs.Values.{value_tree, value_is_whole};
-ghost use Rattle.jsonpath_node.specs.Document.{document_of};
+ghost use Rattle.jsonpath_rust.specs.Location.{Location};
+ghost use Rattle.jsonpath_rust.specs.Places.{at};
+ghost use Rattle.jsonpath_rust.specs.SetFunctions.{set_function};
+ghost use Rattle.jsonpath_rust.specs.base.Steps.{location_view};
+ghost use Rattle.jsonpath_rust.specs.base.Values.{value_tree, value_is_whole};
+ghost use Rattle.jsonpath_rust.specs.Document.{document_of};
 ghost use Rattle.jpath_uses.specs.Redaction.{all_selected, nulled, IsApart, IsHidden, IsStopOf};
 
-use jsonpath_base::{Step, put_at};
-use jsonpath_parser::model::JpQuery;
-use jsonpath_rust::query::Queried;
-use jsonpath_walk::selected_locations;
+use jsonpath_rust::parser::model::JpQuery;
+use jsonpath_rust::query::{
+    Queried, Step, put_at, put_is_there, put_leaves_the_rest, selected_locations,
+};
 use serde_json::Value;
 use std::alloc::Global;
 
@@ -39,6 +39,10 @@ pub fn redact(alloc: Global, rules: &[JpQuery], document: &mut Value) -> Queried
 {
     let places = all_places(alloc, rules, document)?;
     blank(document, &places);
+
+    // The laws of writes, which the proof cites.
+    put_is_there();
+    put_leaves_the_rest();
     Ok(())
 }
 

@@ -1,7 +1,7 @@
 //! Routing: the first query of a table that selects something in a document.
 ghost use Rattle.std.specs.Prelude.{All, IsTrue, IfOk, IfErr, IfSome, IfNone, map};
-ghost use Rattle.jsonpath_node.specs.Document.{document_of};
-ghost use Rattle.jsonpath_walk.specs.Prepared.{prepared_view};
+ghost use Rattle.jsonpath_rust.specs.Document.{document_of};
+ghost use Rattle.jsonpath_rust.specs.Prepared.{prepared_view};
 ghost use Rattle.jpath_uses.specs.First.{IsSilent, Selects, IsFirst, IsStopped};
 
 use jsonpath_rust::query::queryable::Queryable;

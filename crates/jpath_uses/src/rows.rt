@@ -1,4 +1,5 @@
 //! One row: what it asks is told by its members. One with another member, or without one that it needs, does not hold.
+mod again;
 mod difference;
 mod first_steps;
 mod policy;
@@ -21,6 +22,8 @@ pub fn holds(memory: &Memory, row: &Value) -> bool {
         script::holds(memory, row)
     } else if row.get("route").is_some() {
         routing::holds(memory, row)
+    } else if row.get("again").is_some() {
+        again::holds(memory, row)
     } else if row.get("difference").is_some() {
         difference::holds(memory, row)
     } else {

@@ -1,7 +1,7 @@
 //! An edit script: deletions and replacements by path, of which all are made or none.
 ghost use Rattle.std.specs.Prelude.{◌≡◌, ◌⊎◌, All, IsTrue, IfOk, IfErr, IfSome, IfNone, OnErr};
-ghost use Rattle.jsonpath_core.specs.declared.errors.JsonPathError.TheVariants.{OutOfMemory};
-ghost use Rattle.jsonpath_base.specs.Values.{value_tree, value_is_whole};
+ghost use Rattle.jsonpath_rust.specs.JsonPathError.TheVariants.{OutOfMemory};
+ghost use Rattle.jsonpath_rust.specs.base.Values.{value_tree, value_is_whole};
 ghost use Rattle.jpath_uses.specs.Script.{AllMake, FindsNothing, IsEditRefusal, IsReached, IsRefusedIn, IsWholeEdit, Makes};
 
 use jsonpath_rust::query::queryable::{Deletable, Queryable};

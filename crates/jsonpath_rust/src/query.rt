@@ -21,6 +21,9 @@ mod deletion;
 pub mod queryable;
 
 pub use crate::query::deletion::{delete_selected, delete_within};
+pub use jsonpath_base::{
+    Step, at, at_mut, put_at, put_is_there, put_leaves_the_rest, remove_all, same_is_an_equivalence,
+};
 use jsonpath_node::queryable::Queryable;
 pub use jsonpath_node::{Queried, QueryPath, QueryRef, not_a_reference, replace_by_path};
 use jsonpath_parser::model::JpQuery;
@@ -30,7 +33,7 @@ use jsonpath_parser::{
 pub use jsonpath_state::{Query, apply, selector, state};
 use jsonpath_state::{processed_nodes, processed_values};
 use jsonpath_walk::selected_paths;
-pub use jsonpath_walk::{Prepared, selected_nodes, selected_values};
+pub use jsonpath_walk::{Prepared, selected_locations, selected_nodes, selected_values};
 use std::alloc::Global;
 
 /// The nodes that a query text selects in a document, in order (RFC 9535, 2.1.2): their values and their Normalized

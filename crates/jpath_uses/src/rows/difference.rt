@@ -1,13 +1,13 @@
 //! Rows on two queries of two documents: `difference`, which is the queries, and `documents`; with `answer`, which is
 //! `{"index": .., "missing": ..}`, or null where both select the same, or with `refused`.
 ghost use Rattle.std.specs.Prelude.{IsTrue};
-ghost use Rattle.jsonpath_base.specs.Values.{value_is_whole};
+ghost use Rattle.jsonpath_rust.specs.base.Values.{value_is_whole};
 
 use crate::difference::{Difference, Missing, difference_of};
 use crate::rows::wanted::{Wanted, refuses, wanted_of};
 use jpath_row::Memory;
 use jpath_row::members::{has_only, list_at, size, string_at};
-use jsonpath_parser::parse_json_path;
+use jsonpath_rust::parser::parse_json_path;
 use jsonpath_rust::query::Queried;
 use jsonpath_rust::query::queryable::Queryable;
 use serde_json::Value;

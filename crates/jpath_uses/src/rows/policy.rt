@@ -1,7 +1,7 @@
 //! Rows on a policy: `policy`, which is the queries, and `document`; with `answer`, `{"rule": .., "path": ..}` or null where the
 //! document keeps the policy, or `refused`.
 ghost use Rattle.std.specs.Prelude.{IsTrue};
-ghost use Rattle.jsonpath_base.specs.Values.{value_is_whole};
+ghost use Rattle.jsonpath_rust.specs.base.Values.{value_is_whole};
 
 use crate::policy::{Violation, first_violation};
 use crate::rows::queries::queries_of;

@@ -1,6 +1,6 @@
 //! Lists of queries in rows, each query a text.
-use jsonpath_parser::model::JpQuery;
-use jsonpath_parser::{Parsed, parse_json_path};
+use jsonpath_rust::parser::model::JpQuery;
+use jsonpath_rust::parser::{Parsed, parse_json_path};
 use jsonpath_rust::query::{Prepared, Queried};
 use serde_json::Value;
 use std::alloc::Global;

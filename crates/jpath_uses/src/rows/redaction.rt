@@ -1,6 +1,6 @@
 //! Rows on redaction: `redact`, which is the queries, and `document`; with `answer`, what is left of the document, or `refused`.
 ghost use Rattle.std.specs.Prelude.{IsTrue};
-ghost use Rattle.jsonpath_base.specs.Values.{value_is_whole};
+ghost use Rattle.jsonpath_rust.specs.base.Values.{value_is_whole};
 
 use crate::redaction::redact;
 use crate::rows::queries::queries_of;

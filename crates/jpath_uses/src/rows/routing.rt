@@ -1,6 +1,6 @@
 //! Rows on routing: `route`, which is the queries, and `document`; with `answer`, the index of a query or null, or `refused`.
 ghost use Rattle.std.specs.Prelude.{IsTrue};
-ghost use Rattle.jsonpath_base.specs.Values.{value_is_whole};
+ghost use Rattle.jsonpath_rust.specs.base.Values.{value_is_whole};
 
 use crate::routing::route;
 use crate::rows::queries::prepared_of;

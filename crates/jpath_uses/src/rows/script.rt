@@ -2,7 +2,7 @@
 //! and `document`; with `answer`, the index of the step that finds nothing, or null where all are made, or with `refused`. What
 //! is left is `left`, and without that member the document as it was.
 ghost use Rattle.std.specs.Prelude.{All, IsTrue};
-ghost use Rattle.jsonpath_base.specs.Values.{value_is_whole};
+ghost use Rattle.jsonpath_rust.specs.base.Values.{value_is_whole};
 ghost use Rattle.jpath_uses.specs.Script.{IsWholeEdit};
 
 use crate::rows::wanted::{Wanted, is_index, refuses, wanted_of};

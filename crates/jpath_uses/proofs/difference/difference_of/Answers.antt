@@ -1,7 +1,7 @@
 use Rattle.std.proofs.Common.{map}
-use Rattle.jsonpath_tree.specs.View.{query_view}
-use Rattle.jsonpath_node.specs.Document.{document_of}
-use Rattle.jsonpath_node.specs.Meaning.{selected}
+use Rattle.jsonpath_rust.specs.View.{query_view}
+use Rattle.jsonpath_rust.specs.Document.{document_of}
+use Rattle.jsonpath_rust.specs.Meaning.{selected}
 use Rattle.jpath_uses.specs.Difference.{values_of}
 use Rattle.jpath_uses.proofs.Differing.{values_lent, same_as, different_as, no_difference}
 use Rattle.jpath_uses.proofs.difference.difference_of.Goals as goal

@@ -1,10 +1,10 @@
 use Rattle.std.proofs.Common.{◌≡◌, [], ◌∷◌, subst, arith}
 use Rattle.std.proofs.lemmas.List.{nil_from_length}
 use Rattle.std.specs.List.{AllZip}
-use Rattle.jsonpath_tree.specs.View.{query_view}
-use Rattle.jsonpath_node.specs.Answer.{IsNodeAt, shown}
-use Rattle.jsonpath_node.specs.Document.{document_of}
-use Rattle.jsonpath_node.specs.Meaning.{selected}
+use Rattle.jsonpath_rust.specs.View.{query_view}
+use Rattle.jsonpath_rust.specs.Answer.{IsNodeAt, shown}
+use Rattle.jsonpath_rust.specs.Document.{document_of}
+use Rattle.jsonpath_rust.specs.Meaning.{selected}
 use Rattle.jpath_uses.proofs.Firsts.{first_shown, none_there}
 use Rattle.jpath_uses.proofs.first.first_path.Goals as goal
 

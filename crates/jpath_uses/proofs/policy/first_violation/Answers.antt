@@ -1,8 +1,8 @@
 use Rattle.std.proofs.Common.{map, string_bytes, arith}
 use Rattle.std.proofs.lemmas.Result.{err_from_is_err_and}
-use Rattle.jsonpath_tree.specs.View.{query_view}
-use Rattle.jsonpath_node.specs.Document.{document_of}
-use Rattle.jsonpath_node.specs.Patterns.{IsStop}
+use Rattle.jsonpath_rust.specs.View.{query_view}
+use Rattle.jsonpath_rust.specs.Document.{document_of}
+use Rattle.jsonpath_rust.specs.Patterns.{IsStop}
 use Rattle.jpath_uses.specs.First.{IsSilent, IsFirstPath, IsStopped}
 use Rattle.jpath_uses.proofs.Firsts.{in_some, in_none, found_here, silent_next, silent_all}
 use Rattle.jpath_uses.proofs.policy.first_violation.Goals as goal

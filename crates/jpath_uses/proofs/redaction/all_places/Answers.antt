@@ -1,9 +1,9 @@
 use Rattle.std.proofs.Common.{refl, sym, arith}
 use Rattle.std.proofs.lemmas.Result.{err_from_is_err_and}
-use Rattle.jsonpath_core.specs.declared.errors.JsonPathError.TheVariants.{OutOfMemory}
-use Rattle.jsonpath_base.specs.SetFunctions.{set_function}
-use Rattle.jsonpath_base.specs.Values.{value_tree}
-use Rattle.jsonpath_node.specs.Document.{document_of}
+use Rattle.jsonpath_rust.specs.JsonPathError.TheVariants.{OutOfMemory}
+use Rattle.jsonpath_rust.specs.SetFunctions.{set_function}
+use Rattle.jsonpath_rust.specs.base.Values.{value_tree}
+use Rattle.jsonpath_rust.specs.Document.{document_of}
 use Rattle.jpath_uses.specs.Redaction.{IsStopOf}
 use Rattle.jpath_uses.proofs.redaction.all_places.Goals as goal
 

@@ -1,8 +1,8 @@
 use Rattle.std.proofs.Common.{◌≡◌, map, take}
-use Rattle.jsonpath_base.specs.SetFunctions.{set_function}
-use Rattle.jsonpath_base.specs.Steps.{location_view}
-use Rattle.jsonpath_base.specs.Values.{value_tree}
-use Rattle.jsonpath_node.specs.Document.{document_of}
+use Rattle.jsonpath_rust.specs.SetFunctions.{set_function}
+use Rattle.jsonpath_rust.specs.base.Steps.{location_view}
+use Rattle.jsonpath_rust.specs.base.Values.{value_tree}
+use Rattle.jsonpath_rust.specs.Document.{document_of}
 use Rattle.jpath_uses.specs.Redaction.{all_selected}
 use Rattle.jpath_uses.proofs.redaction.all_places.Given as goal
 

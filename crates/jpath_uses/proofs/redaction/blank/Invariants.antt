@@ -1,6 +1,6 @@
 use Rattle.std.proofs.Common.{◌≡◌, drop, map, IsTrue}
-use Rattle.jsonpath_base.specs.Steps.{location_view}
-use Rattle.jsonpath_base.specs.Values.{value_tree, value_is_whole}
+use Rattle.jsonpath_rust.specs.base.Steps.{location_view}
+use Rattle.jsonpath_rust.specs.base.Values.{value_tree, value_is_whole}
 use Rattle.jpath_uses.specs.Redaction.{nulled}
 use Rattle.jpath_uses.proofs.redaction.blank.Given as goal
 

@@ -1,6 +1,6 @@
 use Rattle.std.proofs.Common.{arith}
-use Rattle.jsonpath_node.specs.Document.{document_of}
-use Rattle.jsonpath_walk.specs.Prepared.{prepared_view}
+use Rattle.jsonpath_rust.specs.Document.{document_of}
+use Rattle.jsonpath_rust.specs.Prepared.{prepared_view}
 use Rattle.jpath_uses.proofs.Firsts.{silent_next, silent_all}
 use Rattle.jpath_uses.proofs.routing.route.Goals as goal
 

@@ -1,6 +1,6 @@
 use Rattle.std.proofs.Common.{All, map, take}
-use Rattle.jsonpath_node.specs.Document.{document_of}
-use Rattle.jsonpath_walk.specs.Prepared.{prepared_view}
+use Rattle.jsonpath_rust.specs.Document.{document_of}
+use Rattle.jsonpath_rust.specs.Prepared.{prepared_view}
 use Rattle.jpath_uses.specs.First.{IsSilent}
 use Rattle.jpath_uses.proofs.routing.route.Given as goal
 

@@ -1,7 +1,7 @@
 use Rattle.std.proofs.Common.{length, add-one, refl, subst, arith}
 use Rattle.std.proofs.lemmas.Option.{slice_get_read}
 use Rattle.std.proofs.lemmas.Result.{err_from_is_err_and}
-use Rattle.jsonpath_base.specs.Values.{value_tree}
+use Rattle.jsonpath_rust.specs.base.Values.{value_tree}
 use Rattle.jpath_uses.specs.Script.{IsRefusedIn, Makes}
 use Rattle.jpath_uses.proofs.Making.{made_next}
 use Rattle.jpath_uses.proofs.script.make_each.Goals as goal

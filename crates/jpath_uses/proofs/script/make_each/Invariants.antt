@@ -1,5 +1,5 @@
 use Rattle.std.proofs.Common.{take, IsTrue}
-use Rattle.jsonpath_base.specs.Values.{value_tree, value_is_whole}
+use Rattle.jsonpath_rust.specs.base.Values.{value_tree, value_is_whole}
 use Rattle.jpath_uses.specs.Script.{AllMake}
 use Rattle.jpath_uses.proofs.script.make_each.Given as goal
 
