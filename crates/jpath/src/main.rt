@@ -6,9 +6,31 @@ mod tests;
 
 use jpath_program::fault::Fault;
 use jpath_program::run::run;
+use std::env::{Env, FillError};
 use std::io::ErrorKind;
 use std::process::ExitCode;
 use std::{env, io};
+
+/// The command line behind the program's name. That name is never read, so it may be no text.
+#[derive(Drop)]
+struct Behind<'a>(&'a HostRuntime);
+
+impl Env for Behind<'_> {
+    fn arg(&self, i: usize, buf: &mut [u8]) -> Result<usize, FillError> {
+        match i.checked_add(1) {
+            Some(place) => self.0.arg(place, buf),
+            None => Err(FillError::NotPresent),
+        }
+    }
+
+    fn var(&self, name: &str, buf: &mut [u8]) -> Result<usize, FillError> {
+        self.0.var(name, buf)
+    }
+
+    fn var_at(&self, i: usize, buf: &mut [u8]) -> Result<usize, FillError> {
+        self.0.var_at(i, buf)
+    }
+}
 
 /// Runs with the words of the command line and the standard streams.
 fn run_with(rt: &HostRuntime) -> Result<(), Fault> {
@@ -23,7 +45,7 @@ fn run_with(rt: &HostRuntime) -> Result<(), Fault> {
 
 /// The words behind the program's name. Words that are no text are no command and query.
 fn words_of(rt: &HostRuntime) -> Result<Vec<String>, Fault> {
-    let all = match env::args(rt) {
+    let all = match env::args(&(Behind(rt), rt.alloc())) {
         Ok(all) => all,
         Err(e) => return Err(if e.kind() == ErrorKind::OutOfMemory {
             Fault::Memory
@@ -32,7 +54,7 @@ fn words_of(rt: &HostRuntime) -> Result<Vec<String>, Fault> {
         }),
     };
     let mut words = Vec::new(rt.alloc());
-    for word in all.skip(1) {
+    for word in all {
         words.push(word)?;
     }
     Ok(words)

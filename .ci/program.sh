@@ -1,0 +1,81 @@
+# For ./jpath and ./prove, which set `here` to the folder of the repository: what the program is made of, whether the proved one is made
+# of that, and how long its proof takes.
+
+program=$here/crates/jpath/out/jpath
+# What ./prove made the proved program of: the checksum of the sources, and that of the program.
+record=$here/crates/jpath/out/jpath.sources
+
+# The crates that jpath stands on, lowest first, and jpath itself.
+needed() {
+    awk -F: '
+        !/^#/ && NF == 2 { split($1, word, " "); name[++count] = word[1]; below[count] = $2 }
+        END {
+            wanted["jpath"] = 1
+            for (i = count; i > 0; i--)
+                if (name[i] in wanted) {
+                    parts = split(below[i], part, " ")
+                    for (k = 1; k <= parts; k++) wanted[part[k]] = 1
+                }
+            for (i = 1; i <= count; i++) if (name[i] in wanted) print name[i]
+        }' <"$here/crates.txt"
+}
+
+# Where their sources lie, as paths from the top of the repository.
+sources() {
+    echo crates.txt
+    for crate in $(needed); do
+        for part in src specs proofs; do
+            [ ! -d "$here/crates/$crate/$part" ] || echo "crates/$crate/$part"
+        done
+    done
+}
+
+# The checksum of all sources.
+sum_of_sources() {
+    (cd "$here" && find $(sources) -type f -exec sha256sum {} + | LC_ALL=C sort | sha256sum | cut -c 1-64)
+}
+
+# What the record of the program and the sources that stand there has to hold.
+record_now() {
+    sum_of_sources
+    sha256sum <"$program"
+}
+
+# Whether the proved program stands there and is made of the sources as they are: none has changed since, or the record tells so.
+is_proved() {
+    [ -x "$program" ] || return 1
+    changed=$(cd "$here" && find $(sources) -cnewer "$program" -print 2>/dev/null) && [ -z "$changed" ] && return 0
+    [ -f "$record" ] && [ "$(cat <"$record")" = "$(record_now)" ]
+}
+
+# How long the proof of a crate takes from nothing, in processor seconds.
+weight() {
+    case $1 in
+    jsonpath_core) echo 8 ;;
+    jsonpath_lexical) echo 111 ;;
+    jsonpath_tree) echo 577 ;;
+    jsonpath_parser) echo 659 ;;
+    jsonpath_build) echo 102 ;;
+    jsonpath_base) echo 293 ;;
+    jsonpath_node) echo 263 ;;
+    jsonpath_walk) echo 1125 ;;
+    jsonpath_state) echo 888 ;;
+    jsonpath_rust) echo 118 ;;
+    jpath_program) echo 159 ;;
+    jpath) echo 134 ;;
+    *) echo 100 ;;
+    esac
+}
+
+# The same of all of them.
+weight_of_all() {
+    all=0
+    for crate in $(needed); do all=$((all + $(weight "$crate"))); done
+    echo "$all"
+}
+
+# How many processors the proof of one crate keeps busy here, taken low.
+busy() {
+    cores=$(nproc 2>/dev/null || echo 1)
+    [ "$cores" -lt 2 ] && echo 1 || echo 2
+}
