@@ -2,4 +2,7 @@
 //! Path of that place (RFC 9535, 2.7). `jsonpath_parser` re-exports the errors.
 #![tactic(auto)]
 
+mod equality;
 pub mod errors;
+
+pub use equality::equal_errors_hold_the_same;

@@ -36,7 +36,7 @@ pub fn skip(s: &str, n: usize) -> &str
 
 /// Whether the byte is a blank.
 #[inline]
-pub fn is_blank(byte: u8) -> bool
+fn is_blank(byte: u8) -> bool
     ensures { result ≡ spec.is_blank byte }
 {
     byte == b' ' || byte == b'\t' || byte == b'\n' || byte == b'\r'
@@ -52,7 +52,7 @@ pub fn is_name_first(byte: u8) -> bool
 
 /// Whether the byte may stand in a shorthand name.
 #[inline]
-pub fn is_name_byte(byte: u8) -> bool
+fn is_name_byte(byte: u8) -> bool
     ensures { result ≡ spec.is_name_byte byte }
 {
     is_name_first(byte) || byte.is_ascii_digit()
@@ -68,7 +68,7 @@ pub fn is_function_first(byte: u8) -> bool
 
 /// Whether the byte may stand in the name of a function.
 #[inline]
-pub fn is_function_byte(byte: u8) -> bool
+fn is_function_byte(byte: u8) -> bool
     ensures { result ≡ spec.is_function_byte byte }
 {
     is_function_first(byte) || byte == b'_' || byte.is_ascii_digit()
@@ -122,7 +122,7 @@ pub fn name_run(s: &str) -> (&str, &str)
 
 /// The longest front of digits, and the rest.
 #[tactic(auto, using(crate::proofs::Runs::digit_boundary))]
-pub fn digit_run(s: &str) -> (&str, &str)
+pub(crate) fn digit_run(s: &str) -> (&str, &str)
     ensures parts { (result.0.now, result.1.now) ≡ split_while is_ascii_digit s.now }
     ensures within { length result.1.now ≤ length s.now }
 {

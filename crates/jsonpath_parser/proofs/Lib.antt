@@ -12,6 +12,7 @@ pub mod NumberSound
 pub mod PartKinds
 pub mod PartLaws
 pub mod PartSelectors
+pub mod Respelling
 pub mod Sound
 pub mod SoundFilters
 pub mod SoundLists

@@ -12,7 +12,7 @@ use Rattle.jsonpath_tree.specs.Typing.{is_typed, is_typed_segment, is_typed_sele
 use Rattle.jsonpath_parser.specs.declared.grammar.literals.Numbers.{Numbers}
 use Rattle.jsonpath_parser.specs.declared.grammar.literals.Numbers.TheVariants.{Valued, Any}
 use Rattle.jsonpath_parser.specs.Unambiguous.{IsUnambiguous}
-use Rattle.jsonpath_parser.specs.Values.{IsValued}
+use Rattle.jsonpath_parser.specs.Values.{IsValued, IsAny}
 use Rattle.jsonpath_parser.proofs.Complete.{valued_start, valued_over, any_start, any_over, complete_argument}
 use Rattle.jsonpath_parser.proofs.CompleteFilters.{complete_basic, complete_conjunction}
 use Rattle.jsonpath_parser.proofs.CompleteOperands.{singles, steps_singles, spells_singles, comparable_argument, comparable_back, complete_literal, complete_test, complete_comparable}
@@ -21,6 +21,7 @@ use Rattle.jsonpath_parser.proofs.CompleteSegments.{as_argument, filter_back, be
 use Rattle.jsonpath_parser.proofs.NumberComplete.{EndsNumber}
 use Rattle.jsonpath_parser.proofs.PartLaws.{as_read, Law}
 use Rattle.jsonpath_parser.proofs.PartSelectors.{whole_slice, whole_selector}
+use Rattle.jsonpath_parser.proofs.Respelling.{from_any, as_any, and_alike, literal_again, selector_again, below_again, segment_again, segments_again, logical_again, conjunction_again, basic_again, comparison_again, comparable_again, test_again, call_again, query_again}
 use Rattle.jsonpath_parser.proofs.Sound.{valued_sound, any_sound, sound_argument}
 use Rattle.jsonpath_parser.proofs.SoundFilters.{SpellsAlone, SpellsBasicArgument, SpellsConjunctionArgument, basic_operand, conjunction_operand, comparable_spelled, sound_operand, sound_basic, sound_conjunction}
 use Rattle.jsonpath_parser.proofs.SoundParts.{bind_ok, chosen, same_parts, Spelled, sound_numbered}
@@ -53,8 +54,9 @@ taken_law : {X V : Type 0} (spells_base : Spelling X) (spells : Spelling V) (tak
     → ((numbers : Numbers) (v : V) (text : List ℕ) → spells (as_read numbers) v text → (x : X) × (base numbers text ≡ Some (x, [])) × (take x ≡ Some v))
     → ((v : V) (text : List ℕ) → spells IsValued v text → spells SpellsNumber v text)
     → IsUnambiguous spells
+    → ((N M : Option ℤ → List ℕ → Type 0) → ((n : Option ℤ) (a : List ℕ) → N n a → (m : Option ℤ) × M m a) → (v : V) (text : List ℕ) → spells N v text → (w : V) × spells M w text × (typed w ≡ typed v))
     → Law spells typed (λ numbers text. taken_at take typed (base numbers text))
-taken_law spells_base spells take typed base front is back wider law = record {
+taken_law spells_base spells take typed base front is back wider law again = record {
   sound = λ numbers v text rest e.
       let (x, read, made, holds) = taken_is take typed (base numbers text) v rest e in
       let (a, ha, ea) = front numbers x text rest read in
@@ -63,6 +65,8 @@ taken_law spells_base spells take typed base front is back wider law = record {
       let (x, read, made) = back numbers v text h in
       taken_made take typed (base numbers text) x v [] read made holds;
   one_tree = λ v w text h k. law.written w v text k (wider v text h);
+  from_any = again IsAny SpellsNumber from_any;
+  as_any = again SpellsNumber IsAny as_any;
 }
 
 -- a kind that is read as it is
@@ -119,7 +123,7 @@ literal_is numbers (test_argument t) l a h e = absurd (cc)
 literal_is numbers (filter_argument f) l a h e = absurd (cc)
 
 pub literal_law : Law SpellsLiteral always (λ numbers text. taken_at literal_in always (operand_in numbers text))
-literal_law = taken_law SpellsAlone SpellsLiteral literal_in always operand_in operand_front literal_is (λ numbers l text h. (literal_argument l, literal_back numbers l text h, refl)) (literal_wider IsValued SpellsNumber as_written) literal_unambiguous
+literal_law = taken_law SpellsAlone SpellsLiteral literal_in always operand_in operand_front literal_is (λ numbers l text h. (literal_argument l, literal_back numbers l text h, refl)) (literal_wider IsValued SpellsNumber as_written) literal_unambiguous (λ N M again v a h. let (w, k) = literal_again N M again v a h in (w, k, refl))
 
 test_is : (numbers : Numbers) (x : Argument) (t : Test) (a : List ℕ) → SpellsAlone (as_read numbers) x a → test_in x ≡ Some t → SpellsTest (as_read numbers) t a
 test_is numbers (literal_argument k) t a h e = absurd (cc)
@@ -127,7 +131,7 @@ test_is numbers (test_argument u) t a h e = same_tree SpellsTest numbers u t a h
 test_is numbers (filter_argument f) t a h e = absurd (cc)
 
 pub test_law : Law SpellsTest is_typed_truth (λ numbers text. taken_at test_in is_typed_truth (operand_in numbers text))
-test_law = taken_law SpellsAlone SpellsTest test_in is_typed_truth operand_in operand_front test_is (λ numbers t text h. (test_argument t, test_back numbers t text h, refl)) (test_wider IsValued SpellsNumber as_written) test_unambiguous
+test_law = taken_law SpellsAlone SpellsTest test_in is_typed_truth operand_in operand_front test_is (λ numbers t text h. (test_argument t, test_back numbers t text h, refl)) (test_wider IsValued SpellsNumber as_written) test_unambiguous (λ N M again v a h. let (w, k, alike) = test_again N M again v a h in (w, k, and_alike alike.1 alike.0))
 
 call_is : (numbers : Numbers) (x : Argument) (c : Call) (a : List ℕ) → SpellsAlone (as_read numbers) x a → call_in x ≡ Some c → SpellsCall (as_read numbers) c a
 call_is numbers (literal_argument k) c a h e = absurd (cc)
@@ -137,7 +141,7 @@ call_is numbers (test_argument (call d)) c a h e = same_tree SpellsCall numbers 
 call_is numbers (filter_argument f) c a h e = absurd (cc)
 
 pub call_law : Law SpellsCall is_typed_call (λ numbers text. taken_at call_in is_typed_call (operand_in numbers text))
-call_law = taken_law SpellsAlone SpellsCall call_in is_typed_call operand_in operand_front call_is (λ numbers c text h. (test_argument (call c), test_back numbers (call c) text h, refl)) (call_wider IsValued SpellsNumber as_written) call_unambiguous
+call_law = taken_law SpellsAlone SpellsCall call_in is_typed_call operand_in operand_front call_is (λ numbers c text h. (test_argument (call c), test_back numbers (call c) text h, refl)) (call_wider IsValued SpellsNumber as_written) call_unambiguous (λ N M again v a h. let (w, k, alike) = call_again N M again v a h in (w, k, alike.0))
 
 relative_is : (numbers : Numbers) (x : Argument) (gs : Segments) (a : List ℕ) → SpellsAlone (as_read numbers) x a → relative_in x ≡ Some gs → SpellsRelative (as_read numbers) gs a
 relative_is numbers (literal_argument k) gs a h e = absurd (cc)
@@ -147,7 +151,7 @@ relative_is numbers (test_argument (call d)) gs a h e = absurd (cc)
 relative_is numbers (filter_argument f) gs a h e = absurd (cc)
 
 pub relative_law : Law SpellsRelative is_typed (λ numbers text. taken_at relative_in is_typed (operand_in numbers text))
-relative_law = taken_law SpellsAlone SpellsRelative relative_in is_typed operand_in operand_front relative_is (λ numbers gs text h. (test_argument (relative gs), test_back numbers (relative gs) text h, refl)) (λ gs. test_wider IsValued SpellsNumber as_written (relative gs)) relative_unambiguous
+relative_law = taken_law SpellsAlone SpellsRelative relative_in is_typed operand_in operand_front relative_is (λ numbers gs text h. (test_argument (relative gs), test_back numbers (relative gs) text h, refl)) (λ gs. test_wider IsValued SpellsNumber as_written (relative gs)) relative_unambiguous (λ N M again v a h. let (x, hx, e) = h in let (w, k, alike) = segments_again N M again v x hx in (w, (x, k, e), alike.0))
 
 query_is : (numbers : Numbers) (x : Argument) (q : Query) (a : List ℕ) → SpellsAlone (as_read numbers) x a → query_in x ≡ Some q → Spells (as_read numbers) q a
 query_is numbers (literal_argument k) q a h e = absurd (cc)
@@ -157,13 +161,13 @@ query_is numbers (test_argument (call d)) q a h e = absurd (cc)
 query_is numbers (filter_argument f) q a h e = absurd (cc)
 
 pub query_law : Law Spells is_typed (λ numbers text. taken_at query_in is_typed (operand_in numbers text))
-query_law = taken_law SpellsAlone Spells query_in is_typed operand_in operand_front query_is (λ numbers q text h. (test_argument (absolute q), test_back numbers (absolute q) text h, refl)) (spells_wider IsValued SpellsNumber as_written) query_unambiguous
+query_law = taken_law SpellsAlone Spells query_in is_typed operand_in operand_front query_is (λ numbers q text h. (test_argument (absolute q), test_back numbers (absolute q) text h, refl)) (spells_wider IsValued SpellsNumber as_written) query_unambiguous query_again
 
 comparable_is : (numbers : Numbers) (x : Argument) (c : Comparable) (a : List ℕ) → SpellsAlone (as_read numbers) x a → comparable_of x ≡ Some c → SpellsComparable (as_read numbers) c a
 comparable_is numbers = comparable_spelled (as_read numbers)
 
 pub comparable_law : Law SpellsComparable is_typed_comparable (λ numbers text. taken_at comparable_of is_typed_comparable (operand_in numbers text))
-comparable_law = taken_law SpellsAlone SpellsComparable comparable_of is_typed_comparable operand_in operand_front comparable_is (λ numbers c text h. (comparable_argument c, comparable_back_at numbers c text h, comparable_back c)) (comparable_wider IsValued SpellsNumber as_written) comparable_unambiguous
+comparable_law = taken_law SpellsAlone SpellsComparable comparable_of is_typed_comparable operand_in operand_front comparable_is (λ numbers c text h. (comparable_argument c, comparable_back_at numbers c text h, comparable_back c)) (comparable_wider IsValued SpellsNumber as_written) comparable_unambiguous comparable_again
 
 singular_side : (numbers : Numbers) (c : Comparable) (q : SingularQuery) (a : List ℕ) → SpellsComparable (as_read numbers) c a → singular_of c ≡ Some q → SpellsSingular (as_read numbers) q a
 singular_side numbers (literal l) q a h e = absurd (cc)
@@ -179,7 +183,7 @@ singular_made : (q : SingularQuery) → singular_in (comparable_argument (singul
 singular_made q = rw (comparable_back (singular q)) refl
 
 pub singular_law : Law SpellsSingular always (λ numbers text. taken_at singular_in always (operand_in numbers text))
-singular_law = taken_law SpellsAlone SpellsSingular singular_in always operand_in operand_front singular_is (λ numbers q text h. (comparable_argument (singular q), comparable_back_at numbers (singular q) text h, singular_made q)) (λ q a h. h) singular_unambiguous
+singular_law = taken_law SpellsAlone SpellsSingular singular_in always operand_in operand_front singular_is (λ numbers q text h. (comparable_argument (singular q), comparable_back_at numbers (singular q) text h, singular_made q)) (λ q a h. h) singular_unambiguous (λ N M again v a h. (v, h, refl))
 
 -- ---- operands of `&&` and of `||`
 
@@ -205,7 +209,7 @@ atom_made : (x : Atom) → atom_in (as_argument (atom x)) ≡ Some x
 atom_made x = rw (filter_back (atom x)) refl
 
 pub atom_law : Law SpellsBasic is_typed_atom (λ numbers text. taken_at atom_in is_typed_atom (basic_in numbers text))
-atom_law = taken_law SpellsBasicArgument SpellsBasic atom_in is_typed_atom basic_in basic_front atom_is (λ numbers x text h. (as_argument (atom x), basic_back numbers x text h, atom_made x)) (basic_wider IsValued SpellsNumber as_written) basic_unambiguous
+atom_law = taken_law SpellsBasicArgument SpellsBasic atom_in is_typed_atom basic_in basic_front atom_is (λ numbers x text h. (as_argument (atom x), basic_back numbers x text h, atom_made x)) (basic_wider IsValued SpellsNumber as_written) basic_unambiguous (λ N M again v a h. let (w, k, alike) = basic_again N M again v a h in (w, k, alike.0))
 
 comparison_side : (numbers : Numbers) (x : Atom) (c : Comparison) (a : List ℕ) → SpellsBasic (as_read numbers) x a → comparison_of_atom x ≡ Some c → SpellsComparison (as_read numbers) c a
 comparison_side numbers (group negated f) c a h e = absurd (cc)
@@ -218,7 +222,7 @@ comparison_is numbers x c a h e =
     comparison_side numbers y c a (atom_is numbers x y a h is) e1
 
 pub comparison_law : Law SpellsComparison is_typed_comparison (λ numbers text. taken_at comparison_in is_typed_comparison (basic_in numbers text))
-comparison_law = taken_law SpellsBasicArgument SpellsComparison comparison_in is_typed_comparison basic_in basic_front comparison_is (λ numbers c text h. (as_argument (atom (comparison c)), basic_back numbers (comparison c) text h, refl)) (comparison_wider IsValued SpellsNumber as_written) comparison_unambiguous
+comparison_law = taken_law SpellsBasicArgument SpellsComparison comparison_in is_typed_comparison basic_in basic_front comparison_is (λ numbers c text h. (as_argument (atom (comparison c)), basic_back numbers (comparison c) text h, refl)) (comparison_wider IsValued SpellsNumber as_written) comparison_unambiguous comparison_again
 
 conjunction_front : (numbers : Numbers) (x : Argument) (text rest : List ℕ) → conjunction_in numbers text ≡ Some (x, rest) → Spelled (SpellsConjunctionArgument (as_read numbers)) x text rest
 conjunction_front numbers x text rest e = sound_conjunction (as_read numbers) (number_reading numbers) (as_sound numbers) (inner_at numbers text) (inner_sound numbers (length text)) x text rest e
@@ -232,7 +236,7 @@ conjunction_is : (numbers : Numbers) (x : Argument) (f : Filter) (a : List ℕ) 
 conjunction_is numbers = conjunction_operand (as_read numbers)
 
 pub conjunction_law : Law SpellsConjunction is_typed_filter (λ numbers text. taken_at filter_of is_typed_filter (conjunction_in numbers text))
-conjunction_law = taken_law SpellsConjunctionArgument SpellsConjunction filter_of is_typed_filter conjunction_in conjunction_front conjunction_is (λ numbers f text h. (as_argument f, conjunction_back numbers f text h, filter_back f)) (conjunction_wider IsValued SpellsNumber as_written) conjunction_unambiguous
+conjunction_law = taken_law SpellsConjunctionArgument SpellsConjunction filter_of is_typed_filter conjunction_in conjunction_front conjunction_is (λ numbers f text h. (as_argument f, conjunction_back numbers f text h, filter_back f)) (conjunction_wider IsValued SpellsNumber as_written) conjunction_unambiguous (λ N M again v a h. let (w, k, alike) = conjunction_again N M again v a h in (w, k, alike.0))
 
 logical_front : (numbers : Numbers) (f : Filter) (text rest : List ℕ) → logical_in numbers text ≡ Some (f, rest) → Spelled (SpellsLogical (as_read numbers)) f text rest
 logical_front numbers f text rest e = sound_logical (as_read numbers) (number_reading numbers) (argument_at (number_reading numbers) (suc (length text))) (inner_sound numbers (suc (length text))) f text rest e
@@ -244,7 +248,7 @@ logical_back numbers f text h =
     rw append-nil at (complete_logical (as_read numbers) (as_start numbers) (number_reading numbers) (argument_at (number_reading numbers) (suc (length text))) (suc (length text)) (inner_read numbers (suc (length text))) f text [] h refl size)
 
 pub logical_law : Law SpellsLogical is_typed_filter (λ numbers text. taken_at (λ f. Some f) is_typed_filter (logical_in numbers text))
-logical_law = taken_law SpellsLogical SpellsLogical (λ f. Some f) is_typed_filter logical_in logical_front (same_tree SpellsLogical) (λ numbers f text h. (f, logical_back numbers f text h, refl)) (logical_wider IsValued SpellsNumber as_written) logical_unambiguous
+logical_law = taken_law SpellsLogical SpellsLogical (λ f. Some f) is_typed_filter logical_in logical_front (same_tree SpellsLogical) (λ numbers f text h. (f, logical_back numbers f text h, refl)) (logical_wider IsValued SpellsNumber as_written) logical_unambiguous (λ N M again v a h. let (w, k, alike) = logical_again N M again v a h in (w, k, alike.0))
 
 -- ---- segments
 
@@ -257,13 +261,13 @@ segments_back numbers gs text h =
     rw append-nil at (complete_all_segments (as_read numbers) (as_start numbers) (number_reading numbers) (inner_at numbers text) (length text) (inner_read numbers (length text)) gs text [] h (refl, refl) (all_of text))
 
 pub segments_law : Law SpellsSegments is_typed (λ numbers text. taken_at (λ gs. Some gs) is_typed (segments_in numbers text))
-segments_law = taken_law SpellsSegments SpellsSegments (λ gs. Some gs) is_typed segments_in segments_front (same_tree SpellsSegments) (λ numbers gs text h. (gs, segments_back numbers gs text h, refl)) (segments_wider IsValued SpellsNumber as_written) segments_unambiguous
+segments_law = taken_law SpellsSegments SpellsSegments (λ gs. Some gs) is_typed segments_in segments_front (same_tree SpellsSegments) (λ numbers gs text h. (gs, segments_back numbers gs text h, refl)) (segments_wider IsValued SpellsNumber as_written) segments_unambiguous (λ N M again v a h. let (w, k, alike) = segments_again N M again v a h in (w, k, alike.0))
 
 steps_is : (numbers : Numbers) (gs : Segments) (ss : List SingularStep) (a : List ℕ) → SpellsSegments (as_read numbers) gs a → steps_of gs ≡ Some ss → SpellsSteps (as_read numbers) ss a
 steps_is numbers gs ss a h e = steps_spelled (as_read numbers) gs ss a e h
 
 pub steps_law : Law SpellsSteps always (λ numbers text. taken_at steps_of always (segments_in numbers text))
-steps_law = taken_law SpellsSegments SpellsSteps steps_of always segments_in segments_front steps_is (λ numbers ss text h. (singles ss, segments_back numbers (singles ss) text (spells_singles (as_read numbers) ss text h), steps_singles ss)) (λ ss a h. h) steps_unambiguous
+steps_law = taken_law SpellsSegments SpellsSteps steps_of always segments_in segments_front steps_is (λ numbers ss text h. (singles ss, segments_back numbers (singles ss) text (spells_singles (as_read numbers) ss text h), steps_singles ss)) (λ ss a h. h) steps_unambiguous (λ N M again v a h. (v, h, refl))
 
 segment_front : (numbers : Numbers) (g : Segment) (text rest : List ℕ) → segment_in numbers text ≡ Some (g, rest) → Spelled (SpellsSegment (as_read numbers)) g text rest
 segment_front numbers g text rest e = sound_segment (as_read numbers) (number_reading numbers) (inner_at numbers text) (inner_sound numbers (length text)) g text rest e
@@ -273,7 +277,7 @@ segment_back numbers g text h =
     rw append-nil at (complete_segment (as_read numbers) (as_start numbers) (number_reading numbers) (inner_at numbers text) (length text) (inner_read numbers (length text)) g text [] h refl (all_of text))
 
 pub segment_law : Law SpellsSegment is_typed_segment (λ numbers text. taken_at (λ g. Some g) is_typed_segment (segment_in numbers text))
-segment_law = taken_law SpellsSegment SpellsSegment (λ g. Some g) is_typed_segment segment_in segment_front (same_tree SpellsSegment) (λ numbers g text h. (g, segment_back numbers g text h, refl)) (segment_wider IsValued SpellsNumber as_written) segment_unambiguous
+segment_law = taken_law SpellsSegment SpellsSegment (λ g. Some g) is_typed_segment segment_in segment_front (same_tree SpellsSegment) (λ numbers g text h. (g, segment_back numbers g text h, refl)) (segment_wider IsValued SpellsNumber as_written) segment_unambiguous (λ N M again v a h. let (w, k, alike) = segment_again N M again v a h in (w, k, alike.0))
 
 -- what stands behind `..` is read as a child
 child_below : (numbers : Numbers) (text rest : List ℕ) (g : Segment) → child_in numbers text ≡ Some (g, rest) → descendant_at (number_reading numbers) (inner_at numbers text) text ≡ Some (descendant g, rest)
@@ -327,7 +331,7 @@ child_back numbers (several xs) text h =
 child_back numbers (descendant g) text h = absurd h
 
 pub child_law : Law SpellsChild is_typed_segment (λ numbers text. taken_at (λ g. Some g) is_typed_segment (child_in numbers text))
-child_law = taken_law SpellsChild SpellsChild (λ g. Some g) is_typed_segment child_in child_front (same_tree SpellsChild) (λ numbers g text h. (g, child_back numbers g text h, refl)) (λ g a. segment_wider IsValued SpellsNumber as_written (descendant g) (codes ".." ++ a)) child_unambiguous
+child_law = taken_law SpellsChild SpellsChild (λ g. Some g) is_typed_segment child_in child_front (same_tree SpellsChild) (λ numbers g text h. (g, child_back numbers g text h, refl)) (λ g a. segment_wider IsValued SpellsNumber as_written (descendant g) (codes ".." ++ a)) child_unambiguous (λ N M again v a h. below_again N M again v (codes ".." ++ a) h)
 
 -- ---- selectors
 
@@ -338,7 +342,7 @@ selector_back : (numbers : Numbers) (x : Selector) (text : List ℕ) → SpellsS
 selector_back numbers x text h = whole_selector (as_read numbers) (as_start numbers) (number_reading numbers) (inner_at numbers text) (length text) (inner_read numbers (length text)) x text h (le_refl (length text))
 
 pub selector_law : Law SpellsSelector is_typed_selector (λ numbers text. taken_at (λ x. Some x) is_typed_selector (selector_in numbers text))
-selector_law = taken_law SpellsSelector SpellsSelector (λ x. Some x) is_typed_selector selector_in selector_front (same_tree SpellsSelector) (λ numbers x text h. (x, selector_back numbers x text h, refl)) (selector_wider IsValued SpellsNumber as_written) selector_unambiguous
+selector_law = taken_law SpellsSelector SpellsSelector (λ x. Some x) is_typed_selector selector_in selector_front (same_tree SpellsSelector) (λ numbers x text h. (x, selector_back numbers x text h, refl)) (selector_wider IsValued SpellsNumber as_written) selector_unambiguous (λ N M again v a h. let (w, k, alike) = selector_again N M again v a h in (w, k, alike.0))
 
 slice_front : (numbers : Numbers) (x : Selector) (text rest : List ℕ) → numbered_at text ≡ Some (x, rest) → Spelled (SpellsSelector (as_read numbers)) x text rest
 slice_front numbers = sound_numbered (as_read numbers)
@@ -351,4 +355,4 @@ slice_is numbers (slice start end step) p a h e = same_tree SpellsSliceParts num
 slice_is numbers (filter f) p a h e = absurd (cc)
 
 pub slice_law : Law SpellsSliceParts always (λ numbers text. taken_at slice_in always (numbered_at text))
-slice_law = taken_law SpellsSelector SpellsSliceParts slice_in always (λ numbers text. numbered_at text) slice_front slice_is (λ numbers p text h. (slice p.0 p.1 p.2, whole_slice p.0 p.1 p.2 text h, refl)) (λ p a h. h) slice_unambiguous
+slice_law = taken_law SpellsSelector SpellsSliceParts slice_in always (λ numbers text. numbered_at text) slice_front slice_is (λ numbers p text h. (slice p.0 p.1 p.2, whole_slice p.0 p.1 p.2 text h, refl)) (λ p a h. h) slice_unambiguous (λ N M again v a h. (v, h, refl))

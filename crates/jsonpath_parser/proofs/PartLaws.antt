@@ -22,11 +22,13 @@ abbrev pub as_read : Numbers → Option ℤ → List ℕ → Type 0
 as_read Valued = IsValued
 as_read Any = IsAny
 
--- what is read is spelled, what the whole text spells is read, and it spells one tree
+-- what is read is spelled, what the whole text spells is read, it spells one tree, and with any number literals it spells a tree where it does as it is written
 pub record Law {V : Type 0} (spells : Spelling V) (typed : V → Bool) (reading : Numbers → List ℕ → Read V) : Type 0 where
   pub sound : (numbers : Numbers) (v : V) (text rest : List ℕ) → reading numbers text ≡ Some (v, rest) → (a : List ℕ) × spells (as_read numbers) v a × (typed v ≡ true) × (text ≡ a ++ rest)
   pub complete : (numbers : Numbers) (v : V) (text : List ℕ) → spells (as_read numbers) v text → typed v ≡ true → reading numbers text ≡ Some (v, [])
   pub one_tree : (v w : V) (text : List ℕ) → spells IsValued v text → spells SpellsNumber w text → w ≡ v
+  pub from_any : (v : V) (text : List ℕ) → spells IsAny v text → (w : V) × spells SpellsNumber w text × (typed w ≡ typed v)
+  pub as_any : (v : V) (text : List ℕ) → spells SpellsNumber v text → (w : V) × spells IsAny w text × (typed w ≡ typed v)
 
 -- two readings of one text
 both : {V : Type 0} (o : Read V) (v w : V) (s t : List ℕ) → o ≡ Some (v, s) → o ≡ Some (w, t) → (v ≡ w) × (s ≡ t)
@@ -76,20 +78,26 @@ whole_refused : {T V : Type 0} (spells : Spelling V) (typed : V → Bool) (view 
     → (text : List ℕ) (stop : Stop) → ((stop ≡ Memory → ⊥) → reading Valued text ≡ None) → (stop ≡ Memory → ⊥) → (v : V) → spells IsValued v text → typed v ≡ true → ⊥
 whole_refused spells typed view reading law text stop none other v h k = neither (reading Valued text) (v, []) (law.complete Valued v text h k) (none other)
 
--- nor with any number literals
-any_refused : {T V : Type 0} (spells : Spelling V) (typed : V → Bool) (view : T → V) (reading : Numbers → List ℕ → Read V) → Law spells typed reading
+-- nor as it is written
+written_refused : {T V : Type 0} (spells : Spelling V) (typed : V → Bool) (view : T → V) (reading : Numbers → List ℕ → Read V) → Law spells typed reading
     → (text : List ℕ) (again : Result (T × Bor (List ℕ)) Stop) → Reads view again (reading Any text) → MatchResult again (λ p. p.1.now ≡ [] → ⊥) (λ e. e ≡ Memory → ⊥)
-    → (v : V) → spells IsAny v text → typed v ≡ true → ⊥
-any_refused spells typed view reading law text (Ok p) e other v h k = other (both (reading Any text) (view p.0) v p.1.now [] e (law.complete Any v text h k)).1
-any_refused spells typed view reading law text (Err stop) e other v h k = neither (reading Any text) (v, []) (law.complete Any v text h k) (e other)
+    → (v : V) → spells SpellsNumber v text → typed v ≡ true → ⊥
+written_refused {T} {V} spells typed view reading law text again e other v h k =
+    let (w, spelled, alike) = law.as_any v text h in
+    any_refused again e other w spelled (alike ∙ k)
+  where
+    any_refused : (again : Result (T × Bor (List ℕ)) Stop) → Reads view again (reading Any text) → MatchResult again (λ p. p.1.now ≡ [] → ⊥) (λ e. e ≡ Memory → ⊥) → (w : V) → spells IsAny w text → typed w ≡ true → ⊥
+    any_refused (Ok p) e other w h k = other (both (reading Any text) (view p.0) w p.1.now [] e (law.complete Any w text h k)).1
+    any_refused (Err stop) e other w h k = neither (reading Any text) (w, []) (law.complete Any w text h k) (e other)
 
--- with any number literals the text spells one
-any_read : {T V : Type 0} (spells : Spelling V) (typed : V → Bool) (view : T → V) (reading : Numbers → List ℕ → Read V) → Law spells typed reading
-    → (text : List ℕ) (again : Result (T × Bor (List ℕ)) Stop) → Reads view again (reading Any text) → IsOkAnd again (λ p. p.1.now ≡ []) → (v : V) × spells IsAny v text × (typed v ≡ true)
-any_read {T} {V} spells typed view reading law text (Ok p) e all =
+-- what is read whole with any number literals is spelled as it is written
+written_read : {T V : Type 0} (spells : Spelling V) (typed : V → Bool) (view : T → V) (reading : Numbers → List ℕ → Read V) → Law spells typed reading
+    → (text : List ℕ) (again : Result (T × Bor (List ℕ)) Stop) → Reads view again (reading Any text) → IsOkAnd again (λ p. p.1.now ≡ []) → (v : V) × spells SpellsNumber v text × (typed v ≡ true)
+written_read {T} {V} spells typed view reading law text (Ok p) e all =
     let (a, ha, ht, ea) = law.sound Any (view p.0) text p.1.now e in
-    (view p.0, subst (λ s. spells IsAny (view p.0) s) (sym (ea ∙ ap (λ s. a ++ s) all ∙ append-nil a)) ha, ht)
-any_read spells typed view reading law text (Err stop) e all = absurd all
+    let (w, spelled, alike) = law.from_any (view p.0) text (subst (λ s. spells IsAny (view p.0) s) (sym (ea ∙ ap (λ s. a ++ s) all ∙ append-nil a)) ha) in
+    (w, spelled, alike ∙ ht)
+written_read spells typed view reading law text (Err stop) e all = absurd all
 
 -- a refusal is one of the text's
 pub part_refused : {T V : Type 0} {spells : Spelling V} {typed : V → Bool} {view : T → V} {reading : Numbers → List ℕ → Read V} → Law spells typed reading
@@ -111,8 +119,10 @@ part_refused {T} {V} {spells} {typed} {view} {reading} law c stop again e none a
 
     refusals : (e : JsonPathError) → IsCursorRefusal c stop again e → IsPartRefusal spells typed c e
     refusals error.OutOfMemory is = tt
-    refusals (error.PestError place) is = (is.0, any_refused spells typed view reading law (rest_of c) again any is.2)
-    refusals (error.InvalidNumber literal) is = (is.1, any_read spells typed view reading law (rest_of c) again any is.2)
+    refusals (error.PestError place) is = (is.0, written_refused spells typed view reading law (rest_of c) again any is.2)
+    refusals (error.InvalidNumber literal) is =
+        let (v, spelled, holds) = written_read spells typed view reading law (rest_of c) again any is.2 in
+        (is.1, (v, spelled, holds, λ h. whole_refused spells typed view reading law (rest_of c) stop none is.0 v h holds))
     refusals _ is = absurd is
 
 -- ---- one reading of a kind of tree

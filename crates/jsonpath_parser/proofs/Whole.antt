@@ -1,18 +1,19 @@
 -- What the readings of a whole text say of the trees that it derives.
-use Rattle.std.proofs.Common.{◌≡◌, ℕ, ◌≤◌, Bool, true, false, is_some, cond, ℤ, List, Option, Some, None, option_and_then, arith, refl, subst}
+use Rattle.std.proofs.Common.{◌≡◌, ℕ, ◌≤◌, Bool, true, false, is_some, cond, ℤ, List, Option, Some, None, option_and_then, arith, refl, ◌∙◌, subst}
 use Rattle.jsonpath_lexical.specs.Depth.{depth}
-use Rattle.jsonpath_parser.specs.Derives.{Derives, SpellsLoosely, IsRefusal}
+use Rattle.jsonpath_parser.specs.Derives.{Derives, SpellsTyped, SpellsValueless, IsRefusal}
 use Rattle.jsonpath_parser.specs.Grammar.{Spells}
 use Rattle.jsonpath_parser.specs.inner.ReadingGrammar.{whole_query, number_reading}
 use Rattle.jsonpath_parser.specs.inner.ReadingQuery.{typed_query, IsReadRefusal}
 use Rattle.jsonpath_lexical.specs.Numbers.{SpellsNumber}
 use Rattle.jsonpath_tree.specs.Syntax.{Query}
 use Rattle.jsonpath_tree.specs.Typing.{Typed, is_typed}
-use Rattle.jsonpath_parser.specs.Values.{IsValued}
+use Rattle.jsonpath_parser.specs.Values.{IsValued, IsAny}
 use Rattle.jsonpath_core.specs.declared.errors.JsonPathError.{JsonPathError}
 use Rattle.jsonpath_core.specs.declared.errors.JsonPathError.TheVariants.{PestError, InvalidNumber, MaxNestingDepthExceeded, OutOfMemory}
 use Rattle.jsonpath_parser.specs.declared.grammar.literals.Numbers.TheVariants.{Valued, Any}
 use Rattle.jsonpath_parser.proofs.Complete.{complete_valued, complete_any}
+use Rattle.jsonpath_parser.proofs.Respelling.{query_again, from_any, as_any}
 use Rattle.jsonpath_parser.proofs.Sound.{sound_valued, sound_any}
 use Rattle.jsonpath_parser.proofs.Unambiguous.{query_unambiguous}
 use Rattle.jsonpath_parser.proofs.Widening.{spells_wider}
@@ -69,30 +70,35 @@ read_one text t u read spelled =
     let (whole, typed) = typed_parts (whole_query (number_reading Valued) text) t read in
     query_unambiguous.written t u text (spells_wider IsValued SpellsNumber as_written t text (sound_valued t text whole)) spelled
 
--- what is read loosely is spelled loosely
-pub read_loosely : (text : List ℕ) → is_some (typed_query Any text) ≡ true → (t : Query) × SpellsLoosely text t
+-- what is read with any number literals is spelled as it is written
+pub read_written : (text : List ℕ) → is_some (typed_query Any text) ≡ true → (t : Query) × SpellsTyped text t
 unfolding typed_query
-read_loosely text some = by_answer (whole_query (number_reading Any) text) refl some
+read_written text some = by_answer (whole_query (number_reading Any) text) refl some
   where
-    by_answer : (o : Option Query) → whole_query (number_reading Any) text ≡ o → is_some (option_and_then (λ q. cond (is_typed q) (Some q) None) o) ≡ true → (t : Query) × SpellsLoosely text t
+    by_answer : (o : Option Query) → whole_query (number_reading Any) text ≡ o → is_some (option_and_then (λ q. cond (is_typed q) (Some q) None) o) ≡ true → (t : Query) × SpellsTyped text t
     by_answer None e some = absurd (cc)
     by_answer (Some q) e some = by_typing (is_typed q) refl some
       where
-        by_typing : (b : Bool) → is_typed q ≡ b → is_some (cond b (Some q) None) ≡ true → (t : Query) × SpellsLoosely text t
-        by_typing true h some = (q, (sound_any q text e, h))
+        by_typing : (b : Bool) → is_typed q ≡ b → is_some (cond b (Some q) None) ≡ true → (t : Query) × SpellsTyped text t
+        by_typing true h some = let (t, spelled, alike) = query_again IsAny SpellsNumber from_any q text (sound_any q text e) in (t, (spelled, alike ∙ h))
         by_typing false h some = absurd (cc)
 
--- and what is spelled loosely is read
-pub unread_loosely : (text : List ℕ) (t : Query) → typed_query Any text ≡ None → SpellsLoosely text t → ⊥
+-- and what is spelled as it is written is read with any number literals
+pub unread_written : (text : List ℕ) (t : Query) → typed_query Any text ≡ None → SpellsTyped text t → ⊥
 unfolding typed_query
-unread_loosely text t none h =
-    let same = typed_back (whole_query (number_reading Any) text) t (complete_any t text h.0) h.1 in
+unread_written text t none h =
+    let (u, spelled, alike) = query_again SpellsNumber IsAny as_any t text h.0 in
+    let same = typed_back (whole_query (number_reading Any) text) u (complete_any u text spelled) (alike ∙ h.1) in
     cc
+
+-- where nothing is read by values, what is spelled has a number literal without one
+pub written_valueless : (limit : ℕ) (text : List ℕ) → depth text ≤ limit → typed_query Valued text ≡ None → (t : Query) × SpellsTyped text t → (t : Query) × SpellsValueless text t
+written_valueless limit text within none p = let (t, h) = p in (t, (h, λ v. unread_none limit text t none (record { within = within; spelled = v; typed = h.1 })))
 
 -- a refusal of the reading is a refusal of the text
 pub refusal_of : (limit : ℕ) (text : List ℕ) (e : JsonPathError) → IsReadRefusal limit text e → IsRefusal limit text e
 refusal_of limit text (MaxNestingDepthExceeded n) h = h
-refusal_of limit text (InvalidNumber said) h = (h.0, h.2.0, read_loosely text h.2.1, λ t d. unread_none limit text t h.1 d)
-refusal_of limit text (PestError place) h = (h.0, h.2.0, λ t s. unread_loosely text t h.2.1 s)
+refusal_of limit text (InvalidNumber said) h = (h.0, h.2.0, written_valueless limit text h.0 h.1 (read_written text h.2.1), λ t d. unread_none limit text t h.1 d)
+refusal_of limit text (PestError place) h = (h.0, h.2.0, λ t s. unread_written text t h.2.1 s)
 refusal_of limit text OutOfMemory h = h
 refusal_of limit text _ h = absurd h

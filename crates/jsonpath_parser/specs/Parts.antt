@@ -4,7 +4,7 @@ use Rattle.jsonpath_parser.specs.Grammar.{SpellsSlice, SpellsSingularSteps, Spel
 use Rattle.jsonpath_lexical.specs.Numbers.{SpellsNumber}
 use Rattle.jsonpath_tree.specs.Syntax.{SingularStep, SingularQuery, Segment, descendant, Segments, relative}
 use Rattle.jsonpath_parser.specs.Valueless.{IsValuelessIn}
-use Rattle.jsonpath_parser.specs.Values.{IsValued, IsAny}
+use Rattle.jsonpath_parser.specs.Values.{IsValued}
 use Rattle.jsonpath_core.specs.declared.errors.JsonPathError.{JsonPathError}
 use Rattle.jsonpath_core.specs.declared.errors.JsonPathError.TheVariants.{PestError, InvalidNumber, OutOfMemory}
 use Rattle.jsonpath_parser.specs.declared.cursor.Cursor.{Cursor}
@@ -56,10 +56,10 @@ pub record IsPart {V : Type 0} (spells : Spelling V) (typed : V → Bool) (v : V
   pub one_tree : (w : V) → spells SpellsNumber w part → w ≡ v
   pub moved : rest_of old ≡ part ++ rest_of new
 
--- The refusals, each with what it means: the rest would spell such a tree if its number literals without a value had one, and what is said is nothing, or a number literal without a value that stands in the rest; it spells none whatever values its number literals had, and the place is at most the text's length; memory ran out.
+-- The refusals, each with what it means: the rest spells such a tree as it is written, but not with each number literal as its value, and what is said is nothing, or a number literal without a value that stands in the rest; it spells no such tree, its number literals with a value or without, and the place is at most the text's length; memory ran out.
 abbrev pub IsPartRefusal : {V : Type 0} → Spelling V → (V → Bool) → Cursor → JsonPathError → Type 0
-IsPartRefusal {V} spells typed c (InvalidNumber said) = IsValuelessIn (rest_of c) (string_bytes said) × ((v : V) × spells IsAny v (rest_of c) × (typed v ≡ true))
-IsPartRefusal {V} spells typed c (PestError place) = (place ≤ length (text_of c)) × ((v : V) → spells IsAny v (rest_of c) → typed v ≡ true → ⊥)
+IsPartRefusal {V} spells typed c (InvalidNumber said) = IsValuelessIn (rest_of c) (string_bytes said) × ((v : V) × spells SpellsNumber v (rest_of c) × (typed v ≡ true) × (spells IsValued v (rest_of c) → ⊥))
+IsPartRefusal {V} spells typed c (PestError place) = (place ≤ length (text_of c)) × ((v : V) → spells SpellsNumber v (rest_of c) → typed v ≡ true → ⊥)
 IsPartRefusal spells typed c OutOfMemory = ⊤
 IsPartRefusal spells typed c _ = ⊥
 

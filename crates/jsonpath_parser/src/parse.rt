@@ -109,6 +109,7 @@ fn read_within(alloc: Global, text: &str, depth: usize) -> Parsed<JpQuery>
 ///
 /// The time is linear in the length of the text. Only a text that is refused is read twice.
 pub fn parse_json_path(alloc: Global, text: &str) -> Parsed<JpQuery>
+    ensures limit { MAX_NESTING_DEPTH ≡ 128 }
     ensures derived { IfOk result (λ q. Derives MAX_NESTING_DEPTH text.now (query_view q)) }
 
     // Every tree that the text derives is the one answered, unless memory ran out.

@@ -1,5 +1,5 @@
 pub mod Calls
-pub mod Equality
 pub mod Joined
+pub mod TreeEquality
 pub mod Typed
 pub mod ViewEquations

@@ -5,7 +5,7 @@ ghost use Rattle.jsonpath_tree.specs.Syntax as tree;
 ghost use Rattle.jsonpath_tree.specs.View.{segment_view, selector_view, filter_view, atom_view, comparison_view, comparable_view, operator_view, test_view};
 ghost use Rattle.jsonpath_core.specs.declared.errors.JsonPathError.TheVariants.{OutOfMemory};
 
-pub mod call;
+pub(crate) mod call;
 mod clone;
 mod display;
 mod operator;

@@ -9,7 +9,7 @@ use super::filters::argument;
 use super::literals::Numbers;
 use jsonpath_lexical::stop::Stop;
 use jsonpath_lexical::text::{first, skip, skip_blank};
-use jsonpath_tree::model::call::call_of;
+use jsonpath_tree::call_of;
 use jsonpath_tree::model::{FnArg, TestFunction};
 use std::alloc::Global;
 
