@@ -34,6 +34,25 @@ unfolding IsStrictlySortedBy
 ordered_names [] h = refl
 ordered_names (e ∷ es) h = rw (below_all e.0 es h.0) (ordered_names es h.1)
 
+below_names : (k : String Global) (es : List Entry) → AllByRecursion (λ l. string_cmp k l ≡ Less) (keys_of es) → AllByRecursion (λ l. slice_cmp nat_cmp (string_bytes k) l ≡ Less) (names es)
+below_names k [] h = tt
+below_names k (e ∷ es) h = (h.0, below_names k es h.1)
+
+-- the names of a map ascend by their bytes, as its keys do
+pub names_ascend : (es : List Entry) → IsStrictlySortedBy string_cmp (keys_of es) → IsStrictlySortedBy (slice_cmp nat_cmp) (names es)
+unfolding IsStrictlySortedBy
+names_ascend [] h = tt
+names_ascend (e ∷ es) h = (below_names e.0 es h.0, names_ascend es h.1)
+
+lent_names : (vs : List (Bor (List ℕ) × Bor Value)) → map (λ m. m.0) (map {B = List ℕ × Tree} (λ m. (m.0.now, value_tree m.1.now)) vs) ≡ map (λ m. m.0.now) vs
+lent_names [] = refl
+lent_names (v ∷ vs) = ap (λ ks. v.0.now ∷ ks) (lent_names vs)
+
+-- so do those that are lent
+pub lent_names_ascend : (vs : List (Bor (List ℕ) × Bor Value)) (es : List Entry) → map {B = List ℕ × Tree} (λ m. (m.0.now, value_tree m.1.now)) vs ≡ pairs (members_of (members_view es)) → IsStrictlySortedBy string_cmp (keys_of es)
+    → IsStrictlySortedBy (slice_cmp nat_cmp) (map (λ m. m.0.now) vs)
+lent_names_ascend vs es same h = subst (IsStrictlySortedBy (slice_cmp nat_cmp)) (ap (map (λ m. m.0)) (sym same) ∙ lent_names vs) (names_ascend es h)
+
 -- ---- what is whole
 
 -- a whole value, by its data

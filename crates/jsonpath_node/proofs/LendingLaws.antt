@@ -1,5 +1,5 @@
 -- What a loan leaves, told of the text that was read for it; and answers that hold a `&mut`.
-use Rattle.std.proofs.Common.{◌≡◌, List, ℕ, Option, Some, None, Result, Ok, Err, Vec, Global, false, true, OnSome, IfOk, IfErr, option_map, is_some, refl}
+use Rattle.std.proofs.Common.{◌≡◌, List, ℕ, Option, Some, None, Result, Ok, Err, Vec, Global, false, true, OnSome, IfOk, IfErr, IfSome, option_map, is_some, refl}
 use Rattle.std.specs.contracts.option.Option as OP
 use Rattle.std.specs.contracts.result.Result as RP
 use Rattle.std.proofs.option.Option.TheLaws as option_laws
@@ -111,6 +111,10 @@ referred_there text old (Err x) lent means there = tt
 pub refused_so : (s : Seeking) (lent : Option (MutBor Value)) → IfErr s (λ e. e ≡ OutOfMemory) → IfErr (answer_of s lent) (λ e. e ≡ OutOfMemory)
 refused_so (Ok o) lent memory = tt
 refused_so (Err x) lent memory = memory
+
+pub whole_there : (P : MutBor Value → Type 0) (s : Seeking) (lent : Option (MutBor Value)) → IfSome lent P → IfOk (answer_of s lent) (λ o. IfSome o P)
+whole_there P (Ok o) lent h = h
+whole_there P (Err x) lent h = tt
 
 module _ {M : Type 1} {𝓤 : Ura M} (𝓛 : Logic 𝓤) (text : List ℕ) (value : MutBor Value) (s : Seeking) (lent : Option (MutBor Value)) where
   pub tie_told : Means text value.now s → option_map (λ v. value_tree v.now) lent ≡ tree_there (place_in s) (value_tree value.now) → ent 𝓤 (sem 𝓛 (LendsThere (place_in s) value lent)) (sem 𝓛 (LendsReferred text value lent))

@@ -1,5 +1,5 @@
 -- The query of a location's steps selects that location, where something is there; so a Normalized Path means its own location.
-use Rattle.std.proofs.Common.{◌≡◌, ℕ, List, [], ◌∷◌, ◌++◌, length, map, Bool, true, false, pos, Option, Some, None, is_some, IfSome, option_map, option_and_then, option_to_list, refl, sym, ap, ◌∙◌, inl, inr, append-nil, append_assoc, arith}
+use Rattle.std.proofs.Common.{◌≡◌, ℕ, List, [], ◌∷◌, ◌++◌, length, map, Bool, true, false, pos, Option, Some, None, Result, Ok, Err, is_some, IfOk, IfSome, option_map, option_and_then, option_to_list, refl, sym, ap, ◌∙◌, inl, inr, append-nil, append_assoc, arith}
 use Rattle.std.proofs.lemmas.Bool.{cases_lt}
 use Rattle.std.proofs.lemmas.Bool.Decides.{nat_tests}
 use Rattle.std.proofs.lemmas.Option.{slice_get_past}
@@ -18,7 +18,7 @@ use Rattle.jsonpath_node.proofs.Trees.{item_at-elements}
 use Rattle.jsonpath_node.specs.Document.{Document}
 use Rattle.jsonpath_node.specs.Meaning.{element, indexed, replaced, all_applied, selected}
 use Rattle.jsonpath_node.specs.Node.{Node, root_node, below}
-use Rattle.jsonpath_node.specs.Referring.{Refers, IsReference, IsPut, put_there}
+use Rattle.jsonpath_node.specs.Referring.{Refers, IsReference, IsReferred, IsPut, put_there, tree_there}
 
 -- an index from 0 on is that of an element, where there is one
 indexed-element : (i : ℕ) (l : Location) (t : Tree) → indexed (pos i) (record { location = l; tree = t }) ≡ element i (record { location = l; tree = t })
@@ -82,7 +82,7 @@ nothing_meant path l doc (Some m) derived none h =
     absurd cc
 
 -- its own location, where something is there
-normal_reference : (path : List ℕ) (l : Location) (doc : Document) (r : Option Location) (o : Option Tree) → IsNormal l path → HasIndexesInRange l → IsReference path doc r → at l doc.root ≡ o → r ≡ option_map (λ t. l) o
+pub normal_reference : (path : List ℕ) (l : Location) (doc : Document) (r : Option Location) (o : Option Tree) → IsNormal l path → HasIndexesInRange l → IsReference path doc r → at l doc.root ≡ o → r ≡ option_map (λ t. l) o
 normal_reference path l doc r (Some t) is small h there =
     h.all l (record { query = steps_query l; derived = normal_derives 128 l path is small (omega arith); singular = steps_singular l; only = selected-steps l doc ∙ ap (λ o. map (λ t. l) (option_to_list o)) there })
 normal_reference path l doc r None is small h there =
@@ -95,3 +95,16 @@ put_so l doc u after answer r None there is found left = record { found = found 
 -- what is put where the path means is put at the location
 pub normal_put : (path : List ℕ) (l : Location) (doc : Document) (u after : Tree) (answer : Bool) (r : Option Location) → IsReference path doc r → answer ≡ is_some r → after ≡ put_there r u doc.root → IsNormal l path → HasIndexesInRange l → IsPut l doc.root u answer after
 normal_put path l doc u after answer r means found left is small = put_so l doc.root u after answer r (at l doc.root) refl (normal_reference path l doc r (at l doc.root) is small means refl) found left
+
+-- what the path refers to is what stands at the location
+normal_referred : (path : List ℕ) (l : Location) (doc : Document) (o : Option Tree) → IsNormal l path → HasIndexesInRange l → IsReferred path doc o → o ≡ at l doc.root
+normal_referred path l doc o is small h = h.there ∙ ap (λ r. tree_there r doc.root) (normal_reference path l doc h.reference (at l doc.root) is small h.means refl) ∙ there (at l doc.root) refl
+  where
+    there : (t : Option Tree) → at l doc.root ≡ t → tree_there (option_map (λ u. l) t) doc.root ≡ t
+    there None e = refl
+    there (Some u) e = e
+
+pub normal_answered : {A E : Type 0} (tree : A → Tree) (path : List ℕ) (l : Location) (doc : Document) (r : Result (Option A) E) → IsNormal l path → HasIndexesInRange l
+    → IfOk r (λ o. IsReferred path doc (option_map tree o)) → IfOk r (λ o. option_map tree o ≡ at l doc.root)
+normal_answered tree path l doc (Ok o) is small h = normal_referred path l doc (option_map tree o) is small h
+normal_answered tree path l doc (Err e) is small h = tt

@@ -1,11 +1,11 @@
 //! The value that a reference means, lent for writing. The text is read first, and what it was found to mean is kept, a refusal
 //! too; then lending cannot fail.
-ghost use Rattle.std.specs.Prelude.{◌≡◌, Some, IsTrue, IfOk, IfErr, is_some, option_map};
+ghost use Rattle.std.specs.Prelude.{◌≡◌, Some, IsTrue, IfOk, IfErr, IfSome, is_some, option_map};
 ghost use Rattle.std.specs.Borrow.{sem};
 ghost use Rattle.jsonpath_core.specs.declared.errors.JsonPathError.TheVariants.{OutOfMemory};
 ghost use Rattle.jsonpath_base.specs.SetFunctions.{set_function};
 ghost use Rattle.jsonpath_base.specs.Steps.{location_view};
-ghost use Rattle.jsonpath_base.specs.Values.{value_tree};
+ghost use Rattle.jsonpath_base.specs.Values.{value_tree, value_is_whole};
 ghost use Rattle.jsonpath_node.specs.Document.{document_of};
 ghost use Rattle.jsonpath_node.specs.Lending.{LendsReferred, lent_in};
 ghost use Rattle.jsonpath_node.specs.Referring.{IsReference, IsReferred, tree_there};
@@ -32,6 +32,7 @@ pub fn referred_mut<'v>(
 ) -> Queried<Option<&'v mut Value>>
     ensures* writes_back { sem 𝓛 (LendsReferred path.now value.entry (lent_in result)) }
     ensures value { IfOk result (λ o. IsReferred path.now (document_of value_tree set_function value.old) (option_map (λ v. value_tree v.now) o)) }
+    ensures whole { IsTrue (value_is_whole value.old) → IfOk result (λ o. IfSome o (λ v. IsTrue (value_is_whole v.now))) }
     ensures memory { IfErr result (λ e. e ≡ OutOfMemory) }
 {
     let sought = seek(alloc, value, path);
@@ -73,6 +74,7 @@ fn steps_in(sought: &Sought) -> &[Step]
 fn lend_sought<'v>(value: &'v mut Value, sought: &Sought) -> Option<&'v mut Value>
     ensures* writes_back { sem 𝓛 (LendsThere (place_in sought.now.steps) value.entry result) }
     ensures value { option_map (λ v. value_tree v.now) result ≡ tree_there (place_in sought.now.steps) (value_tree value.old) }
+    ensures whole { IsTrue (value_is_whole value.old) → IfSome result (λ v. IsTrue (value_is_whole v.now)) }
 {
     if is_found(sought) {
         return at_mut(value, steps_in(sought));

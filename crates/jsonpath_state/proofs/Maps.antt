@@ -1,10 +1,10 @@
 -- What `flat_map` makes of its closure's answers.
-use Rattle.std.proofs.Common.{◌≡◌, ℕ, length, arith, append-nil, List, [], ◌∷◌, ◌++◌, append_assoc, sym, ◌∙◌, ap, subst, refl, map, Vec, Global, Bool, IsTrue, inl, inr, ◌⊎◌}
+use Rattle.std.proofs.Common.{◌≡◌, ℕ, length, arith, append-nil, List, [], ◌∷◌, ◌++◌, append_assoc, sym, ◌∙◌, ap, subst, refl, map, Vec, Global, Bool, IsTrue, IfOk, Result, Ok, Err, inl, inr, ◌⊎◌}
 use Rattle.std.proofs.lemmas.List.Elements.{All-append, All-cons, All-nil, All-head, All-tail}
 use Rattle.std.proofs.lemmas.List.{map-append}
 use Rattle.std.specs.List.{AllZip, AllByRecursion, flat_map}
 use Rattle.jsonpath_base.specs.Tree.{Tree}
-use Rattle.jsonpath_state.specs.State.{Place, Content, refs, nothing, places, mapped, place_of, content_of, pointers, Made, AreRefs, IsNothing, PointersAreWhole, DataIsWhole, SomeHas}
+use Rattle.jsonpath_state.specs.State.{Place, Content, refs, nothing, places, mapped, place_of, content_of, pointers, Made, AreRefs, IsNothing, PointersAreWhole, DataIsWhole, GivesWhole, SomeHas}
 use Rattle.jsonpath_state.specs.inner.Evaluating.{Completes}
 use Rattle.jsonpath_state.specs.declared.state.pointer.Pointer.{Pointer}
 use Rattle.jsonpath_state.specs.declared.state.data.Data.{Data}
@@ -65,7 +65,7 @@ whole_pointers whole (Refs ps) h = h
 whole_pointers whole (Value x) h = All-nil (λ q. IsTrue (whole q.inner.now))
 whole_pointers whole Nothing h = All-nil (λ q. IsTrue (whole q.inner.now))
 
-whole_all : {A : Type 0} (whole : A → Bool) (gives : Pointer A → Data A → Type 0) → ((p : Pointer A) (d : Data A) → IsTrue (whole p.inner.now) → gives p d → DataIsWhole whole d) → (ps : List (Pointer A)) (ds : List (Data A)) → PointersAreWhole whole ps → AllZip gives ps ds → PointersAreWhole whole (flat_map pointers ds)
+whole_all : {A : Type 0} (whole : A → Bool) (gives : Pointer A → Data A → Type 0) → GivesWhole whole gives → (ps : List (Pointer A)) (ds : List (Data A)) → PointersAreWhole whole ps → AllZip gives ps ds → PointersAreWhole whole (flat_map pointers ds)
 whole_all whole gives h [] [] w a = All-nil (λ q. IsTrue (whole q.inner.now))
 whole_all whole gives h [] (d ∷ ds) w a = absurd a
 whole_all whole gives h (p ∷ ps) [] w a = absurd a
@@ -85,11 +85,16 @@ nothing_whole whole (Refs qs) h = absurd h
 nothing_whole whole (Value x) h = absurd h
 nothing_whole whole Nothing h = tt
 
-pub made_whole : {A : Type 0} (whole : A → Bool) (gives : Pointer A → Data A → Type 0) → ((p : Pointer A) (d : Data A) → IsTrue (whole p.inner.now) → gives p d → DataIsWhole whole d) → (x d : Data A) → DataIsWhole whole x → Made gives x d → DataIsWhole whole d
+pub made_whole : {A : Type 0} (whole : A → Bool) (gives : Pointer A → Data A → Type 0) → GivesWhole whole gives → (x d : Data A) → DataIsWhole whole x → Made gives x d → DataIsWhole whole d
 made_whole whole gives h (Ref p) d w m = h p d w m
 made_whole whole gives h (Refs ps) d w m = refs_whole whole d _ m.2 (whole_all whole gives h ps.items m.0 w m.1)
 made_whole whole gives h (Value x) d w m = nothing_whole whole d m
 made_whole whole gives h Nothing d w m = nothing_whole whole d m
+
+-- an answer of a closure is whole
+pub answer_whole : {D E : Type 0} (Post : Result D E → Type 0) (IsSo : D → Type 0) (r : Result D E) → ((d : D) → Post (Ok d) → IsSo d) → Post r → IfOk r IsSo
+answer_whole Post IsSo (Ok d) h post = h d post
+answer_whole Post IsSo (Err e) h post = tt
 
 -- each node is whole
 each_whole : {A : Type 0} (whole : A → Bool) (P : Pointer A → Type 0) → ((p : Pointer A) → IsTrue (whole p.inner.now) → P p) → (ps : List (Pointer A)) → PointersAreWhole whole ps → AllByRecursion P ps

@@ -115,6 +115,10 @@ Made {A} Gives (Refs ps) d = (ds : List (Data A)) × AllZip Gives ps.items ds ×
 Made Gives (Value v) d = IsNothing d
 Made Gives Nothing d = IsNothing d
 
+-- what is given at a pointer whose value is whole is whole
+abbrev pub GivesWhole : {A : Type 0} → (A → Bool) → (Pointer A → Data A → Type 0) → Type 0
+GivesWhole {A} whole Gives = (p : Pointer A) (d : Data A) → IsTrue (whole p.inner.now) → Gives p d → DataIsWhole whole d
+
 -- some element has P
 abbrev pub SomeHas : {X : Type 0} → (X → Type 0) → List X → Type 0
 SomeHas P [] = ⊥

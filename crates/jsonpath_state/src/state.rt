@@ -4,7 +4,7 @@ ghost use Rattle.std.specs.List.{AllByRecursion};
 ghost use Rattle.jsonpath_core.specs.declared.errors.JsonPathError.TheVariants.{OutOfMemory};
 ghost use Rattle.jsonpath_base.specs.Same.{same};
 ghost use Rattle.jsonpath_base.specs.Tree.{truth, number, text};
-ghost use Rattle.jsonpath_state.specs.State.{Content, ref, value, nothing, content_of, pointers, DataIsWhole, ok_refs, ok_value, contents_same, reduced, Made, SomeHas};
+ghost use Rattle.jsonpath_state.specs.State.{Content, ref, value, nothing, content_of, pointers, DataIsWhole, ok_refs, ok_value, contents_same, reduced, Made, GivesWhole, SomeHas};
 
 mod data;
 mod pointer;
@@ -157,6 +157,9 @@ impl<'a, T: Queryable> State<'a, T> {
     ) -> Queried<Self>
         requires { AllByRecursion (F.pre f) (pointers self.content) }
         ensures made { IfOk result (λ s. Made (λ p r. F.post f p (Ok r)) self.entry.content s.content) }
+
+        // What is made of whole values is whole, where what the closure makes of them is.
+        ensures whole { GivesWhole T.is_whole (λ p r. F.post f p (Ok r)) → DataIsWhole T.is_whole self.entry.content → IfOk result (λ s. DataIsWhole T.is_whole s.content) }
         ensures root { IfOk result (λ s. s.root.now ≡ self.entry.root.now) }
         ensures refused { IfErr result (λ e. (e ≡ OutOfMemory) ⊎ SomeHas (λ p. F.post f p (Err e)) (pointers self.entry.content)) }
     {

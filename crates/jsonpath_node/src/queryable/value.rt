@@ -1,12 +1,19 @@
 //! Values of `serde_json` as documents.
 ghost use Rattle.std.specs.Prelude.{◌≡◌, All, IfOk, IfErr, IfSome, IsTrue, Some, map, option_map, true};
 ghost use Rattle.std.specs.Borrow.{sem};
+ghost use Rattle.std.specs.Cmp.Lexicographic.{slice_cmp};
 ghost use Rattle.std.specs.List.{AllByRecursion};
+ghost use Rattle.std.specs.List.Sorted.{IsStrictlySortedBy};
+ghost use Rattle.std.specs.Ordering.{nat_cmp};
 ghost use Rattle.serde_json.specs.View.{view, members_view};
-ghost use Rattle.jsonpath_base.specs.Tree.{as_list, find, pairs};
+ghost use Rattle.jsonpath_base.specs.Places.{at};
+ghost use Rattle.jsonpath_base.specs.Tree.{as_list, as_members, find, pairs};
 ghost use Rattle.jsonpath_base.specs.SetFunctions.{set_function};
 ghost use Rattle.jsonpath_base.specs.Values.{value_tree, value_is_whole, has_whole_numbers, members_of};
 ghost use Rattle.jsonpath_base.proofs.Views.{whole_distinct};
+ghost use Rattle.jsonpath_core.specs.Location.{Location};
+ghost use Rattle.jsonpath_core.specs.Normal.{IsNormal};
+ghost use Rattle.jsonpath_tree.specs.Steps.{HasIndexesInRange};
 ghost use Rattle.jsonpath_core.specs.declared.errors.JsonPathError.TheVariants.{OutOfMemory};
 ghost use Rattle.jsonpath_node.specs.Document.{document_of};
 ghost use Rattle.jsonpath_node.specs.Lending.{LendsReferred, lent_in};
@@ -45,7 +52,12 @@ impl Queryable for Value {
     }
 
     /// The members in the order of their names' bytes.
-    fn as_object(&self, alloc: Global) -> Queried<Option<Vec<(&str, &Value)>>> {
+    fn as_object(&self, alloc: Global) -> Queried<Option<Vec<(&str, &Value)>>>
+        ensures value { IsTrue (value_is_whole self.now) → IfOk result (λ o. option_map (λ v. map (λ m. (m.0.now, value_tree m.1.now)) v.items) o ≡ as_members (value_tree self.now)) }
+        ensures ordered { IfOk result (λ o. IfSome o (λ v. IsStrictlySortedBy (slice_cmp nat_cmp) (map (λ m. m.0.now) v.items))) }
+        ensures whole { IsTrue (value_is_whole self.now) → IfOk result (λ o. IfSome o (λ v. All (λ m. IsTrue (value_is_whole m.1.now)) v.items)) }
+        ensures memory { IfErr result (λ e. e ≡ OutOfMemory) }
+    {
         match self.as_object() {
             Some(members) => Ok(Some(lent_members(alloc, members)?)),
             None => Ok(None),
@@ -127,6 +139,9 @@ impl Queryable for Value {
     /// that is no query. The steps are followed down; the value is not walked.
     fn reference(&self, alloc: Global, path: &str) -> Queried<Option<&Value>>
         ensures value { IfOk result (λ o. IsReferred path.now (document_of value_tree set_function self.now) (option_map (λ v. value_tree v.now) o)) }
+
+        // A Normalized Path leads to its own location, if something is there.
+        ensures normal { (l : Location) → IsNormal l path.now → HasIndexesInRange l → IfOk result (λ o. option_map (λ v. value_tree v.now) o ≡ at l (value_tree self.now)) }
         ensures whole { IsTrue (value_is_whole self.now) → IfOk result (λ o. IfSome o (λ v. IsTrue (value_is_whole v.now))) }
         ensures memory { IfErr result (λ e. e ≡ OutOfMemory) }
     {
@@ -138,6 +153,10 @@ impl Queryable for Value {
     fn reference_mut(&mut self, alloc: Global, path: &str) -> Queried<Option<&mut Value>>
         ensures* writes_back { sem 𝓛 (LendsReferred path.now self.entry (lent_in result)) }
         ensures value { IfOk result (λ o. IsReferred path.now (document_of value_tree set_function self.old) (option_map (λ v. value_tree v.now) o)) }
+
+        // A Normalized Path leads to its own location, if something is there.
+        ensures normal { (l : Location) → IsNormal l path.now → HasIndexesInRange l → IfOk result (λ o. option_map (λ v. value_tree v.now) o ≡ at l (value_tree self.old)) }
+        ensures whole { IsTrue (value_is_whole self.old) → IfOk result (λ o. IfSome o (λ v. IsTrue (value_is_whole v.now))) }
         ensures memory { IfErr result (λ e. e ≡ OutOfMemory) }
     {
         referred_mut(alloc, self, path)
@@ -164,6 +183,7 @@ fn lent_members<'a>(
     members: &'a Map<String, Value>,
 ) -> Result<Vec<(&'a str, &'a Value)>, AllocError>
     ensures value { IfOk result (λ v. map (λ m. (m.0.now, value_tree m.1.now)) v.items ≡ pairs (members_of (members_view members.now.entries))) }
+    ensures ordered { IfOk result (λ v. IsStrictlySortedBy (slice_cmp nat_cmp) (map (λ m. m.0.now) v.items)) }
     ensures lent { IfOk result (λ v. map (λ m. m.1.now) v.items ≡ map (λ m. m.1) members.now.entries) }
 {
     let mut lent = Vec::with_capacity(alloc, members.len())?;

@@ -2,7 +2,7 @@
 ghost use Rattle.std.specs.Prelude.{◌≡◌, ◌⊎◌, ◌++◌, map, Ok, Err, IsTrue, IfOk, IfErr, OnOk, option_map};
 ghost use Rattle.std.specs.List.{AllByRecursion};
 ghost use Rattle.jsonpath_core.specs.declared.errors.JsonPathError.TheVariants.{OutOfMemory};
-ghost use Rattle.jsonpath_state.specs.State.{Content, ref, refs, nothing, place_of, places_of, content_of, pointers, PointersAreWhole, DataIsWhole, ok_refs, ok_value, contents_same, places_same, reduced, Made, SomeHas};
+ghost use Rattle.jsonpath_state.specs.State.{Content, ref, refs, nothing, place_of, places_of, content_of, pointers, PointersAreWhole, DataIsWhole, ok_refs, ok_value, contents_same, places_same, reduced, Made, GivesWhole, SomeHas};
 
 use crate::state::pointer::Pointer;
 use jsonpath_node::Queried;
@@ -25,14 +25,16 @@ pub enum Data<'a, T> {
 impl<'a, T: Queryable> Data<'a, T> {
     /// One node.
     pub fn new_ref(pointer: Pointer<'a, T>) -> Self
-        ensures { content_of T.tree result ≡ ref (place_of T.tree pointer.entry) }
+        ensures content { content_of T.tree result ≡ ref (place_of T.tree pointer.entry) }
+        ensures whole { IsTrue (T.is_whole pointer.entry.inner.now) → DataIsWhole T.is_whole result }
     {
         Data::Ref(pointer)
     }
 
     /// Nodes, in this order.
     pub fn new_refs(pointers: Vec<Pointer<'a, T>>) -> Self
-        ensures { content_of T.tree result ≡ refs (places_of T.tree pointers.entry.items) }
+        ensures content { content_of T.tree result ≡ refs (places_of T.tree pointers.entry.items) }
+        ensures whole { PointersAreWhole T.is_whole pointers.entry.items → DataIsWhole T.is_whole result }
     {
         Data::Refs(pointers)
     }
@@ -121,6 +123,9 @@ impl<'a, T: Queryable> Data<'a, T> {
     ) -> Queried<Data<'a, T>>
         requires { AllByRecursion (F.pre f) (pointers self) }
         ensures made { IfOk result (λ d. Made (λ p r. F.post f p (Ok r)) self.entry d) }
+
+        // What is made of whole values is whole, where what the closure makes of them is.
+        ensures whole { GivesWhole T.is_whole (λ p r. F.post f p (Ok r)) → DataIsWhole T.is_whole self.entry → IfOk result (λ d. DataIsWhole T.is_whole d) }
         ensures refused { IfErr result (λ e. (e ≡ OutOfMemory) ⊎ SomeHas (λ p. F.post f p (Err e)) (pointers self.entry)) }
     {
         match self {

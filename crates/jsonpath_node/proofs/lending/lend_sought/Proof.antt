@@ -4,7 +4,7 @@ use Rattle.jsonpath_base.proofs.LoanTies.{so_none}
 use Rattle.jsonpath_base.proofs.Loans.{is_true, is_false}
 use Rattle.jsonpath_node.proofs.LendingLaws.{lent_laws, no_place}
 use Rattle.std.proofs.VecSteps.Shapes.{after}
-use Rattle.std.proofs.Common.{Bool, List, IsTrue, Some, None, Option, is_some, option_map}
+use Rattle.std.proofs.Common.{Bool, List, IfSome, IsTrue, Some, None, Option, is_some, option_map}
 use Rattle.std.specs.Prelude.{⊤}
 use Rattle.std.specs.contracts.option.Option as OP
 use Rattle.std.proofs.VecSteps.Element.{none_of}
@@ -12,6 +12,7 @@ use types.Kit.{at_ret, pick, some, later, await, rewrite}
 use types.Part.{agg}
 use types.Match.{live}
 use base.Logic.{emp}
+use contract.Monad.{fact_i}
 use denote.Builtin.{RefOf}
 use denote.Laws.{Is}
 use denote.Ref.{shr_copy, Bor, ShrRef, shr_vals, shr_Tells}
@@ -23,7 +24,7 @@ use Rattle.jsonpath_core.specs.Location.{Location}
 use Rattle.jsonpath_base.specs.Lending.{LendsAt}
 use Rattle.jsonpath_base.specs.Places.{at}
 use Rattle.jsonpath_base.specs.Steps.{location_view}
-use Rattle.jsonpath_base.specs.Values.{value_tree}
+use Rattle.jsonpath_base.specs.Values.{value_tree, value_is_whole}
 use Rattle.jsonpath_base.specs.contracts.step.Step.{the_row as S}
 use Rattle.jsonpath_base.specs.declared.step.Step.{Step}
 use Rattle.jsonpath_node.specs.Referring.{tree_there}
@@ -92,14 +93,15 @@ lend_sought_spec 𝓤 𝓛 𝓜 𝓡 wired =
     use0 𝓛 (raw (emp 𝓤)) (id⊢ 𝓤 _) $ move ! (1 ∷ 0 ∷ []) $ use2 𝓛 (raw (G₂.pre z₂)) (id⊢ 𝓤 _) $
     calls_at ! (framed 𝓤 𝓛.H 𝓜 𝓣) G₂ (met₂ 𝓤 𝓛 𝓜 𝓡 (code.calls-jsonpath_base::lending::at_mut 𝓡.env wired)) z₂ (and_then ! (get ! refl) (and_then ! (get ! refl) (no_more !))) (λ v₂.
     use1 𝓛 (later (some (λ (r : Option (MutBor R.Denot)). ((‵ (flft κ q) ⊛ Ts ⊛ ‵ ftrue) ⊛ ‵ (O.own_val r (v₂ ∷ []))) ⊛
-    some (λ (ws : Lasts g₂.ended z₂.0.0 z₂.0.3). ‵ (lasts g₂.ended z₂.0.0 z₂.0.3 ws) ⊛ ‵ (LendsAt (location_view steps.now) value r) ⊛ raw (fact 𝓤 (option_map (λ v. value_tree v.now) r ≡ at (location_view steps.now) doc)))))) (id⊢ 𝓤 _) $
-    await ! tt $ pick ! (λ lent. split ! $ split ! $ split ! $ move ! (1 ∷ []) $ split ! $ move ! (4 ∷ []) $ pick ! (λ ws₂. split ! $ drop ! $ split ! $ move ! (1 ∷ []) $ heard ! _ (λ lent_is.
+    some (λ (ws : Lasts g₂.ended z₂.0.0 z₂.0.3). ‵ (lasts g₂.ended z₂.0.0 z₂.0.3 ws) ⊛ ‵ (LendsAt (location_view steps.now) value r) ⊛ (raw (fact 𝓤 (option_map (λ v. value_tree v.now) r ≡ at (location_view steps.now) doc)) ⊛ raw (fact 𝓤 (IsTrue (value_is_whole value.now) → IfSome r (λ v. IsTrue (value_is_whole v.now))))))))) (id⊢ 𝓤 _) $
+    await ! tt $ pick ! (λ lent. split ! $ split ! $ split ! $ move ! (1 ∷ []) $ split ! $ move ! (4 ∷ []) $ pick ! (λ ws₂. split ! $ drop ! $ split ! $ move ! (1 ∷ []) $ split ! $ heard ! _ (λ lent_is. heard ! _ (λ lent_whole.
     -- [the tie; the token of κs'; nothing; the token of κ; the option]
     move ! (4 ∷ []) $ peeks ! O (Is O) (shows 𝓛 O) lent (v₂ ∷ []) (λ at₂. lands_as ! refl refl ((((lent_laws κ).lawful 𝓛).typed lent (v₂ ∷ []) at₂).0) $
     returns_within ! (W.post z) refl (look_at ! 0 refl) $ free_all ! refl $ rewrite ! 1 (λ (o : Option Location). ‵ (LendsThere o value lent)) (sym place_is) refl $ keep ! (0 ∷ 4 ∷ 2 ∷ 1 ∷ []) $
     suffices ! _ (ends_at 𝓛 f.ended stayed c z v₂ lent (tt, (tt, tt)) (tt, (tt, tt))) $
     nothing ! $ nothing ! $ fjoin ! $ nothing ! $ fjoin ! $ join ! $
-    nothing ! $ move ! (3 ∷ 0 ∷ []) $ join ! $ move ! (2 ∷ 0 ∷ []) $ join ! $ join ! $ frame ! $ says ! (lent_is ∙ ap (λ o. tree_there o doc) (sym place_is)) $ done !)))))))))))
+    nothing ! $ move ! (3 ∷ 0 ∷ []) $ join ! $ move ! (2 ∷ 0 ∷ []) $ join ! $ join ! $ frame ! $ frame ! $ says ! lent_whole $
+    use0 𝓛 (raw (fact 𝓤 (option_map (λ (v : MutBor R.Denot). value_tree v.now) lent ≡ tree_there place doc))) (fact_i 𝓤 _ (emp 𝓤) (lent_is ∙ ap (λ o. tree_there o doc) (sym place_is))) $ done !))))))))))))
     (λ is_not. skips ! $ exec ! 𝓣.C 𝓣.Λ (env (code.function).locals l) (after 2 (code.function).body) (at_ret _ (W.post z)) $
     sets ! (agg ! (and_then ! (lit ! tt) (no_more !))) refl (tt, (record { fits = lit< tt }, tt)) $
     returns ! (look_at ! 0 refl) $ free_all ! refl $ fsplit3 ! $ move ! (1 ∷ []) $
@@ -110,4 +112,5 @@ lend_sought_spec 𝓤 𝓛 𝓜 𝓡 wired =
     keep ! (4 ∷ 5 ∷ 0 ∷ []) $ use0 𝓛 (‵ ((OP.the_row (MutRef (named 0) κ R)).own_val None (out ∷ []))) (none_of 𝓛 (MutRef (named 0) κ R)) $
     suffices ! _ (ends_at 𝓛 f.ended stayed c z out None (tt, (tt, tt)) (tt, (tt, tt))) $
     nothing ! $ nothing ! $ fjoin ! $ nothing ! $ fjoin ! $ join ! $
-    nothing ! $ move ! (3 ∷ 0 ∷ []) $ join ! $ move ! (2 ∷ 0 ∷ []) $ join ! $ join ! $ frame ! $ says ! (no_place place doc (sym found_is ∙ is_false found is_not)) $ done !))))))))
+    nothing ! $ move ! (3 ∷ 0 ∷ []) $ join ! $ move ! (2 ∷ 0 ∷ []) $ join ! $ join ! $ frame ! $ frame ! $ says ! (λ h. tt) $
+    use0 𝓛 (raw (fact 𝓤 (None ≡ tree_there place doc))) (fact_i 𝓤 _ (emp 𝓤) (no_place place doc (sym found_is ∙ is_false found is_not))) $ done !))))))))

@@ -1,7 +1,7 @@
 -- `referred_mut` seeks through a `&` of its own, lends by what it found, and answers with both.
 use Rattle.jsonpath_base.proofs.LoanWords.{[], ◌∷◌, ◌≡◌, refl, proved, ftrue, fat, flft, fres, named, fact, tables, full_share, ‵, raw, ◌⊛◌, ◌$◌, ◌∵◌, !, qed, done, move, keep, drop, use0, use1, use2, use3, split, join, fjoin, fsplit3, feq_i, feq_l, suffices, frame, enter, addr, stop, returns, alloc_all, pass_all, free_all, look_at, get, through, sets, lands_as, heard, MutRef, MutBor, mut_vals, mut_Tells, plain, nothing, no, yes, Stays, walk_of, stay_dropped, Goes-spent_ref, Goes-dropped, mut_ref_to, ends_at, says, calls_at, triple_of, lasts, framed, peeks, shows, no_more, and_then, id⊢, sym, of_opd, lends_again, comes_back, LentAgain}
-use Rattle.jsonpath_node.proofs.LendingLaws.{Answer, Lent, Means, answer_laws, lent_laws, lent_same, referred_there, refused_so, tie_told}
-use Rattle.std.proofs.Common.{List, Option, Result, IfOk, IfErr, option_map}
+use Rattle.jsonpath_node.proofs.LendingLaws.{Answer, Lent, Means, answer_laws, lent_laws, lent_same, referred_there, refused_so, tie_told, whole_there}
+use Rattle.std.proofs.Common.{List, Option, Result, IfOk, IfErr, IfSome, IsTrue, option_map}
 use Rattle.std.specs.contracts.alloc.Global.{the_row as A}
 use Rattle.std.proofs.alloc.Global.TheLaws.{the_row_laws as A-laws, the_told as A-told}
 use types.Kit.{pick, some, later, await, rewrite}
@@ -29,7 +29,7 @@ use Rattle.serde_json.proofs.value.Value.TheLaws.{the_row_laws as R-laws}
 use Rattle.jsonpath_core.specs.contracts.errors.JsonPathError.{the_row as E}
 use Rattle.jsonpath_core.specs.declared.errors.JsonPathError.TheVariants.{OutOfMemory}
 use Rattle.jsonpath_base.specs.SetFunctions.{set_function}
-use Rattle.jsonpath_base.specs.Values.{value_tree}
+use Rattle.jsonpath_base.specs.Values.{value_tree, value_is_whole}
 use Rattle.jsonpath_node.specs.Document.{document_of}
 use Rattle.jsonpath_node.specs.Lending.{LendsReferred}
 use Rattle.jsonpath_node.specs.Referring.{IsReferred, tree_there}
@@ -104,8 +104,8 @@ referred_mut_spec 𝓤 𝓛 𝓜 𝓡 wired =
     use0 𝓛 (raw (emp 𝓤)) (id⊢ 𝓤 _) $ move ! (1 ∷ 0 ∷ []) $ use2 𝓛 (raw (G₁.pre z₁)) (id⊢ 𝓤 _) $
     calls_at ! (framed 𝓤 𝓛.H 𝓜 𝓣) G₁ (met₁ 𝓤 𝓛 𝓜 𝓡 (code.calls-jsonpath_node::lending::lend_sought 𝓡.env wired)) z₁ (and_then ! (get ! refl) (and_then ! (get ! refl) (no_more !))) (λ v₁.
     use1 𝓛 (later (some (λ (o : Option (MutBor R.Denot)). ((‵ (flft κ q) ⊛ ‵ (flft β' full_share) ⊛ ‵ ftrue) ⊛ ‵ ((Lent κ).own_val o (v₁ ∷ []))) ⊛
-    some (λ (ws : Lasts g₁.ended z₁.0.0 z₁.0.3). ‵ (lasts g₁.ended z₁.0.0 z₁.0.3 ws) ⊛ ‵ (LendsThere (place_in sought.steps) value o) ⊛ raw (fact 𝓤 (option_map (λ v. value_tree v.now) o ≡ tree_there (place_in sought.steps) (value_tree x))))))) (id⊢ 𝓤 _) $
-    await ! tt $ pick ! (λ lent. split ! $ split ! $ split ! $ move ! (1 ∷ []) $ split ! $ move ! (4 ∷ []) $ pick ! (λ ws₁. split ! $ drop ! $ split ! $ move ! (1 ∷ []) $ heard ! _ (λ there.
+    some (λ (ws : Lasts g₁.ended z₁.0.0 z₁.0.3). ‵ (lasts g₁.ended z₁.0.0 z₁.0.3 ws) ⊛ ‵ (LendsThere (place_in sought.steps) value o) ⊛ (raw (fact 𝓤 (option_map (λ v. value_tree v.now) o ≡ tree_there (place_in sought.steps) (value_tree x))) ⊛ raw (fact 𝓤 (IsTrue (value_is_whole x) → IfSome o (λ v. IsTrue (value_is_whole v.now))))))))) (id⊢ 𝓤 _) $
+    await ! tt $ pick ! (λ lent. split ! $ split ! $ split ! $ move ! (1 ∷ []) $ split ! $ move ! (4 ∷ []) $ pick ! (λ ws₁. split ! $ drop ! $ split ! $ move ! (1 ∷ []) $ split ! $ heard ! _ (λ there. heard ! _ (λ lent_whole.
     -- [the tie; the token of α'; nothing; the token of κ; what is lent; the way back; the token of κp; nothing]
     move ! (4 ∷ []) $ peeks ! (Lent κ) (Is (Lent κ)) (shows 𝓛 (Lent κ)) lent (v₁ ∷ []) (λ at₁. lands_as ! refl refl ((((lent_laws κ).lawful 𝓛).typed lent (v₁ ∷ []) at₁).0) $
     move ! (2 ∷ []) $ lft_end ! tt $ move ! (0 ∷ 5 ∷ []) $ lent_back ! tt $
@@ -130,5 +130,6 @@ referred_mut_spec 𝓤 𝓛 𝓜 𝓡 wired =
     rewrite ! 0 (λ (o : Option (MutBor R.Denot)). ‵ (LendsReferred path.now value o)) (sym (lent_same sought.steps lent (value_tree x) there)) refl $ move ! (1 ∷ 2 ∷ 3 ∷ 0 ∷ []) $
     suffices ! _ (ends_at 𝓛 f.ended stayed c z v₂ out (tt, (tt, (tt, tt))) (tt, (tt, (tt, tt)))) $
     nothing ! $ nothing ! $ fjoin ! $ nothing ! $ fjoin ! $ nothing ! $ fjoin ! $ join ! $
-    nothing ! $ move ! (3 ∷ 0 ∷ []) $ join ! $ move ! (2 ∷ 0 ∷ []) $ join ! $ join ! $ frame ! $ frame ! $ says ! (refused_so sought.steps lent memory) $
-    use0 𝓛 (raw (fact 𝓤 (IfOk out (λ o. IsReferred path.now doc (option_map (λ v. value_tree v.now) o))))) (fact_i 𝓤 _ (emp 𝓤) (referred_there path.now x sought.steps lent means there)) $ done !))))))))))))))))))))))))
+    nothing ! $ move ! (3 ∷ 0 ∷ []) $ join ! $ move ! (2 ∷ 0 ∷ []) $ join ! $ join ! $ frame ! $ frame ! $
+    use0 𝓛 (raw (fact 𝓤 (IfOk out (λ o. IsReferred path.now doc (option_map (λ v. value_tree v.now) o))))) (fact_i 𝓤 _ (emp 𝓤) (referred_there path.now x sought.steps lent means there)) $ frame ! $ says ! (refused_so sought.steps lent memory) $
+    use0 𝓛 (raw (fact 𝓤 (IsTrue (value_is_whole x) → IfOk out (λ o. IfSome o (λ v. IsTrue (value_is_whole v.now)))))) (fact_i 𝓤 _ (emp 𝓤) (λ h. whole_there (λ v. IsTrue (value_is_whole v.now)) sought.steps lent (lent_whole h))) $ done !)))))))))))))))))))))))))

@@ -1,7 +1,7 @@
 -- `reference_mut` hands its reference on to `referred_mut`.
 use Rattle.jsonpath_base.proofs.LoanWords.{[], ◌∷◌, ◌≡◌, refl, proved, ftrue, flft, named, fact, tables, ‵, raw, ◌⊛◌, ◌$◌, ◌∵◌, !, qed, done, move, keep, drop, use0, use1, use2, split, join, fjoin, suffices, frame, enter, addr, stop, returns, alloc_all, pass_all, free_all, look_at, get, through, sets, lands_as, heard, MutRef, MutBor, mut_vals, mut_Tells, plain, nothing, no, yes, Stays, walk_of, stay_dropped, Goes-spent_ref, Goes-dropped, mut_ref_to, ends_at, says, calls_at, triple_of, lasts, framed, peeks, shows, no_more, and_then, id⊢}
 use Rattle.jsonpath_node.proofs.LendingLaws.{Answer, answer_laws}
-use Rattle.std.proofs.Common.{Option, Result, IfOk, IfErr, option_map}
+use Rattle.std.proofs.Common.{Option, Result, IfOk, IfErr, IfSome, IsTrue, option_map}
 use Rattle.std.specs.contracts.alloc.Global.{the_row as A}
 use Rattle.std.proofs.alloc.Global.TheLaws.{the_row_laws as A-laws, the_told as A-told}
 use types.Kit.{pick, some, later, await}
@@ -16,7 +16,12 @@ use Rattle.serde_json.specs.contracts.value.Value.{the_row as R}
 use Rattle.jsonpath_core.specs.contracts.errors.JsonPathError.{the_row as E}
 use Rattle.jsonpath_core.specs.declared.errors.JsonPathError.TheVariants.{OutOfMemory}
 use Rattle.jsonpath_base.specs.SetFunctions.{set_function}
-use Rattle.jsonpath_base.specs.Values.{value_tree}
+use Rattle.jsonpath_core.specs.Location.{Location}
+use Rattle.jsonpath_core.specs.Normal.{IsNormal}
+use Rattle.jsonpath_tree.specs.Steps.{HasIndexesInRange}
+use Rattle.jsonpath_base.specs.Places.{at}
+use Rattle.jsonpath_base.specs.Values.{value_tree, value_is_whole}
+use Rattle.jsonpath_node.proofs.NormalSteps.{normal_answered}
 use Rattle.jsonpath_node.specs.Document.{document_of}
 use Rattle.jsonpath_node.specs.Lending.{LendsReferred, lent_in}
 use Rattle.jsonpath_node.specs.Referring.{IsReferred}
@@ -54,14 +59,16 @@ reference_mut_spec 𝓤 𝓛 𝓜 𝓡 wired =
     use0 𝓛 (raw (emp 𝓤)) (id⊢ 𝓤 _) $ move ! (1 ∷ 0 ∷ []) $ use2 𝓛 (raw (G₀.pre z₀)) (id⊢ 𝓤 _) $
     calls_at ! (framed 𝓤 𝓛.H 𝓜 𝓣) G₀ (met₀ 𝓤 𝓛 𝓜 𝓡 (code.calls-jsonpath_node::lending::referred_mut 𝓡.env wired)) z₀ (and_then ! (get ! refl) (and_then ! (get ! refl) (and_then ! (get ! refl) (no_more !)))) (λ v₀.
     let Out = Result (Option (MutBor R.Denot)) E.Denot in
-    let Found = λ (o : Out). IfOk o (λ r. IsReferred path.now doc (option_map (λ v. value_tree v.now) r)) in let Refused = λ (o : Out). IfErr o (λ e. e ≡ OutOfMemory) in
+    let Found = λ (o : Out). IfOk o (λ r. IsReferred path.now doc (option_map (λ v. value_tree v.now) r)) in let Normal = λ (o : Out). (m : Location) → IsNormal m path.now → HasIndexesInRange m → IfOk o (λ r. option_map (λ v. value_tree v.now) r ≡ at m (value_tree value.now)) in let Whole = λ (o : Out). IsTrue (value_is_whole value.now) → IfOk o (λ r. IfSome r (λ v. IsTrue (value_is_whole v.now))) in let Refused = λ (o : Out). IfErr o (λ e. e ≡ OutOfMemory) in
     use1 𝓛 (later (some (λ (o : Out). ((‵ (flft κ q) ⊛ ‵ (flft κp qp) ⊛ ‵ ftrue) ⊛ ‵ ((Answer κ).own_val o (v₀ ∷ []))) ⊛
-    some (λ (ws : Lasts g₀.ended z₀.0.0 z₀.0.3). ‵ (lasts g₀.ended z₀.0.0 z₀.0.3 ws) ⊛ (‵ (LendsReferred path.now value (lent_in o)) ⊛ (raw (fact 𝓤 (Found o)) ⊛ raw (fact 𝓤 (Refused o)))))))) (id⊢ 𝓤 _) $
-    await ! tt $ pick ! (λ given. split ! $ split ! $ split ! $ move ! (1 ∷ []) $ split ! $ move ! (4 ∷ []) $ pick ! (λ ws₀. split ! $ drop ! $ split ! $ move ! (1 ∷ []) $ split ! $ heard ! _ (λ found. heard ! _ (λ refused.
+    some (λ (ws : Lasts g₀.ended z₀.0.0 z₀.0.3). ‵ (lasts g₀.ended z₀.0.0 z₀.0.3 ws) ⊛ (‵ (LendsReferred path.now value (lent_in o)) ⊛ (raw (fact 𝓤 (Found o)) ⊛ (raw (fact 𝓤 (Whole o)) ⊛ raw (fact 𝓤 (Refused o))))))))) (id⊢ 𝓤 _) $
+    await ! tt $ pick ! (λ given. split ! $ split ! $ split ! $ move ! (1 ∷ []) $ split ! $ move ! (4 ∷ []) $ pick ! (λ ws₀. split ! $ drop ! $ split ! $ move ! (1 ∷ []) $ split ! $ heard ! _ (λ found. split ! $ heard ! _ (λ whole. heard ! _ (λ refused.
     -- [the tie; the token of κp; nothing; the token of κ; the answer]
     move ! (4 ∷ []) $ peeks ! (Answer κ) (Is (Answer κ)) (shows 𝓛 (Answer κ)) given (v₀ ∷ []) (λ at₀. lands_as ! refl refl ((((answer_laws κ).lawful 𝓛).typed given (v₀ ∷ []) at₀).0) $
     returns ! (look_at ! 0 refl) $ free_all ! refl $ keep ! (0 ∷ 4 ∷ 2 ∷ 1 ∷ []) $
     suffices ! _ (ends_at 𝓛 f.ended stayed c z v₀ given (tt, (tt, (tt, tt))) (tt, (tt, (tt, tt)))) $
     nothing ! $ nothing ! $ fjoin ! $ nothing ! $ fjoin ! $ nothing ! $ fjoin ! $ join ! $
-    nothing ! $ move ! (3 ∷ 0 ∷ []) $ join ! $ move ! (2 ∷ 0 ∷ []) $ join ! $ join ! $ frame ! $ frame ! $ says ! refused $
-    use0 𝓛 (raw (fact 𝓤 (Found given))) (fact_i 𝓤 _ (emp 𝓤) found) $ done !))))))))
+    nothing ! $ move ! (3 ∷ 0 ∷ []) $ join ! $ move ! (2 ∷ 0 ∷ []) $ join ! $ join ! $ frame ! $ frame ! $
+    use0 𝓛 (raw (fact 𝓤 (Found given))) (fact_i 𝓤 _ (emp 𝓤) found) $ frame ! $
+    use0 𝓛 (raw (fact 𝓤 (Normal given))) (fact_i 𝓤 _ (emp 𝓤) (λ m is small. normal_answered (λ (v : MutBor R.Denot). value_tree v.now) path.now m doc given is small found)) $ frame ! $ says ! refused $
+    use0 𝓛 (raw (fact 𝓤 (Whole given))) (fact_i 𝓤 _ (emp 𝓤) whole) $ done !)))))))))

@@ -1,6 +1,6 @@
 use Rattle.std.proofs.Common.{length, arith, ap, inl, inr}
 use Rattle.std.proofs.lemmas.Result.{err_from_is_err_and}
-use Rattle.jsonpath_state.proofs.Maps.{completes_step, completes_end}
+use Rattle.jsonpath_state.proofs.Maps.{answer_whole, completes_step, completes_end, made_whole}
 use Rattle.jsonpath_state.proofs.state.data.Data.flat_map.Goals as goal
 
 pub returns-in_err-found-in-Refs-clause-refused : goal.returns-in_err-found-in-Refs-clause-refused
@@ -25,3 +25,6 @@ loop-p-preserved g c =
 pub returns-in-Refs-clause-made : goal.returns-in-Refs-clause-made
 returns-in-Refs-clause-made g c =
     rw c.in-Refs.is (completes_end _ c.in-Refs.ps c.loop-p.all _ _ _ c.into_iter-p-iterator.ensures.into_iter_gives.0 c.loop-p.invariant.len c.in-None.ensures.steps.0 c.loop-p.invariant.made)
+
+pub returns-in-Refs-clause-whole : goal.returns-in-Refs-clause-whole
+returns-in-Refs-clause-whole g c = λ h w. made_whole g.T.Queryable.is_whole _ h _ _ w (returns-in-Refs-clause-made g c)
