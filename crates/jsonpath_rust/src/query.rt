@@ -20,7 +20,9 @@ ghost use Rattle.jsonpath_state.specs.Processed.{processed};
 mod deletion;
 pub mod queryable;
 
-pub use crate::query::deletion::{delete_selected, delete_within};
+pub use crate::query::deletion::{
+    delete_selected, delete_within, nothing_selected_deletes_nothing,
+};
 use jsonpath_node::queryable::Queryable;
 pub use jsonpath_node::{Queried, QueryPath, QueryRef, not_a_reference, replace_by_path};
 use jsonpath_parser::model::JpQuery;
