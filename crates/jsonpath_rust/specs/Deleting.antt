@@ -1,5 +1,5 @@
 -- What a deletion leaves, and what it answers.
-use Rattle.std.specs.Prelude.{◌≡◌, ℕ, List}
+use Rattle.std.specs.Prelude.{◌≡◌, ℕ, List, []}
 use Rattle.jsonpath_parser.specs.Derives.{Derives}
 use Rattle.jsonpath_tree.specs.Syntax.{Query}
 use Rattle.jsonpath_base.specs.Tree.{Tree}
@@ -17,3 +17,7 @@ pub record Deletes (depth : ℕ) (text : List ℕ) (doc : Document) (left : Tree
   pub query : Query
   pub derived : Derives depth text query
   pub deleted : IsDeletion query doc left count
+
+-- A deletion by a query that selects nothing leaves the document's tree, and its count is 0.
+abbrev pub NothingSelectedDeletesNothing : Type 0
+NothingSelectedDeletesNothing = (q : Query) (doc : Document) (left : Tree) (count : ℕ) → selected q doc ≡ [] → IsDeletion q doc left count → (left ≡ doc.root) × (count ≡ 0)

@@ -20,7 +20,9 @@ ghost use Rattle.jsonpath_state.specs.Processed.{processed};
 mod deletion;
 pub mod queryable;
 
-pub use crate::query::deletion::{delete_selected, delete_within};
+pub use crate::query::deletion::{
+    delete_selected, delete_within, nothing_selected_deletes_nothing,
+};
 pub use jsonpath_base::{
     Step, at, at_mut, put_at, put_is_there, put_leaves_the_rest, remove_all, same_is_an_equivalence,
 };

@@ -8,7 +8,7 @@ ghost use Rattle.jsonpath_base.specs.SetFunctions.{set_function};
 ghost use Rattle.jsonpath_base.specs.Values.{value_tree, value_is_whole};
 ghost use Rattle.jsonpath_base.specs.Without.{without, is_among, distinct_count};
 ghost use Rattle.jsonpath_rust.specs.Defaults.{IsUnsupported};
-ghost use Rattle.jsonpath_rust.specs.Deleting.{IsDeletion, Deletes};
+ghost use Rattle.jsonpath_rust.specs.Deleting.{IsDeletion, Deletes, NothingSelectedDeletesNothing};
 ghost use Rattle.jsonpath_node.specs.Document.{document_of};
 ghost use Rattle.jsonpath_node.specs.Meaning.{selected};
 ghost use Rattle.jsonpath_node.specs.Patterns.{IsStop, IsQueryRefusal};
@@ -22,6 +22,11 @@ use jsonpath_parser::{MAX_NESTING_DEPTH, let_go, parse_json_path_within};
 use jsonpath_walk::selected_locations;
 use serde_json::Value;
 use std::alloc::Global;
+
+/// States a law and does nothing: a deletion by a query that selects nothing leaves the document's tree, and answers 0.
+pub fn nothing_selected_deletes_nothing()
+    ensures { NothingSelectedDeletesNothing }
+{}
 
 /// A document from which the locations that a query selects can be removed.
 pub trait Deletable: Queryable {
