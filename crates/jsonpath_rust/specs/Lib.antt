@@ -1,6 +1,5 @@
 pub mod Deleting
 pub mod Defaults
-
 -- What the public contracts of this crate cite of the crates below it, so that a caller names it here and lists this crate alone.
 pub use Rattle.jsonpath_node.specs.Document
 pub use Rattle.jsonpath_node.specs.Node
@@ -19,6 +18,7 @@ pub use Rattle.jsonpath_state.specs.Process
 pub use Rattle.jsonpath_state.specs.Asking
 pub use Rattle.jsonpath_state.specs.Processed
 pub use Rattle.jsonpath_core.specs.Errors
+pub use Rattle.jsonpath_core.specs.Equality
 pub use Rattle.jsonpath_core.specs.Location
 pub use Rattle.jsonpath_core.specs.Normal
 pub use Rattle.jsonpath_core.specs.declared.errors.JsonPathError
