@@ -10,6 +10,7 @@ pub mod policy;
 pub mod redaction;
 pub mod routing;
 mod rows;
+pub mod same;
 pub mod script;
 
 use jpath_row::ask_rows;

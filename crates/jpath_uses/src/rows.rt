@@ -6,6 +6,7 @@ mod policy;
 mod queries;
 mod redaction;
 mod routing;
+mod same;
 mod script;
 mod wanted;
 
@@ -24,6 +25,8 @@ pub fn holds(memory: &Memory, row: &Value) -> bool {
         routing::holds(memory, row)
     } else if row.get("again").is_some() {
         again::holds(memory, row)
+    } else if row.get("same").is_some() {
+        same::holds(memory, row)
     } else if row.get("difference").is_some() {
         difference::holds(memory, row)
     } else {

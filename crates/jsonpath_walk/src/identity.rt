@@ -29,7 +29,7 @@ impl Identity {
 }
 
 /// Whether the queries are the same tree.
-#[tactic(auto, using(jsonpath_tree::proofs::Equality::query_same))]
+#[tactic(auto, using(jsonpath_tree::proofs::TreeEquality::query_same))]
 fn is_same_query(left: &JpQuery, right: &JpQuery) -> bool
     ensures { IsTrue result → query_view left.now ≡ query_view right.now }
 {
