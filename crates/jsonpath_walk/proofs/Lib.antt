@@ -11,6 +11,8 @@ pub mod NestingLaws
 pub mod NodelistLaws
 pub mod Passing
 pub mod PatternLaws
+pub mod PlanEquations
+pub mod PlanLaws
 pub mod Sinks
 pub mod Standing
 pub mod Walks

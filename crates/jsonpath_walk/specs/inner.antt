@@ -6,6 +6,8 @@ pub mod Keeping
 pub mod Lookup
 pub mod Nesting
 pub mod Passing
+pub mod PlanMaking
+pub mod PlanViews
 pub mod Sinks
 pub mod Standing
 pub mod Walking

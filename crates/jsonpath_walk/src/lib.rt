@@ -17,6 +17,7 @@ mod lookup;
 mod nested;
 mod nodelist;
 mod patterns;
+mod plan;
 mod prepared;
 mod round;
 mod shelf;

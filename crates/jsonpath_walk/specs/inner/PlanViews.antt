@@ -1,0 +1,134 @@
+-- The query that a plan stands for. A part of a plan stands for a part of a query where it is known what is kept.
+use Rattle.std.specs.Prelude.{ℕ, List, [], ◌∷◌, ◌++◌, map, get_or, Bool, true, false, string_bytes, if◌then◌else◌}
+use Rattle.jsonpath_tree.specs.Syntax as tree
+use Rattle.jsonpath_tree.specs.View.{literal_view, step_view, operator_view, segments_of, selectors_of, filters_of, arguments_of}
+use Rattle.jsonpath_walk.specs.declared.plan.Plan.{Plan}
+use Rattle.jsonpath_walk.specs.declared.plan.Entry.{Entry}
+use Rattle.jsonpath_walk.specs.declared.plan.Argument.{Argument, Argument-F, fold-Argument}
+use Rattle.jsonpath_walk.specs.declared.plan.Call.{Call, Call-F, fold-Call}
+use Rattle.jsonpath_walk.specs.declared.plan.Filter.{Filter, Filter-F, fold-Filter}
+use Rattle.jsonpath_walk.specs.declared.plan.Nodes.{Nodes, Nodes-F, fold-Nodes}
+use Rattle.jsonpath_walk.specs.declared.plan.Segment.{Segment, Segment-F, fold-Segment}
+use Rattle.jsonpath_walk.specs.declared.plan.Selector.{Selector, Selector-F, fold-Selector}
+use Rattle.jsonpath_walk.specs.declared.plan.Side.{Side, Side-F, fold-Side}
+use Rattle.jsonpath_walk.specs.declared.sink.Wanted.{Wanted}
+use Rattle.jsonpath_walk.specs.declared.sink.Wanted.TheVariants.{Any, Count, Only, Values}
+
+-- what is kept: the queries from the root, with what is wanted of their nodes
+abbrev pub Kept : Type 0
+Kept = List (Wanted × tree.Query)
+
+abbrev pub is_same_wanted : Wanted → Wanted → Bool
+is_same_wanted Any Any = true
+is_same_wanted Count Count = true
+is_same_wanted Only Only = true
+is_same_wanted Values Values = true
+is_same_wanted _ _ = false
+
+-- the query of this number that is kept for this; `$` where there is none
+abbrev pub query_at : Kept → Wanted → ℕ → tree.Query
+query_at kept w n = let p = get_or kept n (Any, tree.no_segments) in (if is_same_wanted w p.0 then p.1 else tree.no_segments)
+
+-- a child segment of this one name or index (RFC 9535, 2.3.5.1)
+abbrev pub step_segment : tree.SingularStep → tree.Segment
+step_segment (tree.name_step k) = tree.one (tree.name k)
+step_segment (tree.index_step i) = tree.one (tree.index i)
+
+abbrev pub steps_query : List tree.SingularStep → tree.Query
+steps_query ss = segments_of (map step_segment ss)
+
+-- the steps of a query of names and indexes alone
+abbrev pub steps_in : tree.Query → List tree.SingularStep
+steps_in tree.no_segments = []
+steps_in (tree.segment (tree.one (tree.name k)) gs) = tree.name_step k ∷ steps_in gs
+steps_in (tree.segment (tree.one (tree.index i)) gs) = tree.index_step i ∷ steps_in gs
+steps_in (tree.segment _ gs) = steps_in gs
+
+-- One layer of each type, with its parts seen already. Arguments and nodes are seen for what is wanted of them.
+
+abbrev pub Layer : (Type 0 → Type 0 → Type 0 → Type 0 → Type 0 → Type 0 → Type 0 → Type 0) → Type 0
+Layer F = F (Wanted → tree.Argument) tree.Call tree.Filter (Wanted → tree.Test) tree.Segment tree.Selector tree.Comparable
+
+abbrev pub argument_step : Layer Argument-F → Wanted → tree.Argument
+argument_step (Argument-F.«Argument::Literal» l) w = tree.literal_argument (literal_view l)
+argument_step (Argument-F.Pattern s n) w = tree.literal_argument (tree.string (string_bytes s))
+argument_step (Argument-F.Nodes ns) w = tree.test_argument (ns w)
+argument_step (Argument-F.«Argument::Call» c) w = tree.test_argument (tree.call c.value)
+argument_step (Argument-F.«Argument::Filter» f) w = tree.filter_argument f
+
+abbrev pub call_step : Layer Call-F → tree.Call
+call_step (Call-F.Custom s v) = tree.custom_call (string_bytes s) (arguments_of (map (λ x. x Values) v.items))
+call_step (Call-F.Length a) = tree.length_call (a Only)
+call_step (Call-F.Value a) = tree.value_call (a Only)
+call_step (Call-F.Count a) = tree.count_call (a Count)
+call_step (Call-F.Search a b) = tree.search_call (a Only) (b Only)
+call_step (Call-F.Match a b) = tree.match_call (a Only) (b Only)
+
+abbrev pub filter_step : Layer Filter-F → tree.Filter
+filter_step (Filter-F.Or v) = tree.or (filters_of v.items)
+filter_step (Filter-F.And v) = tree.and (filters_of v.items)
+filter_step (Filter-F.Group f not) = tree.atom (tree.group not f.value)
+filter_step (Filter-F.Exists ns not) = tree.atom (tree.test not (ns Any))
+filter_step (Filter-F.«Filter::Call» c not) = tree.atom (tree.test not (tree.call c.value))
+filter_step (Filter-F.Comparison op a b) = tree.atom (tree.comparison (tree.compare (operator_view op) a b))
+
+abbrev pub nodes_step : Kept → Layer Nodes-F → Wanted → tree.Test
+nodes_step kept (Nodes-F.«Nodes::Lookup» v) w = tree.relative (steps_query (map step_view v.items))
+nodes_step kept (Nodes-F.Walk v) w = tree.relative (segments_of v.items)
+nodes_step kept (Nodes-F.«Nodes::Kept» n) w = tree.absolute (query_at kept w n)
+
+abbrev pub segment_step : Layer Segment-F → tree.Segment
+segment_step (Segment-F.Descendant s) = tree.descendant s.value
+segment_step (Segment-F.Selector s) = tree.one s
+segment_step (Segment-F.Selectors v) = tree.several (selectors_of v.items)
+
+abbrev pub selector_step : Layer Selector-F → tree.Selector
+selector_step (Selector-F.Name s) = tree.name (string_bytes s)
+selector_step Selector-F.Wildcard = tree.wildcard
+selector_step (Selector-F.Index i) = tree.index i
+selector_step (Selector-F.Slice start end step) = tree.slice start end step
+selector_step (Selector-F.«Selector::Filter» f) = tree.filter f
+
+abbrev pub side_step : Kept → Layer Side-F → tree.Comparable
+side_step kept (Side-F.«Side::Literal» l) = tree.literal (literal_view l)
+side_step kept (Side-F.«Side::Lookup» v) = tree.singular (tree.current (map step_view v.items))
+side_step kept (Side-F.«Side::Kept» n) = tree.singular (tree.root (steps_in (query_at kept Only n)))
+side_step kept (Side-F.«Side::Call» c) = tree.function c.value
+
+-- The folds. The steps stand in the order of the types, by alphabet.
+
+abbrev pub argument_view : Kept → Argument → Wanted → tree.Argument
+argument_view kept = fold-Argument (Wanted → tree.Argument) tree.Call tree.Filter (Wanted → tree.Test) tree.Segment tree.Selector tree.Comparable argument_step call_step filter_step (nodes_step kept) segment_step selector_step (side_step kept)
+
+abbrev pub call_view : Kept → Call → tree.Call
+call_view kept = fold-Call (Wanted → tree.Argument) tree.Call tree.Filter (Wanted → tree.Test) tree.Segment tree.Selector tree.Comparable argument_step call_step filter_step (nodes_step kept) segment_step selector_step (side_step kept)
+
+abbrev pub filter_view : Kept → Filter → tree.Filter
+filter_view kept = fold-Filter (Wanted → tree.Argument) tree.Call tree.Filter (Wanted → tree.Test) tree.Segment tree.Selector tree.Comparable argument_step call_step filter_step (nodes_step kept) segment_step selector_step (side_step kept)
+
+abbrev pub nodes_view : Kept → Nodes → Wanted → tree.Test
+nodes_view kept = fold-Nodes (Wanted → tree.Argument) tree.Call tree.Filter (Wanted → tree.Test) tree.Segment tree.Selector tree.Comparable argument_step call_step filter_step (nodes_step kept) segment_step selector_step (side_step kept)
+
+abbrev pub segment_view : Kept → Segment → tree.Segment
+segment_view kept = fold-Segment (Wanted → tree.Argument) tree.Call tree.Filter (Wanted → tree.Test) tree.Segment tree.Selector tree.Comparable argument_step call_step filter_step (nodes_step kept) segment_step selector_step (side_step kept)
+
+abbrev pub selector_view : Kept → Selector → tree.Selector
+selector_view kept = fold-Selector (Wanted → tree.Argument) tree.Call tree.Filter (Wanted → tree.Test) tree.Segment tree.Selector tree.Comparable argument_step call_step filter_step (nodes_step kept) segment_step selector_step (side_step kept)
+
+abbrev pub side_view : Kept → Side → tree.Comparable
+side_view kept = fold-Side (Wanted → tree.Argument) tree.Call tree.Filter (Wanted → tree.Test) tree.Segment tree.Selector tree.Comparable argument_step call_step filter_step (nodes_step kept) segment_step selector_step (side_step kept)
+
+-- segments behind one another
+abbrev pub segments_in : Kept → List Segment → tree.Segments
+segments_in kept gs = segments_of (map (segment_view kept) gs)
+
+-- each entry stands for a query where those before it are kept
+abbrev pub kept_from : Kept → List Entry → Kept
+kept_from kept [] = kept
+kept_from kept (e ∷ es) = kept_from (kept ++ (e.wanted, segments_in kept e.segments.items) ∷ []) es
+
+abbrev pub kept_view : List Entry → Kept
+kept_view es = kept_from [] es
+
+abbrev pub plan_view : Plan → tree.Query
+plan_view p = segments_in (kept_view p.kept.items) p.segments.items
