@@ -1,3 +1,4 @@
+pub mod Again
 pub mod Differing
 pub mod Firsts
 pub mod Making

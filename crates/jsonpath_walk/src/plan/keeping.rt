@@ -44,7 +44,7 @@ pub fn near_entry(sources: &Vec<Source<'_>>, sought: Source<'_>) -> Option<usize
 }
 
 /// Whether the queries are the same, and the same is wanted of them.
-#[tactic(auto, using(jsonpath_tree::proofs::TreeEquality::query_same, jsonpath_tree::proofs::Equality::singular_same))]
+#[tactic(auto, using(jsonpath_tree::proofs::TreeEquality::query_same, jsonpath_tree::proofs::TreeEquality::singular_same))]
 fn is_same(left: Source<'_>, right: Source<'_>) -> bool
     ensures { IsTrue result → source_of left.entry ≡ source_of right.entry }
 {
