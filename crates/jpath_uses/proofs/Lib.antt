@@ -1,4 +1,3 @@
-pub mod Again
 pub mod Differing
 pub mod Firsts
 pub mod Making
