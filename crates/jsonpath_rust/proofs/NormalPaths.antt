@@ -14,7 +14,7 @@ use Rattle.jsonpath_node.specs.Document.{Document}
 use Rattle.jsonpath_node.specs.Meaning.{selected}
 use Rattle.jsonpath_node.specs.Patterns.{segments_patterns, IsStop}
 use Rattle.jsonpath_node.proofs.NormalSteps.{selected-steps}
-use Rattle.jsonpath_walk.proofs.PatternLaws.{stop_is_memory}
+use Rattle.jsonpath_walk.proofs.HaltingLaws.{stop_is_memory}
 
 -- what is shown of the nodes of a location's query is the node there
 only_node : (l : Location) (doc : Document) (q : Query) (path : List ℕ) (answer : List (List ℕ × Tree)) → IsNormal l path → q ≡ steps_query l → AllZip (IsNodeAt doc) (selected q doc) answer → answer ≡ node_there doc l path

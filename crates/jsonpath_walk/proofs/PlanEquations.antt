@@ -1,11 +1,12 @@
 -- The view of a plan, one equation for each variant.
-use Rattle.std.proofs.Common.{◌≡◌, ℕ, ℤ, List, map, Option, Bool, Box, Vec, String, Global, string_bytes, rules}
+use Rattle.std.proofs.lemmas.Simd.{map-map}
+use Rattle.std.proofs.Common.{◌≡◌, ◌∙◌, ap, ℕ, ℤ, map, Option, Bool, Box, Vec, String, Global, string_bytes, rules}
 use Rattle.jsonpath_tree.specs.Syntax as tree
 use Rattle.jsonpath_tree.specs.View.{literal_view, step_view, operator_view, selectors_of, filters_of, arguments_of}
 use Rattle.jsonpath_tree.specs.declared.model.Literal.{Literal}
 use Rattle.jsonpath_tree.specs.declared.model.SingularQuerySegment.{SingularQuerySegment}
 use Rattle.jsonpath_tree.specs.declared.model.operator.Operator.{Operator}
-use Rattle.jsonpath_walk.specs.inner.PlanViews.{Kept, query_at, steps_query, steps_in, segments_in, argument_view, call_view, filter_view, nodes_view, segment_view, selector_view, side_view}
+use Rattle.jsonpath_walk.specs.inner.PlanViews.{Kept, query_at, steps_query, steps_at, segments_in, arguments_in, argument_view, call_view, filter_view, nodes_view, segment_view, selector_view, side_view}
 use Rattle.jsonpath_walk.specs.declared.plan.Argument
 use Rattle.jsonpath_walk.specs.declared.plan.Argument.{Argument}
 use Rattle.jsonpath_walk.specs.declared.plan.Call
@@ -40,6 +41,9 @@ argument_view-Filter kept f w = search (rules, the_lemmas)
 
 pub call_view-Custom : (kept : Kept) (s : String Global) (v : Vec Argument Global) → call_view kept (Call.Custom s v) ≡ tree.custom_call (string_bytes s) (arguments_of (map (λ x. x Values) (map (argument_view kept) v.items)))
 call_view-Custom kept s v = search (rules, the_lemmas)
+
+pub called : (kept : Kept) (s : String Global) (v : Vec Argument Global) → call_view kept (Call.Custom s v) ≡ tree.custom_call (string_bytes s) (arguments_in kept v.items)
+called kept s v = call_view-Custom kept s v ∙ ap (λ xs. tree.custom_call (string_bytes s) (arguments_of xs)) (map-map (λ x. x Values) (argument_view kept) v.items)
 
 pub call_view-Length : (kept : Kept) (x : Argument) → call_view kept (Call.Length x) ≡ tree.length_call (argument_view kept x Only)
 call_view-Length kept x = search (rules, the_lemmas)
@@ -113,7 +117,7 @@ side_view-Literal kept l = search (rules, the_lemmas)
 pub side_view-Lookup : (kept : Kept) (v : Vec SingularQuerySegment Global) → side_view kept (Side.Lookup v) ≡ tree.singular (tree.current (map step_view v.items))
 side_view-Lookup kept v = search (rules, the_lemmas)
 
-pub side_view-Kept : (kept : Kept) (n : ℕ) → side_view kept (Side.Kept n) ≡ tree.singular (tree.root (steps_in (query_at kept Only n)))
+pub side_view-Kept : (kept : Kept) (n : ℕ) → side_view kept (Side.Kept n) ≡ tree.singular (tree.root (steps_at kept n))
 side_view-Kept kept n = search (rules, the_lemmas)
 
 pub side_view-Call : (kept : Kept) (c : Box Call Global) → side_view kept (Side.Call c) ≡ tree.function (call_view kept c.value)

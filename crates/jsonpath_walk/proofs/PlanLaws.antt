@@ -5,9 +5,10 @@ use Rattle.std.proofs.lemmas.List.{map-append, map_more, get_or_append_left, tak
 use Rattle.std.proofs.Math.ListN.{length-map}
 use Rattle.jsonpath_tree.specs.Syntax as tree
 use Rattle.jsonpath_tree.specs.View.{segments_of}
-use Rattle.jsonpath_walk.specs.inner.PlanViews.{Kept, kept_view, kept_from, segments_in, segment_view, is_same_wanted, query_at, step_segment, steps_query, steps_in}
-use Rattle.jsonpath_walk.specs.inner.PlanMaking.{Extends, IsRight, Made, IsBeside, IsKept, IsNumberOf, kept_in, source_of}
+use Rattle.jsonpath_walk.specs.inner.PlanViews.{Kept, KeptPart, nodes, value, kept_view, kept_from, rooted_view, segments_in, segment_view, is_same_wanted, query_in, part_at, IsSettled}
+use Rattle.jsonpath_walk.specs.inner.PlanMaking.{Extends, IsRight, Made, IsBeside, IsKept, IsNumberOf, kept_in, parts_of, source_of}
 use Rattle.jsonpath_walk.specs.declared.plan.Entry.{Entry}
+use Rattle.jsonpath_walk.specs.declared.plan.Rooted.{Rooted}
 use Rattle.jsonpath_walk.specs.declared.plan.Segment.{Segment}
 use Rattle.jsonpath_walk.specs.declared.plan.keeping.Source.{Source}
 use Rattle.jsonpath_walk.specs.declared.plan.make.Maker.{Maker}
@@ -24,10 +25,37 @@ extends_on a b c h k = record { more = h.more ++ k.more; is = k.is ∙ ap (λ x.
 pub made_none : {A : Type 0} (m : Maker) (part : Kept → A) (a : A) → ((kept : Kept) → part kept ≡ a) → Made m m part a
 made_none m part a s = record { grows = extends_none (kept_in m); says = λ kept h. s kept; right = λ r. r }
 
+-- nothing is kept between the two
+right_beside : (old new : Maker) → IsBeside old new → IsRight old → IsRight new
+right_beside old new b r =
+    let e : kept_in new ≡ kept_in old = ap parts_of b.met in
+    record {
+      is = ap kept_view b.entries ∙ r.is ∙ sym e;
+      settled = λ kept x. ap (map (λ p. rooted_view kept p.part)) b.entries ∙ r.settled kept (subst (λ k. Extends k kept) e x) ∙ sym e;
+    }
+
 pub made_beside : {A : Type 0} (old new : Maker) (part : Kept → A) (a : A) → IsBeside old new → ((kept : Kept) → part kept ≡ a) → Made old new part a
-made_beside old new part a b s =
-    let e : kept_in new ≡ kept_in old = ap (map source_of) b.sources in
-    record { grows = subst (Extends (kept_in old)) (sym e) (extends_none (kept_in old)); says = λ kept h. s kept; right = λ r. record { is = ap kept_view b.entries ∙ r.is ∙ sym e } }
+made_beside old new part a b s = record {
+  grows = subst (Extends (kept_in old)) (sym (ap parts_of b.met)) (extends_none (kept_in old));
+  says = λ kept h. s kept;
+  right = right_beside old new b;
+}
+
+pub made_after : {A : Type 0} {old mid new : Maker} {part : Kept → A} {a : A} → IsBeside old mid → Made mid new part a → Made old new part a
+made_after {old = old} {mid = mid} {new = new} b m = record {
+  grows = subst (λ k. Extends k (kept_in new)) (ap parts_of b.met) m.grows;
+  says = m.says;
+  right = λ r. m.right (right_beside old mid b r);
+}
+
+pub made_before : {A : Type 0} {old mid new : Maker} {part : Kept → A} {a : A} → IsBeside mid new → Made old mid part a → Made old new part a
+made_before {old = old} {mid = mid} {new = new} b m =
+    let e : kept_in new ≡ kept_in mid = ap parts_of b.met in
+    record {
+      grows = subst (Extends (kept_in old)) (sym e) m.grows;
+      says = λ kept x. m.says kept (subst (λ k. Extends k kept) e x);
+      right = λ r. right_beside mid new b (m.right r);
+    }
 
 -- the part in other words, or what holds it
 pub made_as : {A B : Type 0} {old new : Maker} {part : Kept → A} {a : A} (k : A → B) (whole : Kept → B) (b : B) → ((kept : Kept) → whole kept ≡ k (part kept)) → b ≡ k a → Made old new part a → Made old new whole b
@@ -58,52 +86,65 @@ made_next view source xs zs x ys i y p h e m n = made_both (λ done a. done ++ a
 
 -- ---- entries
 
-same_self : (w : Wanted) → is_same_wanted w w ≡ true
+pub same_self : (w : Wanted) → is_same_wanted w w ≡ true
 same_self Any = refl
 same_self Count = refl
 same_self Only = refl
 same_self Values = refl
 
--- the query of an entry, for what is wanted of it
-at_entry : (kept : Kept) (p : Wanted × tree.Query) (n : ℕ) → get_or kept n (Any, tree.no_segments) ≡ p → query_at kept p.0 n ≡ p.1
-at_entry kept p n e = ap (λ x. (if is_same_wanted p.0 x.0 then x.1 else tree.no_segments)) e ∙ ap (λ b. (if b then p.1 else tree.no_segments)) (same_self p.0)
+-- the query of a part, for what is wanted of it
+pub query_in-nodes : (w : Wanted) (q : tree.Query) → query_in w (nodes w q) ≡ q
+query_in-nodes w q = ap (λ b. (if b then q else tree.no_segments)) (same_self w)
 
-pub kept_push : (kept : Kept) (es : List Entry) (e : Entry) → kept_from kept (es ++ e ∷ []) ≡ kept_from kept es ++ (e.wanted, segments_in (kept_from kept es) e.segments.items) ∷ []
+kept_push : (kept : Kept) (es : List Entry) (e : Entry) → kept_from kept (es ++ e ∷ []) ≡ kept_from kept es ++ rooted_view (kept_from kept es) e.part ∷ []
 kept_push kept [] e = refl
-kept_push kept (x ∷ es) e = kept_push (kept ++ (x.wanted, segments_in kept x.segments.items) ∷ []) es e
+kept_push kept (x ∷ es) e = kept_push (kept ++ rooted_view kept x.part ∷ []) es e
 
 -- the entry of this number keeps what is sought
-pub made_found : (m : Maker) (s : Source) (n : ℕ) → IsNumberOf m.sources.items s n → Made m m (λ kept. query_at kept (source_of s).0 n) (source_of s).1
-made_found m s n h = record {
-  grows = extends_none (kept_in m);
-  says = λ kept x. at_entry kept (source_of s) n (ap (λ l. get_or l n (Any, tree.no_segments)) x.is ∙ get_or_append_left (kept_in m) x.more (Any, tree.no_segments) n (subst (λ k. n < k) (sym (length-map m.sources.items source_of)) h.within) ∙ h.is);
+pub made_found : (old new : Maker) (s : Source) (n : ℕ) → IsBeside old new → IsNumberOf old.met.items s n → Made old new (λ kept. part_at kept n) (source_of s)
+made_found old new s n b h = made_before b (record {
+  grows = extends_none (kept_in old);
+  says = λ kept x. ap (λ l. part_at l n) x.is ∙ get_or_append_left (kept_in old) x.more (value []) n (subst (λ k. n < k) (sym (length-map old.met.items (λ e. source_of e.source))) h.within) ∙ h.is;
   right = λ r. r;
-}
+})
 
 -- the entry that was made keeps what it was made of
-pub made_kept : {old mid new : Maker} (gs : List Segment) (s : Source) (n : ℕ) → IsKept mid new gs s n → Made old mid (λ kept. segments_in kept gs) (source_of s).1 → Made old new (λ kept. query_at kept (source_of s).0 n) (source_of s).1
-made_kept {old = old} {mid = mid} {new = new} gs s n k m =
-    let p = source_of s in
-    let seam : n ≡ length (kept_in mid) = k.number ∙ sym (length-map mid.sources.items source_of) in
-    let grown : kept_in new ≡ kept_in mid ++ p ∷ [] = ap (map source_of) k.sources ∙ map-append source_of mid.sources.items (s ∷ []) in
+pub made_kept : {old mid new : Maker} (part : Rooted) (s : Source) (n : ℕ) → IsKept mid new part s n → Made old mid (λ kept. rooted_view kept part) (source_of s) → Made old new (λ kept. part_at kept n) (source_of s)
+made_kept {old = old} {mid = mid} {new = new} part s n k m =
+    let p : KeptPart = source_of s in
+    let seam : n ≡ length (kept_in mid) = k.number ∙ sym (length-map mid.met.items (λ e. source_of e.source)) in
+    let grown : kept_in new ≡ kept_in mid ++ p ∷ [] = ap parts_of k.met ∙ map-append (λ e. source_of e.source) mid.met.items _ in
     let grows : Extends (kept_in mid) (kept_in new) = record { more = p ∷ []; is = grown } in
     record {
       grows = extends_on (kept_in old) (kept_in mid) (kept_in new) m.grows grows;
-      says = λ kept x. at_entry kept p n (ap (λ l. get_or l n (Any, tree.no_segments)) (x.is ∙ ap (λ l. l ++ x.more) grown ∙ append_assoc (kept_in mid) (p ∷ []) x.more) ∙ ap (λ i. get_or (kept_in mid ++ p ∷ x.more) i (Any, tree.no_segments)) seam ∙ get_or-append_seam (kept_in mid) p x.more (Any, tree.no_segments));
-      right = λ r. let was = m.right r in record { is = k.entries ∙ ap (λ l. l ++ (p.0, segments_in l gs) ∷ []) was.is ∙ ap (λ q. kept_in mid ++ (p.0, q) ∷ []) (m.says (kept_in mid) (extends_none (kept_in mid))) ∙ sym grown };
+      says = λ kept x. ap (λ l. part_at l n) (x.is ∙ ap (λ l. l ++ x.more) grown ∙ append_assoc (kept_in mid) (p ∷ []) x.more) ∙ ap (λ i. part_at (kept_in mid ++ p ∷ x.more) i) seam ∙ get_or-append_seam (kept_in mid) p x.more (value []);
+      right = λ r.
+          let was : IsRight mid = m.right r in
+          record {
+            is = ap kept_view k.entries ∙ kept_push [] mid.kept.items _ ∙ ap (λ l. l ++ rooted_view l part ∷ []) was.is ∙ ap (λ q. kept_in mid ++ q ∷ []) (m.says (kept_in mid) (extends_none (kept_in mid))) ∙ sym grown;
+            settled = λ kept x.
+                let on : Extends (kept_in mid) kept = extends_on (kept_in mid) (kept_in new) kept grows x in
+                ap (map (λ e. rooted_view kept e.part)) k.entries ∙ map-append (λ e. rooted_view kept e.part) mid.kept.items _ ∙ ap (λ l. l ++ rooted_view kept part ∷ []) (was.settled kept on) ∙ ap (λ q. kept_in mid ++ q ∷ []) (m.says kept on) ∙ sym grown;
+          };
     }
-
--- ---- singular queries
-
-pub steps_in-query : (ss : List tree.SingularStep) → steps_in (steps_query ss) ≡ ss
-steps_in-query [] = refl
-steps_in-query (tree.name_step k ∷ ss) = ap (λ more. tree.name_step k ∷ more) (steps_in-query ss)
-steps_in-query (tree.index_step i ∷ ss) = ap (λ more. tree.index_step i ∷ more) (steps_in-query ss)
 
 -- ---- the plan
 
-pub plan_made : (old new : Maker) (gs : List Segment) (was : List tree.Segment) → old.kept.items ≡ [] → old.sources.items ≡ [] → Made old new (λ kept. map (segment_view kept) gs) was → segments_in (kept_view new.kept.items) gs ≡ segments_of was
-plan_made old new gs was k s m =
-    let start : IsRight old = record { is = ap kept_view k ∙ sym (ap (map source_of) s) } in
-    let end : IsRight new = m.right start in
-    ap segments_of (m.says (kept_view new.kept.items) (subst (Extends (kept_in new)) (sym end.is) (extends_none (kept_in new))))
+-- where nothing was kept before, what is kept is what each entry was made of
+end_right : {A : Type 0} {old new : Maker} {part : Kept → A} {a : A} → Made old new part a → old.kept.items ≡ [] → old.met.items ≡ [] → IsRight new
+end_right m k s = m.right (record {
+  is = ap kept_view k ∙ sym (ap parts_of s);
+  settled = λ kept x. ap (map (λ e. rooted_view kept e.part)) k ∙ sym (ap parts_of s);
+})
+
+-- that is all that is kept
+end_extends : (new : Maker) → IsRight new → Extends (kept_in new) (kept_view new.kept.items)
+end_extends new r = subst (Extends (kept_in new)) (sym r.is) (extends_none (kept_in new))
+
+pub plan_made : {old new : Maker} {was : List tree.Segment} (gs : List Segment) → Made old new (λ kept. map (segment_view kept) gs) was → old.kept.items ≡ [] → old.met.items ≡ [] → segments_in (kept_view new.kept.items) gs ≡ segments_of was
+plan_made {new = new} gs m k s = ap segments_of (m.says (kept_view new.kept.items) (end_extends new (end_right m k s)))
+
+pub plan_settled : {A : Type 0} {old new : Maker} {part : Kept → A} {a : A} → Made old new part a → old.kept.items ≡ [] → old.met.items ≡ [] → IsSettled new.kept.items
+plan_settled {new = new} m k s =
+    let r : IsRight new = end_right m k s in
+    r.settled (kept_view new.kept.items) (end_extends new r) ∙ sym r.is

@@ -11,7 +11,7 @@ use Rattle.jsonpath_walk.specs.declared.prepared.Prepared.{Prepared}
 
 -- the query that is asked
 abbrev pub prepared_view : Prepared → Query
-prepared_view p = query_view p.query
+prepared_view p = query_view p.planned.query
 
 -- what is shown is the node at the first location that the query selects
 pub record IsFirstNode (q : Query) (doc : Document) (shown : List ℕ × Tree) : Type 0 where

@@ -1,13 +1,12 @@
 -- What the crate's own contracts and proofs say. Nothing here is part of what a query means.
 pub mod Arguing
-pub mod Census
-pub mod Contents
+pub mod Halting
 pub mod Keeping
 pub mod Lookup
-pub mod Nesting
 pub mod Passing
 pub mod PlanMaking
 pub mod PlanViews
+pub mod Planned
 pub mod Sinks
 pub mod Standing
 pub mod Walking

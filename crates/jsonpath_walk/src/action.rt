@@ -1,14 +1,14 @@
 //! What a walk does at the children of a value.
 ghost use Rattle.std.specs.Prelude.{◌≡◌, [], IsTrue, IfSome};
 ghost use Rattle.jsonpath_core.specs.Location.{Location};
-ghost use Rattle.jsonpath_tree.specs.View.{segment_view};
 ghost use Rattle.jsonpath_node.specs.Document.{Document};
+ghost use Rattle.jsonpath_walk.specs.inner.PlanViews.{Kept, segment_view};
 ghost use Rattle.jsonpath_walk.specs.inner.Walking.{acted};
 ghost use Rattle.jsonpath_walk.specs.inner.Passing.{GoesToEachChild};
 
+use crate::plan::{Filter, Segment, Selector};
 use jsonpath_node::queryable::Queryable;
 use jsonpath_node::queryable::children::is_leaf;
-use jsonpath_tree::model::{Filter, Segment, Selector};
 
 /// What is done at a child.
 #[derive(Clone, Copy)]
@@ -25,7 +25,7 @@ pub enum Action<'s> {
 #[inline(always)]
 pub fn is_idle<T: Queryable>(action: Action<'_>, value: &T) -> bool
     requires { IsTrue (T.is_whole value.now) }
-    ensures { IsTrue result → (d : Document) (l : Location) → acted action.entry d (record { location = l; tree = T.tree value.now }) ≡ [] }
+    ensures { IsTrue result → (kept : Kept) (d : Document) (l : Location) → acted kept action.entry d (record { location = l; tree = T.tree value.now }) ≡ [] }
 {
     match action {
         Action::Below(_) => is_leaf(value),
@@ -36,7 +36,7 @@ pub fn is_idle<T: Queryable>(action: Action<'_>, value: &T) -> bool
 /// What the segment does at each child, where that is all it does.
 #[inline(always)]
 pub fn of_each_child(segment: &Segment) -> Option<Action<'_>>
-    ensures { IfSome result (GoesToEachChild (segment_view segment.now)) }
+    ensures { (kept : Kept) → IfSome result (GoesToEachChild kept (segment_view kept segment.now)) }
 {
     match segment {
         Segment::Selector(selector) => match selector {

@@ -22,50 +22,50 @@ pub enum Argument<'a, 's, T> {
 impl<'a, 's, T: Queryable> Argument<'a, 's, T> {
     /// As a value: of nodes, that of the only one (RFC 9535, 2.4.2).
     pub fn value(self, cache: &Cache<'a, 's, T>) -> Operand<'a, 's, T>
-        requires within { IsHeld T.is_whole cache.now self }
+        requires within { IsHeld T.is_whole self }
         requires whole { OnlyIsWhole (held T.tree T.is_whole cache.now self) }
         ensures value { operand_tree T.tree result ≡ value_held (held T.tree T.is_whole cache.now self.entry) }
         ensures whole { IsTrue (operand_is_whole T.is_whole result) }
     {
         match self {
             Argument::Value(value) => value,
-            Argument::Nodes(nodes) => Operand::lent(cache.given(&nodes).only()),
+            Argument::Nodes(nodes) => Operand::lent(nodes.only(cache)),
         }
     }
 
     /// The value of the only node (RFC 9535, 2.4.8).
     pub fn only(self, cache: &Cache<'a, 's, T>) -> Operand<'a, 's, T>
-        requires within { IsHeld T.is_whole cache.now self }
+        requires within { IsHeld T.is_whole self }
         requires whole { OnlyIsWhole (held T.tree T.is_whole cache.now self) }
         ensures value { operand_tree T.tree result ≡ only_held (held T.tree T.is_whole cache.now self.entry) }
         ensures whole { IsTrue (operand_is_whole T.is_whole result) }
     {
         match self {
             Argument::Value(_value) => Operand::Absent,
-            Argument::Nodes(nodes) => Operand::lent(cache.given(&nodes).only()),
+            Argument::Nodes(nodes) => Operand::lent(nodes.only(cache)),
         }
     }
 
     /// How many nodes there are (RFC 9535, 2.4.5).
     pub fn count(self, cache: &Cache<'a, 's, T>) -> Operand<'a, 's, T>
-        requires { IsHeld T.is_whole cache.now self }
+        requires { IsHeld T.is_whole self }
         ensures value { operand_tree T.tree result ≡ count_held (held T.tree T.is_whole cache.now self.entry) }
         ensures whole { IsTrue (operand_is_whole T.is_whole result) }
     {
         match self {
             Argument::Value(_value) => Operand::Plain(count_scalar(0)),
-            Argument::Nodes(nodes) => Operand::Plain(count_scalar(cache.given(&nodes).counted())),
+            Argument::Nodes(nodes) => Operand::Plain(count_scalar(nodes.counted(cache))),
         }
     }
 
     /// Whether there is a node, or the value is true (RFC 9535, 2.3.5.2.1).
     pub fn is_true(&self, cache: &Cache<'a, 's, T>) -> bool
-        requires { IsHeld T.is_whole cache.now self.now }
+        requires { IsHeld T.is_whole self.now }
         ensures { result ≡ truth_held (held T.tree T.is_whole cache.now self.now) }
     {
         match self {
             Argument::Value(value) => value.is_true(),
-            Argument::Nodes(nodes) => cache.given(nodes).has_any(),
+            Argument::Nodes(nodes) => nodes.has_any(cache),
         }
     }
 
@@ -76,7 +76,7 @@ impl<'a, 's, T: Queryable> Argument<'a, 's, T> {
         cache: &Cache<'a, 's, T>,
         args: &mut Vec<Arg<'a, T>>,
     ) -> Walked<()>
-        requires within { IsHeld T.is_whole cache.now self }
+        requires within { IsHeld T.is_whole self }
         requires whole { HeldAreWhole (held T.tree T.is_whole cache.now self) }
         requires others { AreWhole T.is_whole args.old.items }
         ensures value { OnOk result (arg_trees T.tree args.new.items ≡ arg_trees T.tree args.old.items ++ trees_held (held T.tree T.is_whole cache.now self.entry)) }
@@ -85,7 +85,10 @@ impl<'a, 's, T: Queryable> Argument<'a, 's, T> {
     {
         match self {
             Argument::Value(value) => value.push_to(alloc, args),
-            Argument::Nodes(nodes) => push_values(cache.given(&nodes), args),
+            Argument::Nodes(nodes) => match nodes.sink(cache) {
+                Some(sink) => push_values(sink, args),
+                None => Ok(()),
+            },
         }
     }
 }

@@ -1,24 +1,24 @@
 //! The children of a value, one after the other, and what is done at each of them.
-ghost use Rattle.std.specs.Prelude.{◌≡◌, [], ◌∷◌, ◌++◌, map, IfOk, IfErr, OnOk};
+ghost use Rattle.std.specs.Prelude.{◌≡◌, [], ◌∷◌, ◌++◌, map, IfOk, IfErr, OnOk, OnErr};
 ghost use Rattle.std.specs.List.{flat_map};
-ghost use Rattle.jsonpath_tree.specs.View.{segment_view};
 ghost use Rattle.jsonpath_node.specs.Node.{below, children, subtree};
 ghost use Rattle.jsonpath_node.specs.Meaning.{replaced};
-ghost use Rattle.jsonpath_walk.specs.inner.Contents.{StandIn, segments_contents, segment_contents};
+ghost use Rattle.jsonpath_node.specs.Patterns.{segments_patterns, segment_patterns};
+ghost use Rattle.jsonpath_walk.specs.inner.Halting.{IsHalt, StandIn};
+ghost use Rattle.jsonpath_walk.specs.inner.PlanViews.{segments_in, segment_view};
 ghost use Rattle.jsonpath_walk.specs.inner.Sinks.{Took, seen};
-ghost use Rattle.jsonpath_walk.specs.inner.Keeping.{document, query_of};
-ghost use Rattle.jsonpath_walk.specs.inner.Standing.{Stands, Returns, IsHalt, AreMembers};
-ghost use Rattle.jsonpath_walk.specs.inner.Walking.{through, node_of, step_of, acted, action_contents};
-ghost use Rattle.jsonpath_node.specs.inner.Parts.{segments_in};
+ghost use Rattle.jsonpath_walk.specs.inner.Keeping.{IsReady, document, kept_of, query_of};
+ghost use Rattle.jsonpath_walk.specs.inner.Standing.{Stands, Returns, AreMembers};
+ghost use Rattle.jsonpath_walk.specs.inner.Walking.{through, node_of, step_of, acted, action_patterns};
 
 use crate::action::{Action, is_idle, of_each_child};
+use crate::plan::Segment;
 use crate::sink::Sink;
 use crate::trail::Trail;
 use crate::walk::Task;
 use crate::way::StepRef;
 use jsonpath_node::halt::Walked;
 use jsonpath_node::queryable::Queryable;
-use jsonpath_tree::model::Segment;
 
 /// A child of the value at hand, and the step that leads to it.
 #[derive(Clone, Copy)]
@@ -46,12 +46,13 @@ impl<'a: 's, 's, T: Queryable> Task<'a, 's, T> {
         sink: &mut Sink<'a, T>,
     ) -> Walked<bool>
         requires stands { Stands T.tree T.is_whole T.custom self.now at.now trail.old.way.steps.items trail.old.cache }
-        requires part { StandIn (query_of self.now) (action_contents action ++ segments_contents (segments_in rest.now)) }
+        requires part { StandIn (query_of self.now) (action_patterns (kept_of self.now) action ++ segments_patterns (segments_in (kept_of self.now) rest.now)) }
         ensures gave { IfOk result (λ b. Took (seen T.tree T.is_whole sink.old)
-            (flat_map (through (segments_in rest.now) (document T.tree T.custom self.now))
-            (flat_map (acted action.entry (document T.tree T.custom self.now)) (children (node_of T.tree trail.old.way.steps.items at.now))))
+            (flat_map (through (segments_in (kept_of self.now) rest.now) (document T.tree T.custom self.now))
+            (flat_map (acted (kept_of self.now) action.entry (document T.tree T.custom self.now)) (children (node_of T.tree trail.old.way.steps.items at.now))))
             (seen T.tree T.is_whole sink.new) b) }
         ensures returns { OnOk result (Returns T.tree T.is_whole T.custom self.now trail.old trail.new) }
+        ensures ready { OnErr result (IsReady T.tree T.is_whole T.custom self.now trail.new.cache) }
         ensures refused { IfErr result (IsHalt (query_of self.now) (document T.tree T.custom self.now)) }
     {
         if let Some(items) = at.as_array() {
@@ -83,12 +84,13 @@ impl<'a: 's, 's, T: Queryable> Task<'a, 's, T> {
     ) -> Walked<bool>
         requires stands { Stands T.tree T.is_whole T.custom self.now members.now.of.now trail.old.way.steps.items trail.old.cache }
         requires listed { AreMembers T.tree T.is_whole members.now }
-        requires part { StandIn (query_of self.now) (action_contents action ++ segments_contents (segments_in rest.now)) }
+        requires part { StandIn (query_of self.now) (action_patterns (kept_of self.now) action ++ segments_patterns (segments_in (kept_of self.now) rest.now)) }
         ensures gave { IfOk result (λ b. Took (seen T.tree T.is_whole sink.old)
-            (flat_map (through (segments_in rest.now) (document T.tree T.custom self.now))
-            (flat_map (acted action.entry (document T.tree T.custom self.now)) (children (node_of T.tree trail.old.way.steps.items members.now.of.now))))
+            (flat_map (through (segments_in (kept_of self.now) rest.now) (document T.tree T.custom self.now))
+            (flat_map (acted (kept_of self.now) action.entry (document T.tree T.custom self.now)) (children (node_of T.tree trail.old.way.steps.items members.now.of.now))))
             (seen T.tree T.is_whole sink.new) b) }
         ensures returns { OnOk result (Returns T.tree T.is_whole T.custom self.now trail.old trail.new) }
+        ensures ready { OnErr result (IsReady T.tree T.is_whole T.custom self.now trail.new.cache) }
         ensures refused { IfErr result (IsHalt (query_of self.now) (document T.tree T.custom self.now)) }
     {
         for member in members.list {
@@ -113,12 +115,13 @@ impl<'a: 's, 's, T: Queryable> Task<'a, 's, T> {
         sink: &mut Sink<'a, T>,
     ) -> Walked<bool>
         requires stands { Stands T.tree T.is_whole T.custom self.now child.value.now (trail.old.way.steps.items ++ child.step ∷ []) trail.old.cache }
-        requires part { StandIn (query_of self.now) (action_contents action ++ segments_contents (segments_in rest.now)) }
+        requires part { StandIn (query_of self.now) (action_patterns (kept_of self.now) action ++ segments_patterns (segments_in (kept_of self.now) rest.now)) }
         ensures gave { IfOk result (λ b. Took (seen T.tree T.is_whole sink.old)
-            (flat_map (through (segments_in rest.now) (document T.tree T.custom self.now))
-            (acted action.entry (document T.tree T.custom self.now) (below (map step_of trail.old.way.steps.items) (step_of child.entry.step) (T.tree child.entry.value.now))))
+            (flat_map (through (segments_in (kept_of self.now) rest.now) (document T.tree T.custom self.now))
+            (acted (kept_of self.now) action.entry (document T.tree T.custom self.now) (below (map step_of trail.old.way.steps.items) (step_of child.entry.step) (T.tree child.entry.value.now))))
             (seen T.tree T.is_whole sink.new) b) }
         ensures returns { OnOk result (Returns T.tree T.is_whole T.custom self.now trail.old trail.new) }
+        ensures ready { OnErr result (IsReady T.tree T.is_whole T.custom self.now trail.new.cache) }
         ensures refused { IfErr result (IsHalt (query_of self.now) (document T.tree T.custom self.now)) }
     {
         if is_idle(action, child.value) {
@@ -142,12 +145,13 @@ impl<'a: 's, 's, T: Queryable> Task<'a, 's, T> {
         sink: &mut Sink<'a, T>,
     ) -> Walked<bool>
         requires stands { Stands T.tree T.is_whole T.custom self.now at.now trail.old.way.steps.items trail.old.cache }
-        requires part { StandIn (query_of self.now) (action_contents action ++ segments_contents (segments_in rest.now)) }
+        requires part { StandIn (query_of self.now) (action_patterns (kept_of self.now) action ++ segments_patterns (segments_in (kept_of self.now) rest.now)) }
         ensures gave { IfOk result (λ b. Took (seen T.tree T.is_whole sink.old)
-            (flat_map (through (segments_in rest.now) (document T.tree T.custom self.now))
-            (acted action.entry (document T.tree T.custom self.now) (node_of T.tree trail.old.way.steps.items at.now)))
+            (flat_map (through (segments_in (kept_of self.now) rest.now) (document T.tree T.custom self.now))
+            (acted (kept_of self.now) action.entry (document T.tree T.custom self.now) (node_of T.tree trail.old.way.steps.items at.now)))
             (seen T.tree T.is_whole sink.new) b) }
         ensures returns { OnOk result (Returns T.tree T.is_whole T.custom self.now trail.old trail.new) }
+        ensures ready { OnErr result (IsReady T.tree T.is_whole T.custom self.now trail.new.cache) }
         ensures refused { IfErr result (IsHalt (query_of self.now) (document T.tree T.custom self.now)) }
     {
         match action {
@@ -175,12 +179,13 @@ impl<'a: 's, 's, T: Queryable> Task<'a, 's, T> {
         sink: &mut Sink<'a, T>,
     ) -> Walked<bool>
         requires stands { Stands T.tree T.is_whole T.custom self.now at.now trail.old.way.steps.items trail.old.cache }
-        requires part { StandIn (query_of self.now) (segment_contents (segment_view segment.now) ++ segments_contents (segments_in rest.now)) }
+        requires part { StandIn (query_of self.now) (segment_patterns (segment_view (kept_of self.now) segment.now) ++ segments_patterns (segments_in (kept_of self.now) rest.now)) }
         ensures gave { IfOk result (λ b. Took (seen T.tree T.is_whole sink.old)
-            (flat_map (through (segments_in rest.now) (document T.tree T.custom self.now))
-            (flat_map (replaced (segment_view segment.now) (document T.tree T.custom self.now)) (subtree (node_of T.tree trail.old.way.steps.items at.now))))
+            (flat_map (through (segments_in (kept_of self.now) rest.now) (document T.tree T.custom self.now))
+            (flat_map (replaced (segment_view (kept_of self.now) segment.now) (document T.tree T.custom self.now)) (subtree (node_of T.tree trail.old.way.steps.items at.now))))
             (seen T.tree T.is_whole sink.new) b) }
         ensures returns { OnOk result (Returns T.tree T.is_whole T.custom self.now trail.old trail.new) }
+        ensures ready { OnErr result (IsReady T.tree T.is_whole T.custom self.now trail.new.cache) }
         ensures refused { IfErr result (IsHalt (query_of self.now) (document T.tree T.custom self.now)) }
     {
         let further = Action::Below(segment);
@@ -213,11 +218,12 @@ impl<'a: 's, 's, T: Queryable> Task<'a, 's, T> {
         sink: &mut Sink<'a, T>,
     ) -> Walked<bool>
         requires stands { Stands T.tree T.is_whole T.custom self.now at.now trail.old.way.steps.items trail.old.cache }
-        requires part { StandIn (query_of self.now) (segments_contents (segments_in rest.now)) }
+        requires part { StandIn (query_of self.now) (segments_patterns (segments_in (kept_of self.now) rest.now)) }
         ensures gave { IfOk result (λ b. Took (seen T.tree T.is_whole sink.old)
-            (through (segments_in rest.now) (document T.tree T.custom self.now) (node_of T.tree trail.old.way.steps.items at.now))
+            (through (segments_in (kept_of self.now) rest.now) (document T.tree T.custom self.now) (node_of T.tree trail.old.way.steps.items at.now))
             (seen T.tree T.is_whole sink.new) b) }
         ensures returns { OnOk result (Returns T.tree T.is_whole T.custom self.now trail.old trail.new) }
+        ensures ready { OnErr result (IsReady T.tree T.is_whole T.custom self.now trail.new.cache) }
         ensures refused { IfErr result (IsHalt (query_of self.now) (document T.tree T.custom self.now)) }
     {
         match rest.split_first() {

@@ -1,17 +1,20 @@
 //! Whether filters hold (RFC 9535, 2.3.5).
-ghost use Rattle.std.specs.Prelude.{◌≡◌, IsTrue, IfOk, IfErr, OnOk};
-ghost use Rattle.jsonpath_tree.specs.View.{filter_view, atom_view, comparison_view, comparable_view};
-ghost use Rattle.jsonpath_node.specs.Meaning.{holds, some_holds, each_holds, atom_holds, comparison_holds, value_of};
+ghost use Rattle.std.specs.Prelude.{◌≡◌, ◌++◌, IsTrue, IfOk, IfErr, OnOk, OnErr};
+ghost use Rattle.jsonpath_tree.specs.View.{operator_view};
+ghost use Rattle.jsonpath_node.specs.Comparing.{compares};
+ghost use Rattle.jsonpath_node.specs.Functions.{as_truth};
+ghost use Rattle.jsonpath_node.specs.Meaning.{holds, some_holds, each_holds, tested, value_of};
+ghost use Rattle.jsonpath_node.specs.Patterns.{filter_patterns, filters_patterns, comparable_patterns, test_patterns};
 ghost use Rattle.jsonpath_node.specs.inner.Operands.{operand_tree, operand_is_whole};
-ghost use Rattle.jsonpath_walk.specs.inner.Contents.{StandIn, filter_contents, filters_contents, atom_contents, comparison_contents, comparable_contents};
-ghost use Rattle.jsonpath_walk.specs.inner.Keeping.{document, query_of};
-ghost use Rattle.jsonpath_walk.specs.inner.Standing.{Stands, Returns, IsHalt};
+ghost use Rattle.jsonpath_walk.specs.inner.Halting.{IsHalt, StandIn};
+ghost use Rattle.jsonpath_walk.specs.inner.Keeping.{IsReady, document, kept_of, query_of};
+ghost use Rattle.jsonpath_walk.specs.inner.PlanViews.{filter_view, filters_in, nodes_view, side_view};
+ghost use Rattle.jsonpath_walk.specs.inner.Standing.{Stands, Returns};
 ghost use Rattle.jsonpath_walk.specs.inner.Walking.{node_of};
-ghost use Rattle.jsonpath_node.specs.inner.Parts.{filters_in};
+ghost use Rattle.jsonpath_walk.specs.declared.sink.Wanted.TheVariants.{Any};
 
-use crate::existence::looked_up_test;
-use crate::sides::lent_compare;
-use crate::singular::singular_value;
+use crate::plan::{Filter, Nodes, Side};
+use crate::singular::value_at;
 use crate::sink::Wanted;
 use crate::trail::Trail;
 use crate::walk::Task;
@@ -19,7 +22,7 @@ use jsonpath_node::comparison::compares;
 use jsonpath_node::halt::Walked;
 use jsonpath_node::queryable::Queryable;
 use jsonpath_node::value::{Operand, scalar_of};
-use jsonpath_tree::model::{Comparable, Comparison, Filter, FilterAtom};
+use jsonpath_tree::model::Operator;
 
 impl<'a: 's, 's, T: Queryable> Task<'a, 's, T> {
     /// Whether a filter holds at a value, to which the way leads.
@@ -31,15 +34,21 @@ impl<'a: 's, 's, T: Queryable> Task<'a, 's, T> {
         trail: &mut Trail<'a, 's, T>,
     ) -> Walked<bool>
         requires stands { Stands T.tree T.is_whole T.custom self.now at.now trail.old.way.steps.items trail.old.cache }
-        requires part { StandIn (query_of self.now) (filter_contents (filter_view filter.now)) }
-        ensures holds { IfOk result (λ b. b ≡ holds (filter_view filter.now) (document T.tree T.custom self.now) (node_of T.tree trail.old.way.steps.items at.now)) }
+        requires part { StandIn (query_of self.now) (filter_patterns (filter_view (kept_of self.now) filter.now)) }
+        ensures holds { IfOk result (λ b. b ≡ holds (filter_view (kept_of self.now) filter.now) (document T.tree T.custom self.now) (node_of T.tree trail.old.way.steps.items at.now)) }
         ensures returns { OnOk result (Returns T.tree T.is_whole T.custom self.now trail.old trail.new) }
+        ensures ready { OnErr result (IsReady T.tree T.is_whole T.custom self.now trail.new.cache) }
         ensures refused { IfErr result (IsHalt (query_of self.now) (document T.tree T.custom self.now)) }
     {
         match filter {
             Filter::Or(parts) => self.some_holds(parts, at, trail),
             Filter::And(parts) => self.each_holds(parts, at, trail),
-            Filter::Atom(atom) => self.atom_holds(atom, at, trail),
+            Filter::Group { expr, not } => Ok(self.filter_holds(expr, at, trail)? != *not),
+            Filter::Exists { nodes, not } => Ok(self.exists(nodes, at, trail)? != *not),
+            Filter::Call { call, not } => Ok(self.answer(call, at, trail)?.is_true() != *not),
+            Filter::Comparison(operator, left, right) => {
+                self.comparison_holds(*operator, (left, right), at, trail)
+            }
         }
     }
 
@@ -52,9 +61,10 @@ impl<'a: 's, 's, T: Queryable> Task<'a, 's, T> {
         trail: &mut Trail<'a, 's, T>,
     ) -> Walked<bool>
         requires stands { Stands T.tree T.is_whole T.custom self.now at.now trail.old.way.steps.items trail.old.cache }
-        requires part { StandIn (query_of self.now) (filters_contents (filters_in parts.now)) }
-        ensures holds { IfOk result (λ b. b ≡ some_holds (filters_in parts.now) (document T.tree T.custom self.now) (node_of T.tree trail.old.way.steps.items at.now)) }
+        requires part { StandIn (query_of self.now) (filters_patterns (filters_in (kept_of self.now) parts.now)) }
+        ensures holds { IfOk result (λ b. b ≡ some_holds (filters_in (kept_of self.now) parts.now) (document T.tree T.custom self.now) (node_of T.tree trail.old.way.steps.items at.now)) }
         ensures returns { OnOk result (Returns T.tree T.is_whole T.custom self.now trail.old trail.new) }
+        ensures ready { OnErr result (IsReady T.tree T.is_whole T.custom self.now trail.new.cache) }
         ensures refused { IfErr result (IsHalt (query_of self.now) (document T.tree T.custom self.now)) }
     {
         for part in parts {
@@ -74,9 +84,10 @@ impl<'a: 's, 's, T: Queryable> Task<'a, 's, T> {
         trail: &mut Trail<'a, 's, T>,
     ) -> Walked<bool>
         requires stands { Stands T.tree T.is_whole T.custom self.now at.now trail.old.way.steps.items trail.old.cache }
-        requires part { StandIn (query_of self.now) (filters_contents (filters_in parts.now)) }
-        ensures holds { IfOk result (λ b. b ≡ each_holds (filters_in parts.now) (document T.tree T.custom self.now) (node_of T.tree trail.old.way.steps.items at.now)) }
+        requires part { StandIn (query_of self.now) (filters_patterns (filters_in (kept_of self.now) parts.now)) }
+        ensures holds { IfOk result (λ b. b ≡ each_holds (filters_in (kept_of self.now) parts.now) (document T.tree T.custom self.now) (node_of T.tree trail.old.way.steps.items at.now)) }
         ensures returns { OnOk result (Returns T.tree T.is_whole T.custom self.now trail.old trail.new) }
+        ensures ready { OnErr result (IsReady T.tree T.is_whole T.custom self.now trail.new.cache) }
         ensures refused { IfErr result (IsHalt (query_of self.now) (document T.tree T.custom self.now)) }
     {
         for part in parts {
@@ -87,54 +98,49 @@ impl<'a: 's, 's, T: Queryable> Task<'a, 's, T> {
         Ok(true)
     }
 
-    /// Whether a basic expression holds. A test does where a query has a node, or where a call answers true (RFC 9535,
-    /// 2.3.5.2.1).
+    /// Whether there is a node (RFC 9535, 2.3.5.2.1). Names and indexes are looked up, and nothing is made for them.
     #[cycle(walk)]
-    fn atom_holds(
-        &self,
-        atom: &'s FilterAtom,
-        at: &'a T,
-        trail: &mut Trail<'a, 's, T>,
-    ) -> Walked<bool>
+    #[inline(always)]
+    fn exists(&self, nodes: &'s Nodes, at: &'a T, trail: &mut Trail<'a, 's, T>) -> Walked<bool>
         requires stands { Stands T.tree T.is_whole T.custom self.now at.now trail.old.way.steps.items trail.old.cache }
-        requires part { StandIn (query_of self.now) (atom_contents (atom_view atom.now)) }
-        ensures holds { IfOk result (λ b. b ≡ atom_holds (atom_view atom.now) (document T.tree T.custom self.now) (node_of T.tree trail.old.way.steps.items at.now)) }
+        requires part { StandIn (query_of self.now) (test_patterns (nodes_view (kept_of self.now) nodes.now Any)) }
+        ensures holds { IfOk result (λ b. b ≡ as_truth (tested (nodes_view (kept_of self.now) nodes.now Any) (document T.tree T.custom self.now) (node_of T.tree trail.old.way.steps.items at.now))) }
         ensures returns { OnOk result (Returns T.tree T.is_whole T.custom self.now trail.old trail.new) }
+        ensures ready { OnErr result (IsReady T.tree T.is_whole T.custom self.now trail.new.cache) }
         ensures refused { IfErr result (IsHalt (query_of self.now) (document T.tree T.custom self.now)) }
     {
-        match atom {
-            FilterAtom::Filter { expr, not } => Ok(self.filter_holds(expr, at, trail)? != *not),
-            FilterAtom::Test { expr, not } => {
-                if let Some(held) = looked_up_test(expr, self.root, at) {
-                    return Ok(held != *not);
-                }
-                let tested = self.test(expr, Wanted::Any, at, trail)?;
-                Ok(tested.is_true(&trail.cache) != *not)
+        match nodes {
+            Nodes::Lookup(steps) => Ok(value_at(steps, at).is_some()),
+            _ => {
+                let gathered = self.nodes(nodes, Wanted::Any, at, trail)?;
+                Ok(gathered.has_any(&trail.cache))
             }
-            FilterAtom::Comparison(comparison) => self.comparison_holds(comparison, at, trail),
         }
     }
 
-    /// Whether a comparison holds.
+    /// Whether two sides compare so.
     #[cycle(walk)]
     fn comparison_holds(
         &self,
-        comparison: &'s Comparison,
+        operator: Operator,
+        sides: (&'s Side, &'s Side),
         at: &'a T,
         trail: &mut Trail<'a, 's, T>,
     ) -> Walked<bool>
         requires stands { Stands T.tree T.is_whole T.custom self.now at.now trail.old.way.steps.items trail.old.cache }
-        requires part { StandIn (query_of self.now) (comparison_contents (comparison_view comparison.now)) }
-        ensures holds { IfOk result (λ b. b ≡ comparison_holds (comparison_view comparison.now) (document T.tree T.custom self.now) (node_of T.tree trail.old.way.steps.items at.now)) }
+        requires part { StandIn (query_of self.now) (comparable_patterns (side_view (kept_of self.now) sides.0.now) ++ comparable_patterns (side_view (kept_of self.now) sides.1.now)) }
+        ensures holds { IfOk result (λ b. b ≡ compares (operator_view operator)
+            (value_of (side_view (kept_of self.now) sides.entry.0.now) (document T.tree T.custom self.now) (node_of T.tree trail.old.way.steps.items at.now))
+            (value_of (side_view (kept_of self.now) sides.entry.1.now) (document T.tree T.custom self.now) (node_of T.tree trail.old.way.steps.items at.now))) }
         ensures returns { OnOk result (Returns T.tree T.is_whole T.custom self.now trail.old trail.new) }
+        ensures ready { OnErr result (IsReady T.tree T.is_whole T.custom self.now trail.new.cache) }
         ensures refused { IfErr result (IsHalt (query_of self.now) (document T.tree T.custom self.now)) }
     {
-        let (operator, left, right) = comparison.parts();
-        if let Some(held) = lent_compare(operator, left, right, self.root, at) {
+        if let Some(held) = self.lent_compare(operator, sides, at, &trail.cache) {
             return Ok(held);
         }
-        let left = self.side(left, at, trail)?;
-        let right = self.side(right, at, trail)?;
+        let left = self.side(sides.0, at, trail)?;
+        let right = self.side(sides.1, at, trail)?;
         Ok(compares(operator, &left.as_side(), &right.as_side()))
     }
 
@@ -142,23 +148,23 @@ impl<'a: 's, 's, T: Queryable> Task<'a, 's, T> {
     #[cycle(walk)]
     fn side(
         &self,
-        comparable: &'s Comparable,
+        side: &'s Side,
         at: &'a T,
         trail: &mut Trail<'a, 's, T>,
     ) -> Walked<Operand<'a, 's, T>>
         requires stands { Stands T.tree T.is_whole T.custom self.now at.now trail.old.way.steps.items trail.old.cache }
-        requires part { StandIn (query_of self.now) (comparable_contents (comparable_view comparable.now)) }
-        ensures value { IfOk result (λ o. operand_tree T.tree o ≡ value_of (comparable_view comparable.now) (document T.tree T.custom self.now) (node_of T.tree trail.old.way.steps.items at.now)) }
+        requires part { StandIn (query_of self.now) (comparable_patterns (side_view (kept_of self.now) side.now)) }
+        ensures value { IfOk result (λ o. operand_tree T.tree o ≡ value_of (side_view (kept_of self.now) side.now) (document T.tree T.custom self.now) (node_of T.tree trail.old.way.steps.items at.now)) }
         ensures whole { IfOk result (λ o. IsTrue (operand_is_whole T.is_whole o)) }
         ensures returns { OnOk result (Returns T.tree T.is_whole T.custom self.now trail.old trail.new) }
+        ensures ready { OnErr result (IsReady T.tree T.is_whole T.custom self.now trail.new.cache) }
         ensures refused { IfErr result (IsHalt (query_of self.now) (document T.tree T.custom self.now)) }
     {
-        match comparable {
-            Comparable::Literal(literal) => Ok(Operand::Plain(scalar_of(literal))),
-            Comparable::Function(function) => self.answer(function, at, trail),
-            Comparable::SingularQuery(query) => {
-                Ok(Operand::lent(singular_value(query, self.root, at)))
-            }
+        match side {
+            Side::Literal(literal) => Ok(Operand::Plain(scalar_of(literal))),
+            Side::Lookup(steps) => Ok(Operand::lent(value_at(steps, at))),
+            Side::Kept(number) => Ok(Operand::lent(self.kept_value(*number, &mut trail.cache))),
+            Side::Call(call) => self.answer(call, at, trail),
         }
     }
 }

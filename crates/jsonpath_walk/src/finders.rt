@@ -1,18 +1,15 @@
-//! What asks the patterns of one call (RFC 9535, 2.4.6 and 2.4.7). Each is built when it is first asked, unless an earlier call
-//! has built it, and is then kept with what asks it; equal ones share that.
+//! What asks the patterns of one call (RFC 9535, 2.4.6 and 2.4.7). One that stands in the query is built when it is first asked,
+//! unless an earlier call has built it, and is then kept with what asks it, at its number.
 ghost use Rattle.std.specs.Prelude.{◌≡◌, IfOk, IfErr, IfSome};
 ghost use Rattle.jsonpath_base.specs.Pattern.{pattern_sought, found, IsPatternRefusal};
 ghost use Rattle.jsonpath_node.specs.inner.Operands.{is_entire};
 
-use crate::patterns::Origin;
-use crate::round::after;
-use crate::shelf::Shelf;
-use jsonpath_base::pattern::{Finder, Pattern, found_again};
+use crate::lent::LentFinders;
+use crate::patterns::{LentPlaces, Origin, Place, Places};
+use jsonpath_base::pattern::{Finder, Pattern};
 use jsonpath_core::errors::Parsed;
 use jsonpath_node::extent::Extent;
 use std::alloc::{AllocError, Global};
-use std::cell::OnceCell;
-use std::collections::BTreeMap;
 
 /// A pattern, and what of a text it has to match.
 #[derive(Clone, Copy)]
@@ -21,45 +18,52 @@ pub struct Asked<'p> {
     pub extent: Extent,
 }
 
+impl<'p> Asked<'p> {
+    /// Builds the pattern. It refuses as `Pattern::new` does.
+    pub fn built(self, alloc: Global) -> Parsed<Box<Pattern>>
+        ensures refused { IfErr result (IsPatternRefusal (pattern_sought (is_entire self.entry.extent) self.entry.pattern.now)) }
+    {
+        let pattern = Pattern::new(alloc, self.pattern, self.extent.is_entire())?;
+        Ok(Box::new(alloc, pattern)?)
+    }
+
+    /// What the finder answers for a text, if it is one of this pattern.
+    #[inline(always)]
+    pub fn answer_of(self, finder: &mut Finder<'_>, text: &str) -> Option<bool>
+        ensures { IfSome result (λ b. b ≡ found (is_entire self.entry.extent) self.entry.pattern.now text.now) }
+    {
+        if !finder.is_of(self.pattern, self.extent.is_entire()) {
+            return None;
+        }
+        Some(finder.is_found(text))
+    }
+}
+
 /// What asks the patterns that were asked so far.
 #[derive(Drop)]
 pub struct Finders<'p> {
     /// Where those that stand in the query are built.
-    standing: Shelf<'p>,
-    /// Where those that come from the document are built.
-    lent: Shelf<'p>,
-    /// What asks each of them.
-    finders: Vec<Finder<'p>>,
-    /// The index of each that is asked of entire texts, by its pattern.
-    entire: BTreeMap<String, usize>,
-    /// The index of each that is asked of substrings.
-    substring: BTreeMap<String, usize>,
-    /// The index of the one that is likely to be asked next.
-    likely: usize,
-    /// The last pattern for which there was no place.
-    other: Option<Pattern>,
+    places: &'p Places,
+    /// What asks each of them, by its number. Those that were not asked yet have none.
+    standing: Vec<Option<Box<Finder<'p>>>>,
+    /// What asks those that come from the document.
+    lent: LentFinders<'p>,
 }
 
 impl<'p> Finders<'p> {
-    /// With these places for patterns that stand in the query, and these for patterns that come from the document.
-    pub fn new(
-        alloc: Global,
-        standing: &'p [OnceCell<Pattern>],
-        lent: &'p [OnceCell<Pattern>],
-    ) -> Self {
+    /// With these places for patterns that stand in the query, and these for patterns that come from the document. Nothing
+    /// is allocated.
+    pub fn new(alloc: Global, places: &'p Places, lent: &'p LentPlaces) -> Self {
         Finders {
-            standing: Shelf::new(standing),
-            lent: Shelf::new(lent),
-            finders: Vec::new(alloc),
-            entire: BTreeMap::new(alloc),
-            substring: BTreeMap::new(alloc),
-            likely: 0,
-            other: None,
+            places,
+            standing: Vec::new(alloc),
+            lent: LentFinders::new(alloc, lent),
         }
     }
 
     /// What `match` or `search` answers for a text and a pattern. It refuses where the pattern cannot be built, and where
-    /// memory ran out.
+    /// memory ran out. A number tells only where to look: where there is no such place, or another pattern was built in it, the
+    /// pattern is asked as one that comes from the document.
     pub fn is_found(
         &mut self,
         alloc: Global,
@@ -70,82 +74,61 @@ impl<'p> Finders<'p> {
         ensures value { IfOk result (λ b. b ≡ found (is_entire asked.entry.extent) asked.entry.pattern.now text.now) }
         ensures refused { IfErr result (IsPatternRefusal (pattern_sought (is_entire asked.entry.extent) asked.entry.pattern.now)) }
     {
-        if let Some(found) = self.ask(self.likely, text, asked) {
-            return Ok(found);
+        if let Origin::Query(number) = origin {
+            if let Some(found) = self.ask(number, text, asked) {
+                return Ok(found);
+            }
+            self.make(alloc, number, asked)?;
+            if let Some(found) = self.ask(number, text, asked) {
+                return Ok(found);
+            }
         }
-        let index = self.index_of(asked);
-        if let Some(found) = self.ask(index, text, asked) {
-            return Ok(found);
-        }
-        let index = self.finders.len();
-        self.add(alloc, asked, origin)?;
-        if let Some(found) = self.ask(index, text, asked) {
-            return Ok(found);
-        }
-        let entire = asked.extent.is_entire();
-        found_again(alloc, &mut self.other, text, asked.pattern, entire)
+        self.lent.is_found(alloc, text, asked)
     }
 
-    /// What the finder at this index answers for a text, if it asks this pattern.
-    fn ask(&mut self, index: usize, text: &str, asked: Asked<'_>) -> Option<bool>
+    /// What the finder at this number answers for a text, if it is one of this pattern.
+    #[inline(always)]
+    fn ask(&mut self, number: usize, text: &str, asked: Asked<'_>) -> Option<bool>
         ensures { IfSome result (λ b. b ≡ found (is_entire asked.entry.extent) asked.entry.pattern.now text.now) }
     {
-        let finder = self.finders.get_mut(index)?;
-        if !finder.is_of(asked.pattern, asked.extent.is_entire()) {
-            return None;
-        }
-        let found = finder.is_found(text);
-        self.likely = after(index, self.finders.len());
-        Some(found)
+        let finder = self.standing.get_mut(number)?.as_mut()?;
+        asked.answer_of(finder, text)
     }
 
-    /// The index of the finder that asks this pattern, if there is one.
-    fn index_of(&self, asked: Asked<'_>) -> usize {
-        let indexes = match asked.extent {
-            Extent::Entire => &self.entire,
-            Extent::Substring => &self.substring,
-        };
-        match indexes.get(asked.pattern) {
-            Some(index) => *index,
-            None => self.finders.len(),
-        }
-    }
-
-    /// Makes what asks the pattern, if there is a place for it. There it is built, if no earlier call has built it.
-    fn add(&mut self, alloc: Global, asked: Asked<'_>, origin: Origin) -> Parsed<()>
+    /// Makes what asks the pattern of this number, if it is this one, or none was built there yet.
+    fn make(&mut self, alloc: Global, number: usize, asked: Asked<'_>) -> Parsed<()>
         ensures { IfErr result (IsPatternRefusal (pattern_sought (is_entire asked.entry.extent) asked.entry.pattern.now)) }
     {
-        let place = match origin {
-            Origin::Query => self.standing.place_of(asked),
-            Origin::Document => self.lent.place_of(asked),
-        };
-        let Some(place) = place else {
+        let places = self.places;
+        let Some(place) = places.place(number) else {
             return Ok(());
         };
         if place.get().is_none() {
-            let built = Pattern::new(alloc, asked.pattern, asked.extent.is_entire())?;
-            let _ = place.set(built);
+            let _ = place.set(asked.built(alloc)?);
         }
-        Ok(self.keep(alloc, place, asked.extent)?)
+        if !holds(place, asked) {
+            return Ok(());
+        }
+        Ok(self.keep(alloc, number, place)?)
     }
 
-    /// Keeps what asks the pattern of this place.
-    fn keep(
-        &mut self,
-        alloc: Global,
-        place: &'p OnceCell<Pattern>,
-        extent: Extent,
-    ) -> Result<(), AllocError> {
-        if let Some(pattern) = place.get() {
-            let finder = pattern.finder(alloc)?;
-            let source = String::from_str(alloc, pattern.source())?;
-            let index = self.finders.len();
-            self.finders.push(finder)?;
-            match extent {
-                Extent::Entire => self.entire.insert(source, index)?,
-                Extent::Substring => self.substring.insert(source, index)?,
-            };
+    /// Keeps at this number what asks the pattern of this place.
+    fn keep(&mut self, alloc: Global, number: usize, place: &'p Place) -> Result<(), AllocError> {
+        for _ in self.standing.len()..number.saturating_add(1) {
+            self.standing.push(None)?;
+        }
+        if let (Some(pattern), Some(kept)) = (place.get(), self.standing.get_mut(number)) {
+            let finder = Box::new(alloc, pattern.finder(alloc)?)?;
+            *kept = Some(finder);
         }
         Ok(())
+    }
+}
+
+/// Whether this pattern was built in the place.
+fn holds(place: &Place, asked: Asked<'_>) -> bool {
+    match place.get() {
+        Some(pattern) => pattern.is_of(asked.pattern, asked.extent.is_entire()),
+        None => false,
     }
 }

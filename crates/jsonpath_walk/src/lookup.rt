@@ -1,19 +1,18 @@
-//! Queries of names and indexes alone, inside filters: they are looked up, and not walked. Where all children of such a place are
-//! only counted, or asked for one, they are not walked either.
+//! Short cuts inside filters: names and indexes are followed as far as they lead, and where all children of such a place are only
+//! counted, or asked for one, they are not walked.
 ghost use Rattle.std.specs.Prelude.{◌≡◌, length, IsTrue, IfOk, IfErr, IfSome};
 ghost use Rattle.jsonpath_tree.specs.Syntax.{one};
-ghost use Rattle.jsonpath_tree.specs.View.{segment_view, selector_view};
 ghost use Rattle.jsonpath_node.specs.declared.halt.Halt.TheVariants.{Memory};
 ghost use Rattle.jsonpath_node.specs.Node.{children, root_node};
-ghost use Rattle.jsonpath_node.specs.inner.Parts.{segments_in};
+ghost use Rattle.jsonpath_walk.specs.inner.PlanViews.{Kept, segment_view, segments_in, selector_view};
 ghost use Rattle.jsonpath_walk.specs.inner.Lookup.{Leads, LeadsOn, IsWholeThere, GivesThrough, GivesSoMany};
 
+use crate::plan::{Segment, Selector};
 use crate::sink::{Sink, Wanted};
 use jsonpath_node::halt::Walked;
 use jsonpath_node::queryable::Queryable;
 use jsonpath_node::queryable::children::element;
 use jsonpath_node::value::GREATEST_COUNT;
-use jsonpath_tree::model::{Segment, Selector};
 use std::alloc::Global;
 
 /// Where segments lead, from a value on.
@@ -29,35 +28,22 @@ pub enum Followed<'a, T> {
     Open,
 }
 
-/// What becomes of `[*]` at the end of names and indexes.
-#[derive(Clone, Copy)]
-pub enum LastWildcard {
-    /// Its nodes are counted, or asked for one, without a walk.
-    Counted,
-    /// It is left to the walk.
-    Walked,
-}
-
-/// What the nodes of these segments, from a value on, give to a sink, where they are names and indexes as far as they lead.
-/// The cost goes with the steps that lead somewhere, not with the segments.
-pub fn looked_up<'a, T: Queryable>(
+/// What the nodes of these segments, from a value on, give of what is wanted, where that needs no walk. The cost goes with the
+/// steps that lead somewhere, not with the segments.
+pub fn short_cut<'a, T: Queryable>(
     alloc: Global,
     segments: &[Segment],
     wanted: Wanted,
     at: &'a T,
-    last: LastWildcard,
 ) -> Walked<Option<Sink<'a, T>>>
     requires { IsTrue (T.is_whole at.now) }
-    ensures given { IfOk result (λ o. IfSome o (GivesThrough T.tree T.is_whole wanted (segments_in segments.now) (T.tree at.now))) }
+    ensures given { (kept : Kept) → IfOk result (λ o. IfSome o (GivesThrough T.tree T.is_whole wanted (segments_in kept segments.now) (T.tree at.now))) }
     ensures memory { IfErr result (λ h. h ≡ Memory) }
 {
     match follow(segments, at) {
         Followed::To(value) => Ok(Some(Sink::of_one(alloc, wanted, value)?)),
         Followed::Nowhere => Ok(Some(Sink::start(alloc, wanted))),
-        Followed::Children(parent) => match last {
-            LastWildcard::Counted => counted(alloc, wanted, parent),
-            LastWildcard::Walked => Ok(None),
-        },
+        Followed::Children(parent) => counted(alloc, wanted, parent),
         Followed::Open => Ok(None),
     }
 }
@@ -101,7 +87,7 @@ fn child_count<T: Queryable>(alloc: Global, parent: &T) -> Walked<usize>
 /// Where the segments lead.
 pub fn follow<'a, T: Queryable>(segments: &[Segment], at: &'a T) -> Followed<'a, T>
     requires { IsTrue (T.is_whole at.now) }
-    ensures leads { Leads T.tree (segments_in segments.now) (T.tree at.now) result }
+    ensures leads { (kept : Kept) → Leads T.tree (segments_in kept segments.now) (T.tree at.now) result }
     ensures whole { IsWholeThere T.is_whole result }
 {
     match segments.split_first() {
@@ -122,7 +108,7 @@ pub fn follow<'a, T: Queryable>(segments: &[Segment], at: &'a T) -> Followed<'a,
 #[inline(always)]
 fn stepped<'a, T: Queryable>(segment: &Segment, at: &'a T) -> Followed<'a, T>
     requires { IsTrue (T.is_whole at.now) }
-    ensures leads { LeadsOn T.tree (segment_view segment.now) (T.tree at.now) result }
+    ensures leads { (kept : Kept) → LeadsOn T.tree (segment_view kept segment.now) (T.tree at.now) result }
     ensures whole { IsWholeThere T.is_whole result }
 {
     match segment {
@@ -135,7 +121,7 @@ fn stepped<'a, T: Queryable>(segment: &Segment, at: &'a T) -> Followed<'a, T>
 #[inline(always)]
 fn picked<'a, T: Queryable>(selector: &Selector, at: &'a T) -> Followed<'a, T>
     requires { IsTrue (T.is_whole at.now) }
-    ensures leads { LeadsOn T.tree (one (selector_view selector.now)) (T.tree at.now) result }
+    ensures leads { (kept : Kept) → LeadsOn T.tree (one (selector_view kept selector.now)) (T.tree at.now) result }
     ensures whole { IsWholeThere T.is_whole result }
 {
     match selector {

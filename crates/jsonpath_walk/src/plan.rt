@@ -1,5 +1,8 @@
 //! A plan of a query: what is to be done at a node, found out once and not at each node. It says which queries inside filters
 //! are looked up and which are walked, which queries from the root are one, and which patterns are one.
+ghost use Rattle.jsonpath_walk.specs.inner.PlanViews.{IsSettled, IsSettled-prop};
+
+mod entries;
 mod keeping;
 mod make;
 mod patterns;
@@ -9,6 +12,11 @@ pub use self::make::plan_of;
 use crate::sink::Wanted;
 use jsonpath_tree::model::{Literal, Operator, SingularQuerySegment};
 
+/// Lets a plan go.
+pub fn release(plan: Plan) {
+    drop(plan);
+}
+
 /// A plan of a query.
 #[derive(Drop)]
 pub struct Plan {
@@ -17,13 +25,32 @@ pub struct Plan {
     pub kept: Vec<Entry>,
     /// How many patterns have a number. Each is smaller than this.
     pub pattern_count: usize,
+    ghost settled: { IsSettled kept.items } by { IsSettled-prop kept.items },
 }
 
-/// A query from the root whose nodelist is kept, for what is wanted of it.
+/// What is worked out once in a call, and then kept.
 #[derive(Drop)]
 pub struct Entry {
-    pub segments: Vec<Segment>,
-    pub wanted: Wanted,
+    pub part: Rooted,
+    pub turn: Turn,
+}
+
+/// A part of the query without `@`.
+#[derive(Drop)]
+pub enum Rooted {
+    /// What is wanted of the nodes of a query from the root.
+    Nodes(Vec<Segment>, Wanted),
+    /// The value of the one node, if there is one, by these steps from the root.
+    Value(Vec<SingularQuerySegment>),
+}
+
+/// When an entry is worked out.
+#[derive(Clone, Copy)]
+pub enum Turn {
+    /// When it is first asked.
+    Asked,
+    /// Before the walk, so that never more than a few entries are on their way at once.
+    Early,
 }
 
 /// A segment, which replaces each node by nodes below it (RFC 9535, 2.5).

@@ -11,11 +11,11 @@ ghost use Rattle.jsonpath_walk.specs.Prepared.{prepared_view, IsFirstNode};
 ghost use Rattle.jsonpath_walk.specs.inner.Sinks.{Took, seen};
 
 use crate::patterns::Places;
+use crate::planned::Planned;
 use crate::sink::Sink;
-use crate::walk::give_nodes_again;
+use crate::walk::give_planned;
 use jsonpath_node::queryable::Queryable;
 use jsonpath_node::{Queried, QueryPath, QueryRef};
-use jsonpath_tree::let_go;
 use jsonpath_tree::model::JpQuery;
 use std::alloc::Global;
 
@@ -30,7 +30,8 @@ use std::alloc::Global;
 /// [`selected_nodes`]: crate::selected_nodes
 #[derive(Drop)]
 pub struct Prepared {
-    query: JpQuery,
+    planned: Planned,
+    /// Where its patterns are built.
     places: Places,
 }
 
@@ -41,10 +42,11 @@ impl Prepared {
         ensures query { IfOk result (λ p. prepared_view p ≡ query_view query) }
         ensures memory { IfErr result (λ e. e ≡ OutOfMemory) }
     {
-        match Places::new(alloc, &query) {
-            Ok(places) => Ok(Prepared { query, places }),
+        let planned = Planned::new(alloc, query)?;
+        match Places::new(alloc, planned.plan.pattern_count) {
+            Ok(places) => Ok(Prepared { planned, places }),
             Err(error) => {
-                let_go(query);
+                planned.release();
                 Err(error.into())
             }
         }
@@ -54,7 +56,7 @@ impl Prepared {
     pub fn query(&self) -> &JpQuery
         ensures { query_view result.now ≡ prepared_view self.now }
     {
-        &self.query
+        &self.planned.query
     }
 
     /// The nodes that the query selects in a document, in order (RFC 9535, 2.1.2), as [`selected_nodes`] answers them.
@@ -141,6 +143,6 @@ impl Prepared {
             (seen T.tree T.is_whole sink.new) b) }
         ensures refused { IfErr result (IsStop (prepared_view self.now) (document_of T.tree T.custom value.now)) }
     {
-        give_nodes_again(alloc, &self.query, &self.places, value, sink)
+        give_planned(alloc, &self.planned.plan, &self.places, value, sink)
     }
 }

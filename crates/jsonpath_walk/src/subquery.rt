@@ -1,29 +1,57 @@
 //! Queries inside filters, from a value on and from the root.
-ghost use Rattle.std.specs.Prelude.{◌≡◌, ◌<◌, ◌∷◌, length, IfOk, IfErr, OnOk};
-ghost use Rattle.jsonpath_tree.specs.View.{query_view};
-ghost use Rattle.jsonpath_node.specs.Meaning.{nodelist};
+ghost use Rattle.std.specs.Prelude.{◌≡◌, IfOk, IfErr, OnOk, OnErr};
+ghost use Rattle.jsonpath_node.specs.Meaning.{nodelist, tested};
+ghost use Rattle.jsonpath_node.specs.Patterns.{segments_patterns, test_patterns};
+ghost use Rattle.jsonpath_walk.specs.inner.Arguing as held;
+ghost use Rattle.jsonpath_walk.specs.inner.Arguing.{holding};
+ghost use Rattle.jsonpath_walk.specs.inner.Halting.{IsHalt, StandIn};
+ghost use Rattle.jsonpath_walk.specs.inner.Keeping.{IsReady, document, gathered, kept_of, query_of};
+ghost use Rattle.jsonpath_walk.specs.inner.PlanViews.{nodes_view, query_at, segments_in};
 ghost use Rattle.jsonpath_walk.specs.inner.Sinks.{seen, start, give};
-ghost use Rattle.jsonpath_walk.specs.inner.Contents.{StandIn, from_root, segments_contents};
-ghost use Rattle.jsonpath_walk.specs.inner.Keeping.{IsReady, document, query_of, nodelists_of, seen_at};
-ghost use Rattle.jsonpath_walk.specs.inner.Standing.{Stands, Returns, IsHalt};
+ghost use Rattle.jsonpath_walk.specs.inner.Standing.{Stands, Returns};
 ghost use Rattle.jsonpath_walk.specs.inner.Walking.{node_of, through};
-ghost use Rattle.jsonpath_node.specs.inner.Parts.{segments_in};
 
-use crate::lookup::{LastWildcard, looked_up};
-use crate::nested::nested_in;
+use crate::cache::Gathered;
+use crate::lookup::short_cut;
+use crate::plan::{Nodes, Segment};
+use crate::singular::looked_up;
 use crate::sink::{Sink, Wanted};
 use crate::trail::Trail;
 use crate::walk::Task;
 use crate::way::Way;
 use jsonpath_node::halt::Walked;
 use jsonpath_node::queryable::Queryable;
-use jsonpath_tree::model::{JpQuery, Segment};
 use std::mem;
 
 impl<'a: 's, 's, T: Queryable> Task<'a, 's, T> {
+    /// What the nodes of a query inside a filter give of what is wanted.
+    #[cycle(walk)]
+    pub fn nodes(
+        &self,
+        nodes: &'s Nodes,
+        wanted: Wanted,
+        at: &'a T,
+        trail: &mut Trail<'a, 's, T>,
+    ) -> Walked<Gathered<'a, T>>
+        requires stands { Stands T.tree T.is_whole T.custom self.now at.now trail.old.way.steps.items trail.old.cache }
+        requires part { StandIn (query_of self.now) (test_patterns (nodes_view (kept_of self.now) nodes.now wanted)) }
+        ensures held { IfOk result (λ g. held.nodes (gathered T.tree T.is_whole trail.new.cache g) ≡ holding wanted (tested (nodes_view (kept_of self.now) nodes.now wanted) (document T.tree T.custom self.now) (node_of T.tree trail.old.way.steps.items at.now))) }
+        ensures returns { OnOk result (Returns T.tree T.is_whole T.custom self.now trail.old trail.new) }
+        ensures ready { OnErr result (IsReady T.tree T.is_whole T.custom self.now trail.new.cache) }
+        ensures refused { IfErr result (IsHalt (query_of self.now) (document T.tree T.custom self.now)) }
+    {
+        match nodes {
+            Nodes::Lookup(steps) => { Ok(Gathered::Own(looked_up(self.alloc, steps, wanted, at)?)) }
+            Nodes::Walk(segments) => {
+                Ok(Gathered::Own(self.gather(segments, wanted, at, trail)?))
+            }
+            Nodes::Kept(number) => self.kept_nodes(*number, wanted, trail),
+        }
+    }
+
     /// What the nodes of these segments, from a value on, give to a sink.
     #[cycle(walk)]
-    pub fn gather(
+    fn gather(
         &self,
         segments: &'s [Segment],
         wanted: Wanted,
@@ -31,13 +59,13 @@ impl<'a: 's, 's, T: Queryable> Task<'a, 's, T> {
         trail: &mut Trail<'a, 's, T>,
     ) -> Walked<Sink<'a, T>>
         requires stands { Stands T.tree T.is_whole T.custom self.now at.now trail.old.way.steps.items trail.old.cache }
-        requires part { StandIn (query_of self.now) (segments_contents (segments_in segments.now)) }
-        ensures given { IfOk result (λ s. seen T.tree T.is_whole s ≡ give (start wanted) (through (segments_in segments.now) (document T.tree T.custom self.now) (node_of T.tree trail.old.way.steps.items at.now))) }
+        requires part { StandIn (query_of self.now) (segments_patterns (segments_in (kept_of self.now) segments.now)) }
+        ensures given { IfOk result (λ s. seen T.tree T.is_whole s ≡ give (start wanted) (through (segments_in (kept_of self.now) segments.now) (document T.tree T.custom self.now) (node_of T.tree trail.old.way.steps.items at.now))) }
         ensures returns { OnOk result (Returns T.tree T.is_whole T.custom self.now trail.old trail.new) }
+        ensures ready { OnErr result (IsReady T.tree T.is_whole T.custom self.now trail.new.cache) }
         ensures refused { IfErr result (IsHalt (query_of self.now) (document T.tree T.custom self.now)) }
     {
-        let last = LastWildcard::Counted;
-        if let Some(sink) = looked_up(self.alloc, segments, wanted, at, last)? {
+        if let Some(sink) = short_cut(self.alloc, segments, wanted, at)? {
             return Ok(sink);
         }
         let mut sink = Sink::start(self.alloc, wanted);
@@ -45,48 +73,33 @@ impl<'a: 's, 's, T: Queryable> Task<'a, 's, T> {
         Ok(sink)
     }
 
-    /// The index in the cache of the nodelist of a query from the root. It is found when it is first needed, and after those
-    /// in its filters.
+    /// What the nodes of the query from the root that is kept under this number give of what is wanted. They are found when
+    /// that is first asked, and kept.
     #[cycle(walk)]
-    pub fn absolute(
+    pub fn kept_nodes(
         &self,
-        query: &'s JpQuery,
+        number: usize,
         wanted: Wanted,
         trail: &mut Trail<'a, 's, T>,
-    ) -> Walked<usize>
-        requires part { StandIn (query_of self.now) (from_root (query_view query.now) ∷ segments_contents (query_view query.now)) }
+    ) -> Walked<Gathered<'a, T>>
+        requires part { StandIn (query_of self.now) (segments_patterns (query_at (kept_of self.now) wanted number)) }
         requires ready { IsReady T.tree T.is_whole T.custom self.now trail.old.cache }
-        ensures within { IfOk result (λ i. i < length (nodelists_of trail.new.cache)) }
-        ensures right { IfOk result (λ i. seen_at T.tree T.is_whole (nodelists_of trail.new.cache) i ≡ give (start wanted) (nodelist (query_view query.now) (document T.tree T.custom self.now))) }
+        ensures given { IfOk result (λ g. gathered T.tree T.is_whole trail.new.cache g ≡ give (start wanted) (nodelist (query_at (kept_of self.now) wanted number) (document T.tree T.custom self.now))) }
         ensures returns { OnOk result (Returns T.tree T.is_whole T.custom self.now trail.old trail.new) }
+        ensures ready { OnErr result (IsReady T.tree T.is_whole T.custom self.now trail.new.cache) }
         ensures refused { IfErr result (IsHalt (query_of self.now) (document T.tree T.custom self.now)) }
     {
-        let kept = trail.cache.find(query, wanted)?;
-        if let Some(index) = kept {
-            return Ok(index);
+        let Some(segments) = self.plan.kept_segments(number, wanted) else {
+            return Ok(Gathered::Own(Sink::of_one(self.alloc, wanted, self.root)?));
+        };
+        if trail.cache.get(number).is_some() {
+            return Ok(Gathered::Kept(number));
         }
-        trail.cache.survey(self.alloc, self.query)?;
-        self.settle(query, trail)?;
         let root = Way::new(self.alloc);
         let here = mem::replace(&mut trail.way, root);
-        let nodes = self.gather(&query.segments, wanted, self.root, trail)?;
+        let nodes = self.gather(segments, wanted, self.root, trail)?;
         trail.way = here;
-        Ok(trail.cache.keep(query, wanted, nodes)?)
-    }
-
-    /// Answers the queries from the root that stand in the filters of this one, before it goes down. So of those that stand
-    /// in one another only one is on its way at a time.
-    #[cycle(walk)]
-    fn settle(&self, query: &'s JpQuery, trail: &mut Trail<'a, 's, T>) -> Walked<()>
-        requires part { StandIn (query_of self.now) (segments_contents (query_view query.now)) }
-        requires ready { IsReady T.tree T.is_whole T.custom self.now trail.old.cache }
-        ensures returns { OnOk result (Returns T.tree T.is_whole T.custom self.now trail.old trail.new) }
-        ensures refused { IfErr result (IsHalt (query_of self.now) (document T.tree T.custom self.now)) }
-    {
-        let inner = nested_in(self.alloc, query)?;
-        for nested in &inner {
-            let _index = self.absolute(nested.query, nested.wanted, trail)?;
-        }
-        Ok(())
+        trail.cache.keep(number, nodes);
+        Ok(Gathered::Kept(number))
     }
 }

@@ -3,25 +3,27 @@
 //! The way to the value at hand stands on a stack of borrowed steps, so nothing is kept for a node that is only passed.
 //! Every method of the cycle asks for a value at hand (`Stands`), and comes back with the way as it was and what is kept
 //! still right (`Returns`).
-ghost use Rattle.std.specs.Prelude.{◌≡◌, [], ◌∷◌, ◌++◌, map, IsTrue, IfOk, IfErr, OnOk};
+ghost use Rattle.std.specs.Prelude.{◌≡◌, [], ◌∷◌, ◌++◌, map, IsTrue, IfOk, IfErr, OnOk, OnErr};
 ghost use Rattle.std.specs.List.{flat_map};
-ghost use Rattle.jsonpath_tree.specs.View.{selector_view, segment_view, query_view};
+ghost use Rattle.jsonpath_tree.specs.View.{query_view};
 ghost use Rattle.jsonpath_node.specs.Document.{document_of};
 ghost use Rattle.jsonpath_node.specs.Node.{below, children};
 ghost use Rattle.jsonpath_node.specs.Meaning.{picks, all_pick, replaced, sliced, nodelist};
-ghost use Rattle.jsonpath_node.specs.Patterns.{IsStop};
-ghost use Rattle.jsonpath_walk.specs.inner.Contents.{StandIn, segments_contents, segment_contents, selectors_contents, selector_contents};
+ghost use Rattle.jsonpath_node.specs.Patterns.{IsStop, segments_patterns, segment_patterns, selectors_patterns, selector_patterns};
+ghost use Rattle.jsonpath_walk.specs.inner.Halting.{IsHalt, StandIn};
+ghost use Rattle.jsonpath_walk.specs.inner.PlanViews.{segments_in, segment_view, selectors_in, selector_view};
+ghost use Rattle.jsonpath_walk.specs.inner.Planned.{plan_view};
 ghost use Rattle.jsonpath_walk.specs.inner.Sinks.{Took, seen};
-ghost use Rattle.jsonpath_walk.specs.inner.Keeping.{document, query_of};
-ghost use Rattle.jsonpath_walk.specs.inner.Standing.{Stands, Returns, IsHalt};
-ghost use Rattle.jsonpath_walk.specs.inner.Walking.{through, node_of, step_of, acted, action_contents};
-ghost use Rattle.jsonpath_node.specs.inner.Parts.{segments_in, selectors_in};
+ghost use Rattle.jsonpath_walk.specs.inner.Keeping.{IsReady, document, kept_of, query_of};
+ghost use Rattle.jsonpath_walk.specs.inner.Standing.{Stands, Returns};
+ghost use Rattle.jsonpath_walk.specs.inner.Walking.{through, node_of, step_of, acted};
 
 use crate::action::Action;
 use crate::cache::Cache;
 use crate::children::Child;
 use crate::finders::Finders;
-use crate::patterns::Places;
+use crate::patterns::{LentPlaces, Places};
+use crate::plan::{Plan, Segment, Selector, plan_of, release};
 use crate::sink::Sink;
 use crate::trail::Trail;
 use crate::way::{StepRef, Way};
@@ -30,14 +32,16 @@ use jsonpath_node::Queried;
 use jsonpath_node::halt::Walked;
 use jsonpath_node::queryable::Queryable;
 use jsonpath_node::queryable::children::element;
-use jsonpath_tree::model::{JpQuery, Segment, Selector};
+use jsonpath_tree::model::JpQuery;
 use std::alloc::Global;
 
-/// What is asked: a query, of a document.
+/// What is asked: a query by its plan, of a document.
 #[derive(Drop)]
 pub struct Task<'a, 's, T> {
     pub alloc: Global,
-    pub query: &'s JpQuery,
+    pub plan: &'s Plan,
+    /// The segments that are asked: those of the plan, or of an entry of it.
+    pub segments: &'s [Segment],
     pub root: &'a T,
 }
 
@@ -53,26 +57,44 @@ pub fn give_nodes<'a, T: Queryable>(
         (seen T.tree T.is_whole sink.new) b) }
     ensures refused { IfErr result (IsStop (query_view query.now) (document_of T.tree T.custom root.now)) }
 {
-    let places = Places::new(alloc, query)?;
-    give_nodes_again(alloc, query, &places, root, sink)
+    let plan = plan_of(alloc, query)?;
+    let given = give_once(alloc, &plan, root, sink);
+    release(plan);
+    given
 }
 
-/// The same, where the patterns of the query have these places.
-pub fn give_nodes_again<'a, T: Queryable>(
+/// The same, of a query that has a plan.
+fn give_once<'a, T: Queryable>(
     alloc: Global,
-    query: &JpQuery,
+    plan: &Plan,
+    root: &'a T,
+    sink: &mut Sink<'a, T>,
+) -> Queried<bool>
+    requires { IsTrue (T.is_whole root.now) }
+    ensures gave { IfOk result (λ b. Took (seen T.tree T.is_whole sink.old) (nodelist (plan_view plan.now) (document_of T.tree T.custom root.now))
+        (seen T.tree T.is_whole sink.new) b) }
+    ensures refused { IfErr result (IsStop (plan_view plan.now) (document_of T.tree T.custom root.now)) }
+{
+    let places = Places::new(alloc, plan.pattern_count)?;
+    give_planned(alloc, plan, &places, root, sink)
+}
+
+/// The same, where these are the places of its patterns.
+pub fn give_planned<'a, T: Queryable>(
+    alloc: Global,
+    plan: &Plan,
     places: &Places,
     root: &'a T,
     sink: &mut Sink<'a, T>,
 ) -> Queried<bool>
     requires { IsTrue (T.is_whole root.now) }
-    ensures gave { IfOk result (λ b. Took (seen T.tree T.is_whole sink.old) (nodelist (query_view query.now) (document_of T.tree T.custom root.now))
+    ensures gave { IfOk result (λ b. Took (seen T.tree T.is_whole sink.old) (nodelist (plan_view plan.now) (document_of T.tree T.custom root.now))
         (seen T.tree T.is_whole sink.new) b) }
-    ensures refused { IfErr result (IsStop (query_view query.now) (document_of T.tree T.custom root.now)) }
+    ensures refused { IfErr result (IsStop (plan_view plan.now) (document_of T.tree T.custom root.now)) }
 {
-    let lent = places.lend(alloc)?;
-    let finders = Finders::new(alloc, &places.standing, &lent);
-    match give_from_root(alloc, query, finders, root, sink) {
+    let lent = LentPlaces::new();
+    let finders = Finders::new(alloc, places, &lent);
+    match give_from_root(alloc, plan, finders, root, sink) {
         Ok(goes_on) => Ok(goes_on),
         Err(halt) => Err(halt.told(alloc)),
     }
@@ -81,21 +103,28 @@ pub fn give_nodes_again<'a, T: Queryable>(
 /// The same, where these ask the patterns.
 fn give_from_root<'a: 's, 's, T: Queryable>(
     alloc: Global,
-    query: &'s JpQuery,
+    plan: &'s Plan,
     finders: Finders<'s>,
     root: &'a T,
     sink: &mut Sink<'a, T>,
 ) -> Walked<bool>
     requires { IsTrue (T.is_whole root.now) }
-    ensures gave { IfOk result (λ b. Took (seen T.tree T.is_whole sink.old) (nodelist (query_view query.now) (document_of T.tree T.custom root.now))
+    ensures gave { IfOk result (λ b. Took (seen T.tree T.is_whole sink.old) (nodelist (plan_view plan.now) (document_of T.tree T.custom root.now))
         (seen T.tree T.is_whole sink.new) b) }
-    ensures refused { IfErr result (IsHalt (query_view query.now) (document_of T.tree T.custom root.now)) }
+    ensures refused { IfErr result (IsHalt (plan_view plan.now) (document_of T.tree T.custom root.now)) }
 {
-    let task = Task { alloc, query, root };
+    let segments = plan.segments.as_slice();
+    let task = Task {
+        alloc,
+        plan,
+        segments,
+        root,
+    };
     let way = Way::new(alloc);
-    let cache = Cache::new(alloc, finders);
+    let cache = Cache::new(alloc, plan.kept.len(), finders)?;
     let mut trail = Trail { way, cache };
-    task.walk(&query.segments, root, &mut trail, sink)
+    task.work_out_early(&mut trail)?;
+    task.walk(segments, root, &mut trail, sink)
 }
 
 impl<'a: 's, 's, T: Queryable> Task<'a, 's, T> {
@@ -110,11 +139,12 @@ impl<'a: 's, 's, T: Queryable> Task<'a, 's, T> {
         sink: &mut Sink<'a, T>,
     ) -> Walked<bool>
         requires stands { Stands T.tree T.is_whole T.custom self.now at.now trail.old.way.steps.items trail.old.cache }
-        requires part { StandIn (query_of self.now) (segments_contents (segments_in segments.now)) }
+        requires part { StandIn (query_of self.now) (segments_patterns (segments_in (kept_of self.now) segments.now)) }
         ensures gave { IfOk result (λ b. Took (seen T.tree T.is_whole sink.old)
-            (through (segments_in segments.now) (document T.tree T.custom self.now) (node_of T.tree trail.old.way.steps.items at.now))
+            (through (segments_in (kept_of self.now) segments.now) (document T.tree T.custom self.now) (node_of T.tree trail.old.way.steps.items at.now))
             (seen T.tree T.is_whole sink.new) b) }
         ensures returns { OnOk result (Returns T.tree T.is_whole T.custom self.now trail.old trail.new) }
+        ensures ready { OnErr result (IsReady T.tree T.is_whole T.custom self.now trail.new.cache) }
         ensures refused { IfErr result (IsHalt (query_of self.now) (document T.tree T.custom self.now)) }
     {
         match segments.split_first() {
@@ -135,12 +165,13 @@ impl<'a: 's, 's, T: Queryable> Task<'a, 's, T> {
         sink: &mut Sink<'a, T>,
     ) -> Walked<bool>
         requires stands { Stands T.tree T.is_whole T.custom self.now at.now trail.old.way.steps.items trail.old.cache }
-        requires part { StandIn (query_of self.now) (segment_contents (segment_view first.now) ++ segments_contents (segments_in rest.now)) }
+        requires part { StandIn (query_of self.now) (segment_patterns (segment_view (kept_of self.now) first.now) ++ segments_patterns (segments_in (kept_of self.now) rest.now)) }
         ensures gave { IfOk result (λ b. Took (seen T.tree T.is_whole sink.old)
-            (flat_map (through (segments_in rest.now) (document T.tree T.custom self.now))
-            (replaced (segment_view first.now) (document T.tree T.custom self.now) (node_of T.tree trail.old.way.steps.items at.now)))
+            (flat_map (through (segments_in (kept_of self.now) rest.now) (document T.tree T.custom self.now))
+            (replaced (segment_view (kept_of self.now) first.now) (document T.tree T.custom self.now) (node_of T.tree trail.old.way.steps.items at.now)))
             (seen T.tree T.is_whole sink.new) b) }
         ensures returns { OnOk result (Returns T.tree T.is_whole T.custom self.now trail.old trail.new) }
+        ensures ready { OnErr result (IsReady T.tree T.is_whole T.custom self.now trail.new.cache) }
         ensures refused { IfErr result (IsHalt (query_of self.now) (document T.tree T.custom self.now)) }
     {
         match first {
@@ -161,12 +192,13 @@ impl<'a: 's, 's, T: Queryable> Task<'a, 's, T> {
         sink: &mut Sink<'a, T>,
     ) -> Walked<bool>
         requires stands { Stands T.tree T.is_whole T.custom self.now at.now trail.old.way.steps.items trail.old.cache }
-        requires part { StandIn (query_of self.now) (selectors_contents (selectors_in selectors.now) ++ segments_contents (segments_in rest.now)) }
+        requires part { StandIn (query_of self.now) (selectors_patterns (selectors_in (kept_of self.now) selectors.now) ++ segments_patterns (segments_in (kept_of self.now) rest.now)) }
         ensures gave { IfOk result (λ b. Took (seen T.tree T.is_whole sink.old)
-            (flat_map (through (segments_in rest.now) (document T.tree T.custom self.now))
-            (all_pick (selectors_in selectors.now) (document T.tree T.custom self.now) (node_of T.tree trail.old.way.steps.items at.now)))
+            (flat_map (through (segments_in (kept_of self.now) rest.now) (document T.tree T.custom self.now))
+            (all_pick (selectors_in (kept_of self.now) selectors.now) (document T.tree T.custom self.now) (node_of T.tree trail.old.way.steps.items at.now)))
             (seen T.tree T.is_whole sink.new) b) }
         ensures returns { OnOk result (Returns T.tree T.is_whole T.custom self.now trail.old trail.new) }
+        ensures ready { OnErr result (IsReady T.tree T.is_whole T.custom self.now trail.new.cache) }
         ensures refused { IfErr result (IsHalt (query_of self.now) (document T.tree T.custom self.now)) }
     {
         for selector in selectors {
@@ -189,12 +221,13 @@ impl<'a: 's, 's, T: Queryable> Task<'a, 's, T> {
         sink: &mut Sink<'a, T>,
     ) -> Walked<bool>
         requires stands { Stands T.tree T.is_whole T.custom self.now at.now trail.old.way.steps.items trail.old.cache }
-        requires part { StandIn (query_of self.now) (selector_contents (selector_view selector.now) ++ segments_contents (segments_in rest.now)) }
+        requires part { StandIn (query_of self.now) (selector_patterns (selector_view (kept_of self.now) selector.now) ++ segments_patterns (segments_in (kept_of self.now) rest.now)) }
         ensures gave { IfOk result (λ b. Took (seen T.tree T.is_whole sink.old)
-            (flat_map (through (segments_in rest.now) (document T.tree T.custom self.now))
-            (picks (selector_view selector.now) (document T.tree T.custom self.now) (node_of T.tree trail.old.way.steps.items at.now)))
+            (flat_map (through (segments_in (kept_of self.now) rest.now) (document T.tree T.custom self.now))
+            (picks (selector_view (kept_of self.now) selector.now) (document T.tree T.custom self.now) (node_of T.tree trail.old.way.steps.items at.now)))
             (seen T.tree T.is_whole sink.new) b) }
         ensures returns { OnOk result (Returns T.tree T.is_whole T.custom self.now trail.old trail.new) }
+        ensures ready { OnErr result (IsReady T.tree T.is_whole T.custom self.now trail.new.cache) }
         ensures refused { IfErr result (IsHalt (query_of self.now) (document T.tree T.custom self.now)) }
     {
         match selector {
@@ -231,12 +264,13 @@ impl<'a: 's, 's, T: Queryable> Task<'a, 's, T> {
         sink: &mut Sink<'a, T>,
     ) -> Walked<bool>
         requires stands { Stands T.tree T.is_whole T.custom self.now at.now trail.old.way.steps.items trail.old.cache }
-        requires part { StandIn (query_of self.now) (segments_contents (segments_in rest.now)) }
+        requires part { StandIn (query_of self.now) (segments_patterns (segments_in (kept_of self.now) rest.now)) }
         ensures gave { IfOk result (λ b. Took (seen T.tree T.is_whole sink.old)
-            (flat_map (through (segments_in rest.now) (document T.tree T.custom self.now))
+            (flat_map (through (segments_in (kept_of self.now) rest.now) (document T.tree T.custom self.now))
             (sliced slice.0 slice.1 slice.2 (node_of T.tree trail.old.way.steps.items at.now)))
             (seen T.tree T.is_whole sink.new) b) }
         ensures returns { OnOk result (Returns T.tree T.is_whole T.custom self.now trail.old trail.new) }
+        ensures ready { OnErr result (IsReady T.tree T.is_whole T.custom self.now trail.new.cache) }
         ensures refused { IfErr result (IsHalt (query_of self.now) (document T.tree T.custom self.now)) }
     {
         let Some(items) = at.as_array() else {

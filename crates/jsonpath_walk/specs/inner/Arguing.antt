@@ -2,7 +2,7 @@
 use Rattle.std.specs.Prelude.{List, Bool, Option, Some, None, option_map, option_to_list, IsTrue, IfSome}
 use Rattle.jsonpath_base.specs.Tree.{Tree}
 use Rattle.jsonpath_node.specs.Functions.{count_value, is_true, Evaluated, of_value, of_nodes}
-use Rattle.jsonpath_walk.specs.inner.Keeping.{gathered, IsGathered}
+use Rattle.jsonpath_walk.specs.inner.Keeping.{gathered}
 use Rattle.jsonpath_node.specs.inner.Operands.{operand_tree, operand_is_whole}
 use Rattle.jsonpath_walk.specs.inner.Sinks.{Seen, start, give, any_in, count_in, only_in, values_in, ValuesAreWhole}
 use Rattle.jsonpath_walk.specs.declared.argument.Argument.{Argument}
@@ -19,10 +19,10 @@ abbrev pub held : {A : Type 0} → (A → Tree) → (A → Bool) → Cache A →
 held tree whole cache (argument.Value o) = value (operand_tree tree o)
 held tree whole cache (argument.Nodes g) = nodes (gathered tree whole cache g)
 
--- its value is whole, its index one of the cache
-abbrev pub IsHeld : {A : Type 0} → (A → Bool) → Cache A → Argument A → Type 0
-IsHeld whole cache (argument.Value o) = IsTrue (operand_is_whole whole o)
-IsHeld whole cache (argument.Nodes g) = IsGathered cache g
+-- its value is whole
+abbrev pub IsHeld : {A : Type 0} → (A → Bool) → Argument A → Type 0
+IsHeld whole (argument.Value o) = IsTrue (operand_is_whole whole o)
+IsHeld whole (argument.Nodes g) = Unit {0}
 
 -- what is held of it, where this is wanted
 abbrev pub holding : Wanted → Evaluated → Held

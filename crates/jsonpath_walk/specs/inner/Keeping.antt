@@ -1,62 +1,58 @@
 -- What one call of the evaluator keeps, for the contracts of the walk alone: the definitions here are no part of what a query means.
-use Rattle.std.specs.Prelude.{◌≡◌, ℕ, ◌<◌, List, map, length, get_or, Bool, false, IsTrue, All}
-use Rattle.jsonpath_tree.specs.View.{query_view}
+use Rattle.std.specs.Prelude.{◌≡◌, ℕ, List, map, length, get_or, Bool, false, Option, None, Some, option_map, IsTrue, All}
 use Rattle.jsonpath_tree.specs.Syntax.{Query}
 use Rattle.jsonpath_base.specs.Tree.{Tree}
 use Rattle.jsonpath_node.specs.Document.{Document, document_of}
-use Rattle.jsonpath_node.specs.Meaning.{nodelist}
-use Rattle.jsonpath_walk.specs.inner.Census.{Tells}
-use Rattle.jsonpath_walk.specs.inner.Contents.{IsOwn}
-use Rattle.jsonpath_walk.specs.inner.Sinks.{Seen, any, seen, start, give}
+use Rattle.jsonpath_node.specs.Meaning.{nodelist, value_at}
+use Rattle.jsonpath_walk.specs.inner.PlanViews.{Kept, KeptPart, kept_view, part_at, segments_in}
+use Rattle.jsonpath_walk.specs.inner.PlanViews as plan
+use Rattle.jsonpath_walk.specs.inner.Sinks.{Seen, any, seen, seen_value, start, give}
 use Rattle.jsonpath_walk.specs.declared.cache.Cache.{Cache}
-use Rattle.jsonpath_walk.specs.declared.cache.CachedNodelist.{CachedNodelist}
+use Rattle.jsonpath_walk.specs.declared.sink.Sink.{Sink}
 use Rattle.jsonpath_walk.specs.declared.walk.Task.{Task}
 use Rattle.jsonpath_walk.specs.declared.cache.Gathered.{Gathered}
 use Rattle.jsonpath_walk.specs.declared.cache.Gathered.TheVariants as given
-
-abbrev pub nodelists_of : {A : Type 0} → Cache A → List (CachedNodelist A)
-nodelists_of cache = cache.nodelists.items
-
--- the nodelist at an index
-abbrev pub seen_at : {A : Type 0} → (A → Tree) → (A → Bool) → List (CachedNodelist A) → ℕ → Seen
-seen_at tree whole cached i = get_or (map (λ c. seen tree whole c.nodes) cached) i (any false)
-
--- what is kept for a query from the root that stands in the query is what its nodelist gives
-pub record IsRight {A : Type 0} (tree : A → Tree) (whole : A → Bool) (q : Query) (doc : Document) (cached : CachedNodelist A) : Type 0 where
-  pub own : IsOwn q (query_view cached.query.now)
-  pub right : seen tree whole cached.nodes ≡ give (start cached.wanted) (nodelist (query_view cached.query.now) doc)
-
-abbrev pub AreRight : {A : Type 0} → (A → Tree) → (A → Bool) → Query → Document → List (CachedNodelist A) → Type 0
-AreRight tree whole q doc cached = All (IsRight tree whole q doc) cached
 
 -- what is asked, seen as the meaning has it
 abbrev pub document : {A : Type 0} → (A → Tree) → (List ℕ → List Tree → Tree) → Task A → Document
 document tree custom task = document_of tree custom task.root.now
 
+abbrev pub kept_of : {A : Type 0} → Task A → Kept
+kept_of task = kept_view task.plan.now.kept.items
+
 abbrev pub query_of : {A : Type 0} → Task A → Query
-query_of task = query_view task.query.now
+query_of task = segments_in (kept_of task) task.segments.now
 
--- what is kept is right, and so is what is known of the queries from the root
-pub record Keeps {A : Type 0} (tree : A → Tree) (whole : A → Bool) (q : Query) (doc : Document) (cache : Cache A) : Type 0 where
-  pub nodelists : AreRight tree whole q doc (nodelists_of cache)
-  pub census : Tells q cache.census
+-- what a part of the query without `@` gives
+abbrev pub given_by : KeptPart → Document → Seen
+given_by (plan.nodes w q) doc = give (start w) (nodelist q doc)
+given_by (plan.value ss) doc = seen_value (value_at ss doc.root)
 
--- the same is kept
-pub record IsAsBefore {A : Type 0} (old new : Cache A) : Type 0 where
-  pub nodelists : nodelists_of new ≡ nodelists_of old
-  pub census : new.census ≡ old.census
+abbrev pub slots_of : {A : Type 0} → Cache A → List (Option (Sink A))
+slots_of cache = cache.slots.items
+
+-- what is kept under a number
+abbrev pub slot_at : {A : Type 0} → (A → Tree) → (A → Bool) → List (Option (Sink A)) → ℕ → Option Seen
+slot_at tree whole slots n = get_or (map (option_map (seen tree whole)) slots) n None
+
+abbrev pub seen_or_none : Option Seen → Seen
+seen_or_none None = any false
+seen_or_none (Some s) = s
+
+abbrev pub AreEmpty : {A : Type 0} → List (Option (Sink A)) → Type 0
+AreEmpty slots = All (λ o. o ≡ None) slots
+
+-- there is a slot for each entry, and what is kept is what the entry gives
+pub record Keeps {A : Type 0} (tree : A → Tree) (whole : A → Bool) (kept : Kept) (doc : Document) (cache : Cache A) : Type 0 where
+  pub room : length (slots_of cache) ≡ length kept
+  pub right : (n : ℕ) (s : Seen) → slot_at tree whole (slots_of cache) n ≡ Some s → s ≡ given_by (part_at kept n) doc
 
 -- the root is whole, and what is kept is right
 pub record IsReady {A : Type 0} (tree : A → Tree) (whole : A → Bool) (custom : List ℕ → List Tree → Tree) (task : Task A) (cache : Cache A) : Type 0 where
   pub root : IsTrue (whole task.root.now)
-  pub kept : Keeps tree whole (query_of task) (document tree custom task) cache
+  pub kept : Keeps tree whole (kept_of task) (document tree custom task) cache
 
 -- what the nodes of a query gave
 abbrev pub gathered : {A : Type 0} → (A → Tree) → (A → Bool) → Cache A → Gathered A → Seen
 gathered tree whole cache (given.Own s) = seen tree whole s
-gathered tree whole cache (given.Cached i) = seen_at tree whole (nodelists_of cache) i
-
--- its index is one of the cache, if it has one
-abbrev pub IsGathered : {A : Type 0} → Cache A → Gathered A → Type 0
-IsGathered cache (given.Own s) = Unit {0}
-IsGathered cache (given.Cached i) = i < length (nodelists_of cache)
+gathered tree whole cache (given.Kept n) = seen_or_none (slot_at tree whole (slots_of cache) n)

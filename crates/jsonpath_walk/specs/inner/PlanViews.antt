@@ -1,9 +1,12 @@
--- The query that a plan stands for. A part of a plan stands for a part of a query where it is known what is kept.
-use Rattle.std.specs.Prelude.{ℕ, List, [], ◌∷◌, ◌++◌, map, get_or, Bool, true, false, string_bytes, if◌then◌else◌}
+-- What the parts of a plan stand for. A part of a plan stands for a part of a query where it is known what is kept.
+use Rattle.std.specs.Prelude.{◌≡◌, ℕ, List, [], ◌∷◌, ◌++◌, map, get_or, Bool, true, false, string_bytes, if◌then◌else◌}
+use Rattle.std.specs.Coded.{Coded-set, codes}
+use mathlib.Core.List.{is_set}
 use Rattle.jsonpath_tree.specs.Syntax as tree
 use Rattle.jsonpath_tree.specs.View.{literal_view, step_view, operator_view, segments_of, selectors_of, filters_of, arguments_of}
-use Rattle.jsonpath_walk.specs.declared.plan.Plan.{Plan}
 use Rattle.jsonpath_walk.specs.declared.plan.Entry.{Entry}
+use Rattle.jsonpath_walk.specs.declared.plan.Rooted.{Rooted}
+use Rattle.jsonpath_walk.specs.declared.plan.Rooted.TheVariants as rooted
 use Rattle.jsonpath_walk.specs.declared.plan.Argument.{Argument, Argument-F, fold-Argument}
 use Rattle.jsonpath_walk.specs.declared.plan.Call.{Call, Call-F, fold-Call}
 use Rattle.jsonpath_walk.specs.declared.plan.Filter.{Filter, Filter-F, fold-Filter}
@@ -14,10 +17,6 @@ use Rattle.jsonpath_walk.specs.declared.plan.Side.{Side, Side-F, fold-Side}
 use Rattle.jsonpath_walk.specs.declared.sink.Wanted.{Wanted}
 use Rattle.jsonpath_walk.specs.declared.sink.Wanted.TheVariants.{Any, Count, Only, Values}
 
--- what is kept: the queries from the root, with what is wanted of their nodes
-abbrev pub Kept : Type 0
-Kept = List (Wanted × tree.Query)
-
 abbrev pub is_same_wanted : Wanted → Wanted → Bool
 is_same_wanted Any Any = true
 is_same_wanted Count Count = true
@@ -25,9 +24,43 @@ is_same_wanted Only Only = true
 is_same_wanted Values Values = true
 is_same_wanted _ _ = false
 
--- the query of this number that is kept for this; `$` where there is none
+-- a part of the query without `@`: what is wanted of the nodes of a query from the root, or the value of one of names and indexes alone
+pub data KeptPart : Type 0 where
+  nodes : Wanted → tree.Query → KeptPart
+  value : List tree.SingularStep → KeptPart
+  deriving IsSet as KeptPart_set
+
+-- what is kept, by number
+abbrev pub Kept : Type 0
+Kept = List KeptPart
+
+ruleset sets = (Coded-set, codes)
+
+-- queries are data, and so is what is kept: there is one proof that two of them are the same
+pub Query-set : IsSet tree.Query
+Query-set = tree.Segments_set (hlevel sets) (hlevel sets) (hlevel sets) (hlevel sets) (hlevel sets) (hlevel sets) (hlevel sets)
+
+pub Kept-set : IsSet Kept
+Kept-set = is_set (KeptPart_set (hlevel sets) Query-set (hlevel sets))
+
+abbrev pub part_at : Kept → ℕ → KeptPart
+part_at kept n = get_or kept n (value [])
+
+-- the query that is kept for this; `$` where there is none
+abbrev pub query_in : Wanted → KeptPart → tree.Query
+query_in w (nodes v q) = if is_same_wanted w v then q else tree.no_segments
+query_in w (value ss) = tree.no_segments
+
 abbrev pub query_at : Kept → Wanted → ℕ → tree.Query
-query_at kept w n = let p = get_or kept n (Any, tree.no_segments) in (if is_same_wanted w p.0 then p.1 else tree.no_segments)
+query_at kept w n = query_in w (part_at kept n)
+
+-- the steps from the root that are kept; none where there are none
+abbrev pub steps_in : KeptPart → List tree.SingularStep
+steps_in (nodes v q) = []
+steps_in (value ss) = ss
+
+abbrev pub steps_at : Kept → ℕ → List tree.SingularStep
+steps_at kept n = steps_in (part_at kept n)
 
 -- a child segment of this one name or index (RFC 9535, 2.3.5.1)
 abbrev pub step_segment : tree.SingularStep → tree.Segment
@@ -36,13 +69,6 @@ step_segment (tree.index_step i) = tree.one (tree.index i)
 
 abbrev pub steps_query : List tree.SingularStep → tree.Query
 steps_query ss = segments_of (map step_segment ss)
-
--- the steps of a query of names and indexes alone
-abbrev pub steps_in : tree.Query → List tree.SingularStep
-steps_in tree.no_segments = []
-steps_in (tree.segment (tree.one (tree.name k)) gs) = tree.name_step k ∷ steps_in gs
-steps_in (tree.segment (tree.one (tree.index i)) gs) = tree.index_step i ∷ steps_in gs
-steps_in (tree.segment _ gs) = steps_in gs
 
 -- One layer of each type, with its parts seen already. Arguments and nodes are seen for what is wanted of them.
 
@@ -92,7 +118,7 @@ selector_step (Selector-F.«Selector::Filter» f) = tree.filter f
 abbrev pub side_step : Kept → Layer Side-F → tree.Comparable
 side_step kept (Side-F.«Side::Literal» l) = tree.literal (literal_view l)
 side_step kept (Side-F.«Side::Lookup» v) = tree.singular (tree.current (map step_view v.items))
-side_step kept (Side-F.«Side::Kept» n) = tree.singular (tree.root (steps_in (query_at kept Only n)))
+side_step kept (Side-F.«Side::Kept» n) = tree.singular (tree.root (steps_at kept n))
 side_step kept (Side-F.«Side::Call» c) = tree.function c.value
 
 -- The folds. The steps stand in the order of the types, by alphabet.
@@ -118,17 +144,35 @@ selector_view kept = fold-Selector (Wanted → tree.Argument) tree.Call tree.Fil
 abbrev pub side_view : Kept → Side → tree.Comparable
 side_view kept = fold-Side (Wanted → tree.Argument) tree.Call tree.Filter (Wanted → tree.Test) tree.Segment tree.Selector tree.Comparable argument_step call_step filter_step (nodes_step kept) segment_step selector_step (side_step kept)
 
--- segments behind one another
+-- lists of parts, one behind the other
 abbrev pub segments_in : Kept → List Segment → tree.Segments
 segments_in kept gs = segments_of (map (segment_view kept) gs)
 
--- each entry stands for a query where those before it are kept
+abbrev pub selectors_in : Kept → List Selector → tree.Selectors
+selectors_in kept ss = selectors_of (map (selector_view kept) ss)
+
+abbrev pub filters_in : Kept → List Filter → tree.Filters
+filters_in kept fs = filters_of (map (filter_view kept) fs)
+
+-- the arguments of a custom function
+abbrev pub arguments_in : Kept → List Argument → tree.Arguments
+arguments_in kept args = arguments_of (map (λ a. argument_view kept a Values) args)
+
+-- each entry stands for a part where those before it are kept
+abbrev pub rooted_view : Kept → Rooted → KeptPart
+rooted_view kept (rooted.Nodes gs w) = nodes w (segments_in kept gs.items)
+rooted_view kept (rooted.Value ss) = value (map step_view ss.items)
+
 abbrev pub kept_from : Kept → List Entry → Kept
 kept_from kept [] = kept
-kept_from kept (e ∷ es) = kept_from (kept ++ (e.wanted, segments_in kept e.segments.items) ∷ []) es
+kept_from kept (e ∷ es) = kept_from (kept ++ rooted_view kept e.part ∷ []) es
 
 abbrev pub kept_view : List Entry → Kept
 kept_view es = kept_from [] es
 
-abbrev pub plan_view : Plan → tree.Query
-plan_view p = segments_in (kept_view p.kept.items) p.segments.items
+-- each stands for the same part where all are kept
+abbrev pub IsSettled : List Entry → Type 0
+IsSettled es = map (λ e. rooted_view (kept_view es) e.part) es ≡ kept_view es
+
+pub IsSettled-prop : (es : List Entry) → IsProp (IsSettled es)
+IsSettled-prop es = Kept-set (map (λ e. rooted_view (kept_view es) e.part) es) (kept_view es)

@@ -1,17 +1,11 @@
--- Where a walk stands, how it comes back and why it halts, for the contracts of the walk alone: the definitions here are no part of what a
--- query means.
+-- Where a walk stands and how it comes back, for the contracts of the walk alone: the definitions here are no part of what a query means.
 use Rattle.std.specs.Prelude.{◌≡◌, ◌≤◌, ℕ, List, map, Bool, Some, IsTrue, All}
-use Rattle.jsonpath_tree.specs.Syntax.{Query}
 use Rattle.jsonpath_base.specs.Tree.{Tree, as_members}
-use Rattle.jsonpath_node.specs.Document.{Document}
-use Rattle.jsonpath_node.specs.Patterns.{AsksPattern}
 use Rattle.jsonpath_walk.specs.inner.Keeping.{IsReady}
 use Rattle.jsonpath_node.specs.inner.Size.{size}
 use Rattle.jsonpath_walk.specs.inner.Walking.{LeadTo}
 use Rattle.jsonpath_walk.specs.declared.cache.Cache.{Cache}
 use Rattle.jsonpath_walk.specs.declared.children.Members.{Members}
-use Rattle.jsonpath_node.specs.declared.halt.Halt.{Halt}
-use Rattle.jsonpath_node.specs.declared.halt.Halt.TheVariants.{Memory}
 use Rattle.jsonpath_walk.specs.declared.trail.Trail.{Trail}
 use Rattle.jsonpath_walk.specs.declared.walk.Task.{Task}
 use Rattle.jsonpath_walk.specs.declared.way.StepRef.{StepRef}
@@ -27,10 +21,6 @@ pub record Stands {A : Type 0} (tree : A → Tree) (is_whole : A → Bool) (cust
 pub record Returns {A : Type 0} (tree : A → Tree) (is_whole : A → Bool) (custom : List ℕ → List Tree → Tree) (task : Task A) (old new : Trail A) : Type 0 where
   pub same : new.way.steps.items ≡ old.way.steps.items
   pub ready : IsReady tree is_whole custom task new.cache
-
--- memory ran out, or a pattern stands in the query whose value at some node of the document is a text that `regex` reads
-abbrev pub IsHalt : Query → Document → Halt → Type 0
-IsHalt q doc halt = (halt ≡ Memory → ⊥) → AsksPattern q doc
 
 -- the list holds the members of the object
 pub record AreMembers {A : Type 0} (tree : A → Tree) (is_whole : A → Bool) (members : Members A) : Type 0 where

@@ -1,15 +1,15 @@
 -- How a walk meets the nodes of a query, for the contracts of the walk alone: the definitions here are no part of what a query means.
-use Rattle.std.specs.Prelude.{◌≡◌, List, [], ◌∷◌, map, filter, Some}
+use Rattle.std.specs.Prelude.{◌≡◌, List, [], ◌∷◌, map, filter, Bool, Some}
 use Rattle.std.specs.List.{flat_map}
 use Rattle.jsonpath_core.specs.Location.{Step, name, index}
-use Rattle.jsonpath_tree.specs.Syntax.{Segments, no_segments, segment}
-use Rattle.jsonpath_tree.specs.View.{segment_view, filter_view}
+use Rattle.jsonpath_tree.specs.Syntax.{Argument, Segments, no_segments, segment}
 use Rattle.jsonpath_base.specs.Places.{at}
 use Rattle.jsonpath_base.specs.Tree.{Tree}
 use Rattle.jsonpath_node.specs.Node.{Node, subtree}
 use Rattle.jsonpath_node.specs.Document.{Document}
 use Rattle.jsonpath_node.specs.Meaning.{replaced, holds}
-use Rattle.jsonpath_walk.specs.inner.Contents.{Content, segment_contents, filter_contents}
+use Rattle.jsonpath_node.specs.Patterns.{segment_patterns, filter_patterns}
+use Rattle.jsonpath_walk.specs.inner.PlanViews.{Kept, segment_view, filter_view}
 use Rattle.jsonpath_walk.specs.declared.way.StepRef.{StepRef}
 use Rattle.jsonpath_walk.specs.declared.way.StepRef.TheVariants.{Name, Index}
 use Rattle.jsonpath_walk.specs.declared.action.Action.{Action}
@@ -33,13 +33,13 @@ through no_segments d n = n ∷ []
 through (segment g gs) d n = flat_map (through gs d) (replaced g d n)
 
 -- the nodes that an action makes of one node
-abbrev pub acted : Action → Document → Node → List Node
-acted All d n = n ∷ []
-acted (If f) d n = filter (holds (filter_view f.now) d) (n ∷ [])
-acted (Below g) d n = flat_map (replaced (segment_view g.now) d) (subtree n)
+abbrev pub acted : Kept → Action → Document → Node → List Node
+acted kept All d n = n ∷ []
+acted kept (If f) d n = filter (holds (filter_view kept f.now) d) (n ∷ [])
+acted kept (Below g) d n = flat_map (replaced (segment_view kept g.now) d) (subtree n)
 
--- what stands in an action
-abbrev pub action_contents : Action → List Content
-action_contents All = []
-action_contents (If f) = filter_contents (filter_view f.now)
-action_contents (Below g) = segment_contents (segment_view g.now)
+-- the patterns that stand in an action
+abbrev pub action_patterns : Kept → Action → List (Bool × Argument)
+action_patterns kept All = []
+action_patterns kept (If f) = filter_patterns (filter_view kept f.now)
+action_patterns kept (Below g) = segment_patterns (segment_view kept g.now)

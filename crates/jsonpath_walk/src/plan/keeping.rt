@@ -1,9 +1,15 @@
-//! Queries from the root that were met, and what is wanted of their nodes.
-ghost use Rattle.std.specs.Prelude.{◌≡◌, IfSome, IsTrue};
-ghost use Rattle.jsonpath_walk.specs.inner.PlanMaking.{IsNumberOf, source_of};
+//! Parts of the query without `@` that were met, and when each of them is worked out.
+ghost use Rattle.std.specs.Prelude.{◌≡◌, IfOk, IfErr, IfSome, IsTrue};
+ghost use Rattle.jsonpath_core.specs.declared.errors.JsonPathError.TheVariants.{OutOfMemory};
+ghost use Rattle.jsonpath_walk.specs.inner.PlanMaking.{IsBeside, IsKept, IsNumberOf, source_of};
+ghost use Rattle.jsonpath_walk.specs.inner.PlanViews.{is_same_wanted};
 
+use super::make::Maker;
+use super::{Entry, Rooted, Turn};
 use crate::sink::Wanted;
+use jsonpath_core::errors::Parsed;
 use jsonpath_tree::model::{JpQuery, SingularQuery};
+use std::mem;
 
 /// What an entry is made of.
 #[derive(Clone, Copy)]
@@ -14,15 +20,72 @@ pub enum Source<'q> {
     Side(&'q SingularQuery),
 }
 
-impl<'q> Source<'q> {
-    /// What is wanted of the nodes.
-    pub fn wanted(self) -> Wanted
-        ensures { result ≡ (source_of self.entry).0 }
+/// What an entry was made of, and how deep its working out may stand.
+#[derive(Clone, Copy)]
+pub struct Met<'q> {
+    pub source: Source<'q>,
+    /// How many entries may be on their way at once when this one is first asked: it, and those in its filters that are then
+    /// first asked, one in the other. 0 where it is worked out before the walk, and where it is a value.
+    pub run: usize,
+}
+
+/// No run is as long as this. An entry that had this run is worked out before the walk.
+const MOST_AT_ONCE: usize = 3;
+
+/// The run of a query from the root, where this is the greatest of the entries that stand in it.
+fn run_over(inner: usize) -> usize {
+    if inner < MOST_AT_ONCE - 1 {
+        inner + 1
+    } else {
+        0
+    }
+}
+
+/// When a query from the root of this run is worked out.
+fn turn_of(run: usize) -> Turn {
+    match run {
+        0 => Turn::Early,
+        _ => Turn::Asked,
+    }
+}
+
+impl<'q> Maker<'q> {
+    /// The number of an entry that is made of the same, which then stands at this place too.
+    pub fn found(&mut self, source: Source<'q>) -> Option<usize>
+        ensures number { IfSome result (IsNumberOf self.old.met.items source.entry) }
+        ensures beside { IsBeside self.old self.new }
     {
-        match self {
-            Source::Query(_query, wanted) => wanted,
-            Source::Side(_query) => Wanted::Only,
-        }
+        let number = near_entry(&self.met, source)?;
+        self.run = self.run.max(self.met[number].run);
+        Some(number)
+    }
+
+    /// Begins an entry: what is met from now on stands in it. The result is the greatest run that was met around it.
+    pub fn begin(&mut self) -> usize
+        ensures { IsBeside self.old self.new }
+    {
+        mem::replace(&mut self.run, 0)
+    }
+
+    /// Makes the entry that was begun, a query from the root, and tells its number.
+    pub fn end(&mut self, part: Rooted, source: Source<'q>, around: usize) -> Parsed<usize>
+        ensures kept { IfOk result (λ n. IsKept self.old self.new part source.entry n) }
+        ensures memory { IfErr result (λ e. e ≡ OutOfMemory) }
+    {
+        let run = run_over(self.run);
+        self.run = around.max(run);
+        self.keep(part, turn_of(run), Met { source, run })
+    }
+
+    /// Makes one entry more, and tells its number.
+    pub fn keep(&mut self, part: Rooted, turn: Turn, met: Met<'q>) -> Parsed<usize>
+        ensures kept { IfOk result (λ n. IsKept self.old self.new part met.entry.source n) }
+        ensures memory { IfErr result (λ e. e ≡ OutOfMemory) }
+    {
+        let number = self.met.len();
+        self.kept.push(Entry { part, turn })?;
+        self.met.push(met)?;
+        Ok(number)
     }
 }
 
@@ -31,12 +94,12 @@ const NEAR: usize = 8;
 
 /// The number of an equal one among the last ones. They alone are looked at, so a query costs a few comparisons, however many
 /// there are.
-pub fn near_entry(sources: &Vec<Source<'_>>, sought: Source<'_>) -> Option<usize>
-    ensures { IfSome result (IsNumberOf sources.now.items sought.entry) }
+fn near_entry(met: &Vec<Met<'_>>, sought: Source<'_>) -> Option<usize>
+    ensures { IfSome result (IsNumberOf met.now.items sought.entry) }
 {
-    let count = sources.len();
+    let count = met.len();
     for number in count.saturating_sub(NEAR)..count {
-        if is_same(sources[number], sought) {
+        if is_same(met[number].source, sought) {
             return Some(number);
         }
     }
@@ -58,8 +121,10 @@ fn is_same(left: Source<'_>, right: Source<'_>) -> bool
 }
 
 /// Whether the same is wanted.
-fn is_same_wanted(left: Wanted, right: Wanted) -> bool
-    ensures { IsTrue result → left ≡ right }
+#[inline(always)]
+pub fn is_same_wanted(left: Wanted, right: Wanted) -> bool
+    ensures same { IsTrue result → left ≡ right }
+    ensures is { result ≡ is_same_wanted left right }
 {
     match (left, right) {
         (Wanted::Any, Wanted::Any) => true,

@@ -4,13 +4,14 @@ ghost use Rattle.jsonpath_core.specs.declared.errors.JsonPathError.TheVariants.{
 ghost use Rattle.jsonpath_tree.specs.Syntax as syntax;
 ghost use Rattle.jsonpath_tree.specs.View as tree;
 ghost use Rattle.jsonpath_walk.specs.inner.PlanViews as plan;
-ghost use Rattle.jsonpath_walk.specs.inner.PlanMaking.{Made, IsKept};
+ghost use Rattle.jsonpath_walk.specs.inner.PlanMaking.{Made};
+ghost use Rattle.jsonpath_walk.specs.inner.Planned.{plan_view};
 ghost use Rattle.jsonpath_walk.specs.declared.sink.Wanted.{Wanted};
 ghost use Rattle.jsonpath_walk.specs.declared.sink.Wanted.TheVariants.{Only, Values};
 
-use super::keeping::{Source, near_entry};
-use super::steps::{segments_of, steps_again, steps_of};
-use super::{Argument, Call, Entry, Filter, Nodes, Plan, Segment, Selector, Side};
+use super::keeping::{Met, Source};
+use super::steps::{steps_again, steps_of};
+use super::{Argument, Call, Entry, Filter, Nodes, Plan, Rooted, Segment, Selector, Side, Turn};
 use crate::finders::Asked;
 use crate::sink::Wanted;
 use jsonpath_core::errors::Parsed;
@@ -21,13 +22,14 @@ use std::alloc::Global;
 
 /// The plan of a query. Linear in the query, but that each query from the root is compared with a few others.
 pub fn plan_of(alloc: Global, query: &JpQuery) -> Parsed<Plan>
-    ensures same { IfOk result (λ p. plan.plan_view p ≡ tree.query_view query.now) }
+    ensures same { IfOk result (λ p. plan_view p ≡ tree.query_view query.now) }
     ensures memory { IfErr result (λ e. e ≡ OutOfMemory) }
 {
     let mut maker = Maker {
         alloc,
         kept: Vec::new(alloc),
-        sources: Vec::new(alloc),
+        met: Vec::new(alloc),
+        run: 0,
         patterns: Vec::new(alloc),
     };
     let segments = maker.segments(&query.segments)?;
@@ -46,7 +48,9 @@ pub struct Maker<'q> {
     /// The entries that are made.
     pub kept: Vec<Entry>,
     /// What each of them is made of.
-    pub sources: Vec<Source<'q>>,
+    pub met: Vec<Met<'q>>,
+    /// The greatest run of the entries that were met since the one at hand began.
+    pub run: usize,
     /// The patterns that have a number.
     pub patterns: Vec<Asked<'q>>,
 }
@@ -246,11 +250,11 @@ impl<'q> Maker<'q> {
             SingularQuery::Current(steps) => Ok(Side::Lookup(steps_again(self.alloc, steps)?)),
             SingularQuery::Root(steps) => {
                 let source = Source::Side(query);
-                if let Some(number) = near_entry(&self.sources, source) {
+                if let Some(number) = self.found(source) {
                     return Ok(Side::Kept(number));
                 }
-                let segments = segments_of(self.alloc, steps)?;
-                Ok(Side::Kept(self.keep(segments, source)?))
+                let part = Rooted::Value(steps_again(self.alloc, steps)?);
+                Ok(Side::Kept(self.keep(part, Turn::Asked, Met { source, run: 0 })?))
             }
         }
     }
@@ -276,23 +280,12 @@ impl<'q> Maker<'q> {
         ensures memory { IfErr result (λ e. e ≡ OutOfMemory) }
     {
         let source = Source::Query(query, wanted);
-        if let Some(number) = near_entry(&self.sources, source) {
+        if let Some(number) = self.found(source) {
             return Ok(number);
         }
+        let around = self.begin();
         let segments = self.segments(&query.segments)?;
-        self.keep(segments, source)
-    }
-
-    /// Makes one entry more, and tells its number.
-    fn keep(&mut self, segments: Vec<Segment>, source: Source<'q>) -> Parsed<usize>
-        ensures kept { IfOk result (λ n. IsKept self.old self.new segments.items source.entry n) }
-        ensures memory { IfErr result (λ e. e ≡ OutOfMemory) }
-    {
-        let number = self.sources.len();
-        let wanted = source.wanted();
-        self.kept.push(Entry { segments, wanted })?;
-        self.sources.push(source)?;
-        Ok(number)
+        self.end(Rooted::Nodes(segments, wanted), source, around)
     }
 
     #[cycle(make)]

@@ -4,7 +4,6 @@ ghost use Rattle.jsonpath_tree.specs.View.{segment_view, step_view};
 ghost use Rattle.jsonpath_core.specs.declared.errors.JsonPathError.TheVariants.{OutOfMemory};
 ghost use Rattle.jsonpath_walk.specs.inner.PlanViews as plan;
 
-use super::{Segment, Selector};
 use jsonpath_core::errors::Parsed;
 use jsonpath_tree::model as tree;
 use jsonpath_tree::model::SingularQuerySegment;
@@ -73,30 +72,4 @@ pub fn steps_again(
         copies.push(step.try_clone(alloc)?)?;
     }
     Ok(copies)
-}
-
-/// The segments of these steps.
-pub fn segments_of(alloc: Global, steps: &[SingularQuerySegment]) -> Parsed<Vec<Segment>>
-    ensures same { (kept : plan.Kept) → IfOk result (λ v. map (plan.segment_view kept) v.items ≡ map (λ s. plan.step_segment (step_view s)) steps.now) }
-    ensures memory { IfErr result (λ e. e ≡ OutOfMemory) }
-{
-    let mut segments = Vec::with_capacity(alloc, steps.len())?;
-    'steps: for step in steps {
-        segments.push(segment_of(alloc, step)?)?;
-    }
-    Ok(segments)
-}
-
-/// The segment of this step.
-fn segment_of(alloc: Global, step: &SingularQuerySegment) -> Parsed<Segment>
-    ensures same { (kept : plan.Kept) → IfOk result (λ g. plan.segment_view kept g ≡ plan.step_segment (step_view step.now)) }
-    ensures memory { IfErr result (λ e. e ≡ OutOfMemory) }
-{
-    match step {
-        SingularQuerySegment::Name(name) => {
-            let name = String::from_str(alloc, name)?;
-            Ok(Segment::Selector(Selector::Name(name)))
-        }
-        SingularQuerySegment::Index(index) => Ok(Segment::Selector(Selector::Index(*index))),
-    }
 }

@@ -1,6 +1,10 @@
-use Rattle.jsonpath_walk.proofs.Kept.{keeps_pushed}
-use Rattle.std.proofs.Common.{refl}
+use Rattle.std.proofs.Common.{ap, refl}
+use Rattle.jsonpath_walk.specs.inner.Keeping.{seen_or_none, slots_of}
+use Rattle.jsonpath_walk.proofs.Kept.{slot_set, keeps_set}
 use Rattle.jsonpath_walk.proofs.cache.Cache.keep.Goals as goal
 
+pub returns-clause-value : goal.returns-clause-value
+returns-clause-value g c = ap seen_or_none (slot_set g.T.Queryable.tree g.T.Queryable.is_whole (slots_of c.args.self.now) c.args.number c.args.nodes c.requires)
+
 pub returns-clause-right : goal.returns-clause-right
-returns-clause-right g c q doc own given kept = keeps_pushed g.T.Queryable.tree g.T.Queryable.is_whole q doc c.args.self.now _ _ c.in_ok-push.ensures.items refl (record { own = own; right = given }) kept
+returns-clause-right g c kept doc given was = keeps_set g.T.Queryable.tree g.T.Queryable.is_whole kept doc c.args.self.now _ c.args.number c.args.nodes refl given was

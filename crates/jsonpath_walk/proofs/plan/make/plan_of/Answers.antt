@@ -1,9 +1,14 @@
 use Rattle.std.proofs.Common.{◌∙◌, ap, sym, map, rules}
 use Rattle.jsonpath_tree.specs.View as tree
 use Rattle.jsonpath_tree.proofs.ViewEquations.{query_view-segments}
-use Rattle.jsonpath_walk.proofs.PlanLaws.{plan_made}
+use Rattle.jsonpath_walk.proofs.PlanLaws.{plan_made, plan_settled}
 use Rattle.jsonpath_walk.proofs.plan.make.plan_of.Goals as goal
 
 pub returns-clause-same : goal.returns-clause-same
 returns-clause-same c =
-    plan_made _ _ _ _ (search rules) (search rules) c.in_ok-segments.ensures.made ∙ ap (λ xs. tree.segments_of (map tree.segment_view xs)) c.deref.ensures.value ∙ sym (query_view-segments c.args.query.now)
+    plan_made _ c.in_ok-segments.ensures.made (search rules) (search rules) ∙ ap (λ xs. tree.segments_of (map tree.segment_view xs)) c.deref.ensures.value ∙ sym (query_view-segments c.args.query.now)
+
+pub invariant_of-result : goal.invariant_of-result
+invariant_of-result c = record {
+  settled = plan_settled c.in_ok-segments.ensures.made (search rules) (search rules);
+}

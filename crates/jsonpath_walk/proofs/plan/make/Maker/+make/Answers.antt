@@ -1,17 +1,15 @@
 -- The answers of the maker: each step as a lemma, with the equations of the two views.
 use Rattle.std.proofs.lemmas.Simd.{map-map}
-use Rattle.std.proofs.Common.{◌≡◌, ◌∙◌, length, ap, sym, refl, map, string_bytes, rules, w64, SFits}
+use Rattle.std.proofs.Common.{◌≡◌, ◌∙◌, ap, sym, refl, map, string_bytes, rules, w64, SFits}
 use Rattle.std.proofs.lemmas.Int.{to_z-of_z}
 use Rattle.std.proofs.lemmas.Result.{IfOk-weaker}
 use Rattle.jsonpath_tree.specs.Syntax as syntax
 use Rattle.jsonpath_tree.specs.View as tree
 use Rattle.jsonpath_tree.proofs.ViewEquations as source
-use Rattle.jsonpath_walk.specs.inner.PlanViews.{segment_view, selector_view, filter_view, nodes_view, side_view, call_view, argument_view, step_segment, query_at}
-use Rattle.jsonpath_walk.specs.declared.sink.Wanted.TheVariants.{Any, Count, Only, Values}
-use Rattle.jsonpath_walk.specs.inner.PlanMaking.{source_of}
-use Rattle.jsonpath_walk.specs.declared.plan.keeping.Source
+use Rattle.jsonpath_walk.specs.inner.PlanViews.{segment_view, selector_view, filter_view, call_view, argument_view, step_segment, nodes, query_in}
+use Rattle.jsonpath_walk.specs.declared.sink.Wanted.TheVariants.{Any, Values}
 use Rattle.jsonpath_walk.specs.declared.plan.keeping.Source.{Source}
-use Rattle.jsonpath_walk.proofs.PlanLaws.{made_none, made_as, made_both, made_start, made_next, made_end, made_found, made_kept}
+use Rattle.jsonpath_walk.proofs.PlanLaws.{made_none, made_as, made_both, made_start, made_next, made_end, made_after, made_found, made_kept, query_in-nodes}
 use Rattle.jsonpath_walk.proofs.PlanEquations as plan
 use Rattle.jsonpath_walk.proofs.plan.make.Maker.+make.Goals as goal
 
@@ -178,12 +176,12 @@ relative-returns-in_ok-segments-in-None-clause-made t c = λ w.
 
 pub absolute-returns-in-Some-clause-made : goal.absolute-returns-in-Some-clause-made
 absolute-returns-in-Some-clause-made t c =
-    made_found _ (Source.Query c.args.query c.args.wanted) _ c.in-Some.ensures
+    made_as (query_in c.args.wanted) _ _ (λ kept. refl) (sym (query_in-nodes c.args.wanted _)) (made_found _ _ (Source.Query c.args.query c.args.wanted) _ c.found.ensures.beside c.in-Some.ensures.number)
 
 pub absolute-returns-clause-made : goal.absolute-returns-clause-made
 absolute-returns-clause-made t c =
-    let of_query : (source_of (Source.Query c.args.query c.args.wanted)).1 ≡ tree.segments_of (map tree.segment_view c.deref.result.now) = source.query_view-segments c.args.query.now ∙ ap (λ xs. tree.segments_of (map tree.segment_view xs)) (sym c.deref.ensures.value) in
-    IfOk-weaker c.keep.result _ _ (λ n k. made_kept _ (Source.Query c.args.query c.args.wanted) n k (made_as (λ gs. tree.segments_of gs) _ _ (λ kept. refl) of_query c.in_ok-segments.ensures.made)) c.keep.ensures.kept
+    let of_query : tree.query_view c.args.query.now ≡ tree.segments_of (map tree.segment_view c.deref.result.now) = source.query_view-segments c.args.query.now ∙ ap (λ xs. tree.segments_of (map tree.segment_view xs)) (sym c.deref.ensures.value) in
+    IfOk-weaker c.end.result _ _ (λ n k. made_as (query_in c.args.wanted) _ _ (λ kept. refl) (sym (query_in-nodes c.args.wanted _)) (made_kept _ (Source.Query c.args.query c.args.wanted) n k (made_after c.found.ensures.beside (made_after c.begin-around.ensures (made_as (λ gs. nodes c.args.wanted (tree.segments_of gs)) _ _ (λ kept. refl) (ap (nodes c.args.wanted) of_query) c.in_ok-segments.ensures.made))))) c.end.ensures.kept
 
 pub call-returns-in_ok-argument-in-Length-clause-made : goal.call-returns-in_ok-argument-in-Length-clause-made
 call-returns-in_ok-argument-in-Length-clause-made t c =
