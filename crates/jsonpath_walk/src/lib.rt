@@ -1,5 +1,10 @@
 //! The walk: the nodes of a query, met depth-first in the order of its nodelist (RFC 9535, 2.1.2). What a query means stands in
 //! `jsonpath_node`.
+//!
+//! A query is compiled to a plan (`plan`), once. The walk (`walk`, `children`) goes by the plan; inside filters (`filter`,
+//! `function`, `subquery`) it looks up names and indexes (`singular`, `sides`, `lookup`), walks from the node at hand, or takes
+//! what is kept of the root (`cache`, `early`) and of patterns (`finders`, `lent`). The nodes go to a sink (`sink`) with the way
+//! that leads to them (`way`).
 #![tactic(auto)]
 
 mod action;

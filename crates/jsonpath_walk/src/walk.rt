@@ -2,7 +2,7 @@
 //!
 //! The way to the value at hand stands on a stack of borrowed steps, so nothing is kept for a node that is only passed.
 //! Every method of the cycle asks for a value at hand (`Stands`), and comes back with the way as it was and what is kept
-//! still right (`Returns`).
+//! still right (`Returns`). Where it halts, what is kept is right too.
 ghost use Rattle.std.specs.Prelude.{◌≡◌, [], ◌∷◌, ◌++◌, map, IsTrue, IfOk, IfErr, OnOk, OnErr};
 ghost use Rattle.std.specs.List.{flat_map};
 ghost use Rattle.jsonpath_tree.specs.View.{query_view};
