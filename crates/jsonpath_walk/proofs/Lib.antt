@@ -10,6 +10,7 @@ pub mod NodelistLaws
 pub mod Passing
 pub mod PlanEquations
 pub mod PlanLaws
+pub mod RootedLaws
 pub mod Sinks
 pub mod Standing
 pub mod StepLaws

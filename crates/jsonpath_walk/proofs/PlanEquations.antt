@@ -6,11 +6,13 @@ use Rattle.jsonpath_tree.specs.View.{literal_view, step_view, operator_view, sel
 use Rattle.jsonpath_tree.specs.declared.model.Literal.{Literal}
 use Rattle.jsonpath_tree.specs.declared.model.SingularQuerySegment.{SingularQuerySegment}
 use Rattle.jsonpath_tree.specs.declared.model.operator.Operator.{Operator}
-use Rattle.jsonpath_walk.specs.inner.PlanViews.{Kept, query_at, steps_query, steps_at, segments_in, arguments_in, argument_view, call_view, filter_view, nodes_view, segment_view, selector_view, side_view}
+use Rattle.jsonpath_walk.specs.inner.PlanViews.{Kept, query_at, steps_query, steps_at, call_at, comparison_at, segments_in, arguments_in, argument_view, call_view, called_view, filter_view, nodes_view, segment_view, selector_view, side_view}
 use Rattle.jsonpath_walk.specs.declared.plan.Argument
 use Rattle.jsonpath_walk.specs.declared.plan.Argument.{Argument}
 use Rattle.jsonpath_walk.specs.declared.plan.Call
 use Rattle.jsonpath_walk.specs.declared.plan.Call.{Call}
+use Rattle.jsonpath_walk.specs.declared.plan.Called
+use Rattle.jsonpath_walk.specs.declared.plan.Called.{Called}
 use Rattle.jsonpath_walk.specs.declared.plan.Filter
 use Rattle.jsonpath_walk.specs.declared.plan.Filter.{Filter, the_lemmas}
 use Rattle.jsonpath_walk.specs.declared.plan.Nodes
@@ -33,7 +35,7 @@ argument_view-Pattern kept s n w = search (rules, the_lemmas)
 pub argument_view-Nodes : (kept : Kept) (ns : Nodes) (w : Wanted) → argument_view kept (Argument.Nodes ns) w ≡ tree.test_argument (nodes_view kept ns w)
 argument_view-Nodes kept ns w = search (rules, the_lemmas)
 
-pub argument_view-Call : (kept : Kept) (c : Box Call Global) (w : Wanted) → argument_view kept (Argument.Call c) w ≡ tree.test_argument (tree.call (call_view kept c.value))
+pub argument_view-Call : (kept : Kept) (c : Called) (w : Wanted) → argument_view kept (Argument.Call c) w ≡ tree.test_argument (tree.call (called_view kept c))
 argument_view-Call kept c w = search (rules, the_lemmas)
 
 pub argument_view-Filter : (kept : Kept) (f : Filter) (w : Wanted) → argument_view kept (Argument.Filter f) w ≡ tree.filter_argument (filter_view kept f)
@@ -60,6 +62,12 @@ call_view-Search kept x y = search (rules, the_lemmas)
 pub call_view-Match : (kept : Kept) (x y : Argument) → call_view kept (Call.Match x y) ≡ tree.match_call (argument_view kept x Only) (argument_view kept y Only)
 call_view-Match kept x y = search (rules, the_lemmas)
 
+pub called_view-Here : (kept : Kept) (c : Box Call Global) → called_view kept (Called.Here c) ≡ call_view kept c.value
+called_view-Here kept c = search (rules, the_lemmas)
+
+pub called_view-Kept : (kept : Kept) (n : ℕ) → called_view kept (Called.Kept n) ≡ call_at kept n
+called_view-Kept kept n = search (rules, the_lemmas)
+
 pub filter_view-Or : (kept : Kept) (v : Vec Filter Global) → filter_view kept (Filter.Or v) ≡ tree.or (filters_of (map (filter_view kept) v.items))
 filter_view-Or kept v = search (rules, the_lemmas)
 
@@ -72,11 +80,14 @@ filter_view-Group kept f b = search (rules, the_lemmas)
 pub filter_view-Exists : (kept : Kept) (ns : Nodes) (b : Bool) → filter_view kept (Filter.Exists ns b) ≡ tree.atom (tree.Atom.test b (nodes_view kept ns Any))
 filter_view-Exists kept ns b = search (rules, the_lemmas)
 
-pub filter_view-Call : (kept : Kept) (c : Box Call Global) (b : Bool) → filter_view kept (Filter.Call c b) ≡ tree.atom (tree.Atom.test b (tree.call (call_view kept c.value)))
+pub filter_view-Call : (kept : Kept) (c : Called) (b : Bool) → filter_view kept (Filter.Call c b) ≡ tree.atom (tree.Atom.test b (tree.call (called_view kept c)))
 filter_view-Call kept c b = search (rules, the_lemmas)
 
 pub filter_view-Comparison : (kept : Kept) (op : Operator) (x y : Side) → filter_view kept (Filter.Comparison op x y) ≡ tree.atom (tree.comparison (tree.compare (operator_view op) (side_view kept x) (side_view kept y)))
 filter_view-Comparison kept op x y = search (rules, the_lemmas)
+
+pub filter_view-Kept : (kept : Kept) (n : ℕ) → filter_view kept (Filter.Kept n) ≡ tree.atom (tree.comparison (comparison_at kept n))
+filter_view-Kept kept n = search (rules, the_lemmas)
 
 pub nodes_view-Lookup : (kept : Kept) (v : Vec SingularQuerySegment Global) (w : Wanted) → nodes_view kept (Nodes.Lookup v) w ≡ tree.relative (steps_query (map step_view v.items))
 nodes_view-Lookup kept v w = search (rules, the_lemmas)
@@ -120,5 +131,5 @@ side_view-Lookup kept v = search (rules, the_lemmas)
 pub side_view-Kept : (kept : Kept) (n : ℕ) → side_view kept (Side.Kept n) ≡ tree.singular (tree.root (steps_at kept n))
 side_view-Kept kept n = search (rules, the_lemmas)
 
-pub side_view-Call : (kept : Kept) (c : Box Call Global) → side_view kept (Side.Call c) ≡ tree.function (call_view kept c.value)
+pub side_view-Call : (kept : Kept) (c : Called) → side_view kept (Side.Call c) ≡ tree.function (called_view kept c)
 side_view-Call kept c = search (rules, the_lemmas)

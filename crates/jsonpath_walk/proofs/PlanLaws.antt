@@ -1,12 +1,15 @@
 -- How the steps of the making of a plan follow one another.
-use Rattle.std.proofs.Common.{◌≡◌, ℕ, ◌+◌, ◌<◌, ◌≤◌, List, [], ◌∷◌, ◌++◌, map, length, get_or, take, true, refl, sym, ◌∙◌, ap, subst, append_assoc, append-nil, if◌then◌else◌}
+use Rattle.std.proofs.Common.{◌≡◌, ℕ, ◌+◌, ◌<◌, ◌≤◌, List, [], ◌∷◌, ◌++◌, map, length, get_or, take, true, Bool, refl, sym, ◌∙◌, ap, subst, append_assoc, append-nil, if◌then◌else◌, IsTrue}
 use Rattle.std.proofs.Math.Seq.{get_or-append_seam}
 use Rattle.std.proofs.lemmas.List.{map-append, map_more, get_or_append_left, take_all}
 use Rattle.std.proofs.Math.ListN.{length-map}
+use Rattle.std.proofs.lemmas.Bool.{and_from}
+use Rattle.std.proofs.lemmas.List.Folds.{list_all-append}
+use Rattle.std.specs.List.{list_all}
 use Rattle.jsonpath_tree.specs.Syntax as tree
 use Rattle.jsonpath_tree.specs.View.{segments_of}
-use Rattle.jsonpath_walk.specs.inner.PlanViews.{Kept, KeptPart, nodes, value, kept_view, kept_from, rooted_view, segments_in, segment_view, is_same_wanted, query_in, part_at, IsSettled}
-use Rattle.jsonpath_walk.specs.inner.PlanMaking.{Extends, IsRight, Made, IsBeside, IsKept, IsNumberOf, kept_in, parts_of, source_of}
+use Rattle.jsonpath_walk.specs.inner.PlanViews.{Kept, KeptPart, nodes, value, kept_view, kept_from, rooted_view, segments_in, segment_view, is_same_wanted, query_in, part_at, part_is_rooted, IsSettled, IsRooted, AreRooted}
+use Rattle.jsonpath_walk.specs.inner.PlanMaking.{Extends, IsRight, Made, IsBeside, IsKept, IsNumbered, IsNumberOf, kept_in, parts_of, source_of}
 use Rattle.jsonpath_walk.specs.declared.plan.Entry.{Entry}
 use Rattle.jsonpath_walk.specs.declared.plan.Rooted.{Rooted}
 use Rattle.jsonpath_walk.specs.declared.plan.Segment.{Segment}
@@ -32,6 +35,7 @@ right_beside old new b r =
     record {
       is = ap kept_view b.entries ∙ r.is ∙ sym e;
       settled = λ kept x. ap (map (λ p. rooted_view kept p.part)) b.entries ∙ r.settled kept (subst (λ k. Extends k kept) e x) ∙ sym e;
+      rooted = ap (list_all part_is_rooted) e ∙ r.rooted;
     }
 
 pub made_beside : {A : Type 0} (old new : Maker) (part : Kept → A) (a : A) → IsBeside old new → ((kept : Kept) → part kept ≡ a) → Made old new part a
@@ -109,8 +113,8 @@ made_found old new s n b h = made_before b (record {
 })
 
 -- the entry that was made keeps what it was made of
-pub made_kept : {old mid new : Maker} (part : Rooted) (s : Source) (n : ℕ) → IsKept mid new part s n → Made old mid (λ kept. rooted_view kept part) (source_of s) → Made old new (λ kept. part_at kept n) (source_of s)
-made_kept {old = old} {mid = mid} {new = new} part s n k m =
+pub made_kept : {old mid new : Maker} (part : Rooted) (s : Source) (n : ℕ) → IsKept mid new part s n → (AreRooted (kept_in mid) → IsTrue (part_is_rooted (source_of s))) → Made old mid (λ kept. rooted_view kept part) (source_of s) → Made old new (λ kept. part_at kept n) (source_of s)
+made_kept {old = old} {mid = mid} {new = new} part s n k root m =
     let p : KeptPart = source_of s in
     let seam : n ≡ length (kept_in mid) = k.number ∙ sym (length-map mid.met.items (λ e. source_of e.source)) in
     let grown : kept_in new ≡ kept_in mid ++ p ∷ [] = ap parts_of k.met ∙ map-append (λ e. source_of e.source) mid.met.items _ in
@@ -125,8 +129,27 @@ made_kept {old = old} {mid = mid} {new = new} part s n k m =
             settled = λ kept x.
                 let on : Extends (kept_in mid) kept = extends_on (kept_in mid) (kept_in new) kept grows x in
                 ap (map (λ e. rooted_view kept e.part)) k.entries ∙ map-append (λ e. rooted_view kept e.part) mid.kept.items _ ∙ ap (λ l. l ++ rooted_view kept part ∷ []) (was.settled kept on) ∙ ap (λ q. kept_in mid ++ q ∷ []) (m.says kept on) ∙ sym grown;
+            rooted = ap (list_all part_is_rooted) grown ∙ list_all-append part_is_rooted (kept_in mid) (p ∷ []) ∙ and_from _ _ was.rooted (and_from _ _ (root was.rooted) refl);
           };
     }
+
+-- one part, and then another one
+made_past : {A B : Type 0} {old mid new : Maker} {part : Kept → A} {other : Kept → B} {a : A} {b : B} → Made old mid part a → Made mid new other b → Made old new other b
+made_past {old = old} {mid = mid} {new = new} m n = record {
+  grows = extends_on (kept_in old) (kept_in mid) (kept_in new) m.grows n.grows;
+  says = n.says;
+  right = λ r. n.right (m.right r);
+}
+
+pub numbered_found : (old new : Maker) (part : Rooted) (s : Source) (n : ℕ) → IsBeside old new → IsNumberOf old.met.items s n → IsNumbered old new part s n
+numbered_found old new part s n b h = record { made = λ m root. made_past m (made_found old new s n b h) }
+
+pub numbered_kept : (old mid new : Maker) (part : Rooted) (s : Source) (n : ℕ) → IsBeside old mid → IsKept mid new part s n → IsNumbered old new part s n
+numbered_kept old mid new part s n b k = record { made = λ m root. made_kept part s n k (λ r. root (subst AreRooted (ap parts_of b.met) r)) (made_before b m) }
+
+-- the part that was made stands for the source, so what it shows, the source has
+pub source_rooted : {A : Type 0} {old new : Maker} {part : Kept → A} {a : A} (test : A → Bool) → Made old new part a → ((kept : Kept) → AreRooted kept → IsTrue (test (part kept))) → AreRooted (kept_in new) → IsTrue (test a)
+source_rooted {new = new} test m shows r = sym (ap test (m.says (kept_in new) (extends_none (kept_in new)))) ∙ shows (kept_in new) r
 
 -- ---- the plan
 
@@ -135,6 +158,7 @@ end_right : {A : Type 0} {old new : Maker} {part : Kept → A} {a : A} → Made 
 end_right m k s = m.right (record {
   is = ap kept_view k ∙ sym (ap parts_of s);
   settled = λ kept x. ap (map (λ e. rooted_view kept e.part)) k ∙ sym (ap parts_of s);
+  rooted = ap (λ l. list_all part_is_rooted (parts_of l)) s;
 })
 
 -- that is all that is kept
@@ -148,3 +172,8 @@ pub plan_settled : {A : Type 0} {old new : Maker} {part : Kept → A} {a : A} �
 plan_settled {new = new} m k s =
     let r : IsRight new = end_right m k s in
     r.settled (kept_view new.kept.items) (end_extends new r) ∙ sym r.is
+
+pub plan_rooted : {A : Type 0} {old new : Maker} {part : Kept → A} {a : A} → Made old new part a → old.kept.items ≡ [] → old.met.items ≡ [] → IsRooted new.kept.items
+plan_rooted m k s =
+    let r = end_right m k s in
+    ap (list_all part_is_rooted) r.is ∙ r.rooted

@@ -7,6 +7,7 @@ pub mod Passing
 pub mod PlanMaking
 pub mod PlanViews
 pub mod Planned
+pub mod Rooted
 pub mod Sinks
 pub mod Standing
 pub mod Walking

@@ -1,11 +1,11 @@
 //! What one call of the evaluator keeps: what was worked out once, by the number of its entry in the plan, and patterns.
-ghost use Rattle.std.specs.Prelude.{◌≡◌, ◌<◌, ℕ, length, None, option_map, IsTrue, IfOk, IfErr, IfSome, OnOk};
+ghost use Rattle.std.specs.Prelude.{◌≡◌, ◌<◌, ℕ, length, None, Some, option_map, IsTrue, IfOk, IfErr, IfSome, OnOk};
 ghost use Rattle.jsonpath_node.specs.Document.{Document};
 ghost use Rattle.jsonpath_node.specs.Functions.{is_matched};
 ghost use Rattle.jsonpath_node.specs.inner.Operands.{operand_tree, operand_is_whole, is_entire};
 ghost use Rattle.jsonpath_node.specs.Patterns.{IsPattern};
 ghost use Rattle.jsonpath_node.specs.declared.halt.Halt.TheVariants.{Memory};
-ghost use Rattle.jsonpath_walk.specs.inner.Keeping.{AreEmpty, Keeps, gathered, given_by, seen_or_none, slots_of, slot_at};
+ghost use Rattle.jsonpath_walk.specs.inner.Keeping.{AreEmpty, Keeps, gathered, gave, given_by, nodes, nodes_or_none, slots_of, slot_at};
 ghost use Rattle.jsonpath_walk.specs.inner.PlanViews.{Kept, part_at};
 ghost use Rattle.jsonpath_walk.specs.inner.Sinks.{seen, any_in, count_in, only_in};
 
@@ -22,9 +22,18 @@ use std::alloc::{AllocError, Global};
 #[derive(Drop)]
 pub struct Cache<'a, 's, T> {
     /// What each entry of the plan gave, once it is worked out.
-    pub slots: Vec<Option<Sink<'a, T>>>,
+    pub slots: Vec<Option<Given<'a, 's, T>>>,
     /// What asks patterns.
     pub finders: Finders<'s>,
+}
+
+/// What an entry gave.
+#[derive(Drop)]
+pub enum Given<'a, 's, T> {
+    /// What was wanted of nodes.
+    Nodes(Sink<'a, T>),
+    /// A value, if there is one.
+    Value(Operand<'a, 's, T>),
 }
 
 impl<'a, 's, T: Queryable> Cache<'a, 's, T> {
@@ -38,22 +47,22 @@ impl<'a, 's, T: Queryable> Cache<'a, 's, T> {
 
     /// What the entry of this number gave, if it is worked out.
     #[inline(always)]
-    pub fn get(&self, number: usize) -> Option<&Sink<'a, T>>
-        ensures { option_map (λ s. seen T.tree T.is_whole s.now) result ≡ slot_at T.tree T.is_whole (slots_of self.now) number }
+    pub fn get(&self, number: usize) -> Option<&Given<'a, 's, T>>
+        ensures { option_map (λ s. gave T.tree T.is_whole s.now) result ≡ slot_at T.tree T.is_whole (slots_of self.now) number }
     {
         match self.slots.get(number) {
-            Some(Some(sink)) => Some(sink),
+            Some(Some(given)) => Some(given),
             _ => None,
         }
     }
 
     /// Keeps what the entry of this number gave.
-    pub fn keep(&mut self, number: usize, nodes: Sink<'a, T>)
+    pub fn keep(&mut self, number: usize, given: Given<'a, 's, T>)
         requires { number < length (slots_of self.old) }
-        ensures value { seen_or_none (slot_at T.tree T.is_whole (slots_of self.new) number) ≡ seen T.tree T.is_whole nodes.entry }
-        ensures right { (kept : Kept) (doc : Document) → seen T.tree T.is_whole nodes.entry ≡ given_by (part_at kept number) doc → Keeps T.tree T.is_whole kept doc self.old → Keeps T.tree T.is_whole kept doc self.new }
+        ensures value { slot_at T.tree T.is_whole (slots_of self.new) number ≡ Some (gave T.tree T.is_whole given.entry) }
+        ensures right { (kept : Kept) (doc : Document) → gave T.tree T.is_whole given.entry ≡ given_by (part_at kept number) doc → Keeps T.tree T.is_whole kept doc self.old → Keeps T.tree T.is_whole kept doc self.new }
     {
-        self.slots[number] = Some(nodes);
+        self.slots[number] = Some(given);
     }
 
     /// Whether the pattern is found in the text, as all of it or somewhere.
@@ -80,7 +89,10 @@ impl<'a, 's, T: Queryable> Cache<'a, 's, T> {
 }
 
 /// So many slots, with nothing in them.
-fn empty_slots<'a, T>(alloc: Global, count: usize) -> Result<Vec<Option<Sink<'a, T>>>, AllocError>
+fn empty_slots<'a, 's, T: Queryable>(
+    alloc: Global,
+    count: usize,
+) -> Result<Vec<Option<Given<'a, 's, T>>>, AllocError>
     ensures count { IfOk result (λ v. length v.items ≡ count) }
     ensures empty { IfOk result (λ v. AreEmpty v.items) }
 {
@@ -102,11 +114,14 @@ impl<'a, T: Queryable> Gathered<'a, T> {
     /// The sink that the nodes were given to.
     #[inline(always)]
     pub fn sink<'k, 's>(&'k self, cache: &'k Cache<'a, 's, T>) -> Option<&'k Sink<'a, T>>
-        ensures { seen_or_none (option_map (λ s. seen T.tree T.is_whole s.now) result) ≡ gathered T.tree T.is_whole cache.now self.now }
+        ensures { nodes_or_none (option_map (λ s. nodes (seen T.tree T.is_whole s.now)) result) ≡ gathered T.tree T.is_whole cache.now self.now }
     {
         match self {
             Gathered::Own(sink) => Some(sink),
-            Gathered::Kept(number) => cache.get(*number),
+            Gathered::Kept(number) => match cache.get(*number) {
+                Some(Given::Nodes(sink)) => Some(sink),
+                _ => None,
+            },
         }
     }
 

@@ -45,10 +45,11 @@ impl<'a: 's, 's, T: Queryable> Task<'a, 's, T> {
             Filter::And(parts) => self.each_holds(parts, at, trail),
             Filter::Group { expr, not } => Ok(self.filter_holds(expr, at, trail)? != *not),
             Filter::Exists { nodes, not } => Ok(self.exists(nodes, at, trail)? != *not),
-            Filter::Call { call, not } => Ok(self.answer(call, at, trail)?.is_true() != *not),
+            Filter::Call { call, not } => Ok(self.called(call, at, trail)?.is_true() != *not),
             Filter::Comparison(operator, left, right) => {
                 self.comparison_holds(*operator, (left, right), at, trail)
             }
+            Filter::Kept(number) => self.kept_comparison(*number, trail),
         }
     }
 
@@ -120,7 +121,7 @@ impl<'a: 's, 's, T: Queryable> Task<'a, 's, T> {
 
     /// Whether two sides compare so.
     #[cycle(walk)]
-    fn comparison_holds(
+    pub fn comparison_holds(
         &self,
         operator: Operator,
         sides: (&'s Side, &'s Side),
@@ -163,8 +164,8 @@ impl<'a: 's, 's, T: Queryable> Task<'a, 's, T> {
         match side {
             Side::Literal(literal) => Ok(Operand::Plain(scalar_of(literal))),
             Side::Lookup(steps) => Ok(Operand::lent(value_at(steps, at))),
-            Side::Kept(number) => Ok(Operand::lent(self.kept_value(*number, &mut trail.cache))),
-            Side::Call(call) => self.answer(call, at, trail),
+            Side::Kept(number) => Ok(self.kept_value(*number, &mut trail.cache)?),
+            Side::Call(call) => self.called(call, at, trail),
         }
     }
 }

@@ -169,7 +169,7 @@ impl<'a: 's, 's, T: Queryable> Task<'a, 's, T> {
                 Ok(Argument::Nodes(gathered))
             }
             plan::Argument::Call(call) => {
-                let value = self.answer(call, at, trail)?;
+                let value = self.called(call, at, trail)?;
                 Ok(Argument::Value(value))
             }
             plan::Argument::Filter(filter) => {

@@ -3,8 +3,8 @@
 //!
 //! A query is compiled to a plan (`plan`), once. The walk (`walk`, `children`) goes by the plan; inside filters (`filter`,
 //! `function`, `subquery`) it looks up names and indexes (`singular`, `sides`, `lookup`), walks from the node at hand, or takes
-//! what is kept of the root (`cache`, `early`) and of patterns (`finders`, `lent`). The nodes go to a sink (`sink`) with the way
-//! that leads to them (`way`).
+//! what is kept of the root (`cache`, `rooted`, `early`) and of patterns (`finders`, `lent`). The nodes go to a sink (`sink`) with
+//! the way that leads to them (`way`).
 #![tactic(auto)]
 
 mod action;
@@ -23,6 +23,7 @@ mod plan;
 mod planned;
 mod prepared;
 mod recent;
+mod rooted;
 mod sides;
 mod singular;
 mod sink;

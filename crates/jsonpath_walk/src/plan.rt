@@ -1,7 +1,8 @@
 //! A plan of a query: what is to be done at a node, found out once and not at each node. It says which queries inside filters
 //! are looked up and which are walked, which queries from the root are one, and which patterns are one.
-ghost use Rattle.jsonpath_walk.specs.inner.PlanViews.{IsSettled, IsSettled-prop};
+ghost use Rattle.jsonpath_walk.specs.inner.PlanViews.{IsSettled, IsSettled-prop, IsRooted, IsRooted-prop};
 
+mod absolute;
 mod entries;
 mod keeping;
 mod make;
@@ -26,6 +27,7 @@ pub struct Plan {
     /// How many patterns have a number. Each is smaller than this.
     pub pattern_count: usize,
     ghost settled: { IsSettled kept.items } by { IsSettled-prop kept.items },
+    ghost rooted: { IsRooted kept.items } by { IsRooted-prop kept.items },
 }
 
 /// What is worked out once in a call, and then kept.
@@ -42,6 +44,10 @@ pub enum Rooted {
     Nodes(Vec<Segment>, Wanted),
     /// The value of the one node, if there is one, by these steps from the root.
     Value(Vec<SingularQuerySegment>),
+    /// What a call answers.
+    Answer(Call),
+    /// Whether the sides compare so.
+    Comparison(Operator, Side, Side),
 }
 
 /// When an entry is worked out.
@@ -94,9 +100,11 @@ pub enum Filter {
     /// There is a node, turned round where `not`.
     Exists { nodes: Nodes, not: bool },
     /// The call answers true, turned round where `not`.
-    Call { call: Box<Call>, not: bool },
+    Call { call: Called, not: bool },
     /// The sides compare so.
     Comparison(Operator, Side, Side),
+    /// The comparison that is kept under this number holds.
+    Kept(usize),
 }
 
 /// The nodes of a query inside a filter, by how they are found. The place where they stand tells what is wanted of them.
@@ -122,7 +130,17 @@ pub enum Side {
     /// The value of the one node, if there is one, by the kept entry of this number.
     Kept(usize),
     /// What a call answers.
-    Call(Box<Call>),
+    Call(Called),
+}
+
+/// A call, by what answers it.
+#[derive(Drop)]
+#[cycle(plan)]
+pub enum Called {
+    /// A call that is made at each node.
+    Here(Box<Call>),
+    /// The kept entry of this number.
+    Kept(usize),
 }
 
 /// A call of a function (2.4).
@@ -154,7 +172,7 @@ pub enum Argument {
     /// What is wanted of nodes.
     Nodes(Nodes),
     /// What a call answers.
-    Call(Box<Call>),
+    Call(Called),
     /// Whether a filter holds.
     Filter(Filter),
 }

@@ -1,17 +1,17 @@
-//! The sides of a comparison, where no side is a call: they are lent, and nothing is made for them.
-ghost use Rattle.std.specs.Prelude.{◌≡◌, map, option_map, IsTrue, IfSome};
+//! The sides of a comparison, where no side is a call that is made at each node: they are lent, and nothing is made for them.
+ghost use Rattle.std.specs.Prelude.{◌≡◌, IsTrue, IfSome};
 ghost use Rattle.jsonpath_tree.specs.View.{operator_view};
 ghost use Rattle.jsonpath_node.specs.Comparing.{compares};
-ghost use Rattle.jsonpath_node.specs.Meaning.{value_of, value_at};
+ghost use Rattle.jsonpath_node.specs.Meaning.{answer, value_of};
 ghost use Rattle.jsonpath_node.specs.Node.{Node};
 ghost use Rattle.jsonpath_node.specs.inner.Operands.{side_tree, side_is_whole};
-ghost use Rattle.jsonpath_walk.specs.inner.Keeping.{IsReady, document, kept_of};
-ghost use Rattle.jsonpath_walk.specs.inner.PlanViews.{side_view, steps_at};
+ghost use Rattle.jsonpath_walk.specs.inner.Keeping.{IsReady, document, kept_of, value_by};
+ghost use Rattle.jsonpath_walk.specs.inner.PlanViews.{called_view, part_at, side_view};
 
-use crate::cache::Cache;
+use crate::cache::{Cache, Given};
 use crate::plan;
+use crate::plan::Called;
 use crate::singular::value_at;
-use crate::sink::Sink;
 use crate::walk::Task;
 use jsonpath_node::comparison::{Side, compares};
 use jsonpath_node::queryable::Queryable;
@@ -19,7 +19,7 @@ use jsonpath_node::value::scalar_of;
 use jsonpath_tree::model::Operator;
 
 impl<'a: 's, 's, T: Queryable> Task<'a, 's, T> {
-    /// Whether two sides compare so at a value; None where one of them is a call, or is not worked out yet.
+    /// Whether two sides compare so at a value; None where one of them is no entry and a call, or is not worked out yet.
     #[inline(always)]
     pub fn lent_compare(
         &self,
@@ -39,14 +39,14 @@ impl<'a: 's, 's, T: Queryable> Task<'a, 's, T> {
         Some(compares(operator, &left, &right))
     }
 
-    /// What stands at a side; None where that is a call, or is not worked out yet.
+    /// What stands at a side; None where that is no entry and a call, or is not worked out yet.
     #[inline(always)]
-    fn lent_side(
+    fn lent_side<'k>(
         &self,
         side: &'s plan::Side,
-        at: &'a T,
-        cache: &Cache<'a, 's, T>,
-    ) -> Option<Side<'a, 's, T>>
+        at: &'k T,
+        cache: &'k Cache<'a, 's, T>,
+    ) -> Option<Side<'k, 's, T>>
         requires ready { IsReady T.tree T.is_whole T.custom self.now cache.now }
         requires whole { IsTrue (T.is_whole at.now) }
         ensures value { (n : Node) → n.tree ≡ T.tree at.now → IfSome result (λ s. side_tree T.tree s ≡ value_of (side_view (kept_of self.now) side.now) (document T.tree T.custom self.now) n) }
@@ -55,39 +55,48 @@ impl<'a: 's, 's, T: Queryable> Task<'a, 's, T> {
         match side {
             plan::Side::Literal(literal) => Some(Side::Plain(scalar_of(literal))),
             plan::Side::Lookup(steps) => Some(Side::lent(value_at(steps, at))),
-            plan::Side::Kept(number) => self.lent_value(*number, cache),
-            plan::Side::Call(_call) => None,
+            plan::Side::Kept(number) => match self.plan.kept_steps(*number) {
+                Some(_steps) => self.lent_value(*number, cache),
+                None => None,
+            },
+            plan::Side::Call(call) => self.lent_answer(call, cache),
+        }
+    }
+
+    /// What a call answers; None where it is no entry, or is not worked out yet.
+    #[inline(always)]
+    fn lent_answer<'k>(
+        &self,
+        call: &'s Called,
+        cache: &'k Cache<'a, 's, T>,
+    ) -> Option<Side<'k, 's, T>>
+        requires ready { IsReady T.tree T.is_whole T.custom self.now cache.now }
+        ensures value { (n : Node) → IfSome result (λ s. side_tree T.tree s ≡ answer (called_view (kept_of self.now) call.now) (document T.tree T.custom self.now) n) }
+        ensures whole { IfSome result (λ s. IsTrue (side_is_whole T.is_whole s)) }
+    {
+        let Called::Kept(number) = call else {
+            return None;
+        };
+        match self.plan.kept_call(*number) {
+            Some(_call) => self.lent_value(*number, cache),
+            None => None,
         }
     }
 
     /// The value that is kept under this number; None where it is not worked out yet.
     #[inline(always)]
-    fn lent_value(&self, number: usize, cache: &Cache<'a, 's, T>) -> Option<Side<'a, 's, T>>
+    pub fn lent_value<'k>(
+        &self,
+        number: usize,
+        cache: &'k Cache<'a, 's, T>,
+    ) -> Option<Side<'k, 's, T>>
         requires ready { IsReady T.tree T.is_whole T.custom self.now cache.now }
-        ensures value { IfSome result (λ s. side_tree T.tree s ≡ value_at (steps_at (kept_of self.now) number) (T.tree self.now.root.now)) }
+        ensures value { IfSome result (λ s. side_tree T.tree s ≡ value_by (part_at (kept_of self.now) number) (document T.tree T.custom self.now)) }
         ensures whole { IfSome result (λ s. IsTrue (side_is_whole T.is_whole s)) }
     {
-        let Some(_steps) = self.plan.kept_steps(number) else {
-            return None;
-        };
-        let Some(kept) = cache.get(number) else {
-            return None;
-        };
-        Some(Side::lent(kept.only()))
-    }
-
-    /// The value that is kept under this number. It is looked up when that is first asked, and kept.
-    pub fn kept_value(&self, number: usize, cache: &mut Cache<'a, 's, T>) -> Option<&'a T>
-        requires ready { IsReady T.tree T.is_whole T.custom self.now cache.old }
-        ensures value { option_map (λ v. T.tree v.now) result ≡ value_at (steps_at (kept_of self.now) number) (T.tree self.now.root.now) }
-        ensures whole { IfSome result (λ v. IsTrue (T.is_whole v.now)) }
-        ensures ready { IsReady T.tree T.is_whole T.custom self.now cache.new }
-    {
-        let Some(steps) = self.plan.kept_steps(number) else {
-            return Some(self.root);
-        };
-        let value = value_at(steps, self.root);
-        cache.keep(number, Sink::of_only(value));
-        value
+        match cache.get(number) {
+            Some(Given::Value(value)) => Some(value.as_side()),
+            _ => None,
+        }
     }
 }

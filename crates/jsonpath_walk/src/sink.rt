@@ -1,10 +1,10 @@
 //! What is done with the nodes that a walk meets.
-ghost use Rattle.std.specs.Prelude.{◌≡◌, suc, min, ◌∷◌, [], map, option_map, IsTrue, false, IfOk, IfErr, IfSome, OnOk, string_bytes};
+ghost use Rattle.std.specs.Prelude.{◌≡◌, suc, min, ◌∷◌, [], map, option_map, IsTrue, false, IfOk, IfErr, OnOk, string_bytes};
 ghost use Rattle.jsonpath_base.specs.Steps.{location_view};
 ghost use Rattle.jsonpath_node.specs.declared.halt.Halt.TheVariants.{Memory};
 ghost use Rattle.jsonpath_node.specs.Answer.{shown, paths_of};
 ghost use Rattle.jsonpath_node.specs.Node.{Node, root_node};
-ghost use Rattle.jsonpath_walk.specs.inner.Sinks.{Took, seen, seen_only, seen_value, seen_first, start, add, any_in, count_in, only_in, first_in, nodes_in, nodes_whole, values_in, values_whole, paths_in, locations_in};
+ghost use Rattle.jsonpath_walk.specs.inner.Sinks.{Took, seen, seen_only, seen_first, start, add, any_in, count_in, only_in, first_in, nodes_in, nodes_whole, values_in, values_whole, paths_in, locations_in};
 ghost use Rattle.jsonpath_walk.specs.inner.Walking.{node_of};
 
 use crate::way::Way;
@@ -86,17 +86,6 @@ impl<'a, T: Queryable> Sink<'a, T> {
                 values.push(value)?;
                 Ok(Sink::Values(values))
             }
-        }
-    }
-
-    /// A sink for the only node, that was given the node of this value, if there is one.
-    pub fn of_only(value: Option<&'a T>) -> Self
-        requires { IfSome value (λ v. IsTrue (T.is_whole v.now)) }
-        ensures { seen T.tree T.is_whole result ≡ seen_value (option_map (λ v. T.tree v.now) value.entry) }
-    {
-        match value {
-            Some(value) => Sink::Only(Only::One(value)),
-            None => Sink::Only(Only::Nothing),
         }
     }
 

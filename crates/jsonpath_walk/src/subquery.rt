@@ -11,7 +11,7 @@ ghost use Rattle.jsonpath_walk.specs.inner.Sinks.{seen, start, give};
 ghost use Rattle.jsonpath_walk.specs.inner.Standing.{Stands, Returns};
 ghost use Rattle.jsonpath_walk.specs.inner.Walking.{node_of, through};
 
-use crate::cache::Gathered;
+use crate::cache::{Gathered, Given};
 use crate::lookup::short_cut;
 use crate::plan::{Nodes, Segment};
 use crate::singular::looked_up;
@@ -99,7 +99,7 @@ impl<'a: 's, 's, T: Queryable> Task<'a, 's, T> {
         let here = mem::replace(&mut trail.way, root);
         let nodes = self.gather(segments, wanted, self.root, trail)?;
         trail.way = here;
-        trail.cache.keep(number, nodes);
+        trail.cache.keep(number, Given::Nodes(nodes));
         Ok(Gathered::Kept(number))
     }
 }

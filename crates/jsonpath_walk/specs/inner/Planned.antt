@@ -1,7 +1,8 @@
 -- The query that a plan stands for.
 use Rattle.std.specs.Prelude.{◌≡◌}
 use Rattle.jsonpath_tree.specs.Syntax.{Query}
-use Rattle.jsonpath_walk.specs.inner.PlanViews.{kept_view, segments_in, Query-set}
+use Rattle.jsonpath_walk.specs.inner.PlanViews.{kept_view, segments_in}
+use Rattle.jsonpath_walk.specs.inner.Rooted.{Query-set}
 use Rattle.jsonpath_walk.specs.declared.plan.Plan.{Plan}
 
 abbrev pub plan_view : Plan → Query

@@ -50,11 +50,6 @@ seen tree whole (sink.Count n) = count n
 seen tree whole (sink.Only o) = seen_only tree whole o
 seen tree whole (sink.First o) = seen_first tree whole o
 
--- the one value, if there is one, which is whole
-abbrev pub seen_value : Option Tree → Seen
-seen_value None = nothing
-seen_value (Some t) = one true t
-
 -- before any node
 abbrev pub start : Wanted → Seen
 start wanted.Any = any false

@@ -1,13 +1,13 @@
 //! What is kept under a number.
 ghost use Rattle.std.specs.Prelude.{◌≡◌, ◌<◌, [], length, map, IfSome, IfNone};
-ghost use Rattle.jsonpath_tree.specs.Syntax.{no_segments};
-ghost use Rattle.jsonpath_tree.specs.View.{step_view};
-ghost use Rattle.jsonpath_walk.specs.inner.PlanViews.{kept_view, part_at, nodes, value, query_at, segments_in, steps_at};
+ghost use Rattle.jsonpath_tree.specs.Syntax as tree;
+ghost use Rattle.jsonpath_tree.specs.View.{operator_view, step_view};
+ghost use Rattle.jsonpath_walk.specs.inner.PlanViews.{kept_view, part_at, nodes, value, answered, compared, query_at, segments_in, steps_at, call_at, call_view, comparison_at, side_view};
 
 use super::keeping::is_same_wanted;
-use super::{Plan, Rooted, Segment};
+use super::{Call, Plan, Rooted, Segment, Side};
 use crate::sink::Wanted;
-use jsonpath_tree::model::SingularQuerySegment;
+use jsonpath_tree::model::{Operator, SingularQuerySegment};
 
 impl Plan {
     /// The segments of the query from the root that is kept under this number, where this is wanted of its nodes.
@@ -15,7 +15,7 @@ impl Plan {
     pub fn kept_segments(&self, number: usize, wanted: Wanted) -> Option<&[Segment]>
         ensures part { IfSome result (λ gs. part_at (kept_view self.now.kept.items) number ≡ nodes wanted (segments_in (kept_view self.now.kept.items) gs.now)) }
         ensures within { IfSome result (λ gs. number < length (kept_view self.now.kept.items)) }
-        ensures none { IfNone result (query_at (kept_view self.now.kept.items) wanted number ≡ no_segments) }
+        ensures none { IfNone result (query_at (kept_view self.now.kept.items) wanted number ≡ tree.no_segments) }
     {
         let Some(entry) = self.kept.get(number) else {
             return None;
@@ -28,7 +28,7 @@ impl Plan {
                     None
                 }
             }
-            Rooted::Value(_steps) => None,
+            _ => None,
         }
     }
 
@@ -44,7 +44,39 @@ impl Plan {
         };
         match &entry.part {
             Rooted::Value(steps) => Some(steps),
-            Rooted::Nodes(_segments, _wanted) => None,
+            _ => None,
+        }
+    }
+
+    /// The call that is kept under this number.
+    #[inline(always)]
+    pub fn kept_call(&self, number: usize) -> Option<&Call>
+        ensures part { IfSome result (λ c. part_at (kept_view self.now.kept.items) number ≡ answered (call_view (kept_view self.now.kept.items) c.now)) }
+        ensures within { IfSome result (λ c. number < length (kept_view self.now.kept.items)) }
+        ensures none { IfNone result (call_at (kept_view self.now.kept.items) number ≡ tree.length_call (tree.literal_argument tree.null)) }
+    {
+        let Some(entry) = self.kept.get(number) else {
+            return None;
+        };
+        match &entry.part {
+            Rooted::Answer(call) => Some(call),
+            _ => None,
+        }
+    }
+
+    /// The comparison that is kept under this number.
+    #[inline(always)]
+    pub fn kept_comparison(&self, number: usize) -> Option<(Operator, &Side, &Side)>
+        ensures part { IfSome result (λ p. part_at (kept_view self.now.kept.items) number ≡ compared (tree.compare (operator_view p.0) (side_view (kept_view self.now.kept.items) p.1.now) (side_view (kept_view self.now.kept.items) p.2.now))) }
+        ensures within { IfSome result (λ p. number < length (kept_view self.now.kept.items)) }
+        ensures none { IfNone result (comparison_at (kept_view self.now.kept.items) number ≡ tree.compare tree.less (tree.literal tree.null) (tree.literal tree.null)) }
+    {
+        let Some(entry) = self.kept.get(number) else {
+            return None;
+        };
+        match &entry.part {
+            Rooted::Comparison(operator, left, right) => Some((*operator, left, right)),
+            _ => None,
         }
     }
 }

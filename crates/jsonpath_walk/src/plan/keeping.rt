@@ -1,14 +1,14 @@
 //! Parts of the query without `@` that were met, and when each of them is worked out.
 ghost use Rattle.std.specs.Prelude.{◌≡◌, IfOk, IfErr, IfSome, IsTrue};
 ghost use Rattle.jsonpath_core.specs.declared.errors.JsonPathError.TheVariants.{OutOfMemory};
-ghost use Rattle.jsonpath_walk.specs.inner.PlanMaking.{IsBeside, IsKept, IsNumberOf, source_of};
+ghost use Rattle.jsonpath_walk.specs.inner.PlanMaking.{IsBeside, IsKept, IsNumbered, IsNumberOf, source_of};
 ghost use Rattle.jsonpath_walk.specs.inner.PlanViews.{is_same_wanted};
 
 use super::make::Maker;
 use super::{Entry, Rooted, Turn};
 use crate::sink::Wanted;
 use jsonpath_core::errors::Parsed;
-use jsonpath_tree::model::{JpQuery, SingularQuery};
+use jsonpath_tree::model::{Comparable, JpQuery, Operator, SingularQuery, TestFunction};
 use std::mem;
 
 /// What an entry is made of.
@@ -18,14 +18,19 @@ pub enum Source<'q> {
     Query(&'q JpQuery, Wanted),
     /// A side of a comparison.
     Side(&'q SingularQuery),
+    /// A call.
+    Call(&'q TestFunction),
+    /// A comparison.
+    Comparison(Operator, &'q Comparable, &'q Comparable),
 }
 
 /// What an entry was made of, and how deep its working out may stand.
 #[derive(Clone, Copy)]
 pub struct Met<'q> {
     pub source: Source<'q>,
-    /// How many entries may be on their way at once when this one is first asked: it, and those in its filters that are then
-    /// first asked, one in the other. 0 where it is worked out before the walk, and where it is a value.
+    /// How many queries from the root may be on their way at once when this one is first asked: it, where it is one, and
+    /// those that stand in it and are then first asked, one in the other. 0 where it is worked out before the walk, and where
+    /// it is a value.
     pub run: usize,
 }
 
@@ -60,21 +65,41 @@ impl<'q> Maker<'q> {
         Some(number)
     }
 
-    /// Begins an entry: what is met from now on stands in it. The result is the greatest run that was met around it.
+    /// Begins a part: what is met from now on stands in it. The result is the greatest run that was met around it.
     pub fn begin(&mut self) -> usize
         ensures { IsBeside self.old self.new }
     {
         mem::replace(&mut self.run, 0)
     }
 
-    /// Makes the entry that was begun, a query from the root, and tells its number.
-    pub fn end(&mut self, part: Rooted, source: Source<'q>, around: usize) -> Parsed<usize>
+    /// Ends the part. The result is the greatest run that was met in it.
+    pub fn end(&mut self, around: usize) -> usize
+        ensures { IsBeside self.old self.new }
+    {
+        let inner = self.run;
+        self.run = around.max(inner);
+        inner
+    }
+
+    /// Makes the entry of a query from the root that was begun, and tells its number.
+    pub fn keep_query(&mut self, part: Rooted, source: Source<'q>, around: usize) -> Parsed<usize>
         ensures kept { IfOk result (λ n. IsKept self.old self.new part source.entry n) }
         ensures memory { IfErr result (λ e. e ≡ OutOfMemory) }
     {
         let run = run_over(self.run);
         self.run = around.max(run);
         self.keep(part, turn_of(run), Met { source, run })
+    }
+
+    /// The number of a part that is made of this: that of an entry that is made of the same, or of one more.
+    pub fn number(&mut self, part: Rooted, met: Met<'q>) -> Parsed<usize>
+        ensures numbered { IfOk result (λ n. IsNumbered self.old self.new part met.entry.source n) }
+        ensures memory { IfErr result (λ e. e ≡ OutOfMemory) }
+    {
+        match self.found(met.source) {
+            Some(number) => Ok(number),
+            None => self.keep(part, Turn::Asked, met),
+        }
     }
 
     /// Makes one entry more, and tells its number.
@@ -106,8 +131,8 @@ fn near_entry(met: &Vec<Met<'_>>, sought: Source<'_>) -> Option<usize>
     None
 }
 
-/// Whether the queries are the same, and the same is wanted of them.
-#[tactic(auto, using(jsonpath_tree::proofs::TreeEquality::query_same, jsonpath_tree::proofs::TreeEquality::singular_same))]
+/// Whether the parts are the same, and the same is wanted of them.
+#[tactic(auto, using(jsonpath_tree::proofs::TreeEquality::query_same, jsonpath_tree::proofs::TreeEquality::singular_same, jsonpath_tree::proofs::TreeEquality::call_same, jsonpath_tree::proofs::TreeEquality::comparable_same))]
 fn is_same(left: Source<'_>, right: Source<'_>) -> bool
     ensures { IsTrue result → source_of left.entry ≡ source_of right.entry }
 {
@@ -116,6 +141,10 @@ fn is_same(left: Source<'_>, right: Source<'_>) -> bool
             is_same_wanted(wanted, sought) && one == other
         }
         (Source::Side(one), Source::Side(other)) => one == other,
+        (Source::Call(one), Source::Call(other)) => one == other,
+        (Source::Comparison(one, left, right), Source::Comparison(other, first, second)) => {
+            is_same_operator(one, other) && left == first && right == second
+        }
         _ => false,
     }
 }
@@ -131,6 +160,21 @@ pub fn is_same_wanted(left: Wanted, right: Wanted) -> bool
         (Wanted::Count, Wanted::Count) => true,
         (Wanted::Only, Wanted::Only) => true,
         (Wanted::Values, Wanted::Values) => true,
+        _ => false,
+    }
+}
+
+/// Whether the operators are the same.
+fn is_same_operator(left: Operator, right: Operator) -> bool
+    ensures { IsTrue result → left ≡ right }
+{
+    match (left, right) {
+        (Operator::Equal, Operator::Equal) => true,
+        (Operator::NotEqual, Operator::NotEqual) => true,
+        (Operator::Less, Operator::Less) => true,
+        (Operator::LessOrEqual, Operator::LessOrEqual) => true,
+        (Operator::Greater, Operator::Greater) => true,
+        (Operator::GreaterOrEqual, Operator::GreaterOrEqual) => true,
         _ => false,
     }
 }

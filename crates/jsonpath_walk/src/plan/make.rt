@@ -4,14 +4,18 @@ ghost use Rattle.jsonpath_core.specs.declared.errors.JsonPathError.TheVariants.{
 ghost use Rattle.jsonpath_tree.specs.Syntax as syntax;
 ghost use Rattle.jsonpath_tree.specs.View as tree;
 ghost use Rattle.jsonpath_walk.specs.inner.PlanViews as plan;
-ghost use Rattle.jsonpath_walk.specs.inner.PlanMaking.{Made};
+ghost use Rattle.jsonpath_walk.specs.inner.PlanMaking.{IsCompared, Made};
 ghost use Rattle.jsonpath_walk.specs.inner.Planned.{plan_view};
+ghost use Rattle.jsonpath_walk.specs.declared.plan.Rooted.TheVariants.{Comparison};
 ghost use Rattle.jsonpath_walk.specs.declared.sink.Wanted.{Wanted};
 ghost use Rattle.jsonpath_walk.specs.declared.sink.Wanted.TheVariants.{Only, Values};
 
+use super::absolute::{are_rooted_sides, is_rooted_call};
 use super::keeping::{Met, Source};
 use super::steps::{steps_again, steps_of};
-use super::{Argument, Call, Entry, Filter, Nodes, Plan, Rooted, Segment, Selector, Side, Turn};
+use super::{
+    Argument, Call, Called, Entry, Filter, Nodes, Plan, Rooted, Segment, Selector, Side, Turn,
+};
 use crate::finders::Asked;
 use crate::sink::Wanted;
 use jsonpath_core::errors::Parsed;
@@ -175,11 +179,8 @@ impl<'q> Maker<'q> {
                 Ok(Filter::Exists { nodes, not })
             }
             tree::Test::Function(function) => {
-                let call = self.call(function)?;
-                Ok(Filter::Call {
-                    call: Box::new(self.alloc, call)?,
-                    not,
-                })
+                let call = self.called(function)?;
+                Ok(Filter::Call { call, not })
             }
         }
     }
@@ -190,38 +191,65 @@ impl<'q> Maker<'q> {
             (syntax.atom (syntax.comparison (tree.comparison_view comparison.now)))) }
         ensures memory { IfErr result (λ e. e ≡ OutOfMemory) }
     {
+        let around = self.begin();
         match comparison {
             tree::Comparison::Eq(left, right) => {
-                let left = self.side(left)?;
-                let right = self.side(right)?;
-                Ok(Filter::Comparison(Operator::Equal, left, right))
+                let source = Source::Comparison(Operator::Equal, left, right);
+                let first = self.side(left)?;
+                let second = self.side(right)?;
+                self.compare(source, (Operator::Equal, first, second), around)
             }
             tree::Comparison::Ne(left, right) => {
-                let left = self.side(left)?;
-                let right = self.side(right)?;
-                Ok(Filter::Comparison(Operator::NotEqual, left, right))
+                let source = Source::Comparison(Operator::NotEqual, left, right);
+                let first = self.side(left)?;
+                let second = self.side(right)?;
+                self.compare(source, (Operator::NotEqual, first, second), around)
             }
             tree::Comparison::Gt(left, right) => {
-                let left = self.side(left)?;
-                let right = self.side(right)?;
-                Ok(Filter::Comparison(Operator::Greater, left, right))
+                let source = Source::Comparison(Operator::Greater, left, right);
+                let first = self.side(left)?;
+                let second = self.side(right)?;
+                self.compare(source, (Operator::Greater, first, second), around)
             }
             tree::Comparison::Gte(left, right) => {
-                let left = self.side(left)?;
-                let right = self.side(right)?;
-                Ok(Filter::Comparison(Operator::GreaterOrEqual, left, right))
+                let source = Source::Comparison(Operator::GreaterOrEqual, left, right);
+                let first = self.side(left)?;
+                let second = self.side(right)?;
+                self.compare(source, (Operator::GreaterOrEqual, first, second), around)
             }
             tree::Comparison::Lt(left, right) => {
-                let left = self.side(left)?;
-                let right = self.side(right)?;
-                Ok(Filter::Comparison(Operator::Less, left, right))
+                let source = Source::Comparison(Operator::Less, left, right);
+                let first = self.side(left)?;
+                let second = self.side(right)?;
+                self.compare(source, (Operator::Less, first, second), around)
             }
             tree::Comparison::Lte(left, right) => {
-                let left = self.side(left)?;
-                let right = self.side(right)?;
-                Ok(Filter::Comparison(Operator::LessOrEqual, left, right))
+                let source = Source::Comparison(Operator::LessOrEqual, left, right);
+                let first = self.side(left)?;
+                let second = self.side(right)?;
+                self.compare(source, (Operator::LessOrEqual, first, second), around)
             }
         }
+    }
+
+    /// A comparison that was begun: the number of its entry, where it has no `@`.
+    fn compare(
+        &mut self,
+        source: Source<'q>,
+        comparison: (Operator, Side, Side),
+        around: usize,
+    ) -> Parsed<Filter>
+        ensures made { IfOk result (λ f. IsCompared self.old self.new (Comparison comparison.0 comparison.1 comparison.2) source.entry f) }
+        ensures memory { IfErr result (λ e. e ≡ OutOfMemory) }
+    {
+        let run = self.end(around);
+        let (operator, left, right) = comparison;
+        if are_rooted_sides(&left, &right) {
+            let part = Rooted::Comparison(operator, left, right);
+            let number = self.number(part, Met { source, run })?;
+            return Ok(Filter::Kept(number));
+        }
+        Ok(Filter::Comparison(operator, left, right))
     }
 
     #[cycle(make)]
@@ -233,10 +261,7 @@ impl<'q> Maker<'q> {
         match side {
             tree::Comparable::Literal(literal) => Ok(Side::Literal(literal.try_clone(self.alloc)?)),
             tree::Comparable::SingularQuery(query) => self.singular(query),
-            tree::Comparable::Function(function) => {
-                let call = self.call(function)?;
-                Ok(Side::Call(Box::new(self.alloc, call)?))
-            }
+            tree::Comparable::Function(function) => Ok(Side::Call(self.called(function)?)),
         }
     }
 
@@ -285,7 +310,24 @@ impl<'q> Maker<'q> {
         }
         let around = self.begin();
         let segments = self.segments(&query.segments)?;
-        self.end(Rooted::Nodes(segments, wanted), source, around)
+        self.keep_query(Rooted::Nodes(segments, wanted), source, around)
+    }
+
+    /// A call: the number of its entry, where it has no `@`.
+    #[cycle(make)]
+    fn called(&mut self, call: &'q tree::TestFunction) -> Parsed<Called>
+        ensures made { IfOk result (λ c. Made self.old self.new (λ kept. plan.called_view kept c) (tree.call_view call.now)) }
+        ensures memory { IfErr result (λ e. e ≡ OutOfMemory) }
+    {
+        let around = self.begin();
+        let made = self.call(call)?;
+        let run = self.end(around);
+        if is_rooted_call(&made) {
+            let source = Source::Call(call);
+            let number = self.number(Rooted::Answer(made), Met { source, run })?;
+            return Ok(Called::Kept(number));
+        }
+        Ok(Called::Here(Box::new(self.alloc, made)?))
     }
 
     #[cycle(make)]
@@ -367,10 +409,7 @@ impl<'q> Maker<'q> {
                 let number = self.absolute(query, wanted)?;
                 Ok(Argument::Nodes(Nodes::Kept(number)))
             }
-            tree::Test::Function(function) => {
-                let call = self.call(function)?;
-                Ok(Argument::Call(Box::new(self.alloc, call)?))
-            }
+            tree::Test::Function(function) => Ok(Argument::Call(self.called(function)?)),
         }
     }
 }

@@ -25,11 +25,5 @@ returns-else-is_same_wanted-clause-none c =
     let here = entry_at es c.deref.result.now c.args.number c.in-Some.entry.now c.deref.ensures.value c.args.self.now.settled found.3.0 found.1 ∙ ap (rooted_view kept) c.in-Nodes.is in
     ap (query_in c.args.wanted) here ∙ ap (λ b. (if b then segments_in kept c.in-Nodes.segments.items else no_segments)) (sym c.is_same_wanted.ensures.is ∙ c.if-is_same_wanted.false)
 
-pub returns-in-Value-clause-none : goal.returns-in-Value-clause-none
-returns-in-Value-clause-none c =
-    let es = c.args.self.now.kept.items in
-    let found = c.in-Some.ensures.lookup in
-    ap (query_in c.args.wanted) (entry_at es c.deref.result.now c.args.number c.in-Some.entry.now c.deref.ensures.value c.args.self.now.settled found.3.0 found.1 ∙ ap (rooted_view (kept_view es)) c.in-Value.is)
-
 pub returns-in_default-clause-none : goal.returns-in_default-clause-none
 returns-in_default-clause-none c = ap (query_in c.args.wanted) (no_entry c.args.self.now.kept.items c.deref.result.now c.args.number c.deref.ensures.value c.args.self.now.settled c.in_default.ensures.lookup.3)

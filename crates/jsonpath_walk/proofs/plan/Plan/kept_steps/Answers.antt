@@ -16,11 +16,5 @@ returns-in-Value-clause-within c =
     let found = c.in-Some.ensures.lookup in
     entry_within c.args.self.now.kept.items c.deref.result.now c.args.number c.deref.ensures.value c.args.self.now.settled found.3.0
 
-pub returns-in-Nodes-clause-none : goal.returns-in-Nodes-clause-none
-returns-in-Nodes-clause-none c =
-    let es = c.args.self.now.kept.items in
-    let found = c.in-Some.ensures.lookup in
-    ap steps_in (entry_at es c.deref.result.now c.args.number c.in-Some.entry.now c.deref.ensures.value c.args.self.now.settled found.3.0 found.1 ∙ ap (rooted_view (kept_view es)) c.in-Nodes.is)
-
 pub returns-in_default-clause-none : goal.returns-in_default-clause-none
 returns-in_default-clause-none c = ap steps_in (no_entry c.args.self.now.kept.items c.deref.result.now c.args.number c.deref.ensures.value c.args.self.now.settled c.in_default.ensures.lookup.3)

@@ -1,7 +1,7 @@
 use Rattle.std.proofs.Common.{◌∙◌, ap, sym, map, rules}
 use Rattle.jsonpath_tree.specs.View as tree
 use Rattle.jsonpath_tree.proofs.ViewEquations.{query_view-segments}
-use Rattle.jsonpath_walk.proofs.PlanLaws.{plan_made, plan_settled}
+use Rattle.jsonpath_walk.proofs.PlanLaws.{plan_made, plan_settled, plan_rooted}
 use Rattle.jsonpath_walk.proofs.plan.make.plan_of.Goals as goal
 
 pub returns-clause-same : goal.returns-clause-same
@@ -11,4 +11,5 @@ returns-clause-same c =
 pub invariant_of-result : goal.invariant_of-result
 invariant_of-result c = record {
   settled = plan_settled c.in_ok-segments.ensures.made (search rules) (search rules);
+  rooted = plan_rooted c.in_ok-segments.ensures.made (search rules) (search rules);
 }

@@ -8,24 +8,26 @@ use Rattle.std.specs.List.{flat_map}
 use Rattle.jsonpath_core.specs.Location.{name, index}
 use Rattle.jsonpath_tree.specs.View.{operator_view, step_view}
 use Rattle.jsonpath_tree.specs.declared.model.SingularQuerySegment.{SingularQuerySegment}
-use Rattle.jsonpath_walk.specs.inner.PlanViews.{segments_in, segment_view, selectors_in, selector_view, filters_in, filter_view, nodes_view, side_view, call_view, arguments_in, argument_view, steps_query}
+use Rattle.jsonpath_walk.specs.inner.PlanViews.{segments_in, segment_view, selectors_in, selector_view, filters_in, filter_view, nodes_view, side_view, call_view, called_view, call_in, comparison_in, arguments_in, argument_view, steps_query}
+use Rattle.jsonpath_walk.specs.inner.PlanViews as plan
 use Rattle.jsonpath_walk.specs.declared.plan.Argument.{Argument}
 use Rattle.jsonpath_walk.specs.declared.plan.Call.{Call}
 use Rattle.jsonpath_walk.specs.declared.plan.Filter.{Filter}
 use Rattle.jsonpath_walk.specs.declared.plan.Segment.{Segment}
 use Rattle.jsonpath_walk.specs.declared.plan.Selector.{Selector}
 use Rattle.jsonpath_walk.specs.declared.sink.Wanted.TheVariants.{Any, Count, Only, Values}
-use Rattle.jsonpath_walk.proofs.PlanEquations.{called, segment_view-Descendant, segment_view-Selector, segment_view-Selectors, selector_view-Name, selector_view-Wildcard, selector_view-Index, selector_view-Slice, selector_view-Filter, filter_view-Or, filter_view-And, filter_view-Group, filter_view-Exists, filter_view-Call, filter_view-Comparison, nodes_view-Lookup, nodes_view-Walk, nodes_view-Kept, side_view-Literal, side_view-Lookup, side_view-Kept, side_view-Call, argument_view-Literal, argument_view-Pattern, argument_view-Nodes, argument_view-Call, argument_view-Filter, call_view-Length, call_view-Value, call_view-Count, call_view-Search, call_view-Match}
+use Rattle.jsonpath_walk.proofs.PlanEquations.{called, segment_view-Descendant, segment_view-Selector, segment_view-Selectors, selector_view-Name, selector_view-Wildcard, selector_view-Index, selector_view-Slice, selector_view-Filter, filter_view-Or, filter_view-And, filter_view-Group, filter_view-Exists, filter_view-Call, filter_view-Comparison, filter_view-Kept, called_view-Here, called_view-Kept, nodes_view-Lookup, nodes_view-Walk, nodes_view-Kept, side_view-Literal, side_view-Lookup, side_view-Kept, side_view-Call, argument_view-Literal, argument_view-Pattern, argument_view-Nodes, argument_view-Call, argument_view-Filter, call_view-Length, call_view-Value, call_view-Count, call_view-Search, call_view-Match}
 use Rattle.jsonpath_base.specs.Tree.{get, truth, text}
 use Rattle.jsonpath_base.specs.Slice.{slice_of}
-use Rattle.jsonpath_node.specs.Node.{below, children, subtree}
-use Rattle.jsonpath_node.specs.Meaning.{picks, all_pick, replaced, indexed, element, holds, some_holds, each_holds, value_of, value_at, answer, negated, nodelist, all_trees, argued, tested}
+use Rattle.jsonpath_node.specs.Node.{below, children, root_node, subtree}
+use Rattle.jsonpath_node.specs.Meaning.{picks, all_pick, replaced, indexed, element, holds, some_holds, each_holds, value_of, value_at, answer, comparison_holds, negated, nodelist, all_trees, argued, tested}
 use Rattle.jsonpath_walk.specs.inner.Passing.{action_weight}
-use Rattle.jsonpath_node.proofs.Weight.{segment_weight, selectors_weight, selector_weight, segments_weight, filter_weight, filters_weight, test_weight, comparable_weight, call_weight, argument_weight, arguments_weight}
-use Rattle.jsonpath_node.specs.Patterns.{segments_patterns, segment_patterns, selectors_patterns, selector_patterns, filter_patterns, filters_patterns, test_patterns, comparable_patterns, call_patterns, argument_patterns, arguments_patterns}
+use Rattle.jsonpath_node.proofs.Weight.{segment_weight, selectors_weight, selector_weight, segments_weight, filter_weight, filters_weight, test_weight, comparable_weight, comparison_weight, call_weight, argument_weight, arguments_weight}
+use Rattle.jsonpath_node.specs.Patterns.{segments_patterns, segment_patterns, selectors_patterns, selector_patterns, filter_patterns, filters_patterns, test_patterns, comparable_patterns, comparison_patterns, call_patterns, argument_patterns, arguments_patterns}
 use Rattle.jsonpath_walk.specs.inner.Walking.{action_patterns, through, node_of, step_of, acted}
 use Rattle.jsonpath_walk.specs.inner.Sinks.{seen, give, start}
-use Rattle.jsonpath_walk.specs.inner.Keeping.{document, given_by, kept_of, query_of, seen_or_none, slot_at, slots_of}
+use Rattle.jsonpath_walk.specs.inner.Keeping.{document, gave, given_by, kept_of, nodes_or_none, query_of, slot_at, slots_of, value_by}
+use Rattle.jsonpath_walk.specs.inner.Keeping as keeping
 use Rattle.jsonpath_walk.specs.declared.way.StepRef.TheVariants.{Name, Index}
 use Rattle.jsonpath_walk.proofs.Sinks.{took_none, took_as, took_stop, result_as, result_then, true_false}
 use Rattle.jsonpath_walk.proofs.Walks.{down, down_tree, down_same, turn_next, turn_stop, turn_end, selector_turns, element_turns, member_turns, place_next, place_stop, below_more, flat_map-alone, flat_map-filter}
@@ -34,7 +36,8 @@ use Rattle.jsonpath_node.proofs.NodesAt.{member_there}
 use Rattle.jsonpath_walk.proofs.HaltingLaws.{part_as, part_left, part_right, part_both, part_at, part_rest, pattern_asked}
 use Rattle.jsonpath_node.proofs.Trees.{child_there, all_at, element_size, pair_size, member_size, element_at, sliced-list, named_some, named_none}
 use Rattle.jsonpath_node.proofs.Parts.{part_of, kept_true, kept_false, some_found, some_next, each_failed, each_next, parts_end, ok_as, ok_through, differs, passed_on, joined_next}
-use Rattle.jsonpath_walk.proofs.Kept.{ready_as, kept_query, found_there, err_is}
+use Rattle.jsonpath_walk.proofs.Kept.{ready_as, kept_query, found_there, gave_or_none, of_some, err_is}
+use Rattle.jsonpath_walk.proofs.RootedLaws.{answer_as, answer_kept, comparison_as, comparison_kept, kept_call_same, kept_comparison_same}
 use Rattle.jsonpath_node.specs.Comparing.{compares}
 use Rattle.jsonpath_node.specs.Functions.{length_of, as_value, as_trees, as_truth, is_matched, is_true}
 use Rattle.jsonpath_node.specs.inner.Operands.{operand_tree, side_tree, arg_trees, AreWhole, is_entire}
@@ -798,20 +801,26 @@ filter_holds-exists-requires g t c κs within =
     let e = ap (filter_view kept) c.in-Exists.is ∙ filter_view-Exists kept c.in-Exists.nodes c.in-Exists.not in
     (down _ _ _ _ _ _ c.decreases (omega (arith, ap filter_weight e)) (omega (arith, c.requires.stands.within)), (within, (c.requires.stands, part_as filter_patterns _ _ _ e c.requires.part)))
 
-pub filter_holds-answer-requires : goal.filter_holds-answer-requires
-filter_holds-answer-requires g t c κs within =
+pub filter_holds-called-requires : goal.filter_holds-called-requires
+filter_holds-called-requires g t c κs within =
     let kept = kept_of c.args.self.now in
     let e = ap (filter_view kept) c.in-Call.is ∙ filter_view-Call kept c.in-Call.call c.in-Call.not in
-    (down _ _ _ _ _ _ c.decreases (omega (arith, ap filter_weight e, ap (λ (x : Call). call_weight (call_view kept x)) c.deref-in-Call.ensures)) (omega (arith, c.requires.stands.within)), (within, (c.requires.stands, part_as (λ (x : Call). call_patterns (call_view kept x)) _ _ _ (sym c.deref-in-Call.ensures) (part_as filter_patterns _ _ _ e c.requires.part))))
+    (down _ _ _ _ _ _ c.decreases (omega (arith, ap filter_weight e)) (omega arith), (within, (c.requires.stands, part_as filter_patterns _ _ _ e c.requires.part)))
 
 pub filter_holds-is_true-requires : goal.filter_holds-is_true-requires
-filter_holds-is_true-requires g t c = c.in_ok-answer-in-Call.ensures.whole
+filter_holds-is_true-requires g t c = c.in_ok-called-in-Call.ensures.whole
 
 pub filter_holds-comparison_holds-requires : goal.filter_holds-comparison_holds-requires
 filter_holds-comparison_holds-requires g t c κs within =
     let kept = kept_of c.args.self.now in
     let e = ap (filter_view kept) c.in-Comparison.is ∙ filter_view-Comparison kept _ _ _ in
     (down _ _ _ _ _ _ c.decreases (omega (arith, ap filter_weight e)) (omega (arith, c.requires.stands.within)), (within, (c.requires.stands, part_as filter_patterns _ _ _ e c.requires.part)))
+
+pub filter_holds-kept_comparison-requires : goal.filter_holds-kept_comparison-requires
+filter_holds-kept_comparison-requires g t c κs within =
+    let kept = kept_of c.args.self.now in
+    let e = ap (filter_view kept) c.in-Kept.is ∙ filter_view-Kept kept c.in-Kept.number in
+    (down _ _ _ _ _ _ c.decreases (omega (arith, ap filter_weight e)) (omega arith), (within, (part_as filter_patterns _ _ _ e c.requires.part, c.requires.stands.ready)))
 
 pub filter_holds-returns-in-Or-clause-holds : goal.filter_holds-returns-in-Or-clause-holds
 filter_holds-returns-in-Or-clause-holds g t c =
@@ -849,14 +858,14 @@ filter_holds-returns-in_ok-exists-in-Exists-clause-holds g t c =
     let e = ap (filter_view kept) c.in-Exists.is ∙ filter_view-Exists kept c.in-Exists.nodes c.in-Exists.not in
     differs _ _ ∙ ap (negated c.in-Exists.not) c.in_ok-exists-in-Exists.ensures.holds ∙ sym (ap (λ f. holds f d n) e)
 
-pub filter_holds-returns-in_ok-answer-in-Call-clause-holds : goal.filter_holds-returns-in_ok-answer-in-Call-clause-holds
-filter_holds-returns-in_ok-answer-in-Call-clause-holds g t c =
+pub filter_holds-returns-in_ok-called-in-Call-clause-holds : goal.filter_holds-returns-in_ok-called-in-Call-clause-holds
+filter_holds-returns-in_ok-called-in-Call-clause-holds g t c =
     let kept = kept_of c.args.self.now in
     let tree = g.T.Queryable.tree in
     let d = document tree g.T.Queryable.custom c.args.self.now in
     let n = node_of tree c.args.trail.now.way.steps.items c.args.at.now in
     let e = ap (filter_view kept) c.in-Call.is ∙ filter_view-Call kept c.in-Call.call c.in-Call.not in
-    let seen = c.is_true.ensures ∙ ap is_true (c.in_ok-answer-in-Call.ensures.value ∙ ap (λ (f : Call). answer (call_view kept f) d n) c.deref-in-Call.ensures) in
+    let seen = c.is_true.ensures ∙ ap is_true c.in_ok-called-in-Call.ensures.value in
     differs _ _ ∙ ap (negated c.in-Call.not) seen ∙ sym (ap (λ f. holds f d n) e)
 
 pub filter_holds-returns-in-Comparison-clause-holds : goal.filter_holds-returns-in-Comparison-clause-holds
@@ -867,6 +876,15 @@ filter_holds-returns-in-Comparison-clause-holds g t c =
     let n = node_of tree c.args.trail.now.way.steps.items c.args.at.now in
     let e = ap (filter_view kept) c.in-Comparison.is ∙ filter_view-Comparison kept _ _ _ in
     ok_as _ _ _ (sym (ap (λ f. holds f d n) e)) c.comparison_holds.ensures.holds
+
+pub filter_holds-returns-in-Kept-clause-holds : goal.filter_holds-returns-in-Kept-clause-holds
+filter_holds-returns-in-Kept-clause-holds g t c =
+    let kept = kept_of c.args.self.now in
+    let tree = g.T.Queryable.tree in
+    let d = document tree g.T.Queryable.custom c.args.self.now in
+    let n = node_of tree c.args.trail.now.way.steps.items c.args.at.now in
+    let e = ap (filter_view kept) c.in-Kept.is ∙ filter_view-Kept kept c.in-Kept.number in
+    ok_as _ _ _ (sym (ap (λ f. holds f d n) e)) (c.kept_comparison.ensures.holds n)
 
 pub exists-value_at-requires : goal.exists-value_at-requires
 exists-value_at-requires g t c = c.requires.stands.whole
@@ -931,11 +949,11 @@ comparison_holds-returns-clause-holds g t c =
 pub comparison_holds-returns-clause-returns : goal.comparison_holds-returns-clause-returns
 comparison_holds-returns-clause-returns g t c = on c.in_ok-left.ensures.returns c.in_ok-right.ensures.returns
 
-pub side-answer-requires : goal.side-answer-requires
-side-answer-requires g t c κs within =
+pub side-called-requires : goal.side-called-requires
+side-called-requires g t c κs within =
     let kept = kept_of c.args.self.now in
     let e = ap (side_view kept) c.in-Call.is ∙ side_view-Call kept c.in-Call.call in
-    (down _ _ _ _ _ _ c.decreases (omega (arith, ap comparable_weight e, ap (λ (x : Call). call_weight (call_view kept x)) c.deref-in-Call.ensures)) (omega (arith, c.requires.stands.within)), (within, (c.requires.stands, part_as (λ (x : Call). call_patterns (call_view kept x)) _ _ _ (sym c.deref-in-Call.ensures) (part_as comparable_patterns _ _ _ e c.requires.part))))
+    (down _ _ _ _ _ _ c.decreases (omega (arith, ap comparable_weight e)) (omega arith), (within, (c.requires.stands, part_as comparable_patterns _ _ _ e c.requires.part)))
 
 pub side-value_at-requires : goal.side-value_at-requires
 side-value_at-requires g t c = c.requires.stands.whole
@@ -945,9 +963,6 @@ side-kept_value-requires g t c = record { ready = c.requires.stands.ready }
 
 pub side-lent-requires : goal.side-lent-requires
 side-lent-requires g t c = c.value_at.ensures.whole
-
-pub side-lent-requires-in-Kept : goal.side-lent-requires-in-Kept
-side-lent-requires-in-Kept g t c = c.kept_value.ensures.whole
 
 pub side-returns-in-Literal-clause-value : goal.side-returns-in-Literal-clause-value
 side-returns-in-Literal-clause-value g t c =
@@ -967,17 +982,17 @@ side-returns-in-Lookup-clause-value g t c =
     let e = ap (side_view kept) c.in-Lookup.is ∙ side_view-Lookup kept c.in-Lookup.steps in
     c.lent.ensures.value ∙ c.value_at.ensures.value ∙ ap (λ (ss : List SingularQuerySegment). value_at (map step_view ss) n.tree) c.deref.ensures.value ∙ sym (ap (λ x. value_of x d n) e)
 
-pub side-returns-in-Kept-clause-value : goal.side-returns-in-Kept-clause-value
-side-returns-in-Kept-clause-value g t c =
+pub side-returns-in_ok-kept_value-in-Kept-clause-value : goal.side-returns-in_ok-kept_value-in-Kept-clause-value
+side-returns-in_ok-kept_value-in-Kept-clause-value g t c =
     let kept = kept_of c.args.self.now in
     let tree = g.T.Queryable.tree in
     let d = document tree g.T.Queryable.custom c.args.self.now in
     let n = node_of tree c.args.trail.now.way.steps.items c.args.at.now in
     let e = ap (side_view kept) c.in-Kept.is ∙ side_view-Kept kept c.in-Kept.number in
-    c.lent-in-Kept.ensures.value ∙ c.kept_value.ensures.value ∙ sym (ap (λ x. value_of x d n) e)
+    c.in_ok-kept_value-in-Kept.ensures.value ∙ sym (ap (λ x. value_of x d n) e)
 
-pub side-returns-in-Kept-clause-returns : goal.side-returns-in-Kept-clause-returns
-side-returns-in-Kept-clause-returns g t c = record { same = refl; ready = c.kept_value.ensures.ready }
+pub side-returns-in_ok-kept_value-in-Kept-clause-returns : goal.side-returns-in_ok-kept_value-in-Kept-clause-returns
+side-returns-in_ok-kept_value-in-Kept-clause-returns g t c = record { same = refl; ready = c.in_ok-kept_value-in-Kept.ensures.ready }
 
 pub side-returns-in-Call-clause-value : goal.side-returns-in-Call-clause-value
 side-returns-in-Call-clause-value g t c =
@@ -986,7 +1001,7 @@ side-returns-in-Call-clause-value g t c =
     let d = document tree g.T.Queryable.custom c.args.self.now in
     let n = node_of tree c.args.trail.now.way.steps.items c.args.at.now in
     let e = ap (side_view kept) c.in-Call.is ∙ side_view-Call kept c.in-Call.call in
-    ok_through _ (operand_tree tree) _ _ (ap (λ (f : Call). answer (call_view kept f) d n) c.deref-in-Call.ensures ∙ sym (ap (λ x. value_of x d n) e)) c.answer.ensures.value
+    ok_through _ (operand_tree tree) _ _ (sym (ap (λ x. value_of x d n) e)) c.called.ensures.value
 
 pub answer-custom-requires : goal.answer-custom-requires
 answer-custom-requires g t c κs within =
@@ -1167,11 +1182,11 @@ argument-nodes-requires g t c κs within =
     let e = ap (λ a. argument_view kept a c.args.wanted) c.in-Nodes.is ∙ argument_view-Nodes kept c.in-Nodes.nodes c.args.wanted in
     (down _ _ _ _ _ _ c.decreases (omega (arith, ap argument_weight e)) (omega (arith, c.requires.stands.within)), (within, (c.requires.stands, part_as argument_patterns _ _ _ e c.requires.part)))
 
-pub argument-answer-requires : goal.argument-answer-requires
-argument-answer-requires g t c κs within =
+pub argument-called-requires : goal.argument-called-requires
+argument-called-requires g t c κs within =
     let kept = kept_of c.args.self.now in
     let e = ap (λ a. argument_view kept a c.args.wanted) c.in-Call.is ∙ argument_view-Call kept c.in-Call.call c.args.wanted in
-    (down _ _ _ _ _ _ c.decreases (omega (arith, ap argument_weight e, ap (λ (x : Call). call_weight (call_view kept x)) c.deref-in-Call.ensures)) (omega (arith, c.requires.stands.within)), (within, (c.requires.stands, part_as (λ (x : Call). call_patterns (call_view kept x)) _ _ _ (sym c.deref-in-Call.ensures) (part_as argument_patterns _ _ _ e c.requires.part))))
+    (down _ _ _ _ _ _ c.decreases (omega (arith, ap argument_weight e)) (omega arith), (within, (c.requires.stands, part_as argument_patterns _ _ _ e c.requires.part)))
 
 pub argument-filter_holds-requires : goal.argument-filter_holds-requires
 argument-filter_holds-requires g t c κs within =
@@ -1213,7 +1228,7 @@ argument-returns-in_ok-value-in-Call-clause-held g t c =
     let d = document tree g.T.Queryable.custom c.args.self.now in
     let n = node_of tree c.args.trail.now.way.steps.items c.args.at.now in
     let e = ap (λ a. argument_view kept a c.args.wanted) c.in-Call.is ∙ argument_view-Call kept c.in-Call.call c.args.wanted in
-    ap value (c.in_ok-value-in-Call.ensures.value ∙ ap (λ (f : Call). answer (call_view kept f) d n) c.deref-in-Call.ensures) ∙ sym (ap (λ a. holding c.args.wanted (argued a d n)) e)
+    ap value c.in_ok-value-in-Call.ensures.value ∙ sym (ap (λ a. holding c.args.wanted (argued a d n)) e)
 
 pub argument-returns-in_ok-value-in-Call-clause-within : goal.argument-returns-in_ok-value-in-Call-clause-within
 argument-returns-in_ok-value-in-Call-clause-within g t c = c.in_ok-value-in-Call.ensures.whole
@@ -1296,8 +1311,8 @@ kept_nodes-returns-then-is_some-clause-given g t c =
     let whole = g.T.Queryable.is_whole in
     let d = document tree g.T.Queryable.custom c.args.self.now in
     let slot = slot_at tree whole (slots_of c.args.trail.now.cache) c.args.number in
-    let there : slot ≡ Some (seen_or_none slot) = found_there (λ s. seen tree whole s.now) c.get.result slot c.get.ensures (sym c.is_some.ensures ∙ c.if-is_some.true) in
-    c.requires.ready.kept.right c.args.number _ there ∙ ap (λ p. given_by p d) c.in-Some.ensures.part ∙ ap (λ q. give (start c.args.wanted) (nodelist q d)) (sym (kept_query kept c.args.number c.args.wanted _ c.in-Some.ensures.part))
+    let there : slot ≡ Some (gave_or_none slot) = found_there (λ s. gave tree whole s.now) c.get.result slot c.get.ensures (sym c.is_some.ensures ∙ c.if-is_some.true) in
+    ap nodes_or_none there ∙ ap (λ s. nodes_or_none (Some s)) (c.requires.ready.kept.right c.args.number _ there ∙ ap (λ p. given_by p d) c.in-Some.ensures.part) ∙ ap (λ q. give (start c.args.wanted) (nodelist q d)) (sym (kept_query kept c.args.number c.args.wanted _ c.in-Some.ensures.part))
 
 pub kept_nodes-returns-then-is_some-clause-returns : goal.kept_nodes-returns-then-is_some-clause-returns
 kept_nodes-returns-then-is_some-clause-returns g t c = stays c.requires.ready
@@ -1310,7 +1325,7 @@ kept_nodes-returns-clause-given g t c =
     let gs = segments_in kept c.in-Some.segments.now in
     let at = λ (q : List StepRef). through gs d (node_of tree q c.args.self.now.root.now) in
     let all = ap at (ap (λ w. w.steps.items) c.replace-here.ensures.after ∙ c.new-root.ensures) ∙ nodelist-through gs d ∙ ap (λ q. nodelist q d) (sym (kept_query kept c.args.number c.args.wanted _ c.in-Some.ensures.part)) in
-    c.keep.ensures.value ∙ c.in_ok-nodes.ensures.given ∙ ap (give (start c.args.wanted)) all
+    ap nodes_or_none c.keep.ensures.value ∙ c.in_ok-nodes.ensures.given ∙ ap (give (start c.args.wanted)) all
 
 pub kept_nodes-returns-clause-returns : goal.kept_nodes-returns-clause-returns
 kept_nodes-returns-clause-returns g t c =
@@ -1320,5 +1335,111 @@ kept_nodes-returns-clause-returns g t c =
     let gs = segments_in kept c.in-Some.segments.now in
     let at = λ (q : List StepRef). through gs d (node_of tree q c.args.self.now.root.now) in
     let all = ap at (ap (λ w. w.steps.items) c.replace-here.ensures.after ∙ c.new-root.ensures) ∙ nodelist-through gs d in
-    let given = c.in_ok-nodes.ensures.given ∙ ap (give (start c.args.wanted)) all ∙ sym (ap (λ p. given_by p d) c.in-Some.ensures.part) in
+    let given = ap keeping.nodes (c.in_ok-nodes.ensures.given ∙ ap (give (start c.args.wanted)) all) ∙ sym (ap (λ p. given_by p d) c.in-Some.ensures.part) in
     record { same = ap (λ w. w.steps.items) c.replace-here.ensures.value; ready = record { root = c.requires.ready.root; kept = c.keep.ensures.right kept d given c.in_ok-nodes.ensures.returns.ready.kept } }
+
+pub called-answer-requires : goal.called-answer-requires
+called-answer-requires g t c κs within =
+    let kept = kept_of c.args.self.now in
+    let e = ap (called_view kept) c.in-Here.is ∙ called_view-Here kept c.in-Here.call ∙ ap (call_view kept) (sym c.deref.ensures) in
+    (down_same _ _ _ _ _ _ c.decreases (sym (ap call_weight e)) (omega (arith, c.requires.stands.within)), (within, (c.requires.stands, part_as call_patterns _ _ _ e c.requires.part)))
+
+pub called-kept_answer-requires : goal.called-kept_answer-requires
+called-kept_answer-requires g t c κs within =
+    let kept = kept_of c.args.self.now in
+    let e = ap (called_view kept) c.in-Kept.is ∙ called_view-Kept kept c.in-Kept.number in
+    (down_same _ _ _ _ _ _ c.decreases (sym (ap call_weight e)) (omega arith), (within, (part_as call_patterns _ _ _ e c.requires.part, c.requires.stands.ready)))
+
+pub called-returns-in-Here-clause-value : goal.called-returns-in-Here-clause-value
+called-returns-in-Here-clause-value g t c =
+    let kept = kept_of c.args.self.now in
+    let tree = g.T.Queryable.tree in
+    let d = document tree g.T.Queryable.custom c.args.self.now in
+    let n = node_of tree c.args.trail.now.way.steps.items c.args.at.now in
+    let e = ap (called_view kept) c.in-Here.is ∙ called_view-Here kept c.in-Here.call ∙ ap (call_view kept) (sym c.deref.ensures) in
+    ok_through _ (operand_tree tree) _ _ (sym (ap (λ f. answer f d n) e)) c.answer.ensures.value
+
+pub called-returns-in-Kept-clause-value : goal.called-returns-in-Kept-clause-value
+called-returns-in-Kept-clause-value g t c =
+    let kept = kept_of c.args.self.now in
+    let tree = g.T.Queryable.tree in
+    let d = document tree g.T.Queryable.custom c.args.self.now in
+    let n = node_of tree c.args.trail.now.way.steps.items c.args.at.now in
+    let e = ap (called_view kept) c.in-Kept.is ∙ called_view-Kept kept c.in-Kept.number in
+    ok_through _ (operand_tree tree) _ _ (sym (ap (λ f. answer f d n) e)) (c.kept_answer.ensures.value n)
+
+pub kept_answer-answer-requires : goal.kept_answer-answer-requires
+kept_answer-answer-requires g t c κs within =
+    let e = ap call_in c.in-Some.ensures.part in
+    let root = at_root (ap (λ w. w.steps.items) c.replace-here.ensures.after ∙ c.new-root.ensures) c.requires.ready in
+    (down_same _ _ _ _ _ _ c.decreases (sym (ap call_weight e)) (omega arith), (within, (root, part_as call_patterns _ _ _ e c.requires.part)))
+
+pub kept_answer-keep-requires : goal.kept_answer-keep-requires
+kept_answer-keep-requires g t c = subst (λ k. c.args.number < k) (sym c.in_ok-given.ensures.returns.ready.kept.room) c.in-Some.ensures.within
+
+pub kept_answer-returns-in_default-clause-value : goal.kept_answer-returns-in_default-clause-value
+kept_answer-returns-in_default-clause-value g t c = λ n.
+    let d = document g.T.Queryable.tree g.T.Queryable.custom c.args.self.now in
+    sym (ap (λ f. answer f d n) c.in_default.ensures.none)
+
+pub kept_answer-returns-in-Some-2-clause-value : goal.kept_answer-returns-in-Some-2-clause-value
+kept_answer-returns-in-Some-2-clause-value g t c = λ n.
+    let kept = kept_of c.args.self.now in
+    let tree = g.T.Queryable.tree in
+    let d = document tree g.T.Queryable.custom c.args.self.now in
+    of_some (λ v. operand_tree tree v ≡ value_by (plan.part_at kept c.args.number) d) _ _ c.in-Some-2.is c.in_ok-value.ensures.value ∙ ap (λ p. value_by p d) c.in-Some.ensures.part ∙ sym (ap (λ p. answer (call_in p) d (root_node d.root)) c.in-Some.ensures.part) ∙ kept_call_same kept c.args.number d (root_node d.root) n c.args.self.now.plan.now.rooted
+
+pub kept_answer-returns-clause-value : goal.kept_answer-returns-clause-value
+kept_answer-returns-clause-value g t c = λ n.
+    let kept = kept_of c.args.self.now in
+    let tree = g.T.Queryable.tree in
+    let d = document tree g.T.Queryable.custom c.args.self.now in
+    let top = ap (λ (q : List StepRef). node_of tree q c.args.self.now.root.now) (ap (λ w. w.steps.items) c.replace-here.ensures.after ∙ c.new-root.ensures) in
+    c.in_ok-first.ensures.value ∙ answer_as _ _ d _ (root_node d.root) _ (ap call_in c.in-Some.ensures.part) top c.in_ok-given.ensures.value ∙ kept_call_same kept c.args.number d (root_node d.root) n c.args.self.now.plan.now.rooted
+
+pub kept_answer-returns-clause-returns : goal.kept_answer-returns-clause-returns
+kept_answer-returns-clause-returns g t c =
+    let kept = kept_of c.args.self.now in
+    let tree = g.T.Queryable.tree in
+    let d = document tree g.T.Queryable.custom c.args.self.now in
+    let top = ap (λ (q : List StepRef). node_of tree q c.args.self.now.root.now) (ap (λ w. w.steps.items) c.replace-here.ensures.after ∙ c.new-root.ensures) in
+    let given = answer_kept _ _ d _ _ _ c.in-Some.ensures.part top c.in_ok-given.ensures.whole c.in_ok-given.ensures.value in
+    record { same = ap (λ w. w.steps.items) c.replace-here.ensures.value; ready = record { root = c.requires.ready.root; kept = c.keep.ensures.right kept d given c.in_ok-given.ensures.returns.ready.kept } }
+
+pub kept_comparison-comparison_holds-requires : goal.kept_comparison-comparison_holds-requires
+kept_comparison-comparison_holds-requires g t c κs within =
+    let e = ap comparison_in c.in-Some.ensures.part in
+    let root = at_root (ap (λ w. w.steps.items) c.replace-here.ensures.after ∙ c.new-root.ensures) c.requires.ready in
+    (down_same _ _ _ _ _ _ c.decreases (sym (ap comparison_weight e)) (omega arith), (within, (root, part_as comparison_patterns _ _ _ e c.requires.part)))
+
+pub kept_comparison-keep-requires : goal.kept_comparison-keep-requires
+kept_comparison-keep-requires g t c = subst (λ k. c.args.number < k) (sym c.in_ok-held.ensures.returns.ready.kept.room) c.in-Some.ensures.within
+
+pub kept_comparison-returns-in_default-clause-holds : goal.kept_comparison-returns-in_default-clause-holds
+kept_comparison-returns-in_default-clause-holds g t c = λ n.
+    let d = document g.T.Queryable.tree g.T.Queryable.custom c.args.self.now in
+    sym (ap (λ q. comparison_holds q d n) c.in_default.ensures.none)
+
+pub kept_comparison-returns-in-Some-2-clause-holds : goal.kept_comparison-returns-in-Some-2-clause-holds
+kept_comparison-returns-in-Some-2-clause-holds g t c = λ n.
+    let kept = kept_of c.args.self.now in
+    let tree = g.T.Queryable.tree in
+    let d = document tree g.T.Queryable.custom c.args.self.now in
+    c.is_true.ensures ∙ ap is_true (of_some (λ v. operand_tree tree v ≡ value_by (plan.part_at kept c.args.number) d) _ _ c.in-Some-2.is c.in_ok-value.ensures.value ∙ ap (λ p. value_by p d) c.in-Some.ensures.part) ∙ sym (ap (λ p. comparison_holds (comparison_in p) d (root_node d.root)) c.in-Some.ensures.part) ∙ kept_comparison_same kept c.args.number d (root_node d.root) n c.args.self.now.plan.now.rooted
+
+pub kept_comparison-returns-clause-holds : goal.kept_comparison-returns-clause-holds
+kept_comparison-returns-clause-holds g t c = λ n.
+    let kept = kept_of c.args.self.now in
+    let tree = g.T.Queryable.tree in
+    let d = document tree g.T.Queryable.custom c.args.self.now in
+    let top = ap (λ (q : List StepRef). node_of tree q c.args.self.now.root.now) (ap (λ w. w.steps.items) c.replace-here.ensures.after ∙ c.new-root.ensures) in
+    comparison_as _ _ d _ (root_node d.root) _ (ap comparison_in c.in-Some.ensures.part) top c.in_ok-held.ensures.holds ∙ kept_comparison_same kept c.args.number d (root_node d.root) n c.args.self.now.plan.now.rooted
+
+pub kept_comparison-returns-clause-returns : goal.kept_comparison-returns-clause-returns
+kept_comparison-returns-clause-returns g t c =
+    let kept = kept_of c.args.self.now in
+    let tree = g.T.Queryable.tree in
+    let d = document tree g.T.Queryable.custom c.args.self.now in
+    let top = ap (λ (q : List StepRef). node_of tree q c.args.self.now.root.now) (ap (λ w. w.steps.items) c.replace-here.ensures.after ∙ c.new-root.ensures) in
+    let given = comparison_kept _ _ d _ _ c.in-Some.ensures.part top c.in_ok-held.ensures.holds in
+    record { same = ap (λ w. w.steps.items) c.replace-here.ensures.value; ready = record { root = c.requires.ready.root; kept = c.keep.ensures.right kept d given c.in_ok-held.ensures.returns.ready.kept } }

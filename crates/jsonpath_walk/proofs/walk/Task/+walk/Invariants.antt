@@ -4,7 +4,7 @@ use Rattle.jsonpath_base.specs.Slice.{slice_of}
 use Rattle.jsonpath_base.specs.SliceSteps.{places_left}
 use Rattle.jsonpath_node.specs.Node.{element_nodes, member_nodes, children}
 use Rattle.jsonpath_node.specs.Meaning.{all_pick, element, some_holds, each_holds, all_trees}
-use Rattle.jsonpath_walk.specs.inner.PlanViews.{segment_view, segments_in, selector_view, selectors_in, filter_view, filters_in, side_view, call_view, argument_view, arguments_in, nodes_view, query_at}
+use Rattle.jsonpath_walk.specs.inner.PlanViews.{segment_view, segments_in, selector_view, selectors_in, filter_view, filters_in, side_view, call_view, argument_view, arguments_in, nodes_view, query_at, call_at, called_view, comparison_at}
 use Rattle.jsonpath_walk.specs.inner.Walking.{through, node_of, acted}
 use Rattle.jsonpath_walk.specs.inner.Sinks.{seen, give}
 use Rattle.jsonpath_walk.specs.inner.Keeping.{document, kept_of}
@@ -13,7 +13,7 @@ use Rattle.jsonpath_node.specs.inner.Operands.{arg_trees, AreWhole}
 use Rattle.jsonpath_node.specs.inner.Size.{size}
 use Rattle.jsonpath_walk.proofs.Work.{work}
 use Rattle.jsonpath_walk.specs.inner.Passing.{action_weight}
-use Rattle.jsonpath_node.proofs.Weight.{segments_weight, segment_weight, selectors_weight, selector_weight, filter_weight, filters_weight, test_weight, comparable_weight, call_weight, argument_weight, arguments_weight}
+use Rattle.jsonpath_node.proofs.Weight.{segments_weight, segment_weight, selectors_weight, selector_weight, filter_weight, filters_weight, test_weight, comparable_weight, comparison_weight, call_weight, argument_weight, arguments_weight}
 use Rattle.jsonpath_walk.specs.declared.sink.Wanted.TheVariants.{Any, Only}
 use Rattle.jsonpath_walk.proofs.walk.Task.+walk.Given as goal
 
@@ -61,6 +61,15 @@ decreases-each_holds g l = let tree = g.T.Queryable.tree in work (filters_weight
 
 abbrev pub decreases-answer : goal.decreases-answer
 decreases-answer g l = let tree = g.T.Queryable.tree in work (call_weight (call_view (kept_of l.self.now) l.call.now)) (size (tree l.self.now.root.now)) (5 * size (tree l.at.now))
+
+abbrev pub decreases-called : goal.decreases-called
+decreases-called g l = let tree = g.T.Queryable.tree in work (call_weight (called_view (kept_of l.self.now) l.call.now)) (size (tree l.self.now.root.now)) (5 * size (tree l.self.now.root.now) + 4)
+
+abbrev pub decreases-kept_answer : goal.decreases-kept_answer
+decreases-kept_answer g l = let tree = g.T.Queryable.tree in work (call_weight (call_at (kept_of l.self.now) l.number)) (size (tree l.self.now.root.now)) (5 * size (tree l.self.now.root.now) + 3)
+
+abbrev pub decreases-kept_comparison : goal.decreases-kept_comparison
+decreases-kept_comparison g l = let tree = g.T.Queryable.tree in work (comparison_weight (comparison_at (kept_of l.self.now) l.number)) (size (tree l.self.now.root.now)) (5 * size (tree l.self.now.root.now) + 3)
 
 abbrev pub decreases-match_or_search : goal.decreases-match_or_search
 decreases-match_or_search g l = let tree = g.T.Queryable.tree in work (argument_weight (argument_view (kept_of l.self.now) l.args.0.now Only) + argument_weight (argument_view (kept_of l.self.now) l.args.1.now Only) + 1) (size (tree l.self.now.root.now)) (5 * size (tree l.at.now))

@@ -3,9 +3,9 @@ use Rattle.std.proofs.lemmas.Option.{IfSome_then}
 use Rattle.jsonpath_tree.specs.View.{step_view}
 use Rattle.jsonpath_tree.specs.declared.model.SingularQuerySegment.{SingularQuerySegment}
 use Rattle.jsonpath_node.specs.Meaning.{value_at, value_of}
-use Rattle.jsonpath_walk.specs.inner.Keeping.{document, kept_of}
-use Rattle.jsonpath_walk.specs.inner.PlanViews.{side_view}
-use Rattle.jsonpath_walk.proofs.PlanEquations.{side_view-Literal, side_view-Lookup, side_view-Kept}
+use Rattle.jsonpath_walk.specs.inner.Keeping.{document, kept_of, value_by}
+use Rattle.jsonpath_walk.specs.inner.PlanViews.{side_view, steps_in}
+use Rattle.jsonpath_walk.proofs.PlanEquations.{side_view-Literal, side_view-Lookup, side_view-Kept, side_view-Call}
 use Rattle.jsonpath_walk.proofs.walk.Task.lent_side.Goals as goal
 
 pub returns-in-Literal-clause-value : goal.returns-in-Literal-clause-value
@@ -22,9 +22,16 @@ returns-in-Lookup-clause-value g c = λ n e.
     let is = ap (side_view kept) c.in-Lookup.is ∙ side_view-Lookup kept c.in-Lookup.steps in
     c.lent.ensures.value ∙ c.value_at.ensures.value ∙ ap (λ (ss : List SingularQuerySegment). value_at (map step_view ss) (g.T.Queryable.tree c.args.at.now)) c.deref.ensures.value ∙ ap (value_at (map step_view c.in-Lookup.steps.items)) (sym e) ∙ sym (ap (λ x. value_of x d n) is)
 
-pub returns-in-Kept-clause-value : goal.returns-in-Kept-clause-value
-returns-in-Kept-clause-value g c = λ n e.
+pub returns-in-Some-clause-value : goal.returns-in-Some-clause-value
+returns-in-Some-clause-value g c = λ n e.
     let kept = kept_of c.args.self.now in
     let d = document g.T.Queryable.tree g.T.Queryable.custom c.args.self.now in
     let is = ap (side_view kept) c.in-Kept.is ∙ side_view-Kept kept c.in-Kept.number in
-    IfSome_then c.lent_value.result c.lent_value.ensures.value (λ s h. h ∙ sym (ap (λ x. value_of x d n) is))
+    IfSome_then c.lent_value.result c.lent_value.ensures.value (λ s h. h ∙ ap (λ p. value_by p d) c.in-Some.ensures.part ∙ sym (ap (λ p. value_at (steps_in p) d.root) c.in-Some.ensures.part) ∙ sym (ap (λ x. value_of x d n) is))
+
+pub returns-in-Call-clause-value : goal.returns-in-Call-clause-value
+returns-in-Call-clause-value g c = λ n e.
+    let kept = kept_of c.args.self.now in
+    let d = document g.T.Queryable.tree g.T.Queryable.custom c.args.self.now in
+    let is = ap (side_view kept) c.in-Call.is ∙ side_view-Call kept c.in-Call.call in
+    IfSome_then c.lent_answer.result (c.lent_answer.ensures.value n) (λ s h. h ∙ sym (ap (λ x. value_of x d n) is))

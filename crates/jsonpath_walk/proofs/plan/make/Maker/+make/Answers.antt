@@ -6,10 +6,11 @@ use Rattle.std.proofs.lemmas.Result.{IfOk-weaker}
 use Rattle.jsonpath_tree.specs.Syntax as syntax
 use Rattle.jsonpath_tree.specs.View as tree
 use Rattle.jsonpath_tree.proofs.ViewEquations as source
-use Rattle.jsonpath_walk.specs.inner.PlanViews.{segment_view, selector_view, filter_view, call_view, argument_view, step_segment, nodes, query_in}
+use Rattle.jsonpath_walk.specs.inner.PlanViews.{segment_view, selector_view, filter_view, call_view, argument_view, step_segment, nodes, answered, compared, query_in, call_in}
+use Rattle.jsonpath_walk.specs.inner.Rooted.{call_is_rooted}
 use Rattle.jsonpath_walk.specs.declared.sink.Wanted.TheVariants.{Any, Values}
 use Rattle.jsonpath_walk.specs.declared.plan.keeping.Source.{Source}
-use Rattle.jsonpath_walk.proofs.PlanLaws.{made_none, made_as, made_both, made_start, made_next, made_end, made_after, made_found, made_kept, query_in-nodes}
+use Rattle.jsonpath_walk.proofs.PlanLaws.{made_none, made_as, made_both, made_start, made_next, made_end, made_after, made_before, made_found, made_kept, source_rooted, query_in-nodes}
 use Rattle.jsonpath_walk.proofs.PlanEquations as plan
 use Rattle.jsonpath_walk.proofs.plan.make.Maker.+make.Goals as goal
 
@@ -126,33 +127,9 @@ pub test-returns-in_ok-absolute-in-AbsQuery-clause-made : goal.test-returns-in_o
 test-returns-in_ok-absolute-in-AbsQuery-clause-made t c =
     made_as (λ q. syntax.atom (syntax.Atom.test c.args.not (syntax.absolute q))) _ _ (λ kept. plan.filter_view-Exists kept _ _ ∙ ap (λ x. syntax.atom (syntax.Atom.test c.args.not x)) (plan.nodes_view-Kept kept _ Any)) (ap (λ x. syntax.atom (syntax.Atom.test c.args.not x)) (ap tree.test_view c.in-AbsQuery.is ∙ source.test_view-AbsQuery c.in-AbsQuery.query)) c.in_ok-absolute-in-AbsQuery.ensures.made
 
-pub test-returns-in_ok-new-in-Function-clause-made : goal.test-returns-in_ok-new-in-Function-clause-made
-test-returns-in_ok-new-in-Function-clause-made t c =
-    made_as (λ x. syntax.atom (syntax.Atom.test c.args.not (syntax.call x))) _ _ (λ kept. plan.filter_view-Call kept _ _ ∙ ap (λ x. syntax.atom (syntax.Atom.test c.args.not (syntax.call (call_view kept x)))) (search rules)) (ap (λ x. syntax.atom (syntax.Atom.test c.args.not x)) (ap tree.test_view c.in-Function.is ∙ source.test_view-Function c.in-Function.function ∙ ap (λ x. syntax.call (tree.call_view x)) (sym c.deref-in-Function.ensures))) c.in_ok-call-in-Function.ensures.made
-
-pub comparison-returns-in_ok-right-in-Eq-clause-made : goal.comparison-returns-in_ok-right-in-Eq-clause-made
-comparison-returns-in_ok-right-in-Eq-clause-made t c =
-    made_both (λ a b. syntax.atom (syntax.comparison (syntax.compare syntax.equal a b))) _ _ (λ kept. plan.filter_view-Comparison kept _ _ _) (ap (λ x. syntax.atom (syntax.comparison x)) (ap tree.comparison_view c.in-Eq.is ∙ source.comparison_view-Eq c.in-Eq.left c.in-Eq.right)) c.in_ok-left-in-Eq.ensures.made c.in_ok-right-in-Eq.ensures.made
-
-pub comparison-returns-in_ok-right-in-Ne-clause-made : goal.comparison-returns-in_ok-right-in-Ne-clause-made
-comparison-returns-in_ok-right-in-Ne-clause-made t c =
-    made_both (λ a b. syntax.atom (syntax.comparison (syntax.compare syntax.not_equal a b))) _ _ (λ kept. plan.filter_view-Comparison kept _ _ _) (ap (λ x. syntax.atom (syntax.comparison x)) (ap tree.comparison_view c.in-Ne.is ∙ source.comparison_view-Ne c.in-Ne.left c.in-Ne.right)) c.in_ok-left-in-Ne.ensures.made c.in_ok-right-in-Ne.ensures.made
-
-pub comparison-returns-in_ok-right-in-Gt-clause-made : goal.comparison-returns-in_ok-right-in-Gt-clause-made
-comparison-returns-in_ok-right-in-Gt-clause-made t c =
-    made_both (λ a b. syntax.atom (syntax.comparison (syntax.compare syntax.greater a b))) _ _ (λ kept. plan.filter_view-Comparison kept _ _ _) (ap (λ x. syntax.atom (syntax.comparison x)) (ap tree.comparison_view c.in-Gt.is ∙ source.comparison_view-Gt c.in-Gt.left c.in-Gt.right)) c.in_ok-left-in-Gt.ensures.made c.in_ok-right-in-Gt.ensures.made
-
-pub comparison-returns-in_ok-right-in-Gte-clause-made : goal.comparison-returns-in_ok-right-in-Gte-clause-made
-comparison-returns-in_ok-right-in-Gte-clause-made t c =
-    made_both (λ a b. syntax.atom (syntax.comparison (syntax.compare syntax.greater_or_equal a b))) _ _ (λ kept. plan.filter_view-Comparison kept _ _ _) (ap (λ x. syntax.atom (syntax.comparison x)) (ap tree.comparison_view c.in-Gte.is ∙ source.comparison_view-Gte c.in-Gte.left c.in-Gte.right)) c.in_ok-left-in-Gte.ensures.made c.in_ok-right-in-Gte.ensures.made
-
-pub comparison-returns-in_ok-right-in-Lt-clause-made : goal.comparison-returns-in_ok-right-in-Lt-clause-made
-comparison-returns-in_ok-right-in-Lt-clause-made t c =
-    made_both (λ a b. syntax.atom (syntax.comparison (syntax.compare syntax.less a b))) _ _ (λ kept. plan.filter_view-Comparison kept _ _ _) (ap (λ x. syntax.atom (syntax.comparison x)) (ap tree.comparison_view c.in-Lt.is ∙ source.comparison_view-Lt c.in-Lt.left c.in-Lt.right)) c.in_ok-left-in-Lt.ensures.made c.in_ok-right-in-Lt.ensures.made
-
-pub comparison-returns-in_ok-right-in-Lte-clause-made : goal.comparison-returns-in_ok-right-in-Lte-clause-made
-comparison-returns-in_ok-right-in-Lte-clause-made t c =
-    made_both (λ a b. syntax.atom (syntax.comparison (syntax.compare syntax.less_or_equal a b))) _ _ (λ kept. plan.filter_view-Comparison kept _ _ _) (ap (λ x. syntax.atom (syntax.comparison x)) (ap tree.comparison_view c.in-Lte.is ∙ source.comparison_view-Lte c.in-Lte.left c.in-Lte.right)) c.in_ok-left-in-Lte.ensures.made c.in_ok-right-in-Lte.ensures.made
+pub test-returns-in_ok-call-in-Function-clause-made : goal.test-returns-in_ok-call-in-Function-clause-made
+test-returns-in_ok-call-in-Function-clause-made t c =
+    made_as (λ x. syntax.atom (syntax.Atom.test c.args.not (syntax.call x))) _ _ (λ kept. plan.filter_view-Call kept _ _) (ap (λ x. syntax.atom (syntax.Atom.test c.args.not x)) (ap tree.test_view c.in-Function.is ∙ source.test_view-Function c.in-Function.function ∙ ap (λ x. syntax.call (tree.call_view x)) (sym c.deref-in-Function.ensures))) c.in_ok-call-in-Function.ensures.made
 
 pub side-returns-in_ok-try_clone-in-Literal-clause-made : goal.side-returns-in_ok-try_clone-in-Literal-clause-made
 side-returns-in_ok-try_clone-in-Literal-clause-made t c =
@@ -162,9 +139,9 @@ pub side-returns-in-SingularQuery-clause-made : goal.side-returns-in-SingularQue
 side-returns-in-SingularQuery-clause-made t c =
     rw (ap tree.comparable_view c.in-SingularQuery.is ∙ source.comparable_view-SingularQuery c.in-SingularQuery.query) c.singular.ensures.made
 
-pub side-returns-in_ok-new-in-Function-clause-made : goal.side-returns-in_ok-new-in-Function-clause-made
-side-returns-in_ok-new-in-Function-clause-made t c =
-    made_as syntax.function _ _ (λ kept. plan.side_view-Call kept _ ∙ ap (λ x. syntax.function (call_view kept x)) (search rules)) (ap tree.comparable_view c.in-Function.is ∙ source.comparable_view-Function c.in-Function.function) c.in_ok-call-in-Function.ensures.made
+pub side-returns-in_ok-called-in-Function-clause-made : goal.side-returns-in_ok-called-in-Function-clause-made
+side-returns-in_ok-called-in-Function-clause-made t c =
+    made_as syntax.function _ _ (λ kept. plan.side_view-Call kept _) (ap tree.comparable_view c.in-Function.is ∙ source.comparable_view-Function c.in-Function.function) c.in_ok-called-in-Function.ensures.made
 
 pub relative-returns-in-Some-clause-made : goal.relative-returns-in-Some-clause-made
 relative-returns-in-Some-clause-made t c =
@@ -181,7 +158,7 @@ absolute-returns-in-Some-clause-made t c =
 pub absolute-returns-clause-made : goal.absolute-returns-clause-made
 absolute-returns-clause-made t c =
     let of_query : tree.query_view c.args.query.now ≡ tree.segments_of (map tree.segment_view c.deref.result.now) = source.query_view-segments c.args.query.now ∙ ap (λ xs. tree.segments_of (map tree.segment_view xs)) (sym c.deref.ensures.value) in
-    IfOk-weaker c.end.result _ _ (λ n k. made_as (query_in c.args.wanted) _ _ (λ kept. refl) (sym (query_in-nodes c.args.wanted _)) (made_kept _ (Source.Query c.args.query c.args.wanted) n k (made_after c.found.ensures.beside (made_after c.begin-around.ensures (made_as (λ gs. nodes c.args.wanted (tree.segments_of gs)) _ _ (λ kept. refl) (ap (nodes c.args.wanted) of_query) c.in_ok-segments.ensures.made))))) c.end.ensures.kept
+    IfOk-weaker c.keep_query.result _ _ (λ n k. made_as (query_in c.args.wanted) _ _ (λ kept. refl) (sym (query_in-nodes c.args.wanted _)) (made_kept _ (Source.Query c.args.query c.args.wanted) n k (λ r. refl) (made_after c.found.ensures.beside (made_after c.begin-around.ensures (made_as (λ gs. nodes c.args.wanted (tree.segments_of gs)) _ _ (λ kept. refl) (ap (nodes c.args.wanted) of_query) c.in_ok-segments.ensures.made))))) c.keep_query.ensures.kept
 
 pub call-returns-in_ok-argument-in-Length-clause-made : goal.call-returns-in_ok-argument-in-Length-clause-made
 call-returns-in_ok-argument-in-Length-clause-made t c =
@@ -227,10 +204,50 @@ pub test_argument-returns-in_ok-number-in-AbsQuery-clause-made : goal.test_argum
 test_argument-returns-in_ok-number-in-AbsQuery-clause-made t c =
     made_as (λ q. syntax.test_argument (syntax.absolute q)) _ _ (λ kept. plan.argument_view-Nodes kept _ c.args.wanted ∙ ap syntax.test_argument (plan.nodes_view-Kept kept _ c.args.wanted)) (ap syntax.test_argument (ap tree.test_view c.in-AbsQuery.is ∙ source.test_view-AbsQuery c.in-AbsQuery.query)) c.in_ok-number-in-AbsQuery.ensures.made
 
-pub test_argument-returns-in_ok-new-in-Function-clause-made : goal.test_argument-returns-in_ok-new-in-Function-clause-made
-test_argument-returns-in_ok-new-in-Function-clause-made t c =
-    made_as (λ x. syntax.test_argument (syntax.call x)) _ _ (λ kept. plan.argument_view-Call kept _ c.args.wanted ∙ ap (λ x. syntax.test_argument (syntax.call (call_view kept x))) (search rules)) (ap syntax.test_argument (ap tree.test_view c.in-Function.is ∙ source.test_view-Function c.in-Function.function ∙ ap (λ x. syntax.call (tree.call_view x)) (sym c.deref-in-Function.ensures))) c.in_ok-call-in-Function.ensures.made
+pub test_argument-returns-in_ok-called-in-Function-clause-made : goal.test_argument-returns-in_ok-called-in-Function-clause-made
+test_argument-returns-in_ok-called-in-Function-clause-made t c =
+    made_as (λ x. syntax.test_argument (syntax.call x)) _ _ (λ kept. plan.argument_view-Call kept _ c.args.wanted) (ap syntax.test_argument (ap tree.test_view c.in-Function.is ∙ source.test_view-Function c.in-Function.function ∙ ap (λ x. syntax.call (tree.call_view x)) (sym c.deref-in-Function.ensures))) c.in_ok-called-in-Function.ensures.made
 
 pub pattern-returns-in-Literal-clause-made : goal.pattern-returns-in-Literal-clause-made
 pattern-returns-in-Literal-clause-made t c =
     rw (ap tree.argument_view c.in-Literal.is ∙ source.argument_view-Literal c.in-Literal.literal) c.literal_pattern.ensures.made
+
+pub comparison-returns-in_ok-second-in-Eq-clause-made : goal.comparison-returns-in_ok-second-in-Eq-clause-made
+comparison-returns-in_ok-second-in-Eq-clause-made t c =
+    let sides = made_after c.begin-around.ensures (made_both (λ a b. compared (syntax.compare syntax.equal a b)) _ _ (λ kept. refl) refl c.in_ok-first-in-Eq.ensures.made c.in_ok-second-in-Eq.ensures.made) in
+    rw (ap tree.comparison_view c.in-Eq.is ∙ source.comparison_view-Eq c.in-Eq.left c.in-Eq.right) (IfOk-weaker c.compare.result _ _ (λ f k. k.made sides) c.compare.ensures.made)
+
+pub comparison-returns-in_ok-second-in-Ne-clause-made : goal.comparison-returns-in_ok-second-in-Ne-clause-made
+comparison-returns-in_ok-second-in-Ne-clause-made t c =
+    let sides = made_after c.begin-around.ensures (made_both (λ a b. compared (syntax.compare syntax.not_equal a b)) _ _ (λ kept. refl) refl c.in_ok-first-in-Ne.ensures.made c.in_ok-second-in-Ne.ensures.made) in
+    rw (ap tree.comparison_view c.in-Ne.is ∙ source.comparison_view-Ne c.in-Ne.left c.in-Ne.right) (IfOk-weaker c.compare-in-Ne.result _ _ (λ f k. k.made sides) c.compare-in-Ne.ensures.made)
+
+pub comparison-returns-in_ok-second-in-Gt-clause-made : goal.comparison-returns-in_ok-second-in-Gt-clause-made
+comparison-returns-in_ok-second-in-Gt-clause-made t c =
+    let sides = made_after c.begin-around.ensures (made_both (λ a b. compared (syntax.compare syntax.greater a b)) _ _ (λ kept. refl) refl c.in_ok-first-in-Gt.ensures.made c.in_ok-second-in-Gt.ensures.made) in
+    rw (ap tree.comparison_view c.in-Gt.is ∙ source.comparison_view-Gt c.in-Gt.left c.in-Gt.right) (IfOk-weaker c.compare-in-Gt.result _ _ (λ f k. k.made sides) c.compare-in-Gt.ensures.made)
+
+pub comparison-returns-in_ok-second-in-Gte-clause-made : goal.comparison-returns-in_ok-second-in-Gte-clause-made
+comparison-returns-in_ok-second-in-Gte-clause-made t c =
+    let sides = made_after c.begin-around.ensures (made_both (λ a b. compared (syntax.compare syntax.greater_or_equal a b)) _ _ (λ kept. refl) refl c.in_ok-first-in-Gte.ensures.made c.in_ok-second-in-Gte.ensures.made) in
+    rw (ap tree.comparison_view c.in-Gte.is ∙ source.comparison_view-Gte c.in-Gte.left c.in-Gte.right) (IfOk-weaker c.compare-in-Gte.result _ _ (λ f k. k.made sides) c.compare-in-Gte.ensures.made)
+
+pub comparison-returns-in_ok-second-in-Lt-clause-made : goal.comparison-returns-in_ok-second-in-Lt-clause-made
+comparison-returns-in_ok-second-in-Lt-clause-made t c =
+    let sides = made_after c.begin-around.ensures (made_both (λ a b. compared (syntax.compare syntax.less a b)) _ _ (λ kept. refl) refl c.in_ok-first-in-Lt.ensures.made c.in_ok-second-in-Lt.ensures.made) in
+    rw (ap tree.comparison_view c.in-Lt.is ∙ source.comparison_view-Lt c.in-Lt.left c.in-Lt.right) (IfOk-weaker c.compare-in-Lt.result _ _ (λ f k. k.made sides) c.compare-in-Lt.ensures.made)
+
+pub comparison-returns-in_ok-second-in-Lte-clause-made : goal.comparison-returns-in_ok-second-in-Lte-clause-made
+comparison-returns-in_ok-second-in-Lte-clause-made t c =
+    let sides = made_after c.begin-around.ensures (made_both (λ a b. compared (syntax.compare syntax.less_or_equal a b)) _ _ (λ kept. refl) refl c.in_ok-first-in-Lte.ensures.made c.in_ok-second-in-Lte.ensures.made) in
+    rw (ap tree.comparison_view c.in-Lte.is ∙ source.comparison_view-Lte c.in-Lte.left c.in-Lte.right) (IfOk-weaker c.compare-in-Lte.result _ _ (λ f k. k.made sides) c.compare-in-Lte.ensures.made)
+
+pub called-returns-then-is_rooted_call-clause-made : goal.called-returns-then-is_rooted_call-clause-made
+called-returns-then-is_rooted_call-clause-made t c =
+    let made = made_before c.end-run.ensures (made_after c.begin-around.ensures c.in_ok-made.ensures.made) in
+    let part = made_as answered _ _ (λ kept. refl) refl made in
+    made_as call_in _ _ (λ kept. plan.called_view-Kept kept _) refl (c.in_ok-number.ensures.numbered.made part (source_rooted call_is_rooted made (λ kept r. c.is_rooted_call.ensures c.if-is_rooted_call.true kept r)))
+
+pub called-returns-clause-made : goal.called-returns-clause-made
+called-returns-clause-made t c =
+    made_before c.end-run.ensures (made_after c.begin-around.ensures (made_as (λ x. x) _ _ (λ kept. plan.called_view-Here kept _ ∙ ap (call_view kept) (search rules)) refl c.in_ok-made.ensures.made))

@@ -1,4 +1,4 @@
-use Rattle.std.proofs.Common.{◌≡◌, ◌∙◌, ap, sym, map, Vec, Global}
+use Rattle.std.proofs.Common.{◌≡◌, ◌∙◌, ap, refl, sym, map, Vec, Global}
 use Rattle.jsonpath_tree.specs.Syntax as syntax
 use Rattle.jsonpath_tree.specs.View as tree
 use Rattle.jsonpath_tree.specs.declared.model.SingularQuery.{SingularQuery}
@@ -24,4 +24,4 @@ returns-in-Some-clause-made c =
 
 pub returns-in_ok-keep-in-Root-clause-made : goal.returns-in_ok-keep-in-Root-clause-made
 returns-in_ok-keep-in-Root-clause-made c =
-    made_as (λ p. syntax.singular (syntax.root (steps_in p))) _ _ (λ kept. plan.side_view-Kept kept _) (from_root c.args.query.now _ c.in-Root.is) (made_kept _ (Source.Side c.args.query) _ c.in_ok-keep-in-Root.ensures.kept (made_beside _ _ _ _ c.found.ensures.beside (λ kept. ap value (c.in_ok-steps_again-in-Root.ensures.same ∙ ap (map tree.step_view) c.deref-in-Root.ensures.value) ∙ sym (ap (λ q. value (singular_steps (tree.singular_view q))) c.in-Root.is))))
+    made_as (λ p. syntax.singular (syntax.root (steps_in p))) _ _ (λ kept. plan.side_view-Kept kept _) (from_root c.args.query.now _ c.in-Root.is) (made_kept _ (Source.Side c.args.query) _ c.in_ok-keep-in-Root.ensures.kept (λ r. refl) (made_beside _ _ _ _ c.found.ensures.beside (λ kept. ap value (c.in_ok-steps_again-in-Root.ensures.same ∙ ap (map tree.step_view) c.deref-in-Root.ensures.value) ∙ sym (ap (λ q. value (singular_steps (tree.singular_view q))) c.in-Root.is))))
