@@ -1,5 +1,5 @@
 -- What is looked up is what the walk would select.
-use Rattle.std.proofs.Common.{◌≡◌, ℕ, suc, ℤ, Bool, Option, IfSome, true, false, nat_lt, min, List, [], ◌∷◌, length, append-nil, refl, sym, ◌∙◌, ap, subst, Some, None, option_map, arith}
+use Rattle.std.proofs.Common.{◌≡◌, ℕ, suc, ℤ, true, false, nat_lt, min, List, [], ◌∷◌, length, append-nil, refl, sym, ◌∙◌, ap, subst, Some, None, option_map, arith}
 use Rattle.std.specs.List.{flat_map}
 use Rattle.jsonpath_core.specs.Location.{Location, index}
 use Rattle.jsonpath_tree.specs.Syntax as syntax
@@ -7,7 +7,7 @@ use Rattle.jsonpath_tree.specs.Syntax.{Segment, one, wildcard, Segments, no_segm
 use Rattle.jsonpath_base.specs.Tree.{Tree, null, truth, number, text, list, object, elements, pairs, as_list, as_members, get}
 use Rattle.jsonpath_node.specs.Document.{Document}
 use Rattle.jsonpath_node.specs.Meaning.{replaced, indexed}
-use Rattle.jsonpath_node.specs.Node.{Node, root_node, below, has_node, children, children_at, element_nodes, member_nodes}
+use Rattle.jsonpath_node.specs.Node.{Node, root_node, below, children, children_at, element_nodes, member_nodes}
 use Rattle.jsonpath_node.proofs.Trees.{named_some, named_none}
 use Rattle.jsonpath_walk.proofs.Walks.{flat_map-alone}
 use Rattle.jsonpath_walk.specs.inner.Sinks.{Seen, any, count, nothing, values, start, give, add}
@@ -128,13 +128,3 @@ gives_one w s (n ∷ []) t h e =
     let same : n.tree ≡ t = cc in
     h ∙ add_there w n t same
 gives_one w s (n ∷ m ∷ ns) t h e = absurd cc
-
--- ---- a test
-
-pub node_there : (ns : List Node) (t : Tree) → trees_of ns ≡ t ∷ [] → true ≡ has_node ns
-node_there [] t e = absurd cc
-node_there (n ∷ ns) t e = refl
-
-pub held_as : (o : Option Bool) (x y : Bool) → x ≡ y → IfSome o (λ b. b ≡ x) → IfSome o (λ b. b ≡ y)
-held_as None x y e h = tt
-held_as (Some b) x y e h = h ∙ e

@@ -13,6 +13,7 @@ ghost use Rattle.jsonpath_walk.specs.inner.Standing.{Stands, Returns};
 ghost use Rattle.jsonpath_walk.specs.inner.Walking.{node_of};
 ghost use Rattle.jsonpath_walk.specs.declared.sink.Wanted.TheVariants.{Any};
 
+use crate::direct::is_there;
 use crate::plan::{Filter, Nodes, Side};
 use crate::singular::value_at;
 use crate::sink::Wanted;
@@ -110,13 +111,11 @@ impl<'a: 's, 's, T: Queryable> Task<'a, 's, T> {
         ensures ready { OnErr result (IsReady T.tree T.is_whole T.custom self.now trail.new.cache) }
         ensures refused { IfErr result (IsHalt (query_of self.now) (document T.tree T.custom self.now)) }
     {
-        match nodes {
-            Nodes::Lookup(steps) => Ok(value_at(steps, at).is_some()),
-            _ => {
-                let gathered = self.nodes(nodes, Wanted::Any, at, trail)?;
-                Ok(gathered.has_any(&trail.cache))
-            }
+        if let Some(there) = is_there(nodes, at) {
+            return Ok(there);
         }
+        let gathered = self.nodes(nodes, Wanted::Any, at, trail)?;
+        Ok(gathered.has_any(&trail.cache))
     }
 
     /// Whether two sides compare so.

@@ -2,7 +2,7 @@
 //! `jsonpath_node`.
 //!
 //! A query is compiled to a plan (`plan`), once. The walk (`walk`, `children`) goes by the plan; inside filters (`filter`,
-//! `function`, `subquery`) it looks up names and indexes (`singular`, `sides`, `lookup`), walks from the node at hand, or takes
+//! `function`, `subquery`) it looks up names and indexes (`singular`, `sides`, `lookup`, `direct`), walks from the node at hand, or takes
 //! what is kept of the root (`cache`, `rooted`, `early`) and of patterns (`finders`, `lent`). The nodes go to a sink (`sink`) with
 //! the way that leads to them (`way`).
 #![tactic(auto)]
@@ -11,6 +11,7 @@ mod action;
 mod argument;
 mod cache;
 mod children;
+mod direct;
 mod early;
 mod filter;
 mod finders;

@@ -1,4 +1,4 @@
-//! The sides of a comparison, where no side is a call that is made at each node: they are lent, and nothing is made for them.
+//! The sides of a comparison, where none takes a walk or memory: they are lent, and nothing is made for them.
 ghost use Rattle.std.specs.Prelude.{◌≡◌, IsTrue, IfSome};
 ghost use Rattle.jsonpath_tree.specs.View.{operator_view};
 ghost use Rattle.jsonpath_node.specs.Comparing.{compares};
@@ -9,6 +9,7 @@ ghost use Rattle.jsonpath_walk.specs.inner.Keeping.{IsReady, document, kept_of, 
 ghost use Rattle.jsonpath_walk.specs.inner.PlanViews.{called_view, part_at, side_view};
 
 use crate::cache::{Cache, Given};
+use crate::direct::direct_answer;
 use crate::plan;
 use crate::plan::Called;
 use crate::singular::value_at;
@@ -19,7 +20,7 @@ use jsonpath_node::value::scalar_of;
 use jsonpath_tree::model::Operator;
 
 impl<'a: 's, 's, T: Queryable> Task<'a, 's, T> {
-    /// Whether two sides compare so at a value; None where one of them is no entry and a call, or is not worked out yet.
+    /// Whether two sides compare so at a value; None where one of them takes a walk or memory, or is not worked out yet.
     #[inline(always)]
     pub fn lent_compare(
         &self,
@@ -39,7 +40,7 @@ impl<'a: 's, 's, T: Queryable> Task<'a, 's, T> {
         Some(compares(operator, &left, &right))
     }
 
-    /// What stands at a side; None where that is no entry and a call, or is not worked out yet.
+    /// What stands at a side; None where that takes a walk or memory, or is not worked out yet.
     #[inline(always)]
     fn lent_side<'k>(
         &self,
@@ -59,27 +60,29 @@ impl<'a: 's, 's, T: Queryable> Task<'a, 's, T> {
                 Some(_steps) => self.lent_value(*number, cache),
                 None => None,
             },
-            plan::Side::Call(call) => self.lent_answer(call, cache),
+            plan::Side::Call(call) => self.lent_answer(call, at, cache),
         }
     }
 
-    /// What a call answers; None where it is no entry, or is not worked out yet.
+    /// What a call answers; None where that takes a walk or memory, and where it is an entry that is not worked out yet.
     #[inline(always)]
     fn lent_answer<'k>(
         &self,
         call: &'s Called,
+        at: &'k T,
         cache: &'k Cache<'a, 's, T>,
     ) -> Option<Side<'k, 's, T>>
         requires ready { IsReady T.tree T.is_whole T.custom self.now cache.now }
-        ensures value { (n : Node) → IfSome result (λ s. side_tree T.tree s ≡ answer (called_view (kept_of self.now) call.now) (document T.tree T.custom self.now) n) }
+        requires whole { IsTrue (T.is_whole at.now) }
+        ensures value { (n : Node) → n.tree ≡ T.tree at.now → IfSome result (λ s. side_tree T.tree s ≡ answer (called_view (kept_of self.now) call.now) (document T.tree T.custom self.now) n) }
         ensures whole { IfSome result (λ s. IsTrue (side_is_whole T.is_whole s)) }
     {
-        let Called::Kept(number) = call else {
-            return None;
-        };
-        match self.plan.kept_call(*number) {
-            Some(_call) => self.lent_value(*number, cache),
-            None => None,
+        match call {
+            Called::Here(call) => direct_answer(call, at),
+            Called::Kept(number) => match self.plan.kept_call(*number) {
+                Some(_call) => self.lent_value(*number, cache),
+                None => None,
+            },
         }
     }
 

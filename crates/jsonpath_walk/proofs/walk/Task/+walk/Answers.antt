@@ -42,7 +42,6 @@ use Rattle.jsonpath_node.specs.Comparing.{compares}
 use Rattle.jsonpath_node.specs.Functions.{length_of, as_value, as_trees, as_truth, is_matched, is_true}
 use Rattle.jsonpath_node.specs.inner.Operands.{operand_tree, side_tree, arg_trees, AreWhole, is_entire}
 use Rattle.jsonpath_walk.proofs.NodelistLaws.{through-applied, nodelist-through}
-use Rattle.jsonpath_walk.proofs.StepLaws.{is_there}
 use Rattle.jsonpath_walk.specs.declared.way.StepRef.{StepRef}
 use Rattle.jsonpath_walk.specs.inner.Arguing.{value, nodes, holding, value_held, only_held, count_held, trees_held, truth_held, OnlyIsWhole, HeldAreWhole}
 use Rattle.jsonpath_walk.proofs.Arguing.{as_value_held, as_only_held, as_count_held, as_trees_held, as_truth_held, only_is_whole, held_are_whole}
@@ -886,30 +885,27 @@ filter_holds-returns-in-Kept-clause-holds g t c =
     let e = ap (filter_view kept) c.in-Kept.is ∙ filter_view-Kept kept c.in-Kept.number in
     ok_as _ _ _ (sym (ap (λ f. holds f d n) e)) (c.kept_comparison.ensures.holds n)
 
-pub exists-value_at-requires : goal.exists-value_at-requires
-exists-value_at-requires g t c = c.requires.stands.whole
+pub exists-is_there-requires : goal.exists-is_there-requires
+exists-is_there-requires g t c = c.requires.stands.whole
 
 pub exists-nodes-requires : goal.exists-nodes-requires
 exists-nodes-requires g t c κs within = (down_tree _ _ _ _ _ c.decreases (omega arith), (within, (c.requires.stands, c.requires.part)))
 
-pub exists-returns-in-Lookup-clause-holds : goal.exists-returns-in-Lookup-clause-holds
-exists-returns-in-Lookup-clause-holds g t c =
+pub exists-returns-in-Some-clause-holds : goal.exists-returns-in-Some-clause-holds
+exists-returns-in-Some-clause-holds g t c =
     let kept = kept_of c.args.self.now in
     let tree = g.T.Queryable.tree in
     let d = document tree g.T.Queryable.custom c.args.self.now in
     let n = node_of tree c.args.trail.now.way.steps.items c.args.at.now in
-    let e = ap (λ ns. nodes_view kept ns Any) c.in-Lookup.is ∙ nodes_view-Lookup kept c.in-Lookup.steps Any in
-    let at = ap (λ (ss : List SingularQuerySegment). value_at (map step_view ss) n.tree) c.deref.ensures.value in
-    c.is_some.ensures ∙ is_there (λ v. tree v.now) c.value_at.result (map step_view c.in-Lookup.steps.items) d n (c.value_at.ensures.value ∙ at) ∙ sym (ap (λ q. as_truth (tested q d n)) e)
+    of_some (λ b. b ≡ as_truth (tested (nodes_view kept c.args.nodes.now Any) d n)) _ _ c.in-Some.is (c.is_there.ensures kept d n refl)
 
-pub exists-returns-in_ok-gathered-in_default : goal.exists-returns-in_ok-gathered-in_default
-exists-returns-in_ok-gathered-in_default g t c =
+pub exists-returns-clause-holds : goal.exists-returns-clause-holds
+exists-returns-clause-holds g t c =
     let kept = kept_of c.args.self.now in
     let tree = g.T.Queryable.tree in
     let d = document tree g.T.Queryable.custom c.args.self.now in
     let n = node_of tree c.args.trail.now.way.steps.items c.args.at.now in
-    let made = c.in_ok-gathered-in_default.ensures in
-    record { holds = c.has_any.ensures ∙ ap truth_held made.held ∙ as_truth_held (tested (nodes_view kept c.args.nodes.now Any) d n); returns = made.returns; ready = tt; refused = tt }
+    c.has_any.ensures ∙ ap truth_held c.in_ok-gathered.ensures.held ∙ as_truth_held (tested (nodes_view kept c.args.nodes.now Any) d n)
 
 pub comparison_holds-lent_compare-requires-clause-ready : goal.comparison_holds-lent_compare-requires-clause-ready
 comparison_holds-lent_compare-requires-clause-ready g t c = c.requires.stands.ready

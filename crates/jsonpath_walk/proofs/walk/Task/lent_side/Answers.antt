@@ -34,4 +34,4 @@ returns-in-Call-clause-value g c = λ n e.
     let kept = kept_of c.args.self.now in
     let d = document g.T.Queryable.tree g.T.Queryable.custom c.args.self.now in
     let is = ap (side_view kept) c.in-Call.is ∙ side_view-Call kept c.in-Call.call in
-    IfSome_then c.lent_answer.result (c.lent_answer.ensures.value n) (λ s h. h ∙ sym (ap (λ x. value_of x d n) is))
+    IfSome_then c.lent_answer.result (c.lent_answer.ensures.value n e) (λ s h. h ∙ sym (ap (λ x. value_of x d n) is))
