@@ -14,6 +14,8 @@ pub enum Halt {
     Memory,
     /// `regex` refused a pattern for its size.
     Pattern,
+    /// It took as much work as it may. A walk that may take any amount never halts so.
+    Spent,
 }
 
 /// What a step of a walk answers.
@@ -27,11 +29,19 @@ impl Halt {
     {
         match self {
             Halt::Memory => JsonPathError::OutOfMemory,
-            Halt::Pattern => match String::from_str(alloc, "a pattern is too large") {
-                Ok(text) => JsonPathError::InvalidJsonPath(text),
-                Err(_) => JsonPathError::OutOfMemory,
-            },
+            Halt::Pattern => invalid(alloc, "a pattern is too large"),
+            Halt::Spent => invalid(alloc, "the query takes too much work"),
         }
+    }
+}
+
+/// `InvalidJsonPath` with this text.
+fn invalid(alloc: Global, why: &str) -> JsonPathError
+    ensures { (result ≡ error.OutOfMemory → ⊥) → IsInvalid result }
+{
+    match String::from_str(alloc, why) {
+        Ok(text) => JsonPathError::InvalidJsonPath(text),
+        Err(_) => JsonPathError::OutOfMemory,
     }
 }
 

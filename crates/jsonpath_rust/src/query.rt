@@ -1,5 +1,5 @@
 //! Queries on a document.
-ghost use Rattle.std.specs.Prelude.{◌≡◌, ◌≤◌, map, All, IsTrue, IsFalse, IfOk, IfErr, MatchResult};
+ghost use Rattle.std.specs.Prelude.{◌≡◌, ◌≤◌, map, All, IsTrue, IsFalse, IfOk, IfErr, IfSome, MatchResult};
 ghost use Rattle.std.specs.List.{AllZip};
 ghost use Rattle.jsonpath_parser.specs.Derives.{Derives};
 ghost use Rattle.jsonpath_core.specs.Location.{Location};
@@ -35,7 +35,7 @@ use jsonpath_parser::{
 pub use jsonpath_state::{Query, apply, selector, state};
 use jsonpath_state::{processed_nodes, processed_values};
 use jsonpath_walk::selected_paths;
-pub use jsonpath_walk::{Prepared, selected_locations, selected_nodes, selected_values};
+pub use jsonpath_walk::{Prepared, Runner, selected_locations, selected_nodes, selected_values};
 use std::alloc::Global;
 
 /// The nodes that a query text selects in a document, in order (RFC 9535, 2.1.2): their values and their Normalized
@@ -100,6 +100,33 @@ pub fn js_path_within<'a, T: Queryable>(
     let nodes = selected_nodes(alloc, &query, value);
     let_go(query);
     nodes
+}
+
+/// The nodes that a query text selects in a document, as [`js_path`], or None where so many units of work are not enough: for
+/// queries of strangers. What a unit is spent for stands at [`Runner`].
+///
+/// # Errors
+///
+/// Those of [`js_path`].
+pub fn js_path_limited<'a, T: Queryable>(
+    alloc: Global,
+    path: &str,
+    units: usize,
+    value: &'a T,
+) -> Queried<Option<Vec<QueryRef<'a, T>>>>
+    requires { IsTrue (T.is_whole value.now) }
+    ensures answered { IfOk result (λ o. IfSome o (λ v. Lists IsNodeAt MAX_NESTING_DEPTH path.now (document_of T.tree T.custom value.now) (shown T.tree v.items))) }
+
+    // Whatever query the text derives, its nodes are answered, unless the work, or memory, ran out or a pattern was refused.
+    ensures only { (q : Query) → Derives MAX_NESTING_DEPTH path.now q → MatchResult result
+        (λ o. IfSome o (λ v. AllZip (IsNodeAt (document_of T.tree T.custom value.now)) (selected q (document_of T.tree T.custom value.now)) (shown T.tree v.items)))
+        (IsStop q (document_of T.tree T.custom value.now)) }
+    ensures whole { IfOk result (λ o. IfSome o (λ v. All (λ r. IsTrue (T.is_whole r.val.now)) v.items)) }
+    ensures refused { IfErr result (IsQueryRefusal MAX_NESTING_DEPTH path.now (document_of T.tree T.custom value.now)) }
+{
+    let query = parse_json_path(alloc, path)?;
+    let prepared = Prepared::new(alloc, query)?;
+    prepared.runner(alloc).nodes_limited(alloc, units, value)
 }
 
 /// The values of the nodes that a query text selects in a document, in order. It refuses as [`js_path`] does, and

@@ -15,7 +15,6 @@ use Rattle.jsonpath_walk.specs.inner.Keeping as keeping
 use Rattle.jsonpath_walk.specs.declared.cache.Cache.{Cache}
 use Rattle.jsonpath_walk.specs.declared.cache.Given.{Given}
 use Rattle.jsonpath_walk.specs.declared.sink.Wanted.{Wanted}
-use Rattle.jsonpath_walk.specs.declared.walk.Task.{Task}
 use Rattle.jsonpath_walk.proofs.PlanLaws.{query_in-nodes}
 use Rattle.jsonpath_walk.proofs.Sinks.{give-values, trues}
 
@@ -27,13 +26,6 @@ values_are_whole s ns e =
     subst P (sym (ap values_whole (e ∙ give-values [] [] ns))) (trues ns)
 
 -- ---- what is kept
-
--- where the slots are the same, the same is kept
-pub keeps_as : {A : Type 0} (tree : A → Tree) (whole : A → Bool) (kept : Kept) (doc : Document) (k m : Cache A) → slots_of m ≡ slots_of k → Keeps tree whole kept doc k → Keeps tree whole kept doc m
-keeps_as tree whole kept doc k m e h = record { room = ap (λ xs. length xs) e ∙ h.room; right = λ n s i. h.right n s (sym (ap (λ xs. slot_at tree whole xs n) e) ∙ i) }
-
-pub ready_as : {A : Type 0} (tree : A → Tree) (whole : A → Bool) (custom : List ℕ → List Tree → Tree) (task : Task A) (k m : Cache A) → slots_of m ≡ slots_of k → IsReady tree whole custom task k → IsReady tree whole custom task m
-ready_as tree whole custom task k m e r = record { root = r.root; kept = keeps_as tree whole _ _ k m e r.kept }
 
 -- nothing is kept yet
 none_at : {A : Type 0} (tree : A → Tree) (whole : A → Bool) (slots : List (Option (Given A))) (n : ℕ) (s : Gave) → AreEmpty slots → slot_at tree whole slots n ≡ Some s → ⊥

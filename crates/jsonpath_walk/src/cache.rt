@@ -1,19 +1,11 @@
-//! What one call of the evaluator keeps: what was worked out once, by the number of its entry in the plan, and patterns.
-ghost use Rattle.std.specs.Prelude.{◌≡◌, ◌<◌, ℕ, length, None, Some, option_map, IsTrue, IfOk, IfErr, IfSome, OnOk};
+//! What one call of the evaluator keeps: what was worked out once, by the number of its entry in the plan.
+ghost use Rattle.std.specs.Prelude.{◌≡◌, ◌<◌, ℕ, length, None, Some, option_map, IfOk};
 ghost use Rattle.jsonpath_node.specs.Document.{Document};
-ghost use Rattle.jsonpath_node.specs.Functions.{is_matched};
-ghost use Rattle.jsonpath_node.specs.inner.Operands.{operand_tree, operand_is_whole, is_entire};
-ghost use Rattle.jsonpath_node.specs.Patterns.{IsPattern};
-ghost use Rattle.jsonpath_node.specs.declared.halt.Halt.TheVariants.{Memory};
 ghost use Rattle.jsonpath_walk.specs.inner.Keeping.{AreEmpty, Keeps, gathered, gave, given_by, nodes, nodes_or_none, slots_of, slot_at};
 ghost use Rattle.jsonpath_walk.specs.inner.PlanViews.{Kept, part_at};
 ghost use Rattle.jsonpath_walk.specs.inner.Sinks.{seen, any_in, count_in, only_in};
 
-use crate::finders::{Asked, Finders};
-use crate::patterns::Origin;
 use crate::sink::Sink;
-use jsonpath_node::extent::Extent;
-use jsonpath_node::halt::Walked;
 use jsonpath_node::queryable::Queryable;
 use jsonpath_node::value::Operand;
 use std::alloc::{AllocError, Global};
@@ -23,8 +15,6 @@ use std::alloc::{AllocError, Global};
 pub struct Cache<'a, 's, T> {
     /// What each entry of the plan gave, once it is worked out.
     pub slots: Vec<Option<Given<'a, 's, T>>>,
-    /// What asks patterns.
-    pub finders: Finders<'s>,
 }
 
 /// What an entry gave.
@@ -37,12 +27,20 @@ pub enum Given<'a, 's, T> {
 }
 
 impl<'a, 's, T: Queryable> Cache<'a, 's, T> {
+    /// For no entry.
+    #[inline(always)]
+    pub fn empty(alloc: Global) -> Self {
+        Cache {
+            slots: Vec::new(alloc),
+        }
+    }
+
     /// For so many entries, none of which is worked out.
-    pub fn new(alloc: Global, count: usize, finders: Finders<'s>) -> Result<Self, AllocError>
+    pub fn new(alloc: Global, count: usize) -> Result<Self, AllocError>
         ensures { IfOk result (λ c. (kept : Kept) (doc : Document) → length kept ≡ count → Keeps T.tree T.is_whole kept doc c) }
     {
         let slots = empty_slots(alloc, count)?;
-        Ok(Cache { slots, finders })
+        Ok(Cache { slots })
     }
 
     /// What the entry of this number gave, if it is worked out.
@@ -63,28 +61,6 @@ impl<'a, 's, T: Queryable> Cache<'a, 's, T> {
         ensures right { (kept : Kept) (doc : Document) → gave T.tree T.is_whole given.entry ≡ given_by (part_at kept number) doc → Keeps T.tree T.is_whole kept doc self.old → Keeps T.tree T.is_whole kept doc self.new }
     {
         self.slots[number] = Some(given);
-    }
-
-    /// Whether the pattern is found in the text, as all of it or somewhere.
-    pub fn is_matched(
-        &mut self,
-        alloc: Global,
-        text: &Operand<'a, 's, T>,
-        pattern: &Operand<'a, 's, T>,
-        extent: Extent,
-        origin: Origin,
-    ) -> Walked<bool>
-        requires text { IsTrue (operand_is_whole T.is_whole text.now) }
-        requires pattern { IsTrue (operand_is_whole T.is_whole pattern.now) }
-        ensures value { IfOk result (λ b. b ≡ is_matched (is_entire extent) (operand_tree T.tree text.now) (operand_tree T.tree pattern.now)) }
-        ensures same { slots_of self.new ≡ slots_of self.old }
-        ensures refused { IfErr result (λ h. (h ≡ Memory → ⊥) → IsPattern (is_entire extent) (operand_tree T.tree pattern.now)) }
-    {
-        let (Some(text), Some(pattern)) = (text.as_text(), pattern.as_text()) else {
-            return Ok(false);
-        };
-        let asked = Asked { pattern, extent };
-        Ok(self.finders.is_found(alloc, text, asked, origin)?)
     }
 }
 

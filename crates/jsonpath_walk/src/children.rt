@@ -42,7 +42,7 @@ impl<'a: 's, 's, T: Queryable> Task<'a, 's, T> {
         action: Action<'s>,
         rest: &'s [Segment],
         at: &'a T,
-        trail: &mut Trail<'a, 's, T>,
+        trail: &mut Trail<'a, 's, '_, T>,
         sink: &mut Sink<'a, T>,
     ) -> Walked<bool>
         requires stands { Stands T.tree T.is_whole T.custom self.now at.now trail.old.way.steps.items trail.old.cache }
@@ -53,9 +53,10 @@ impl<'a: 's, 's, T: Queryable> Task<'a, 's, T> {
             (seen T.tree T.is_whole sink.new) b) }
         ensures returns { OnOk result (Returns T.tree T.is_whole T.custom self.now trail.old trail.new) }
         ensures ready { OnErr result (IsReady T.tree T.is_whole T.custom self.now trail.new.cache) }
-        ensures refused { IfErr result (IsHalt (query_of self.now) (document T.tree T.custom self.now)) }
+        ensures refused { IfErr result (IsHalt self.now.limit (query_of self.now) (document T.tree T.custom self.now)) }
     {
         if let Some(items) = at.as_array() {
+            trail.budget.spend(self.limit, items.len())?;
             for (i, value) in items.iter().enumerate() {
                 let step = StepRef::Index(i);
                 if !self.at_child(action, rest, Child { step, value }, trail, sink)? {
@@ -79,7 +80,7 @@ impl<'a: 's, 's, T: Queryable> Task<'a, 's, T> {
         action: Action<'s>,
         rest: &'s [Segment],
         members: &Members<'a, '_, T>,
-        trail: &mut Trail<'a, 's, T>,
+        trail: &mut Trail<'a, 's, '_, T>,
         sink: &mut Sink<'a, T>,
     ) -> Walked<bool>
         requires stands { Stands T.tree T.is_whole T.custom self.now members.now.of.now trail.old.way.steps.items trail.old.cache }
@@ -91,8 +92,9 @@ impl<'a: 's, 's, T: Queryable> Task<'a, 's, T> {
             (seen T.tree T.is_whole sink.new) b) }
         ensures returns { OnOk result (Returns T.tree T.is_whole T.custom self.now trail.old trail.new) }
         ensures ready { OnErr result (IsReady T.tree T.is_whole T.custom self.now trail.new.cache) }
-        ensures refused { IfErr result (IsHalt (query_of self.now) (document T.tree T.custom self.now)) }
+        ensures refused { IfErr result (IsHalt self.now.limit (query_of self.now) (document T.tree T.custom self.now)) }
     {
+        trail.budget.spend(self.limit, members.list.len())?;
         for member in members.list {
             let step = StepRef::Name(member.0);
             let value = member.1;
@@ -111,7 +113,7 @@ impl<'a: 's, 's, T: Queryable> Task<'a, 's, T> {
         action: Action<'s>,
         rest: &'s [Segment],
         child: Child<'a, 's, T>,
-        trail: &mut Trail<'a, 's, T>,
+        trail: &mut Trail<'a, 's, '_, T>,
         sink: &mut Sink<'a, T>,
     ) -> Walked<bool>
         requires stands { Stands T.tree T.is_whole T.custom self.now child.value.now (trail.old.way.steps.items ++ child.step ∷ []) trail.old.cache }
@@ -122,7 +124,7 @@ impl<'a: 's, 's, T: Queryable> Task<'a, 's, T> {
             (seen T.tree T.is_whole sink.new) b) }
         ensures returns { OnOk result (Returns T.tree T.is_whole T.custom self.now trail.old trail.new) }
         ensures ready { OnErr result (IsReady T.tree T.is_whole T.custom self.now trail.new.cache) }
-        ensures refused { IfErr result (IsHalt (query_of self.now) (document T.tree T.custom self.now)) }
+        ensures refused { IfErr result (IsHalt self.now.limit (query_of self.now) (document T.tree T.custom self.now)) }
     {
         if is_idle(action, child.value) {
             return Ok(true);
@@ -141,7 +143,7 @@ impl<'a: 's, 's, T: Queryable> Task<'a, 's, T> {
         action: Action<'s>,
         rest: &'s [Segment],
         at: &'a T,
-        trail: &mut Trail<'a, 's, T>,
+        trail: &mut Trail<'a, 's, '_, T>,
         sink: &mut Sink<'a, T>,
     ) -> Walked<bool>
         requires stands { Stands T.tree T.is_whole T.custom self.now at.now trail.old.way.steps.items trail.old.cache }
@@ -152,7 +154,7 @@ impl<'a: 's, 's, T: Queryable> Task<'a, 's, T> {
             (seen T.tree T.is_whole sink.new) b) }
         ensures returns { OnOk result (Returns T.tree T.is_whole T.custom self.now trail.old trail.new) }
         ensures ready { OnErr result (IsReady T.tree T.is_whole T.custom self.now trail.new.cache) }
-        ensures refused { IfErr result (IsHalt (query_of self.now) (document T.tree T.custom self.now)) }
+        ensures refused { IfErr result (IsHalt self.now.limit (query_of self.now) (document T.tree T.custom self.now)) }
     {
         match action {
             Action::All => self.go_on(rest, at, trail, sink),
@@ -175,7 +177,7 @@ impl<'a: 's, 's, T: Queryable> Task<'a, 's, T> {
         segment: &'s Segment,
         rest: &'s [Segment],
         at: &'a T,
-        trail: &mut Trail<'a, 's, T>,
+        trail: &mut Trail<'a, 's, '_, T>,
         sink: &mut Sink<'a, T>,
     ) -> Walked<bool>
         requires stands { Stands T.tree T.is_whole T.custom self.now at.now trail.old.way.steps.items trail.old.cache }
@@ -186,7 +188,7 @@ impl<'a: 's, 's, T: Queryable> Task<'a, 's, T> {
             (seen T.tree T.is_whole sink.new) b) }
         ensures returns { OnOk result (Returns T.tree T.is_whole T.custom self.now trail.old trail.new) }
         ensures ready { OnErr result (IsReady T.tree T.is_whole T.custom self.now trail.new.cache) }
-        ensures refused { IfErr result (IsHalt (query_of self.now) (document T.tree T.custom self.now)) }
+        ensures refused { IfErr result (IsHalt self.now.limit (query_of self.now) (document T.tree T.custom self.now)) }
     {
         let further = Action::Below(segment);
         if let Some(action) = of_each_child(segment) {
@@ -214,7 +216,7 @@ impl<'a: 's, 's, T: Queryable> Task<'a, 's, T> {
         &self,
         rest: &'s [Segment],
         at: &'a T,
-        trail: &mut Trail<'a, 's, T>,
+        trail: &mut Trail<'a, 's, '_, T>,
         sink: &mut Sink<'a, T>,
     ) -> Walked<bool>
         requires stands { Stands T.tree T.is_whole T.custom self.now at.now trail.old.way.steps.items trail.old.cache }
@@ -224,7 +226,7 @@ impl<'a: 's, 's, T: Queryable> Task<'a, 's, T> {
             (seen T.tree T.is_whole sink.new) b) }
         ensures returns { OnOk result (Returns T.tree T.is_whole T.custom self.now trail.old trail.new) }
         ensures ready { OnErr result (IsReady T.tree T.is_whole T.custom self.now trail.new.cache) }
-        ensures refused { IfErr result (IsHalt (query_of self.now) (document T.tree T.custom self.now)) }
+        ensures refused { IfErr result (IsHalt self.now.limit (query_of self.now) (document T.tree T.custom self.now)) }
     {
         match rest.split_first() {
             None => sink.take(self.alloc, at, &mut trail.way),

@@ -1,13 +1,15 @@
 //! Functions of what is looked up (RFC 9535, 2.4): they are worked out from borrowed values, and nothing is made for them.
 ghost use Rattle.std.specs.Prelude.{◌≡◌, Some, length, IsTrue, IfSome};
+ghost use Rattle.jsonpath_tree.specs.Syntax.{test_argument};
 ghost use Rattle.jsonpath_node.specs.Document.{Document};
 ghost use Rattle.jsonpath_node.specs.Functions as functions;
 ghost use Rattle.jsonpath_node.specs.Functions.{as_nodes, as_truth, as_value, only_value};
-ghost use Rattle.jsonpath_node.specs.Meaning.{answer, argued, tested};
+ghost use Rattle.jsonpath_node.specs.Meaning.{answer, tested};
 ghost use Rattle.jsonpath_node.specs.Node.{Node};
 ghost use Rattle.jsonpath_node.specs.inner.Operands.{side_tree, side_is_whole};
 ghost use Rattle.jsonpath_walk.specs.inner.PlanViews.{Kept, argument_view, call_view, nodes_view, segments_in};
 ghost use Rattle.jsonpath_walk.specs.inner.Walking.{through};
+ghost use Rattle.jsonpath_walk.specs.declared.sink.Wanted.{Wanted};
 ghost use Rattle.jsonpath_walk.specs.declared.sink.Wanted.TheVariants.{Any, Count, Only};
 
 use crate::lookup::{Followed, follow};
@@ -26,27 +28,25 @@ pub fn direct_answer<'k, 's, T: Queryable>(call: &Call, at: &'k T) -> Option<Sid
     ensures whole { IfSome result (λ s. IsTrue (side_is_whole T.is_whole s)) }
 {
     match call {
-        Call::Length(arg) => length_of(arg, at),
-        Call::Value(arg) => value_of(arg, at),
-        Call::Count(arg) => count_of(arg, at),
+        Call::Length(arg) => direct_length(nodes_of(arg)?, at),
+        Call::Value(arg) => direct_value(nodes_of(arg)?, at),
+        Call::Count(arg) => direct_count(nodes_of(arg)?, at),
         _ => None,
     }
 }
 
-/// The length of the value of an argument (2.4.4).
+/// The query that an argument is, if it is one.
 #[inline(always)]
-fn length_of<'k, 's, T: Queryable>(arg: &Argument, at: &'k T) -> Option<Side<'k, 's, T>>
-    requires { IsTrue (T.is_whole at.now) }
-    ensures value { (kept : Kept) (d : Document) (n : Node) → n.tree ≡ T.tree at.now → IfSome result (λ s. side_tree T.tree s ≡ functions.length_of (as_value (argued (argument_view kept arg.now Only) d n))) }
-    ensures whole { IfSome result (λ s. IsTrue (side_is_whole T.is_whole s)) }
+fn nodes_of(arg: &Argument) -> Option<&Nodes>
+    ensures { (kept : Kept) (w : Wanted) → IfSome result (λ ns. argument_view kept arg.now w ≡ test_argument (nodes_view kept ns.now w)) }
 {
     match arg {
-        Argument::Nodes(nodes) => direct_length(nodes, at),
+        Argument::Nodes(nodes) => Some(nodes),
         _ => None,
     }
 }
 
-/// The length of the value that is looked up: of a text or a list.
+/// The length of the value that is looked up, of a text or a list (2.4.4).
 #[inline(always)]
 fn direct_length<'k, 's, T: Queryable>(nodes: &Nodes, at: &'k T) -> Option<Side<'k, 's, T>>
     requires { IsTrue (T.is_whole at.now) }
@@ -78,20 +78,7 @@ fn length_side<'k, 's, T: Queryable>(value: &T) -> Option<Side<'k, 's, T>>
     }
 }
 
-/// The value of the only node of an argument (2.4.8).
-#[inline(always)]
-fn value_of<'k, 's, T: Queryable>(arg: &Argument, at: &'k T) -> Option<Side<'k, 's, T>>
-    requires { IsTrue (T.is_whole at.now) }
-    ensures value { (kept : Kept) (d : Document) (n : Node) → n.tree ≡ T.tree at.now → IfSome result (λ s. side_tree T.tree s ≡ only_value (as_nodes (argued (argument_view kept arg.now Only) d n))) }
-    ensures whole { IfSome result (λ s. IsTrue (side_is_whole T.is_whole s)) }
-{
-    match arg {
-        Argument::Nodes(nodes) => direct_value(nodes, at),
-        _ => None,
-    }
-}
-
-/// The value that is looked up.
+/// The value that is looked up (2.4.8).
 #[inline(always)]
 fn direct_value<'k, 's, T: Queryable>(nodes: &Nodes, at: &'k T) -> Option<Side<'k, 's, T>>
     requires { IsTrue (T.is_whole at.now) }
@@ -104,20 +91,7 @@ fn direct_value<'k, 's, T: Queryable>(nodes: &Nodes, at: &'k T) -> Option<Side<'
     }
 }
 
-/// How many nodes an argument has (2.4.5).
-#[inline(always)]
-fn count_of<'k, 's, T: Queryable>(arg: &Argument, at: &'k T) -> Option<Side<'k, 's, T>>
-    requires { IsTrue (T.is_whole at.now) }
-    ensures value { (kept : Kept) (d : Document) (n : Node) → n.tree ≡ T.tree at.now → IfSome result (λ s. side_tree T.tree s ≡ functions.count_of (as_nodes (argued (argument_view kept arg.now Count) d n))) }
-    ensures whole { IfSome result (λ s. IsTrue (side_is_whole T.is_whole s)) }
-{
-    match arg {
-        Argument::Nodes(nodes) => direct_count(nodes, at),
-        _ => None,
-    }
-}
-
-/// How many nodes are looked up.
+/// How many nodes are looked up (2.4.5).
 #[inline(always)]
 fn direct_count<'k, 's, T: Queryable>(nodes: &Nodes, at: &'k T) -> Option<Side<'k, 's, T>>
     requires { IsTrue (T.is_whole at.now) }

@@ -13,7 +13,7 @@ use jsonpath_node::queryable::Queryable;
 
 impl<'a: 's, 's, T: Queryable> Task<'a, 's, T> {
     /// Works out the entries whose turn is early, inner ones first, and comes back to the root.
-    pub fn work_out_early(&self, trail: &mut Trail<'a, 's, T>) -> Walked<()>
+    pub fn work_out_early(&self, trail: &mut Trail<'a, 's, '_, T>) -> Walked<()>
         requires { IsReady T.tree T.is_whole T.custom self.now trail.old.cache }
         ensures ready { OnOk result (IsReady T.tree T.is_whole T.custom self.now trail.new.cache) }
         ensures way { OnOk result (trail.new.way.steps.items ≡ []) }
@@ -37,8 +37,14 @@ impl<'a: 's, 's, T: Queryable> Task<'a, 's, T> {
         }
     }
 
-    /// Works out an entry. Where a pattern in it is refused it is left, for the walk may never ask it.
-    fn work_out(&self, number: usize, wanted: Wanted, trail: &mut Trail<'a, 's, T>) -> Walked<()>
+    /// Works out an entry. Where a pattern in it is refused it is left, for the walk may never ask it. Where no work is left the
+    /// walk finds that out by itself.
+    fn work_out(
+        &self,
+        number: usize,
+        wanted: Wanted,
+        trail: &mut Trail<'a, 's, '_, T>,
+    ) -> Walked<()>
         requires { IsReady T.tree T.is_whole T.custom self.now trail.old.cache }
         ensures ready { IsReady T.tree T.is_whole T.custom self.now trail.new.cache }
         ensures memory { IfErr result (λ h. h ≡ Memory) }
@@ -51,10 +57,12 @@ impl<'a: 's, 's, T: Queryable> Task<'a, 's, T> {
             plan: self.plan,
             segments,
             root: self.root,
+            limit: self.limit,
         };
         match task.kept_nodes(number, wanted, trail) {
             Ok(_gathered) => Ok(()),
             Err(Halt::Pattern) => Ok(()),
+            Err(Halt::Spent) => Ok(()),
             Err(Halt::Memory) => Err(Halt::Memory),
         }
     }

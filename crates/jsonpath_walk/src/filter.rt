@@ -32,15 +32,16 @@ impl<'a: 's, 's, T: Queryable> Task<'a, 's, T> {
         &self,
         filter: &'s Filter,
         at: &'a T,
-        trail: &mut Trail<'a, 's, T>,
+        trail: &mut Trail<'a, 's, '_, T>,
     ) -> Walked<bool>
         requires stands { Stands T.tree T.is_whole T.custom self.now at.now trail.old.way.steps.items trail.old.cache }
         requires part { StandIn (query_of self.now) (filter_patterns (filter_view (kept_of self.now) filter.now)) }
         ensures holds { IfOk result (λ b. b ≡ holds (filter_view (kept_of self.now) filter.now) (document T.tree T.custom self.now) (node_of T.tree trail.old.way.steps.items at.now)) }
         ensures returns { OnOk result (Returns T.tree T.is_whole T.custom self.now trail.old trail.new) }
         ensures ready { OnErr result (IsReady T.tree T.is_whole T.custom self.now trail.new.cache) }
-        ensures refused { IfErr result (IsHalt (query_of self.now) (document T.tree T.custom self.now)) }
+        ensures refused { IfErr result (IsHalt self.now.limit (query_of self.now) (document T.tree T.custom self.now)) }
     {
+        trail.budget.spend(self.limit, 1)?;
         match filter {
             Filter::Or(parts) => self.some_holds(parts, at, trail),
             Filter::And(parts) => self.each_holds(parts, at, trail),
@@ -60,14 +61,14 @@ impl<'a: 's, 's, T: Queryable> Task<'a, 's, T> {
         &self,
         parts: &'s [Filter],
         at: &'a T,
-        trail: &mut Trail<'a, 's, T>,
+        trail: &mut Trail<'a, 's, '_, T>,
     ) -> Walked<bool>
         requires stands { Stands T.tree T.is_whole T.custom self.now at.now trail.old.way.steps.items trail.old.cache }
         requires part { StandIn (query_of self.now) (filters_patterns (filters_in (kept_of self.now) parts.now)) }
         ensures holds { IfOk result (λ b. b ≡ some_holds (filters_in (kept_of self.now) parts.now) (document T.tree T.custom self.now) (node_of T.tree trail.old.way.steps.items at.now)) }
         ensures returns { OnOk result (Returns T.tree T.is_whole T.custom self.now trail.old trail.new) }
         ensures ready { OnErr result (IsReady T.tree T.is_whole T.custom self.now trail.new.cache) }
-        ensures refused { IfErr result (IsHalt (query_of self.now) (document T.tree T.custom self.now)) }
+        ensures refused { IfErr result (IsHalt self.now.limit (query_of self.now) (document T.tree T.custom self.now)) }
     {
         for part in parts {
             if self.filter_holds(part, at, trail)? {
@@ -83,14 +84,14 @@ impl<'a: 's, 's, T: Queryable> Task<'a, 's, T> {
         &self,
         parts: &'s [Filter],
         at: &'a T,
-        trail: &mut Trail<'a, 's, T>,
+        trail: &mut Trail<'a, 's, '_, T>,
     ) -> Walked<bool>
         requires stands { Stands T.tree T.is_whole T.custom self.now at.now trail.old.way.steps.items trail.old.cache }
         requires part { StandIn (query_of self.now) (filters_patterns (filters_in (kept_of self.now) parts.now)) }
         ensures holds { IfOk result (λ b. b ≡ each_holds (filters_in (kept_of self.now) parts.now) (document T.tree T.custom self.now) (node_of T.tree trail.old.way.steps.items at.now)) }
         ensures returns { OnOk result (Returns T.tree T.is_whole T.custom self.now trail.old trail.new) }
         ensures ready { OnErr result (IsReady T.tree T.is_whole T.custom self.now trail.new.cache) }
-        ensures refused { IfErr result (IsHalt (query_of self.now) (document T.tree T.custom self.now)) }
+        ensures refused { IfErr result (IsHalt self.now.limit (query_of self.now) (document T.tree T.custom self.now)) }
     {
         for part in parts {
             if !self.filter_holds(part, at, trail)? {
@@ -103,13 +104,13 @@ impl<'a: 's, 's, T: Queryable> Task<'a, 's, T> {
     /// Whether there is a node (RFC 9535, 2.3.5.2.1). Names and indexes are looked up, and nothing is made for them.
     #[cycle(walk)]
     #[inline(always)]
-    fn exists(&self, nodes: &'s Nodes, at: &'a T, trail: &mut Trail<'a, 's, T>) -> Walked<bool>
+    fn exists(&self, nodes: &'s Nodes, at: &'a T, trail: &mut Trail<'a, 's, '_, T>) -> Walked<bool>
         requires stands { Stands T.tree T.is_whole T.custom self.now at.now trail.old.way.steps.items trail.old.cache }
         requires part { StandIn (query_of self.now) (test_patterns (nodes_view (kept_of self.now) nodes.now Any)) }
         ensures holds { IfOk result (λ b. b ≡ as_truth (tested (nodes_view (kept_of self.now) nodes.now Any) (document T.tree T.custom self.now) (node_of T.tree trail.old.way.steps.items at.now))) }
         ensures returns { OnOk result (Returns T.tree T.is_whole T.custom self.now trail.old trail.new) }
         ensures ready { OnErr result (IsReady T.tree T.is_whole T.custom self.now trail.new.cache) }
-        ensures refused { IfErr result (IsHalt (query_of self.now) (document T.tree T.custom self.now)) }
+        ensures refused { IfErr result (IsHalt self.now.limit (query_of self.now) (document T.tree T.custom self.now)) }
     {
         if let Some(there) = is_there(nodes, at) {
             return Ok(there);
@@ -125,7 +126,7 @@ impl<'a: 's, 's, T: Queryable> Task<'a, 's, T> {
         operator: Operator,
         sides: (&'s Side, &'s Side),
         at: &'a T,
-        trail: &mut Trail<'a, 's, T>,
+        trail: &mut Trail<'a, 's, '_, T>,
     ) -> Walked<bool>
         requires stands { Stands T.tree T.is_whole T.custom self.now at.now trail.old.way.steps.items trail.old.cache }
         requires part { StandIn (query_of self.now) (comparable_patterns (side_view (kept_of self.now) sides.0.now) ++ comparable_patterns (side_view (kept_of self.now) sides.1.now)) }
@@ -134,13 +135,15 @@ impl<'a: 's, 's, T: Queryable> Task<'a, 's, T> {
             (value_of (side_view (kept_of self.now) sides.entry.1.now) (document T.tree T.custom self.now) (node_of T.tree trail.old.way.steps.items at.now))) }
         ensures returns { OnOk result (Returns T.tree T.is_whole T.custom self.now trail.old trail.new) }
         ensures ready { OnErr result (IsReady T.tree T.is_whole T.custom self.now trail.new.cache) }
-        ensures refused { IfErr result (IsHalt (query_of self.now) (document T.tree T.custom self.now)) }
+        ensures refused { IfErr result (IsHalt self.now.limit (query_of self.now) (document T.tree T.custom self.now)) }
     {
         if let Some(held) = self.lent_compare(operator, sides, at, &trail.cache) {
             return Ok(held);
         }
         let left = self.side(sides.0, at, trail)?;
         let right = self.side(sides.1, at, trail)?;
+        let cost = self.limit.comparison_cost(self.alloc, &left, &right)?;
+        trail.budget.spend(self.limit, cost)?;
         Ok(compares(operator, &left.as_side(), &right.as_side()))
     }
 
@@ -150,7 +153,7 @@ impl<'a: 's, 's, T: Queryable> Task<'a, 's, T> {
         &self,
         side: &'s Side,
         at: &'a T,
-        trail: &mut Trail<'a, 's, T>,
+        trail: &mut Trail<'a, 's, '_, T>,
     ) -> Walked<Operand<'a, 's, T>>
         requires stands { Stands T.tree T.is_whole T.custom self.now at.now trail.old.way.steps.items trail.old.cache }
         requires part { StandIn (query_of self.now) (comparable_patterns (side_view (kept_of self.now) side.now)) }
@@ -158,7 +161,7 @@ impl<'a: 's, 's, T: Queryable> Task<'a, 's, T> {
         ensures whole { IfOk result (λ o. IsTrue (operand_is_whole T.is_whole o)) }
         ensures returns { OnOk result (Returns T.tree T.is_whole T.custom self.now trail.old trail.new) }
         ensures ready { OnErr result (IsReady T.tree T.is_whole T.custom self.now trail.new.cache) }
-        ensures refused { IfErr result (IsHalt (query_of self.now) (document T.tree T.custom self.now)) }
+        ensures refused { IfErr result (IsHalt self.now.limit (query_of self.now) (document T.tree T.custom self.now)) }
     {
         match side {
             Side::Literal(literal) => Ok(Operand::Plain(scalar_of(literal))),

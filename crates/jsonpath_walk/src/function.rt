@@ -32,7 +32,7 @@ impl<'a: 's, 's, T: Queryable> Task<'a, 's, T> {
         &self,
         call: &'s Call,
         at: &'a T,
-        trail: &mut Trail<'a, 's, T>,
+        trail: &mut Trail<'a, 's, '_, T>,
     ) -> Walked<Operand<'a, 's, T>>
         requires stands { Stands T.tree T.is_whole T.custom self.now at.now trail.old.way.steps.items trail.old.cache }
         requires part { StandIn (query_of self.now) (call_patterns (call_view (kept_of self.now) call.now)) }
@@ -40,11 +40,16 @@ impl<'a: 's, 's, T: Queryable> Task<'a, 's, T> {
         ensures whole { IfOk result (λ o. IsTrue (operand_is_whole T.is_whole o)) }
         ensures returns { OnOk result (Returns T.tree T.is_whole T.custom self.now trail.old trail.new) }
         ensures ready { OnErr result (IsReady T.tree T.is_whole T.custom self.now trail.new.cache) }
-        ensures refused { IfErr result (IsHalt (query_of self.now) (document T.tree T.custom self.now)) }
+        ensures refused { IfErr result (IsHalt self.now.limit (query_of self.now) (document T.tree T.custom self.now)) }
     {
         match call {
             Call::Custom(name, args) => self.custom(name, args, at, trail),
-            Call::Length(arg) => self.value(arg, at, trail)?.length(self.alloc),
+            Call::Length(arg) => {
+                let value = self.value(arg, at, trail)?;
+                let cost = self.limit.text_cost(&value);
+                trail.budget.spend(self.limit, cost)?;
+                value.length(self.alloc)
+            }
             Call::Value(arg) => {
                 Ok(
                     self.argument(arg, Wanted::Only, at, trail)?
@@ -74,7 +79,7 @@ impl<'a: 's, 's, T: Queryable> Task<'a, 's, T> {
         args: (&'s plan::Argument, &'s plan::Argument),
         extent: Extent,
         at: &'a T,
-        trail: &mut Trail<'a, 's, T>,
+        trail: &mut Trail<'a, 's, '_, T>,
     ) -> Walked<Operand<'a, 's, T>>
         requires stands { Stands T.tree T.is_whole T.custom self.now at.now trail.old.way.steps.items trail.old.cache }
         requires part { StandIn (query_of self.now) ((is_entire extent, argument_view (kept_of self.now) args.1.now Only) ∷ (argument_patterns (argument_view (kept_of self.now) args.0.now Only) ++ argument_patterns (argument_view (kept_of self.now) args.1.now Only))) }
@@ -84,14 +89,17 @@ impl<'a: 's, 's, T: Queryable> Task<'a, 's, T> {
         ensures whole { IfOk result (λ o. IsTrue (operand_is_whole T.is_whole o)) }
         ensures returns { OnOk result (Returns T.tree T.is_whole T.custom self.now trail.old trail.new) }
         ensures ready { OnErr result (IsReady T.tree T.is_whole T.custom self.now trail.new.cache) }
-        ensures refused { IfErr result (IsHalt (query_of self.now) (document T.tree T.custom self.now)) }
+        ensures refused { IfErr result (IsHalt self.now.limit (query_of self.now) (document T.tree T.custom self.now)) }
     {
         let origin = origin_of(args.1);
         let text = self.value(args.0, at, trail)?;
         let pattern = self.value(args.1, at, trail)?;
+        let cost = self.limit.text_cost(&text);
+        let also = self.limit.text_cost(&pattern);
+        trail.budget.spend(self.limit, cost.saturating_add(also))?;
         let found = trail
-            .cache
-            .is_matched(self.alloc, &text, &pattern, extent, origin)?;
+            .finders
+            .is_matched(self.alloc, (&text, &pattern), extent, origin)?;
         Ok(Operand::Plain(Scalar::Truth(found)))
     }
 
@@ -102,7 +110,7 @@ impl<'a: 's, 's, T: Queryable> Task<'a, 's, T> {
         name: &'s String,
         args: &'s [plan::Argument],
         at: &'a T,
-        trail: &mut Trail<'a, 's, T>,
+        trail: &mut Trail<'a, 's, '_, T>,
     ) -> Walked<Operand<'a, 's, T>>
         requires stands { Stands T.tree T.is_whole T.custom self.now at.now trail.old.way.steps.items trail.old.cache }
         requires part { StandIn (query_of self.now) (arguments_patterns (arguments_in (kept_of self.now) args.now)) }
@@ -110,13 +118,15 @@ impl<'a: 's, 's, T: Queryable> Task<'a, 's, T> {
         ensures whole { IfOk result (λ o. IsTrue (operand_is_whole T.is_whole o)) }
         ensures returns { OnOk result (Returns T.tree T.is_whole T.custom self.now trail.old trail.new) }
         ensures ready { OnErr result (IsReady T.tree T.is_whole T.custom self.now trail.new.cache) }
-        ensures refused { IfErr result (IsHalt (query_of self.now) (document T.tree T.custom self.now)) }
+        ensures refused { IfErr result (IsHalt self.now.limit (query_of self.now) (document T.tree T.custom self.now)) }
     {
         let mut values = Vec::new(self.alloc);
         for arg in args {
             let argument = self.argument(arg, Wanted::Values, at, trail)?;
             argument.push_to(self.alloc, &trail.cache, &mut values)?;
         }
+        let cost = self.limit.custom_cost(self.alloc, &values)?;
+        trail.budget.spend(self.limit, cost)?;
         Ok(Operand::Made(T::extension_custom(self.alloc, name, &values)?))
     }
 
@@ -126,7 +136,7 @@ impl<'a: 's, 's, T: Queryable> Task<'a, 's, T> {
         &self,
         arg: &'s plan::Argument,
         at: &'a T,
-        trail: &mut Trail<'a, 's, T>,
+        trail: &mut Trail<'a, 's, '_, T>,
     ) -> Walked<Operand<'a, 's, T>>
         requires stands { Stands T.tree T.is_whole T.custom self.now at.now trail.old.way.steps.items trail.old.cache }
         requires part { StandIn (query_of self.now) (argument_patterns (argument_view (kept_of self.now) arg.now Only)) }
@@ -134,7 +144,7 @@ impl<'a: 's, 's, T: Queryable> Task<'a, 's, T> {
         ensures whole { IfOk result (λ o. IsTrue (operand_is_whole T.is_whole o)) }
         ensures returns { OnOk result (Returns T.tree T.is_whole T.custom self.now trail.old trail.new) }
         ensures ready { OnErr result (IsReady T.tree T.is_whole T.custom self.now trail.new.cache) }
-        ensures refused { IfErr result (IsHalt (query_of self.now) (document T.tree T.custom self.now)) }
+        ensures refused { IfErr result (IsHalt self.now.limit (query_of self.now) (document T.tree T.custom self.now)) }
     {
         let argument = self.argument(arg, Wanted::Only, at, trail)?;
         Ok(argument.value(&trail.cache))
@@ -147,7 +157,7 @@ impl<'a: 's, 's, T: Queryable> Task<'a, 's, T> {
         arg: &'s plan::Argument,
         wanted: Wanted,
         at: &'a T,
-        trail: &mut Trail<'a, 's, T>,
+        trail: &mut Trail<'a, 's, '_, T>,
     ) -> Walked<Argument<'a, 's, T>>
         requires stands { Stands T.tree T.is_whole T.custom self.now at.now trail.old.way.steps.items trail.old.cache }
         requires part { StandIn (query_of self.now) (argument_patterns (argument_view (kept_of self.now) arg.now wanted)) }
@@ -155,7 +165,7 @@ impl<'a: 's, 's, T: Queryable> Task<'a, 's, T> {
         ensures within { IfOk result (IsHeld T.is_whole) }
         ensures returns { OnOk result (Returns T.tree T.is_whole T.custom self.now trail.old trail.new) }
         ensures ready { OnErr result (IsReady T.tree T.is_whole T.custom self.now trail.new.cache) }
-        ensures refused { IfErr result (IsHalt (query_of self.now) (document T.tree T.custom self.now)) }
+        ensures refused { IfErr result (IsHalt self.now.limit (query_of self.now) (document T.tree T.custom self.now)) }
     {
         match arg {
             plan::Argument::Literal(literal) => {

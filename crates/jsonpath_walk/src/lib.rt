@@ -9,13 +9,16 @@
 
 mod action;
 mod argument;
+mod budget;
 mod cache;
 mod children;
+mod cost;
 mod direct;
 mod early;
 mod filter;
 mod finders;
 mod function;
+mod give;
 mod lent;
 mod lookup;
 mod nodelist;
@@ -25,6 +28,7 @@ mod planned;
 mod prepared;
 mod recent;
 mod rooted;
+mod runner;
 mod sides;
 mod singular;
 mod sink;
@@ -35,3 +39,4 @@ mod way;
 
 pub use crate::nodelist::{selected_locations, selected_nodes, selected_paths, selected_values};
 pub use crate::prepared::Prepared;
+pub use crate::runner::Runner;

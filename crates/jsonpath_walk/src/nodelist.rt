@@ -8,8 +8,8 @@ ghost use Rattle.jsonpath_node.specs.Document.{document_of};
 ghost use Rattle.jsonpath_node.specs.Meaning.{selected};
 ghost use Rattle.jsonpath_node.specs.Patterns.{IsStop};
 
+use crate::give::give_nodes;
 use crate::sink::Sink;
-use crate::walk::give_nodes;
 use jsonpath_base::Step;
 use jsonpath_node::queryable::Queryable;
 use jsonpath_node::{Queried, QueryPath, QueryRef};

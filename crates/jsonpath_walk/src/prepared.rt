@@ -5,15 +5,17 @@ ghost use Rattle.jsonpath_tree.specs.View.{query_view};
 ghost use Rattle.jsonpath_core.specs.declared.errors.JsonPathError.TheVariants.{OutOfMemory};
 ghost use Rattle.jsonpath_node.specs.Answer.{IsNodeAt, IsPathAt, IsValueAt, shown, paths_of};
 ghost use Rattle.jsonpath_node.specs.Document.{document_of};
-ghost use Rattle.jsonpath_node.specs.Meaning.{selected, nodelist};
+ghost use Rattle.jsonpath_node.specs.Meaning.{selected};
 ghost use Rattle.jsonpath_node.specs.Patterns.{IsStop};
-ghost use Rattle.jsonpath_walk.specs.Prepared.{prepared_view, IsFirstNode};
-ghost use Rattle.jsonpath_walk.specs.inner.Sinks.{Took, seen};
+ghost use Rattle.jsonpath_walk.specs.Prepared.{prepared_view, runner_view, IsFirstNode};
+ghost use Rattle.jsonpath_walk.specs.inner.Planned.{plan_view};
 
+use crate::budget::Budget;
+use crate::finders::Standing;
+use crate::give::Request;
 use crate::patterns::Places;
 use crate::planned::Planned;
-use crate::sink::Sink;
-use crate::walk::give_planned;
+use crate::runner::Runner;
 use jsonpath_node::queryable::Queryable;
 use jsonpath_node::{Queried, QueryPath, QueryRef};
 use jsonpath_tree::model::JpQuery;
@@ -73,9 +75,7 @@ impl Prepared {
         ensures whole { IfOk result (λ v. All (λ r. IsTrue (T.is_whole r.val.now)) v.items) }
         ensures refused { IfErr result (IsStop (prepared_view self.now) (document_of T.tree T.custom value.now)) }
     {
-        let mut sink = Sink::Nodes(Vec::new(alloc));
-        let _goes_on = self.give(alloc, value, &mut sink)?;
-        Ok(sink.into_nodes(alloc))
+        self.runner(alloc).nodes(alloc, value)
     }
 
     /// The values of these nodes, in order. No path is made.
@@ -86,9 +86,7 @@ impl Prepared {
         ensures whole { IfOk result (λ v. All (λ x. IsTrue (T.is_whole x.now)) v.items) }
         ensures refused { IfErr result (IsStop (prepared_view self.now) (document_of T.tree T.custom value.now)) }
     {
-        let mut sink = Sink::Values(Vec::new(alloc));
-        let _goes_on = self.give(alloc, value, &mut sink)?;
-        Ok(sink.into_values(alloc))
+        self.runner(alloc).values(alloc, value)
     }
 
     /// The Normalized Paths of these nodes (RFC 9535, 2.7), in order.
@@ -98,9 +96,7 @@ impl Prepared {
             (selected (prepared_view self.now) (document_of T.tree T.custom value.now)) (paths_of v.items)) }
         ensures refused { IfErr result (IsStop (prepared_view self.now) (document_of T.tree T.custom value.now)) }
     {
-        let mut sink = Sink::Paths(Vec::new(alloc));
-        let _goes_on = self.give(alloc, value, &mut sink)?;
-        Ok(sink.into_paths(alloc))
+        self.runner(alloc).paths(alloc, value)
     }
 
     /// The first of these nodes, or None where the query selects none. The document is walked no further than to that node.
@@ -115,9 +111,7 @@ impl Prepared {
         ensures whole { IfOk result (λ o. IfSome o (λ r. IsTrue (T.is_whole r.val.now))) }
         ensures refused { IfErr result (IsStop (prepared_view self.now) (document_of T.tree T.custom value.now)) }
     {
-        let mut sink = Sink::First(None);
-        let _goes_on = self.give(alloc, value, &mut sink)?;
-        Ok(sink.into_first())
+        self.runner(alloc).first(alloc, value)
     }
 
     /// Whether the query selects a node. The document is walked no further than to the first, and no path is made.
@@ -126,23 +120,30 @@ impl Prepared {
         ensures none { IfOk result (λ b. IsFalse b ↔ (selected (prepared_view self.now) (document_of T.tree T.custom value.now) ≡ [])) }
         ensures refused { IfErr result (IsStop (prepared_view self.now) (document_of T.tree T.custom value.now)) }
     {
-        let mut sink = Sink::Any(false);
-        let _goes_on = self.give(alloc, value, &mut sink)?;
-        Ok(sink.has_any())
+        self.runner(alloc).has_node(alloc, value)
     }
 
-    /// Gives the nodes to the sink. The result says whether to go on.
-    fn give<'a, T: Queryable>(
-        &self,
-        alloc: Global,
-        value: &'a T,
-        sink: &mut Sink<'a, T>,
-    ) -> Queried<bool>
-        requires { IsTrue (T.is_whole value.now) }
-        ensures gave { IfOk result (λ b. Took (seen T.tree T.is_whole sink.old) (nodelist (prepared_view self.now) (document_of T.tree T.custom value.now))
-            (seen T.tree T.is_whole sink.new) b) }
-        ensures refused { IfErr result (IsStop (prepared_view self.now) (document_of T.tree T.custom value.now)) }
+    /// What asks the query of one document after another, and keeps what searches for its patterns. Nothing is allocated yet.
+    pub fn runner(&self, alloc: Global) -> Runner<'_>
+        ensures { runner_view result ≡ prepared_view self.now }
     {
-        give_planned(alloc, &self.planned.plan, &self.places, value, sink)
+        Runner::new(alloc, self)
+    }
+
+    /// What asks its patterns, with none asked yet.
+    pub(crate) fn standing(&self, alloc: Global) -> Standing<'_> {
+        Standing::new(alloc, &self.places)
+    }
+
+    /// What is asked of a document, for this work.
+    pub(crate) fn request<'p>(&'p self, standing: Standing<'p>, budget: Budget) -> Request<'p, 'p>
+        ensures plan { plan_view result.plan.now ≡ prepared_view self.now }
+        ensures budget { result.budget ≡ budget }
+    {
+        Request {
+            plan: &self.planned.plan,
+            standing,
+            budget,
+        }
     }
 }

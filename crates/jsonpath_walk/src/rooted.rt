@@ -84,7 +84,7 @@ impl<'a: 's, 's, T: Queryable> Task<'a, 's, T> {
         &self,
         call: &'s Called,
         at: &'a T,
-        trail: &mut Trail<'a, 's, T>,
+        trail: &mut Trail<'a, 's, '_, T>,
     ) -> Walked<Operand<'a, 's, T>>
         requires stands { Stands T.tree T.is_whole T.custom self.now at.now trail.old.way.steps.items trail.old.cache }
         requires part { StandIn (query_of self.now) (call_patterns (called_view (kept_of self.now) call.now)) }
@@ -92,7 +92,7 @@ impl<'a: 's, 's, T: Queryable> Task<'a, 's, T> {
         ensures whole { IfOk result (λ o. IsTrue (operand_is_whole T.is_whole o)) }
         ensures returns { OnOk result (Returns T.tree T.is_whole T.custom self.now trail.old trail.new) }
         ensures ready { OnErr result (IsReady T.tree T.is_whole T.custom self.now trail.new.cache) }
-        ensures refused { IfErr result (IsHalt (query_of self.now) (document T.tree T.custom self.now)) }
+        ensures refused { IfErr result (IsHalt self.now.limit (query_of self.now) (document T.tree T.custom self.now)) }
     {
         match call {
             Called::Here(call) => self.answer(call, at, trail),
@@ -102,14 +102,18 @@ impl<'a: 's, 's, T: Queryable> Task<'a, 's, T> {
 
     /// What the call answers that is kept under this number.
     #[cycle(walk)]
-    fn kept_answer(&self, number: usize, trail: &mut Trail<'a, 's, T>) -> Walked<Operand<'a, 's, T>>
+    fn kept_answer(
+        &self,
+        number: usize,
+        trail: &mut Trail<'a, 's, '_, T>,
+    ) -> Walked<Operand<'a, 's, T>>
         requires part { StandIn (query_of self.now) (call_patterns (call_at (kept_of self.now) number)) }
         requires ready { IsReady T.tree T.is_whole T.custom self.now trail.old.cache }
         ensures value { (n : Node) → IfOk result (λ o. operand_tree T.tree o ≡ answer (call_at (kept_of self.now) number) (document T.tree T.custom self.now) n) }
         ensures whole { IfOk result (λ o. IsTrue (operand_is_whole T.is_whole o)) }
         ensures returns { OnOk result (Returns T.tree T.is_whole T.custom self.now trail.old trail.new) }
         ensures ready { OnErr result (IsReady T.tree T.is_whole T.custom self.now trail.new.cache) }
-        ensures refused { IfErr result (IsHalt (query_of self.now) (document T.tree T.custom self.now)) }
+        ensures refused { IfErr result (IsHalt self.now.limit (query_of self.now) (document T.tree T.custom self.now)) }
     {
         let Some(call) = self.plan.kept_call(number) else {
             return Ok(Operand::Absent);
@@ -128,13 +132,13 @@ impl<'a: 's, 's, T: Queryable> Task<'a, 's, T> {
 
     /// Whether the comparison holds that is kept under this number.
     #[cycle(walk)]
-    pub fn kept_comparison(&self, number: usize, trail: &mut Trail<'a, 's, T>) -> Walked<bool>
+    pub fn kept_comparison(&self, number: usize, trail: &mut Trail<'a, 's, '_, T>) -> Walked<bool>
         requires part { StandIn (query_of self.now) (comparison_patterns (comparison_at (kept_of self.now) number)) }
         requires ready { IsReady T.tree T.is_whole T.custom self.now trail.old.cache }
         ensures holds { (n : Node) → IfOk result (λ b. b ≡ comparison_holds (comparison_at (kept_of self.now) number) (document T.tree T.custom self.now) n) }
         ensures returns { OnOk result (Returns T.tree T.is_whole T.custom self.now trail.old trail.new) }
         ensures ready { OnErr result (IsReady T.tree T.is_whole T.custom self.now trail.new.cache) }
-        ensures refused { IfErr result (IsHalt (query_of self.now) (document T.tree T.custom self.now)) }
+        ensures refused { IfErr result (IsHalt self.now.limit (query_of self.now) (document T.tree T.custom self.now)) }
     {
         let Some((operator, left, right)) = self.plan.kept_comparison(number) else {
             return Ok(false);

@@ -8,6 +8,7 @@ ghost use Rattle.jsonpath_node.specs.inner.Operands.{side_tree, side_is_whole};
 ghost use Rattle.jsonpath_walk.specs.inner.Keeping.{IsReady, document, kept_of, value_by};
 ghost use Rattle.jsonpath_walk.specs.inner.PlanViews.{called_view, part_at, side_view};
 
+use crate::budget::Limit;
 use crate::cache::{Cache, Given};
 use crate::direct::direct_answer;
 use crate::plan;
@@ -20,7 +21,8 @@ use jsonpath_node::value::scalar_of;
 use jsonpath_tree::model::Operator;
 
 impl<'a: 's, 's, T: Queryable> Task<'a, 's, T> {
-    /// Whether two sides compare so at a value; None where one of them takes a walk or memory, or is not worked out yet.
+    /// Whether two sides compare so at a value; None where one of them takes a walk or memory, or is not worked out yet, and
+    /// where the work is limited.
     #[inline(always)]
     pub fn lent_compare(
         &self,
@@ -35,6 +37,9 @@ impl<'a: 's, 's, T: Queryable> Task<'a, 's, T> {
             (value_of (side_view (kept_of self.now) sides.entry.0.now) (document T.tree T.custom self.now) n)
             (value_of (side_view (kept_of self.now) sides.entry.1.now) (document T.tree T.custom self.now) n)) }
     {
+        if let Limit::Limited = self.limit {
+            return None;
+        }
         let left = self.lent_side(sides.0, at, cache)?;
         let right = self.lent_side(sides.1, at, cache)?;
         Some(compares(operator, &left, &right))

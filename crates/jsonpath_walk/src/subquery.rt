@@ -31,14 +31,14 @@ impl<'a: 's, 's, T: Queryable> Task<'a, 's, T> {
         nodes: &'s Nodes,
         wanted: Wanted,
         at: &'a T,
-        trail: &mut Trail<'a, 's, T>,
+        trail: &mut Trail<'a, 's, '_, T>,
     ) -> Walked<Gathered<'a, T>>
         requires stands { Stands T.tree T.is_whole T.custom self.now at.now trail.old.way.steps.items trail.old.cache }
         requires part { StandIn (query_of self.now) (test_patterns (nodes_view (kept_of self.now) nodes.now wanted)) }
         ensures held { IfOk result (λ g. held.nodes (gathered T.tree T.is_whole trail.new.cache g) ≡ holding wanted (tested (nodes_view (kept_of self.now) nodes.now wanted) (document T.tree T.custom self.now) (node_of T.tree trail.old.way.steps.items at.now))) }
         ensures returns { OnOk result (Returns T.tree T.is_whole T.custom self.now trail.old trail.new) }
         ensures ready { OnErr result (IsReady T.tree T.is_whole T.custom self.now trail.new.cache) }
-        ensures refused { IfErr result (IsHalt (query_of self.now) (document T.tree T.custom self.now)) }
+        ensures refused { IfErr result (IsHalt self.now.limit (query_of self.now) (document T.tree T.custom self.now)) }
     {
         match nodes {
             Nodes::Lookup(steps) => { Ok(Gathered::Own(looked_up(self.alloc, steps, wanted, at)?)) }
@@ -56,14 +56,14 @@ impl<'a: 's, 's, T: Queryable> Task<'a, 's, T> {
         segments: &'s [Segment],
         wanted: Wanted,
         at: &'a T,
-        trail: &mut Trail<'a, 's, T>,
+        trail: &mut Trail<'a, 's, '_, T>,
     ) -> Walked<Sink<'a, T>>
         requires stands { Stands T.tree T.is_whole T.custom self.now at.now trail.old.way.steps.items trail.old.cache }
         requires part { StandIn (query_of self.now) (segments_patterns (segments_in (kept_of self.now) segments.now)) }
         ensures given { IfOk result (λ s. seen T.tree T.is_whole s ≡ give (start wanted) (through (segments_in (kept_of self.now) segments.now) (document T.tree T.custom self.now) (node_of T.tree trail.old.way.steps.items at.now))) }
         ensures returns { OnOk result (Returns T.tree T.is_whole T.custom self.now trail.old trail.new) }
         ensures ready { OnErr result (IsReady T.tree T.is_whole T.custom self.now trail.new.cache) }
-        ensures refused { IfErr result (IsHalt (query_of self.now) (document T.tree T.custom self.now)) }
+        ensures refused { IfErr result (IsHalt self.now.limit (query_of self.now) (document T.tree T.custom self.now)) }
     {
         if let Some(sink) = short_cut(self.alloc, segments, wanted, at)? {
             return Ok(sink);
@@ -80,14 +80,14 @@ impl<'a: 's, 's, T: Queryable> Task<'a, 's, T> {
         &self,
         number: usize,
         wanted: Wanted,
-        trail: &mut Trail<'a, 's, T>,
+        trail: &mut Trail<'a, 's, '_, T>,
     ) -> Walked<Gathered<'a, T>>
         requires part { StandIn (query_of self.now) (segments_patterns (query_at (kept_of self.now) wanted number)) }
         requires ready { IsReady T.tree T.is_whole T.custom self.now trail.old.cache }
         ensures given { IfOk result (λ g. gathered T.tree T.is_whole trail.new.cache g ≡ give (start wanted) (nodelist (query_at (kept_of self.now) wanted number) (document T.tree T.custom self.now))) }
         ensures returns { OnOk result (Returns T.tree T.is_whole T.custom self.now trail.old trail.new) }
         ensures ready { OnErr result (IsReady T.tree T.is_whole T.custom self.now trail.new.cache) }
-        ensures refused { IfErr result (IsHalt (query_of self.now) (document T.tree T.custom self.now)) }
+        ensures refused { IfErr result (IsHalt self.now.limit (query_of self.now) (document T.tree T.custom self.now)) }
     {
         let Some(segments) = self.plan.kept_segments(number, wanted) else {
             return Ok(Gathered::Own(Sink::of_one(self.alloc, wanted, self.root)?));

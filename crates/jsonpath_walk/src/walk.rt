@@ -3,39 +3,32 @@
 //! The way to the value at hand stands on a stack of borrowed steps, so nothing is kept for a node that is only passed.
 //! Every method of the cycle asks for a value at hand (`Stands`), and comes back with the way as it was and what is kept
 //! still right (`Returns`). Where it halts, what is kept is right too.
-ghost use Rattle.std.specs.Prelude.{◌≡◌, [], ◌∷◌, ◌++◌, map, IsTrue, IfOk, IfErr, OnOk, OnErr};
+ghost use Rattle.std.specs.Prelude.{◌≡◌, [], ◌∷◌, ◌++◌, map, IfOk, IfErr, OnOk, OnErr};
 ghost use Rattle.std.specs.List.{flat_map};
-ghost use Rattle.jsonpath_tree.specs.View.{query_view};
-ghost use Rattle.jsonpath_node.specs.Document.{document_of};
 ghost use Rattle.jsonpath_node.specs.Node.{below, children};
-ghost use Rattle.jsonpath_node.specs.Meaning.{picks, all_pick, replaced, sliced, nodelist};
-ghost use Rattle.jsonpath_node.specs.Patterns.{IsStop, segments_patterns, segment_patterns, selectors_patterns, selector_patterns};
+ghost use Rattle.jsonpath_node.specs.Meaning.{picks, all_pick, replaced, sliced};
+ghost use Rattle.jsonpath_node.specs.Patterns.{segments_patterns, segment_patterns, selectors_patterns, selector_patterns};
 ghost use Rattle.jsonpath_walk.specs.inner.Halting.{IsHalt, StandIn};
 ghost use Rattle.jsonpath_walk.specs.inner.PlanViews.{segments_in, segment_view, selectors_in, selector_view};
-ghost use Rattle.jsonpath_walk.specs.inner.Planned.{plan_view};
 ghost use Rattle.jsonpath_walk.specs.inner.Sinks.{Took, seen};
 ghost use Rattle.jsonpath_walk.specs.inner.Keeping.{IsReady, document, kept_of, query_of};
 ghost use Rattle.jsonpath_walk.specs.inner.Standing.{Stands, Returns};
 ghost use Rattle.jsonpath_walk.specs.inner.Walking.{through, node_of, step_of, acted};
 
 use crate::action::Action;
-use crate::cache::Cache;
+use crate::budget::Limit;
 use crate::children::Child;
-use crate::finders::Finders;
-use crate::patterns::{LentPlaces, Places};
-use crate::plan::{Plan, Segment, Selector, plan_of, release};
+use crate::plan::{Plan, Segment, Selector};
 use crate::sink::Sink;
 use crate::trail::Trail;
-use crate::way::{StepRef, Way};
+use crate::way::StepRef;
 use jsonpath_base::slice::slice_places;
-use jsonpath_node::Queried;
 use jsonpath_node::halt::Walked;
 use jsonpath_node::queryable::Queryable;
 use jsonpath_node::queryable::children::element;
-use jsonpath_tree::model::JpQuery;
 use std::alloc::Global;
 
-/// What is asked: a query by its plan, of a document.
+/// What is asked: a query by its plan, of a document, and whether the work for it is limited.
 #[derive(Drop)]
 pub struct Task<'a, 's, T> {
     pub alloc: Global,
@@ -43,88 +36,7 @@ pub struct Task<'a, 's, T> {
     /// The segments that are asked: those of the plan, or of an entry of it.
     pub segments: &'s [Segment],
     pub root: &'a T,
-}
-
-/// Gives to the sink the nodes of a query on a document. The result says whether to go on.
-pub fn give_nodes<'a, T: Queryable>(
-    alloc: Global,
-    query: &JpQuery,
-    root: &'a T,
-    sink: &mut Sink<'a, T>,
-) -> Queried<bool>
-    requires { IsTrue (T.is_whole root.now) }
-    ensures gave { IfOk result (λ b. Took (seen T.tree T.is_whole sink.old) (nodelist (query_view query.now) (document_of T.tree T.custom root.now))
-        (seen T.tree T.is_whole sink.new) b) }
-    ensures refused { IfErr result (IsStop (query_view query.now) (document_of T.tree T.custom root.now)) }
-{
-    let plan = plan_of(alloc, query)?;
-    let given = give_once(alloc, &plan, root, sink);
-    release(plan);
-    given
-}
-
-/// The same, of a query that has a plan.
-fn give_once<'a, T: Queryable>(
-    alloc: Global,
-    plan: &Plan,
-    root: &'a T,
-    sink: &mut Sink<'a, T>,
-) -> Queried<bool>
-    requires { IsTrue (T.is_whole root.now) }
-    ensures gave { IfOk result (λ b. Took (seen T.tree T.is_whole sink.old) (nodelist (plan_view plan.now) (document_of T.tree T.custom root.now))
-        (seen T.tree T.is_whole sink.new) b) }
-    ensures refused { IfErr result (IsStop (plan_view plan.now) (document_of T.tree T.custom root.now)) }
-{
-    let places = Places::new(alloc, plan.pattern_count)?;
-    give_planned(alloc, plan, &places, root, sink)
-}
-
-/// The same, where these are the places of its patterns.
-pub fn give_planned<'a, T: Queryable>(
-    alloc: Global,
-    plan: &Plan,
-    places: &Places,
-    root: &'a T,
-    sink: &mut Sink<'a, T>,
-) -> Queried<bool>
-    requires { IsTrue (T.is_whole root.now) }
-    ensures gave { IfOk result (λ b. Took (seen T.tree T.is_whole sink.old) (nodelist (plan_view plan.now) (document_of T.tree T.custom root.now))
-        (seen T.tree T.is_whole sink.new) b) }
-    ensures refused { IfErr result (IsStop (plan_view plan.now) (document_of T.tree T.custom root.now)) }
-{
-    let lent = LentPlaces::new();
-    let finders = Finders::new(alloc, places, &lent);
-    match give_from_root(alloc, plan, finders, root, sink) {
-        Ok(goes_on) => Ok(goes_on),
-        Err(halt) => Err(halt.told(alloc)),
-    }
-}
-
-/// The same, where these ask the patterns.
-fn give_from_root<'a: 's, 's, T: Queryable>(
-    alloc: Global,
-    plan: &'s Plan,
-    finders: Finders<'s>,
-    root: &'a T,
-    sink: &mut Sink<'a, T>,
-) -> Walked<bool>
-    requires { IsTrue (T.is_whole root.now) }
-    ensures gave { IfOk result (λ b. Took (seen T.tree T.is_whole sink.old) (nodelist (plan_view plan.now) (document_of T.tree T.custom root.now))
-        (seen T.tree T.is_whole sink.new) b) }
-    ensures refused { IfErr result (IsHalt (plan_view plan.now) (document_of T.tree T.custom root.now)) }
-{
-    let segments = plan.segments.as_slice();
-    let task = Task {
-        alloc,
-        plan,
-        segments,
-        root,
-    };
-    let way = Way::new(alloc);
-    let cache = Cache::new(alloc, plan.kept.len(), finders)?;
-    let mut trail = Trail { way, cache };
-    task.work_out_early(&mut trail)?;
-    task.walk(segments, root, &mut trail, sink)
+    pub limit: Limit,
 }
 
 impl<'a: 's, 's, T: Queryable> Task<'a, 's, T> {
@@ -135,7 +47,7 @@ impl<'a: 's, 's, T: Queryable> Task<'a, 's, T> {
         &self,
         segments: &'s [Segment],
         at: &'a T,
-        trail: &mut Trail<'a, 's, T>,
+        trail: &mut Trail<'a, 's, '_, T>,
         sink: &mut Sink<'a, T>,
     ) -> Walked<bool>
         requires stands { Stands T.tree T.is_whole T.custom self.now at.now trail.old.way.steps.items trail.old.cache }
@@ -145,7 +57,7 @@ impl<'a: 's, 's, T: Queryable> Task<'a, 's, T> {
             (seen T.tree T.is_whole sink.new) b) }
         ensures returns { OnOk result (Returns T.tree T.is_whole T.custom self.now trail.old trail.new) }
         ensures ready { OnErr result (IsReady T.tree T.is_whole T.custom self.now trail.new.cache) }
-        ensures refused { IfErr result (IsHalt (query_of self.now) (document T.tree T.custom self.now)) }
+        ensures refused { IfErr result (IsHalt self.now.limit (query_of self.now) (document T.tree T.custom self.now)) }
     {
         match segments.split_first() {
             None => sink.take(self.alloc, at, &mut trail.way),
@@ -161,7 +73,7 @@ impl<'a: 's, 's, T: Queryable> Task<'a, 's, T> {
         first: &'s Segment,
         rest: &'s [Segment],
         at: &'a T,
-        trail: &mut Trail<'a, 's, T>,
+        trail: &mut Trail<'a, 's, '_, T>,
         sink: &mut Sink<'a, T>,
     ) -> Walked<bool>
         requires stands { Stands T.tree T.is_whole T.custom self.now at.now trail.old.way.steps.items trail.old.cache }
@@ -172,7 +84,7 @@ impl<'a: 's, 's, T: Queryable> Task<'a, 's, T> {
             (seen T.tree T.is_whole sink.new) b) }
         ensures returns { OnOk result (Returns T.tree T.is_whole T.custom self.now trail.old trail.new) }
         ensures ready { OnErr result (IsReady T.tree T.is_whole T.custom self.now trail.new.cache) }
-        ensures refused { IfErr result (IsHalt (query_of self.now) (document T.tree T.custom self.now)) }
+        ensures refused { IfErr result (IsHalt self.now.limit (query_of self.now) (document T.tree T.custom self.now)) }
     {
         match first {
             Segment::Selector(selector) => self.pick(selector, rest, at, trail, sink),
@@ -188,7 +100,7 @@ impl<'a: 's, 's, T: Queryable> Task<'a, 's, T> {
         selectors: &'s [Selector],
         rest: &'s [Segment],
         at: &'a T,
-        trail: &mut Trail<'a, 's, T>,
+        trail: &mut Trail<'a, 's, '_, T>,
         sink: &mut Sink<'a, T>,
     ) -> Walked<bool>
         requires stands { Stands T.tree T.is_whole T.custom self.now at.now trail.old.way.steps.items trail.old.cache }
@@ -199,8 +111,9 @@ impl<'a: 's, 's, T: Queryable> Task<'a, 's, T> {
             (seen T.tree T.is_whole sink.new) b) }
         ensures returns { OnOk result (Returns T.tree T.is_whole T.custom self.now trail.old trail.new) }
         ensures ready { OnErr result (IsReady T.tree T.is_whole T.custom self.now trail.new.cache) }
-        ensures refused { IfErr result (IsHalt (query_of self.now) (document T.tree T.custom self.now)) }
+        ensures refused { IfErr result (IsHalt self.now.limit (query_of self.now) (document T.tree T.custom self.now)) }
     {
+        trail.budget.spend(self.limit, selectors.len())?;
         for selector in selectors {
             if !self.pick(selector, rest, at, trail, sink)? {
                 return Ok(false);
@@ -217,7 +130,7 @@ impl<'a: 's, 's, T: Queryable> Task<'a, 's, T> {
         selector: &'s Selector,
         rest: &'s [Segment],
         at: &'a T,
-        trail: &mut Trail<'a, 's, T>,
+        trail: &mut Trail<'a, 's, '_, T>,
         sink: &mut Sink<'a, T>,
     ) -> Walked<bool>
         requires stands { Stands T.tree T.is_whole T.custom self.now at.now trail.old.way.steps.items trail.old.cache }
@@ -228,7 +141,7 @@ impl<'a: 's, 's, T: Queryable> Task<'a, 's, T> {
             (seen T.tree T.is_whole sink.new) b) }
         ensures returns { OnOk result (Returns T.tree T.is_whole T.custom self.now trail.old trail.new) }
         ensures ready { OnErr result (IsReady T.tree T.is_whole T.custom self.now trail.new.cache) }
-        ensures refused { IfErr result (IsHalt (query_of self.now) (document T.tree T.custom self.now)) }
+        ensures refused { IfErr result (IsHalt self.now.limit (query_of self.now) (document T.tree T.custom self.now)) }
     {
         match selector {
             Selector::Name(name) => match at.get(name) {
@@ -260,7 +173,7 @@ impl<'a: 's, 's, T: Queryable> Task<'a, 's, T> {
         slice: (Option<i64>, Option<i64>, Option<i64>),
         rest: &'s [Segment],
         at: &'a T,
-        trail: &mut Trail<'a, 's, T>,
+        trail: &mut Trail<'a, 's, '_, T>,
         sink: &mut Sink<'a, T>,
     ) -> Walked<bool>
         requires stands { Stands T.tree T.is_whole T.custom self.now at.now trail.old.way.steps.items trail.old.cache }
@@ -271,12 +184,13 @@ impl<'a: 's, 's, T: Queryable> Task<'a, 's, T> {
             (seen T.tree T.is_whole sink.new) b) }
         ensures returns { OnOk result (Returns T.tree T.is_whole T.custom self.now trail.old trail.new) }
         ensures ready { OnErr result (IsReady T.tree T.is_whole T.custom self.now trail.new.cache) }
-        ensures refused { IfErr result (IsHalt (query_of self.now) (document T.tree T.custom self.now)) }
+        ensures refused { IfErr result (IsHalt self.now.limit (query_of self.now) (document T.tree T.custom self.now)) }
     {
         let Some(items) = at.as_array() else {
             return Ok(true);
         };
         for position in slice_places(slice.0, slice.1, slice.2, items.len()) {
+            trail.budget.spend(self.limit, 1)?;
             let step = StepRef::Index(position);
             let value = &items[position];
             if !self.at_child(Action::All, rest, Child { step, value }, trail, sink)? {

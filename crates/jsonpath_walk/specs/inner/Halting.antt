@@ -5,12 +5,18 @@ use Rattle.jsonpath_tree.specs.Syntax.{Argument, Query}
 use Rattle.jsonpath_node.specs.Document.{Document}
 use Rattle.jsonpath_node.specs.Patterns.{AsksPattern, segments_patterns}
 use Rattle.jsonpath_node.specs.declared.halt.Halt.{Halt}
-use Rattle.jsonpath_node.specs.declared.halt.Halt.TheVariants.{Memory}
+use Rattle.jsonpath_node.specs.declared.halt.Halt.TheVariants.{Memory, Spent}
+use Rattle.jsonpath_walk.specs.declared.budget.Limit.{Limit}
+use Rattle.jsonpath_walk.specs.declared.budget.Limit.TheVariants.{Limited}
 
 -- each of these patterns stands in the query
 pub record StandIn (q : Query) (patterns : List (Bool × Argument)) : Type 0 where
   pub all : (p : Bool × Argument) → Contains patterns p → Contains (segments_patterns q) p
 
--- memory ran out, or a pattern stands in the query whose value at some node of the document is a text that `regex` reads
-abbrev pub IsHalt : Query → Document → Halt → Type 0
-IsHalt q doc halt = (halt ≡ Memory → ⊥) → AsksPattern q doc
+-- the work that a walk may take ran out, where it is limited
+abbrev pub IsSpent : Limit → Halt → Type 0
+IsSpent limit halt = (halt ≡ Spent) × (limit ≡ Limited)
+
+-- memory ran out, or the work, or a pattern stands in the query whose value at some node of the document is a text that `regex` reads
+abbrev pub IsHalt : Limit → Query → Document → Halt → Type 0
+IsHalt limit q doc halt = (halt ≡ Memory → ⊥) → (IsSpent limit halt → ⊥) → AsksPattern q doc

@@ -64,23 +64,23 @@ set_by : {A B : Type 0} (to : A → B) (from : B → A) → ((a : A) → from (t
 set_by to from back Bs = collapsible→set (λ x y p. sym (back x) ∙ ap from (ap to p) ∙ back y) (λ x y p q. ap (λ (r : to x ≡ to y). sym (back x) ∙ ap from r ∙ back y) (Bs (to x) (to y) (ap to p) (ap to q)))
 
 -- the query of all children for which the atom holds
-abbrev query_of : Atom → Query
-query_of a = syntax.segment (syntax.one (syntax.filter (atom a))) syntax.no_segments
+abbrev atom_query : Atom → Query
+atom_query a = syntax.segment (syntax.one (syntax.filter (atom a))) syntax.no_segments
 
-abbrev atom_of : Query → Atom
-atom_of (syntax.segment (syntax.one (syntax.filter (atom a))) syntax.no_segments) = a
-atom_of _ = group true (or no_filters)
+abbrev query_atom : Query → Atom
+query_atom (syntax.segment (syntax.one (syntax.filter (atom a))) syntax.no_segments) = a
+query_atom _ = group true (or no_filters)
 
-abbrev call_of : Atom → Call
-call_of (test t (call c)) = c
-call_of _ = length_call (literal_argument syntax.null)
+abbrev atom_call : Atom → Call
+atom_call (test t (call c)) = c
+atom_call _ = length_call (literal_argument syntax.null)
 
-abbrev comparison_of : Atom → Comparison
-comparison_of (comparison c) = c
-comparison_of _ = compare syntax.less (literal syntax.null) (literal syntax.null)
+abbrev atom_comparison : Atom → Comparison
+atom_comparison (comparison c) = c
+atom_comparison _ = compare syntax.less (literal syntax.null) (literal syntax.null)
 
 pub Call-set : IsSet Call
-Call-set = set_by (λ c. query_of (test true (call c))) (λ q. call_of (atom_of q)) (λ c. refl) Query-set
+Call-set = set_by (λ c. atom_query (test true (call c))) (λ q. atom_call (query_atom q)) (λ c. refl) Query-set
 
 pub Comparison-set : IsSet Comparison
-Comparison-set = set_by (λ c. query_of (comparison c)) (λ q. comparison_of (atom_of q)) (λ c. refl) Query-set
+Comparison-set = set_by (λ c. atom_query (comparison c)) (λ q. atom_comparison (query_atom q)) (λ c. refl) Query-set

@@ -195,39 +195,33 @@ impl<'q> Maker<'q> {
         match comparison {
             tree::Comparison::Eq(left, right) => {
                 let source = Source::Comparison(Operator::Equal, left, right);
-                let first = self.side(left)?;
-                let second = self.side(right)?;
-                self.compare(source, (Operator::Equal, first, second), around)
+                let sides = (self.side(left)?, self.side(right)?);
+                self.compare(source, Operator::Equal, sides, around)
             }
             tree::Comparison::Ne(left, right) => {
                 let source = Source::Comparison(Operator::NotEqual, left, right);
-                let first = self.side(left)?;
-                let second = self.side(right)?;
-                self.compare(source, (Operator::NotEqual, first, second), around)
+                let sides = (self.side(left)?, self.side(right)?);
+                self.compare(source, Operator::NotEqual, sides, around)
             }
             tree::Comparison::Gt(left, right) => {
                 let source = Source::Comparison(Operator::Greater, left, right);
-                let first = self.side(left)?;
-                let second = self.side(right)?;
-                self.compare(source, (Operator::Greater, first, second), around)
+                let sides = (self.side(left)?, self.side(right)?);
+                self.compare(source, Operator::Greater, sides, around)
             }
             tree::Comparison::Gte(left, right) => {
                 let source = Source::Comparison(Operator::GreaterOrEqual, left, right);
-                let first = self.side(left)?;
-                let second = self.side(right)?;
-                self.compare(source, (Operator::GreaterOrEqual, first, second), around)
+                let sides = (self.side(left)?, self.side(right)?);
+                self.compare(source, Operator::GreaterOrEqual, sides, around)
             }
             tree::Comparison::Lt(left, right) => {
                 let source = Source::Comparison(Operator::Less, left, right);
-                let first = self.side(left)?;
-                let second = self.side(right)?;
-                self.compare(source, (Operator::Less, first, second), around)
+                let sides = (self.side(left)?, self.side(right)?);
+                self.compare(source, Operator::Less, sides, around)
             }
             tree::Comparison::Lte(left, right) => {
                 let source = Source::Comparison(Operator::LessOrEqual, left, right);
-                let first = self.side(left)?;
-                let second = self.side(right)?;
-                self.compare(source, (Operator::LessOrEqual, first, second), around)
+                let sides = (self.side(left)?, self.side(right)?);
+                self.compare(source, Operator::LessOrEqual, sides, around)
             }
         }
     }
@@ -236,14 +230,15 @@ impl<'q> Maker<'q> {
     fn compare(
         &mut self,
         source: Source<'q>,
-        comparison: (Operator, Side, Side),
+        operator: Operator,
+        sides: (Side, Side),
         around: usize,
     ) -> Parsed<Filter>
-        ensures made { IfOk result (λ f. IsCompared self.old self.new (Comparison comparison.0 comparison.1 comparison.2) source.entry f) }
+        ensures made { IfOk result (λ f. IsCompared self.old self.new (Comparison operator sides.0 sides.1) source.entry f) }
         ensures memory { IfErr result (λ e. e ≡ OutOfMemory) }
     {
         let run = self.end(around);
-        let (operator, left, right) = comparison;
+        let (left, right) = sides;
         if are_rooted_sides(&left, &right) {
             let part = Rooted::Comparison(operator, left, right);
             let number = self.number(part, Met { source, run })?;

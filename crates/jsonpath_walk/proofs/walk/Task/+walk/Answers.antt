@@ -11,7 +11,6 @@ use Rattle.jsonpath_tree.specs.declared.model.SingularQuerySegment.{SingularQuer
 use Rattle.jsonpath_walk.specs.inner.PlanViews.{segments_in, segment_view, selectors_in, selector_view, filters_in, filter_view, nodes_view, side_view, call_view, called_view, call_in, comparison_in, arguments_in, argument_view, steps_query}
 use Rattle.jsonpath_walk.specs.inner.PlanViews as plan
 use Rattle.jsonpath_walk.specs.declared.plan.Argument.{Argument}
-use Rattle.jsonpath_walk.specs.declared.plan.Call.{Call}
 use Rattle.jsonpath_walk.specs.declared.plan.Filter.{Filter}
 use Rattle.jsonpath_walk.specs.declared.plan.Segment.{Segment}
 use Rattle.jsonpath_walk.specs.declared.plan.Selector.{Selector}
@@ -36,7 +35,7 @@ use Rattle.jsonpath_node.proofs.NodesAt.{member_there}
 use Rattle.jsonpath_walk.proofs.HaltingLaws.{part_as, part_left, part_right, part_both, part_at, part_rest, pattern_asked}
 use Rattle.jsonpath_node.proofs.Trees.{child_there, all_at, element_size, pair_size, member_size, element_at, sliced-list, named_some, named_none}
 use Rattle.jsonpath_node.proofs.Parts.{part_of, kept_true, kept_false, some_found, some_next, each_failed, each_next, parts_end, ok_as, ok_through, differs, passed_on, joined_next}
-use Rattle.jsonpath_walk.proofs.Kept.{ready_as, kept_query, found_there, gave_or_none, of_some, err_is}
+use Rattle.jsonpath_walk.proofs.Kept.{kept_query, found_there, gave_or_none, of_some, err_is}
 use Rattle.jsonpath_walk.proofs.RootedLaws.{answer_as, answer_kept, comparison_as, comparison_kept, kept_call_same, kept_comparison_same}
 use Rattle.jsonpath_node.specs.Comparing.{compares}
 use Rattle.jsonpath_node.specs.Functions.{length_of, as_value, as_trees, as_truth, is_matched, is_true}
@@ -602,7 +601,7 @@ pick_slice-loop-position-preserved g t c =
     let x = tree c.index-value.result.now in
     let here = element_at tree n.location n.tree items position c.index-value.result.now some inside c.index-value.ensures in
     let k = took_as _ _ _ _ _ (ap (λ q. flat_map rest (below (map step_of q) (index position) x ∷ [])) inv.returns.same ∙ ap (flat_map rest) here) c.in_ok-at_child.ensures.gave in
-    record { returns = on inv.returns c.in_ok-at_child.ensures.returns; below = All-tail P position _ (subst (All P) steps inv.below); given = place_next rest (λ j. element j n) _ _ position _ _ _ _ steps k inv.given }
+    record { returns = record { same = c.in_ok-at_child.ensures.returns.same ∙ inv.returns.same; ready = c.in_ok-at_child.ensures.returns.ready }; below = All-tail P position _ (subst (All P) steps inv.below); given = place_next rest (λ j. element j n) _ _ position _ _ _ _ steps k inv.given }
 
 pub pick_slice-returns-clause-gave : goal.pick_slice-returns-clause-gave
 pick_slice-returns-clause-gave g t c =
@@ -754,7 +753,7 @@ custom-returns-clause-value g t c =
     let all = arg_trees tree c.loop-arg.values.items in
     let end = sym (append-nil all) ∙ parts_end (λ (xs : List Argument). all ++ all_trees (arguments_in kept xs) d n) c.args.args.now c.loop-arg.arg-index _ c.loop-arg-test.false inv.trees in
     let nm = string_bytes c.args.name.now in
-    ap (λ x. Some x) (c.in_ok-extension_custom.ensures.value ∙ ap (λ k. custom k (arg_trees tree c.deref-2.result.now)) c.deref.ensures ∙ ap (λ xs. custom nm (arg_trees tree xs)) c.deref-2.ensures.value ∙ ap (custom nm) end)
+    ap (λ x. Some x) (c.in_ok-extension_custom.ensures.value ∙ ap (λ k. custom k (arg_trees tree c.deref-3.result.now)) c.deref-2.ensures ∙ ap (λ xs. custom nm (arg_trees tree xs)) c.deref-3.ensures.value ∙ ap (custom nm) end)
 
 pub gather-walk-requires : goal.gather-walk-requires
 gather-walk-requires g t c κs within = (down _ _ _ _ _ _ c.decreases (omega arith) (omega (arith, c.requires.stands.within)), (within, (c.requires.stands, c.requires.part)))
@@ -943,7 +942,7 @@ comparison_holds-returns-clause-holds g t c =
     c.compares.ensures ∙ ap (λ o. compares op o (side_tree tree c.as_side-2.result)) (c.as_side.ensures.value ∙ c.in_ok-left.ensures.value) ∙ ap (compares op (value_of (side_view kept c.args.sides.0.now) d n)) (c.as_side-2.ensures.value ∙ right)
 
 pub comparison_holds-returns-clause-returns : goal.comparison_holds-returns-clause-returns
-comparison_holds-returns-clause-returns g t c = on c.in_ok-left.ensures.returns c.in_ok-right.ensures.returns
+comparison_holds-returns-clause-returns g t c = record { same = c.in_ok-right.ensures.returns.same ∙ c.in_ok-left.ensures.returns.same; ready = c.in_ok-right.ensures.returns.ready }
 
 pub side-called-requires : goal.side-called-requires
 side-called-requires g t c κs within =
@@ -1062,8 +1061,8 @@ answer-returns-in-Custom-clause-value g t c =
     let e = ap (call_view kept) c.in-Custom.is ∙ called kept c.in-Custom.name c.in-Custom.args in
     ok_through _ (operand_tree tree) _ _ (ap (λ (xs : List Argument). Some (custom (string_bytes c.in-Custom.name) (all_trees (arguments_in kept xs) d n))) c.deref.ensures.value ∙ sym (ap (λ f. answer f d n) e)) c.custom.ensures.value
 
-pub answer-returns-in_ok-value-in-Length-clause-value : goal.answer-returns-in_ok-value-in-Length-clause-value
-answer-returns-in_ok-value-in-Length-clause-value g t c =
+pub answer-returns-in_ok-spend-in-Length-clause-value : goal.answer-returns-in_ok-spend-in-Length-clause-value
+answer-returns-in_ok-spend-in-Length-clause-value g t c =
     let kept = kept_of c.args.self.now in
     let tree = g.T.Queryable.tree in
     let d = document tree g.T.Queryable.custom c.args.self.now in
@@ -1132,12 +1131,12 @@ match_or_search-returns-clause-value g t c =
 pub match_or_search-returns-clause-returns : goal.match_or_search-returns-clause-returns
 match_or_search-returns-clause-returns g t c =
     let back = on c.in_ok-text.ensures.returns c.in_ok-pattern.ensures.returns in
-    record { same = back.same; ready = ready_as g.T.Queryable.tree g.T.Queryable.is_whole g.T.Queryable.custom c.args.self.now _ _ c.in_ok-found.ensures.same back.ready }
+    record { same = back.same; ready = back.ready }
 
 pub match_or_search-returns-in_err-found-clause-ready : goal.match_or_search-returns-in_err-found-clause-ready
 match_or_search-returns-in_err-found-clause-ready g t c =
     let back = on c.in_ok-text.ensures.returns c.in_ok-pattern.ensures.returns in
-    err_is _ _ (ready_as g.T.Queryable.tree g.T.Queryable.is_whole g.T.Queryable.custom c.args.self.now _ _ c.in_err-found.ensures.same back.ready)
+    err_is _ _ back.ready
 
 pub match_or_search-returns-in_err-found-clause-refused : goal.match_or_search-returns-in_err-found-clause-refused
 match_or_search-returns-in_err-found-clause-refused g t c =
@@ -1147,8 +1146,8 @@ match_or_search-returns-in_err-found-clause-refused g t c =
     let n = node_of tree c.args.trail.now.way.steps.items c.args.at.now in
     let pattern = c.in_ok-pattern.ensures.value ∙ ap (λ q. as_value (argued (argument_view kept c.args.args.1.now Only) d (node_of tree q c.args.at.now))) c.in_ok-text.ensures.returns.same in
     let q = query_of c.args.self.now in
-    let why : IsHalt q d c.in_err-found.field-0.0 = λ h. pattern_asked q d (is_entire c.args.extent) (argument_view kept c.args.args.1.now Only) _ n _ c.requires.part c.requires.stands.here pattern (c.in_err-found.ensures.refused h) in
-    passed_on c.from_residual-in_err-found.result _ (IsHalt q d) c.from_residual-in_err-found.ensures.1 (λ y e. subst (IsHalt q d) (sym e) why)
+    let why : IsHalt c.args.self.now.limit q d c.in_err-found.field-0.0 = λ h spent. pattern_asked q d (is_entire c.args.extent) (argument_view kept c.args.args.1.now Only) _ n _ c.requires.part c.requires.stands.here pattern (c.in_err-found.ensures.refused h) in
+    passed_on c.from_residual-in_err-found.result _ (IsHalt c.args.self.now.limit q d) c.from_residual-in_err-found.ensures.1 (λ y e. subst (IsHalt c.args.self.now.limit q d) (sym e) why)
 
 pub value-argument-requires : goal.value-argument-requires
 value-argument-requires g t c κs within = (down_tree _ _ _ _ _ c.decreases (omega arith), (within, (c.requires.stands, c.requires.part)))

@@ -212,34 +212,34 @@ pub pattern-returns-in-Literal-clause-made : goal.pattern-returns-in-Literal-cla
 pattern-returns-in-Literal-clause-made t c =
     rw (ap tree.argument_view c.in-Literal.is ∙ source.argument_view-Literal c.in-Literal.literal) c.literal_pattern.ensures.made
 
-pub comparison-returns-in_ok-second-in-Eq-clause-made : goal.comparison-returns-in_ok-second-in-Eq-clause-made
-comparison-returns-in_ok-second-in-Eq-clause-made t c =
-    let sides = made_after c.begin-around.ensures (made_both (λ a b. compared (syntax.compare syntax.equal a b)) _ _ (λ kept. refl) refl c.in_ok-first-in-Eq.ensures.made c.in_ok-second-in-Eq.ensures.made) in
+pub comparison-returns-in_ok-side-in-Eq-2-clause-made : goal.comparison-returns-in_ok-side-in-Eq-2-clause-made
+comparison-returns-in_ok-side-in-Eq-2-clause-made t c =
+    let sides = made_after c.begin-around.ensures (made_both (λ a b. compared (syntax.compare syntax.equal a b)) _ _ (λ kept. refl) refl c.in_ok-side-in-Eq.ensures.made c.in_ok-side-in-Eq-2.ensures.made) in
     rw (ap tree.comparison_view c.in-Eq.is ∙ source.comparison_view-Eq c.in-Eq.left c.in-Eq.right) (IfOk-weaker c.compare.result _ _ (λ f k. k.made sides) c.compare.ensures.made)
 
-pub comparison-returns-in_ok-second-in-Ne-clause-made : goal.comparison-returns-in_ok-second-in-Ne-clause-made
-comparison-returns-in_ok-second-in-Ne-clause-made t c =
-    let sides = made_after c.begin-around.ensures (made_both (λ a b. compared (syntax.compare syntax.not_equal a b)) _ _ (λ kept. refl) refl c.in_ok-first-in-Ne.ensures.made c.in_ok-second-in-Ne.ensures.made) in
+pub comparison-returns-in_ok-side-in-Ne-2-clause-made : goal.comparison-returns-in_ok-side-in-Ne-2-clause-made
+comparison-returns-in_ok-side-in-Ne-2-clause-made t c =
+    let sides = made_after c.begin-around.ensures (made_both (λ a b. compared (syntax.compare syntax.not_equal a b)) _ _ (λ kept. refl) refl c.in_ok-side-in-Ne.ensures.made c.in_ok-side-in-Ne-2.ensures.made) in
     rw (ap tree.comparison_view c.in-Ne.is ∙ source.comparison_view-Ne c.in-Ne.left c.in-Ne.right) (IfOk-weaker c.compare-in-Ne.result _ _ (λ f k. k.made sides) c.compare-in-Ne.ensures.made)
 
-pub comparison-returns-in_ok-second-in-Gt-clause-made : goal.comparison-returns-in_ok-second-in-Gt-clause-made
-comparison-returns-in_ok-second-in-Gt-clause-made t c =
-    let sides = made_after c.begin-around.ensures (made_both (λ a b. compared (syntax.compare syntax.greater a b)) _ _ (λ kept. refl) refl c.in_ok-first-in-Gt.ensures.made c.in_ok-second-in-Gt.ensures.made) in
+pub comparison-returns-in_ok-side-in-Gt-2-clause-made : goal.comparison-returns-in_ok-side-in-Gt-2-clause-made
+comparison-returns-in_ok-side-in-Gt-2-clause-made t c =
+    let sides = made_after c.begin-around.ensures (made_both (λ a b. compared (syntax.compare syntax.greater a b)) _ _ (λ kept. refl) refl c.in_ok-side-in-Gt.ensures.made c.in_ok-side-in-Gt-2.ensures.made) in
     rw (ap tree.comparison_view c.in-Gt.is ∙ source.comparison_view-Gt c.in-Gt.left c.in-Gt.right) (IfOk-weaker c.compare-in-Gt.result _ _ (λ f k. k.made sides) c.compare-in-Gt.ensures.made)
 
-pub comparison-returns-in_ok-second-in-Gte-clause-made : goal.comparison-returns-in_ok-second-in-Gte-clause-made
-comparison-returns-in_ok-second-in-Gte-clause-made t c =
-    let sides = made_after c.begin-around.ensures (made_both (λ a b. compared (syntax.compare syntax.greater_or_equal a b)) _ _ (λ kept. refl) refl c.in_ok-first-in-Gte.ensures.made c.in_ok-second-in-Gte.ensures.made) in
+pub comparison-returns-in_ok-side-in-Gte-2-clause-made : goal.comparison-returns-in_ok-side-in-Gte-2-clause-made
+comparison-returns-in_ok-side-in-Gte-2-clause-made t c =
+    let sides = made_after c.begin-around.ensures (made_both (λ a b. compared (syntax.compare syntax.greater_or_equal a b)) _ _ (λ kept. refl) refl c.in_ok-side-in-Gte.ensures.made c.in_ok-side-in-Gte-2.ensures.made) in
     rw (ap tree.comparison_view c.in-Gte.is ∙ source.comparison_view-Gte c.in-Gte.left c.in-Gte.right) (IfOk-weaker c.compare-in-Gte.result _ _ (λ f k. k.made sides) c.compare-in-Gte.ensures.made)
 
-pub comparison-returns-in_ok-second-in-Lt-clause-made : goal.comparison-returns-in_ok-second-in-Lt-clause-made
-comparison-returns-in_ok-second-in-Lt-clause-made t c =
-    let sides = made_after c.begin-around.ensures (made_both (λ a b. compared (syntax.compare syntax.less a b)) _ _ (λ kept. refl) refl c.in_ok-first-in-Lt.ensures.made c.in_ok-second-in-Lt.ensures.made) in
+pub comparison-returns-in_ok-side-in-Lt-2-clause-made : goal.comparison-returns-in_ok-side-in-Lt-2-clause-made
+comparison-returns-in_ok-side-in-Lt-2-clause-made t c =
+    let sides = made_after c.begin-around.ensures (made_both (λ a b. compared (syntax.compare syntax.less a b)) _ _ (λ kept. refl) refl c.in_ok-side-in-Lt.ensures.made c.in_ok-side-in-Lt-2.ensures.made) in
     rw (ap tree.comparison_view c.in-Lt.is ∙ source.comparison_view-Lt c.in-Lt.left c.in-Lt.right) (IfOk-weaker c.compare-in-Lt.result _ _ (λ f k. k.made sides) c.compare-in-Lt.ensures.made)
 
-pub comparison-returns-in_ok-second-in-Lte-clause-made : goal.comparison-returns-in_ok-second-in-Lte-clause-made
-comparison-returns-in_ok-second-in-Lte-clause-made t c =
-    let sides = made_after c.begin-around.ensures (made_both (λ a b. compared (syntax.compare syntax.less_or_equal a b)) _ _ (λ kept. refl) refl c.in_ok-first-in-Lte.ensures.made c.in_ok-second-in-Lte.ensures.made) in
+pub comparison-returns-in_ok-side-in-Lte-2-clause-made : goal.comparison-returns-in_ok-side-in-Lte-2-clause-made
+comparison-returns-in_ok-side-in-Lte-2-clause-made t c =
+    let sides = made_after c.begin-around.ensures (made_both (λ a b. compared (syntax.compare syntax.less_or_equal a b)) _ _ (λ kept. refl) refl c.in_ok-side-in-Lte.ensures.made c.in_ok-side-in-Lte-2.ensures.made) in
     rw (ap tree.comparison_view c.in-Lte.is ∙ source.comparison_view-Lte c.in-Lte.left c.in-Lte.right) (IfOk-weaker c.compare-in-Lte.result _ _ (λ f k. k.made sides) c.compare-in-Lte.ensures.made)
 
 pub called-returns-then-is_rooted_call-clause-made : goal.called-returns-then-is_rooted_call-clause-made
