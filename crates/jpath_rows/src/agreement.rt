@@ -18,7 +18,7 @@ use std::alloc::Global;
 use std::slice;
 
 /// Whether the answer is the same nodes, in order.
-fn are_same<T: Queryable>(
+pub fn are_same<T: Queryable>(
     memory: &Memory,
     nodes: &[QueryRef<'_, T>],
     answered: Queried<Vec<QueryRef<'_, T>>>,
@@ -35,7 +35,7 @@ fn are_same<T: Queryable>(
 }
 
 /// Whether the answer is the values of the nodes, in order.
-fn are_values<T: Queryable>(
+pub fn are_values<T: Queryable>(
     memory: &Memory,
     nodes: &[QueryRef<'_, T>],
     answered: Queried<Vec<&T>>,
@@ -52,7 +52,7 @@ fn are_values<T: Queryable>(
 }
 
 /// Whether the answer is the paths of the nodes, in order.
-fn are_paths<T: Queryable>(
+pub fn are_paths<T: Queryable>(
     memory: &Memory,
     nodes: &[QueryRef<'_, T>],
     answered: Queried<Vec<QueryPath>>,

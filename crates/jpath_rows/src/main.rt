@@ -11,6 +11,7 @@ mod reference;
 mod refused;
 mod results;
 mod row;
+mod runs;
 mod suite;
 
 use jpath_row::members::{list_at, string_at};

@@ -6,6 +6,7 @@ use crate::agreement::{is_by_methods, is_by_text, is_by_tree, lead_back};
 use crate::deletion::is_one_by_one;
 use crate::nodes::{Part, are_wanted};
 use crate::reference::refer_back;
+use crate::runs::is_by_runner;
 use jpath_doc::Doc;
 use jpath_doc::document::Document;
 use jpath_row::Memory;
@@ -135,6 +136,7 @@ fn selects<T: Document>(memory: &Memory, document: &T, question: Question<'_>) -
     };
     are_wanted(memory, &nodes, part, wanted)
         && is_by_tree(memory, query, depth, document, &nodes)
+        && is_by_runner(memory, query, depth, document, &nodes)
         && lead_back(memory, document, &nodes)
         && match question.depth {
             Depth::Default => is_by_text(memory, query, document, &nodes),

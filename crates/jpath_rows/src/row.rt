@@ -1,5 +1,5 @@
 //! One row: what it asks is told by its members. One with another member, or without one that it needs, does not hold.
-use crate::{custom, deletion, query, reference, refused};
+use crate::{custom, deletion, query, reference, refused, runs};
 use jpath_row::Memory;
 use serde_json::Value;
 
@@ -11,6 +11,8 @@ pub fn holds(memory: &Memory, row: &Value) -> bool {
         deletion::holds(memory, row)
     } else if row.get("reference").is_some() || row.get("replace").is_some() {
         reference::holds(memory, row)
+    } else if row.get("enough").is_some() {
+        runs::holds(memory, row)
     } else if row.get("nodes").is_some() || row.get("paths").is_some() {
         query::holds(memory, row)
     } else {

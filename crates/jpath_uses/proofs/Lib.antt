@@ -1,4 +1,5 @@
 pub mod Differing
 pub mod Firsts
+pub mod Telling
 pub mod Making
 pub mod Nulling

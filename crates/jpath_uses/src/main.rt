@@ -6,6 +6,7 @@ pub mod again;
 pub mod difference;
 pub mod first;
 pub mod first_steps;
+pub mod inbox;
 pub mod policy;
 pub mod redaction;
 pub mod routing;

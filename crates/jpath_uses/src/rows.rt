@@ -2,6 +2,7 @@
 mod again;
 mod difference;
 mod first_steps;
+mod inbox;
 mod policy;
 mod queries;
 mod redaction;
@@ -23,6 +24,8 @@ pub fn holds(memory: &Memory, row: &Value) -> bool {
         script::holds(memory, row)
     } else if row.get("route").is_some() {
         routing::holds(memory, row)
+    } else if row.get("inbox").is_some() {
+        inbox::holds(memory, row)
     } else if row.get("again").is_some() {
         again::holds(memory, row)
     } else if row.get("same").is_some() {
