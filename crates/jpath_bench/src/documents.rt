@@ -131,3 +131,13 @@ pub fn message(alloc: Global, dice: &mut Dice) -> Result<String, AllocError> {
     write!(text, "],\"urgent\":{urgent}}}")?;
     Ok(text)
 }
+
+/// A list of so many numbers.
+pub fn numbers(alloc: Global, count: usize) -> Result<String, AllocError> {
+    let mut text = String::from_str(alloc, "[0")?;
+    for number in 1..count {
+        write!(text, ",{number}")?;
+    }
+    text.push(']')?;
+    Ok(text)
+}

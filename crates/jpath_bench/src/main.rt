@@ -2,10 +2,13 @@
 //!
 //! - `counts BYTES`: how many nodes each query selects; without words, of a bookstore of 10,000 bytes.
 //! - `time BYTES`: nodes selected, nodes of the bookstore, nanoseconds for each of these for values alone and with paths, query.
-//! - `route COUNT`: nanoseconds for each message that all of a table is asked of, prepared and by `js_path_process`.
+//! - `route COUNT`: nanoseconds for each message that all of a table is asked of, by runners, prepared and by `js_path_process`.
+//! - `calls COUNT`: nanoseconds for each call on a tiny document, by text and by tree, query.
+//! - `delete BYTES`: locations deleted, nanoseconds for each of these, query.
 //! - `document BYTES`, `messages COUNT`: what was asked; before the messages stand the queries of the table.
 #![tactic(auto)]
 
+mod calls;
 mod documents;
 mod report;
 mod routes;
@@ -32,6 +35,8 @@ fn run(rt: &HostRuntime, word: &str, size: &str) -> io::Result<()> {
         ("counts", Ok(bytes)) => report::counts(rt, bytes),
         ("time", Ok(bytes)) => report::times(rt, bytes),
         ("route", Ok(count)) => report::routes(rt, count),
+        ("calls", Ok(count)) => report::calls(rt, count),
+        ("delete", Ok(bytes)) => report::deletions(rt, bytes),
         ("document", Ok(bytes)) => report::document(rt, bytes),
         ("messages", Ok(count)) => report::messages(rt, count),
         _ => Err(ErrorKind::InvalidInput.into()),

@@ -2,7 +2,8 @@
 ghost use Rattle.std.specs.Prelude.{IsTrue, IfOk};
 ghost use Rattle.jsonpath_base.specs.Values.{value_is_whole};
 
-use crate::documents::{Dice, bookstore, message};
+use crate::calls::{deletion, reading_calls, walking_calls};
+use crate::documents::{Dice, bookstore, message, numbers};
 use crate::routes::{prepared, routed};
 use crate::timing::{fastest, reading, refused};
 use jsonpath_rust::query::queryable::Queryable;
@@ -33,6 +34,14 @@ const QUERIES: [&str; 13] = [
 const READ: &str = "$.store.book[?@.price<10].title";
 
 const READINGS: u32 = 3000;
+
+/// A tiny document, and what is asked of it.
+const TINY: &str = "{\"a\":[{\"b\":1,\"c\":\"x\"},{\"b\":11,\"c\":\"y\"}]}";
+
+const SHORT: [&str; 4] = ["$.a", "$.a[0].b", "$.a[*].c", "$.a[?@.b<10]"];
+
+/// What is deleted from a bookstore.
+const DELETED: [&str; 3] = ["$..author", "$..*", "$.store.book[?@.price<10]"];
 
 /// What a router asks of each message.
 const TABLE: [&str; 10] = [
@@ -112,9 +121,52 @@ pub fn routes(rt: &(impl Print + Clock + AllocGlobal), count: usize) -> io::Resu
         best = best.least(routed(rt, &table, &messages)?);
     }
     let selected = best.selected;
-    let found = each(best.lean, count);
-    let processed = each(best.full, count);
-    println!(rt; "{selected}\t{count}\t{found:.1}\t{processed:.1}")
+    let runners = each(best.runners, count);
+    let found = each(best.prepared, count);
+    let processed = each(best.processed, count);
+    println!(rt; "{selected}\t{count}\t{runners:.1}\t{found:.1}\t{processed:.1}")
+}
+
+/// The times of so many calls on a tiny document: by text, and of a query that was read once.
+pub fn calls(rt: &(impl Print + Clock + AllocGlobal), count: usize) -> io::Result<()> {
+    let text = String::from_str(rt.alloc(), TINY)?;
+    let document = read(rt.alloc(), text)?;
+    let timed = tiny_calls(rt, &document, count);
+    drop(document);
+    timed
+}
+
+fn tiny_calls(
+    rt: &(impl Print + Clock + AllocGlobal),
+    document: &Value,
+    count: usize,
+) -> io::Result<()>
+    requires { IsTrue (value_is_whole document.now) }
+{
+    for text in SHORT {
+        let by_text = each(reading_calls(rt, text, document, count)?, count);
+        let by_tree = each(walking_calls(rt, text, document, count)?, count);
+        println!(rt; "{by_text:.1}\t{by_tree:.1}\t{text}")?;
+    }
+    Ok(())
+}
+
+/// The times of deletions: of every second one of as many numbers as a twentieth of the bytes, and of parts of a bookstore.
+pub fn deletions(rt: &(impl Print + Clock + AllocGlobal), bytes: usize) -> io::Result<()> {
+    let list = numbers(rt.alloc(), bytes / 20)?;
+    deleted(rt, "$[::2]", list)?;
+    for text in DELETED {
+        deleted(rt, text, bookstore(rt.alloc(), bytes)?)?;
+    }
+    Ok(())
+}
+
+fn deleted(rt: &(impl Print + Clock + AllocGlobal), text: &str, from: String) -> io::Result<()> {
+    let mut document = read(rt.alloc(), from)?;
+    let (count, taken) = deletion(rt, text, &mut document)?;
+    drop(document);
+    let nanoseconds = each(taken, count);
+    println!(rt; "{count}\t{nanoseconds:.1}\t{text}")
 }
 
 /// The text of the bookstore.

@@ -1,16 +1,37 @@
-//! A router's table, asked of each message: by prepared queries, and by `js_path_process`.
+//! A router's table, asked of each message: by runners, by prepared queries, and by `js_path_process`.
 ghost use Rattle.std.specs.Prelude.{IsTrue};
 ghost use Rattle.jsonpath_base.specs.Values.{value_is_whole};
 
-use crate::timing::{Round, refused};
+use crate::timing::refused;
 use jsonpath_parser::parse_json_path;
 use jsonpath_rust::query::queryable::Queryable;
-use jsonpath_rust::query::{Prepared, Queried, QueryRef, js_path_process};
+use jsonpath_rust::query::{Prepared, Queried, QueryRef, Runner, js_path_process};
 use serde_json::Value;
-use std::alloc::Global;
+use std::alloc::{AllocError, Global};
 use std::io;
 use std::io::ErrorKind;
 use std::time::{Clock, Duration, Instant};
+
+/// How often a query of the table selected something, and how long all messages took, each way.
+#[derive(Clone, Copy)]
+pub struct Journeys {
+    pub selected: usize,
+    pub runners: Duration,
+    pub prepared: Duration,
+    pub processed: Duration,
+}
+
+impl Journeys {
+    /// The lesser time of two rounds, each way.
+    pub fn least(self, other: Journeys) -> Journeys {
+        Journeys {
+            selected: self.selected,
+            runners: self.runners.min(other.runners),
+            prepared: self.prepared.min(other.prepared),
+            processed: self.processed.min(other.processed),
+        }
+    }
+}
 
 /// The queries of these texts.
 pub fn prepared(alloc: Global, texts: &[&str]) -> Queried<Vec<Prepared>> {
@@ -21,34 +42,64 @@ pub fn prepared(alloc: Global, texts: &[&str]) -> Queried<Vec<Prepared>> {
     Ok(table)
 }
 
-/// How often a query of the table selects something in a message.
+/// What asks them of one message after another.
+fn runners(alloc: Global, table: &[Prepared]) -> Result<Vec<Runner<'_>>, AllocError> {
+    let mut runners = Vec::new(alloc);
+    for query in table {
+        runners.push(query.runner(alloc))?;
+    }
+    Ok(runners)
+}
+
+/// Asks the table of each message.
 pub fn routed(
     rt: &(impl Clock + AllocGlobal),
     table: &[Prepared],
     messages: &[Value],
-) -> io::Result<Round> {
-    let mut round = Round {
+) -> io::Result<Journeys> {
+    let mut runners = runners(rt.alloc(), table)?;
+    let mut round = Journeys {
         selected: 0,
-        lean: Duration::ZERO,
-        full: Duration::ZERO,
+        runners: Duration::ZERO,
+        prepared: Duration::ZERO,
+        processed: Duration::ZERO,
     };
     for message in messages {
         if !message.is_whole() {
             return Err(ErrorKind::InvalidData.into());
         }
         let start = Instant::now(rt)?;
+        let run = run(rt.alloc(), &mut runners, message).map_err(refused)?;
+        round.runners = round.runners.saturating_add(start.elapsed(rt)?);
+        let start = Instant::now(rt)?;
         let found = found(rt.alloc(), table, message).map_err(refused)?;
-        round.lean = round.lean.saturating_add(start.elapsed(rt)?);
+        round.prepared = round.prepared.saturating_add(start.elapsed(rt)?);
         round.selected = round.selected.saturating_add(found);
         let start = Instant::now(rt)?;
         let nodes = processed(rt.alloc(), table, message).map_err(refused)?;
-        round.full = round.full.saturating_add(start.elapsed(rt)?);
+        round.processed = round.processed.saturating_add(start.elapsed(rt)?);
         drop(nodes);
+        if run != found {
+            return Err(ErrorKind::InvalidData.into());
+        }
     }
     Ok(round)
 }
 
-/// How many of the queries select something.
+/// How many of the queries select something, by runners.
+fn run(alloc: Global, runners: &mut Vec<Runner<'_>>, message: &Value) -> Queried<usize>
+    requires { IsTrue (value_is_whole message.now) }
+{
+    let mut count = 0usize;
+    for runner in runners.iter_mut() {
+        if runner.has_node(alloc, message)? {
+            count = count.saturating_add(1);
+        }
+    }
+    Ok(count)
+}
+
+/// The same, by the prepared queries.
 fn found(alloc: Global, table: &[Prepared], message: &Value) -> Queried<usize>
     requires { IsTrue (value_is_whole message.now) }
 {

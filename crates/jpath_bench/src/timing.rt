@@ -11,7 +11,7 @@ use std::io;
 use std::io::ErrorKind;
 use std::time::{Clock, Duration, Instant};
 
-/// How much was selected, and how long it took in two ways: values alone and with paths, or prepared and by `js_path_process`.
+/// How much was selected, and how long it took by values alone and with paths.
 #[derive(Clone, Copy)]
 pub struct Round {
     pub selected: usize,
