@@ -1,11 +1,15 @@
 //! Asks a JSONPath query of the JSON on standard input.
 #![tactic(auto)]
 
+mod fault;
+mod output;
+mod run;
 #[cfg(test)]
 mod tests;
+mod words;
 
-use jpath_program::fault::Fault;
-use jpath_program::run::run;
+use crate::fault::Fault;
+use crate::run::run;
 use std::env::{Env, FillError};
 use std::io::ErrorKind;
 use std::process::ExitCode;

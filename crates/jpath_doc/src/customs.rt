@@ -2,7 +2,7 @@
 ghost use Rattle.std.specs.Prelude.{◌≡◌, All, IsTrue, map};
 ghost use Rattle.std.specs.List.{list_all};
 ghost use Rattle.jsonpath_base.specs.Same.{same};
-ghost use Rattle.jsonpath_node.specs.Args.{arg_value};
+ghost use Rattle.jsonpath_rust.specs.documents.Args.{arg_value};
 ghost use Rattle.jpath_doc.specs.DocTree.{doc_tree, doc_is_whole, all_same};
 
 use crate::Doc;

@@ -1,7 +1,7 @@
 //! A `Doc` as a document.
 ghost use Rattle.std.specs.Prelude.{◌≡◌, All, IfOk, IfErr, IsTrue, Some, map};
 ghost use Rattle.jsonpath_base.specs.Tree.{as_list};
-ghost use Rattle.jsonpath_core.specs.declared.errors.JsonPathError.TheVariants.{OutOfMemory};
+ghost use Rattle.jsonpath_parser.specs.declared.errors.JsonPathError.TheVariants.{OutOfMemory};
 ghost use Rattle.jpath_doc.specs.DocTree.{doc_tree, doc_is_whole, doc_custom};
 
 use crate::{Doc, copies, customs, kinds, sameness, walks};

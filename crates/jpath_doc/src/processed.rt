@@ -5,7 +5,7 @@ use crate::document::are_equal;
 use jsonpath_rust::query::queryable::Queryable;
 use jsonpath_rust::query::state::{Data, Pointer, State};
 use jsonpath_rust::query::{Queried, Query, QueryRef};
-use jsonpath_tree::model::JpQuery;
+use jsonpath_parser::model::JpQuery;
 use std::alloc::Global;
 use std::slice;
 

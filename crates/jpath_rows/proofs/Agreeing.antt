@@ -1,10 +1,10 @@
 -- Lists of what is shown of the same nodes.
 use Rattle.std.proofs.Common.{◌≡◌, ℕ, List, [], ◌∷◌, map, refl, sym, ap₂, ◌∙◌}
 use Rattle.std.specs.List.{AllZip}
-use Rattle.jsonpath_core.specs.Location.{Location}
+use Rattle.jsonpath_parser.specs.Location.{Location}
 use Rattle.jsonpath_base.specs.Tree.{Tree}
-use Rattle.jsonpath_node.specs.Document.{Document}
-use Rattle.jsonpath_node.specs.Answer.{IsNodeAt, IsPathAt, IsValueAt}
+use Rattle.jsonpath_rust.specs.documents.Document.{Document}
+use Rattle.jsonpath_rust.specs.documents.Answer.{IsNodeAt, IsPathAt, IsValueAt}
 
 -- a list is read off another one, where at each place of a third what is in it is read off what is in the other
 alike : {A B C : Type 0} (P : A → B → Type 0) (Q : A → C → Type 0) (f : C → B) → ((x : A) (y : B) (z : C) → P x y → Q x z → y ≡ f z)

@@ -1,7 +1,7 @@
 //! Whether each call that asks a query answers the same nodes.
 ghost use Rattle.std.specs.Prelude.{◌≡◌, map, IsTrue, IfOk};
 ghost use Rattle.jsonpath_base.specs.Values.{value_is_whole};
-ghost use Rattle.jsonpath_node.specs.Answer.{shown, paths_of};
+ghost use Rattle.jsonpath_rust.specs.documents.Answer.{shown, paths_of};
 
 use jpath_doc::document::are_equal;
 use jpath_doc::processed::is_by_process;

@@ -1,6 +1,6 @@
 //! Rows on the calls of a document type: `equal`, `extension_custom`.
 ghost use Rattle.std.specs.Prelude.{All, IsTrue};
-ghost use Rattle.jsonpath_node.specs.Args.{arg_value};
+ghost use Rattle.jsonpath_rust.specs.documents.Args.{arg_value};
 
 use jpath_doc::Doc;
 use jpath_doc::document::{Document, is_value};

@@ -1,6 +1,6 @@
 //! Rows on `process`: a part of a query, which is read or made of a text, and what it answers on a state.
 ghost use Rattle.std.specs.Prelude.{IsTrue, IfSome};
-ghost use Rattle.jsonpath_state.specs.State.{DataIsWhole};
+ghost use Rattle.jsonpath_rust.specs.states.State.{DataIsWhole};
 
 mod picks;
 mod untyped;

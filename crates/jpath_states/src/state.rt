@@ -1,6 +1,6 @@
 //! What states hold, as rows write it: `"nothing"`, `{"value": V}`, `{"ref": [PATH, V]}`, or `{"refs": [[PATH, V], ..]}`.
 ghost use Rattle.std.specs.Prelude.{IsTrue, IfSome};
-ghost use Rattle.jsonpath_state.specs.State.{DataIsWhole, PointersAreWhole};
+ghost use Rattle.jsonpath_rust.specs.states.State.{DataIsWhole, PointersAreWhole};
 
 use jpath_doc::document::{Document, are_equal, is_value};
 use jpath_row::Memory;

@@ -1,7 +1,7 @@
 //! Rows on the calls of states, of what they hold and of pointers: a call, the contents and the argument that it is asked of,
 //! in a document, and what it answers.
 ghost use Rattle.std.specs.Prelude.{IsTrue, IfSome};
-ghost use Rattle.jsonpath_state.specs.State.{DataIsWhole};
+ghost use Rattle.jsonpath_rust.specs.states.State.{DataIsWhole};
 
 mod pointers;
 

@@ -6,7 +6,7 @@ use Rattle.serde_json.specs.Data as json
 use Rattle.serde_json.specs.Find as json_find
 use Rattle.serde_json.specs.View.{view, items_view, members_view}
 use Rattle.serde_json.specs.declared.value.Value.{Value}
-use Rattle.jsonpath_core.specs.Location.{name, index, Location}
+use Rattle.jsonpath_parser.specs.Location.{name, index, Location}
 use Rattle.jsonpath_base.specs.Places.{at, child}
 use Rattle.jsonpath_base.specs.Steps.{location_view}
 use Rattle.jsonpath_base.specs.Tree.{Tree, null}
@@ -72,7 +72,7 @@ rest_all steps k e = ap (rest steps) e ∙ rest_from steps steps 0 (λ i. (let n
 
 -- ---- what is there
 
-at_child : (l : Location) (s : Rattle.jsonpath_core.specs.Location.Step) (t u : Tree) → child s t ≡ Some u → at (s ∷ l) t ≡ at l u
+at_child : (l : Location) (s : Rattle.jsonpath_parser.specs.Location.Step) (t u : Tree) → child s t ≡ Some u → at (s ∷ l) t ≡ at l u
 at_child l s t u e = rw e
 
 pub list_there : (value : Value) (i : ℕ) (l : Location) → IsSome (at (index i ∷ l) (value_tree value)) → IsSome (json_find.as_array (view value))

@@ -11,7 +11,7 @@ use Rattle.std.specs.List.{AllByRecursion}
 use Rattle.std.specs.List.Sorted.{IsStrictlySortedBy}
 use Rattle.std.specs.Map.{lookup, set_value, keys_of}
 use Rattle.std.specs.Ordering.{match_ordering}
-use Rattle.jsonpath_core.specs.Location.{Step, name, index, Location}
+use Rattle.jsonpath_parser.specs.Location.{Step, name, index, Location}
 use Rattle.jsonpath_base.specs.Without.{is_step, is_location}
 use Rattle.jsonpath_base.specs.inner.Marks.{key_view, is_key, in_set, marked, marked_by, marked_below, HasAlso, total, marks_count}
 use Rattle.jsonpath_base.specs.contracts.marks.KeyOrd.TheImpl as key_order

@@ -2,7 +2,7 @@
 use Rattle.std.proofs.Common.{◌≡◌, ℕ, zero, suc, List, [], ◌∷◌, ◌++◌, ◌⊎◌, inl, inr, Bool, true, false, cond, Option, Some, None, option_map, option_and_then, refl, sym, ap, ◌∙◌}
 use Rattle.std.proofs.lemmas.Slice.Eq.{bytes_eq-Decides}
 use Rattle.std.specs.Str.{bytes_eq}
-use Rattle.jsonpath_core.specs.Location.{Step, name, index, Location, Begins}
+use Rattle.jsonpath_parser.specs.Location.{Step, name, index, Location, Begins}
 use Rattle.jsonpath_base.specs.Places.{child, item_at, at}
 use Rattle.jsonpath_base.specs.Put.{with_element, with_member, with_child, put, PutLeavesTheRest, PutIsThere, PutIsSeenAbove}
 use Rattle.jsonpath_base.specs.Tree.{Tree, null, truth, number, text, list, object, Trees, no_trees, tree, Members, no_members, member, find, pairs}

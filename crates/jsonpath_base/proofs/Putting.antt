@@ -10,7 +10,7 @@ use Rattle.serde_json.specs.Find as json_find
 use Rattle.serde_json.specs.View.{view, items_view, members_view}
 use Rattle.serde_json.specs.declared.value.Value.{Value, Array, Object}
 use Rattle.serde_json.proofs.Views.{Entry, view-Array, view-Object}
-use Rattle.jsonpath_core.specs.Location.{Step, name, index, Location}
+use Rattle.jsonpath_parser.specs.Location.{Step, name, index, Location}
 use Rattle.jsonpath_base.specs.Places.{child, item_at, at}
 use Rattle.jsonpath_base.specs.Put.{with_element, with_member, with_child, put}
 use Rattle.jsonpath_base.specs.Tree.{Tree, tree, member, list, object, find, pairs}

@@ -7,7 +7,7 @@ use Rattle.serde_json.specs.Data.{Data, Items}
 use Rattle.serde_json.specs.Find.{as_i64}
 use Rattle.serde_json.specs.View.{view}
 use Rattle.serde_json.specs.declared.value.Value.{Null, the_lemmas}
-use Rattle.jsonpath_core.specs.Location.{name, index, Location}
+use Rattle.jsonpath_parser.specs.Location.{name, index, Location}
 use Rattle.jsonpath_base.specs.Tree.{Tree, list, object, Trees, no_trees, tree, Members, no_members, member, pairs, are_distinct, has_distinct_names, trees_distinct, members_distinct}
 use Rattle.jsonpath_base.specs.Values.{value_tree, tree_of, tree_of_number, trees_of, members_of, has_whole_numbers, items_whole, members_whole}
 use Rattle.jsonpath_base.specs.Without as without

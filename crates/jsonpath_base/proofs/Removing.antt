@@ -14,7 +14,7 @@ use Rattle.serde_json.specs.Find.{as_array, as_object}
 use Rattle.serde_json.specs.View.{view, items_view, members_view}
 use Rattle.serde_json.specs.declared.value.Value.{Value}
 use Rattle.serde_json.proofs.Views.{Entry}
-use Rattle.jsonpath_core.specs.Location.{Step, name, index, Location}
+use Rattle.jsonpath_parser.specs.Location.{Step, name, index, Location}
 use Rattle.jsonpath_base.specs.inner.Marks.{is_key, key_view, marked, marked_below, HoldsNone}
 use Rattle.jsonpath_base.specs.inner.Thinning.{data_thinned, items_thinned, members_thinned, thinned_by, thinned_below, sieved}
 use Rattle.jsonpath_base.proofs.Marking.{same_step, HoldsNoneBelow}

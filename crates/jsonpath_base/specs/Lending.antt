@@ -4,7 +4,7 @@ use Rattle.std.specs.Option.{OnSome}
 use Rattle.std.specs.Borrow.{LendsSo, MutBor, Fml}
 use Rattle.serde_json.specs.contracts.value.Value.{the_row}
 use Rattle.serde_json.specs.declared.value.Value.{Value}
-use Rattle.jsonpath_core.specs.Location.{Location}
+use Rattle.jsonpath_parser.specs.Location.{Location}
 use Rattle.jsonpath_base.specs.Put.{put}
 use Rattle.jsonpath_base.specs.Values.{value_tree}
 

@@ -14,8 +14,8 @@ pub mod SliceSteps
 pub mod Texts
 pub mod inner
 -- What the public contracts of this crate cite of the crates below it, so that a caller names it here and lists this crate alone.
-pub use Rattle.jsonpath_core.specs.Errors
-pub use Rattle.jsonpath_core.specs.Equality
-pub use Rattle.jsonpath_core.specs.Location
-pub use Rattle.jsonpath_core.specs.Normal
-pub use Rattle.jsonpath_core.specs.declared.errors.JsonPathError
+pub use Rattle.jsonpath_parser.specs.Errors
+pub use Rattle.jsonpath_parser.specs.Equality
+pub use Rattle.jsonpath_parser.specs.Location
+pub use Rattle.jsonpath_parser.specs.Normal
+pub use Rattle.jsonpath_parser.specs.declared.errors.JsonPathError

@@ -2,8 +2,8 @@
 use Rattle.std.specs.Prelude.{ℕ, Bool, true, false, not, ◌&&◌, ◌==◌, nat_le, List, [], ◌∷◌, ◌++◌, Option, None, Some, IsSome, is_some, option_and_then, codes, chars, ⊤, if◌then◌else◌}
 use Rattle.regex.specs.Patterns.{Re, find_str, default_config}
 use Rattle.regex_syntax.specs.Grammar.{read}
-use Rattle.jsonpath_core.specs.declared.errors.JsonPathError.{JsonPathError}
-use Rattle.jsonpath_core.specs.declared.errors.JsonPathError.TheVariants.{OutOfMemory, InvalidJsonPath}
+use Rattle.jsonpath_parser.specs.declared.errors.JsonPathError.{JsonPathError}
+use Rattle.jsonpath_parser.specs.declared.errors.JsonPathError.TheVariants.{OutOfMemory, InvalidJsonPath}
 use Rattle.jsonpath_base.specs.declared.pattern.Extent.{Extent}
 use Rattle.jsonpath_base.specs.declared.pattern.Extent.TheVariants.{Entire, Substring}
 

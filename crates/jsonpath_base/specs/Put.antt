@@ -1,7 +1,7 @@
 -- A tree with another tree at a location (RFC 9535, 1.1).
 use Rattle.std.specs.Prelude.{◌≡◌, ℕ, zero, suc, List, [], ◌∷◌, ◌++◌, if◌then◌else◌, option_map, option_and_then}
 use Rattle.std.specs.Str.{bytes_eq}
-use Rattle.jsonpath_core.specs.Location.{Step, name, index, Location, Begins}
+use Rattle.jsonpath_parser.specs.Location.{Step, name, index, Location, Begins}
 use Rattle.jsonpath_base.specs.Places.{at}
 use Rattle.jsonpath_base.specs.Tree.{Tree, list, object, Trees, no_trees, tree, Members, no_members, member}
 

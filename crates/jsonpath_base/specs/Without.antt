@@ -2,7 +2,7 @@
 use Rattle.std.specs.Prelude.{ℕ, suc, List, [], ◌∷◌, Bool, true, false, ◌&&◌, nat_eq, if◌then◌else◌}
 use Rattle.std.specs.Str.{bytes_eq}
 use Rattle.std.specs.List.{list_any}
-use Rattle.jsonpath_core.specs.Location.{Step, name, index, Location}
+use Rattle.jsonpath_parser.specs.Location.{Step, name, index, Location}
 use Rattle.jsonpath_base.specs.Tree.{Tree, null, truth, number, text, list, object, Trees, no_trees, tree, Members, no_members, member}
 
 -- ---- sets of locations

@@ -1,6 +1,6 @@
 //! Sets of locations.
 ghost use Rattle.std.specs.Prelude.{◌≡◌, IfOk, OnOk, not, ◌∷◌, [], false};
-ghost use Rattle.jsonpath_core.specs.Location.{Location};
+ghost use Rattle.jsonpath_parser.specs.Location.{Location};
 ghost use Rattle.jsonpath_base.specs.Steps.{step_view, location_view};
 ghost use Rattle.jsonpath_base.specs.inner.Marks.{key_view, marked, marked_below, HasAlso};
 

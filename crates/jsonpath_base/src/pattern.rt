@@ -4,7 +4,7 @@ ghost use Rattle.regex.specs.Patterns.{Re};
 ghost use Rattle.jsonpath_base.specs.Pattern.{translated, reading, wrapped, is_entire, sought, pattern_sought, found, IsPatternRefusal};
 ghost use Rattle.jsonpath_base.specs.inner.PatternParts.{written, inside_after, escaped_after, FindsSame, MatchesSame};
 
-use jsonpath_core::errors::{JsonPathError, Parsed};
+use jsonpath_parser::errors::{JsonPathError, Parsed};
 use regex::{Error, Matcher, Regex};
 use regex_syntax::{Config, ErrorKind, parse};
 use std::alloc::{AllocError, Global};

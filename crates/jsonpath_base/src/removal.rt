@@ -11,7 +11,7 @@ ghost use Rattle.jsonpath_base.specs.declared.marks.Key.TheVariants.{Index};
 
 use crate::marks::{Key, Marks, mark};
 use crate::step::Step;
-use jsonpath_core::errors::{JsonPathError, Parsed};
+use jsonpath_parser::errors::{JsonPathError, Parsed};
 use serde_json::{Map, Value};
 use std::alloc::Global;
 use std::collections::BTreeMap;

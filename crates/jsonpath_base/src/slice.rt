@@ -6,7 +6,7 @@ ghost use Rattle.jsonpath_base.specs.Slice.{slice_of, clamped, normalized};
 ghost use Rattle.jsonpath_base.specs.SliceSteps.{places_left};
 ghost use Rattle.jsonpath_base.specs.inner.Picked.{picked_of};
 
-use jsonpath_core::errors::{JsonPathError, Parsed};
+use jsonpath_parser::errors::{JsonPathError, Parsed};
 use std::alloc::Global;
 
 /// The places that a slice picks, one after another, from [`slice_places`]. It needs no memory, and each step takes constant time.

@@ -1,12 +1,12 @@
 //! Calls of functions, and their arguments (RFC 9535, 2.4).
 ghost use Rattle.std.specs.Prelude.{◌≡◌, IfOk, IfErr};
-ghost use Rattle.jsonpath_tree.specs.Making.{Makes, typed_call_of};
-ghost use Rattle.jsonpath_tree.specs.Syntax as tree;
-ghost use Rattle.jsonpath_tree.specs.View.{literal_view, argument_view, call_view, filter_view, test_view};
-ghost use Rattle.jsonpath_core.specs.declared.errors.JsonPathError.TheVariants.{OutOfMemory};
+ghost use Rattle.jsonpath_parser.specs.tree.Making.{Makes, typed_call_of};
+ghost use Rattle.jsonpath_parser.specs.tree.Syntax as tree;
+ghost use Rattle.jsonpath_parser.specs.tree.View.{literal_view, argument_view, call_view, filter_view, test_view};
+ghost use Rattle.jsonpath_parser.specs.declared.errors.JsonPathError.TheVariants.{OutOfMemory};
 
-use jsonpath_core::errors::Parsed;
-use jsonpath_tree::model::{Filter, FnArg, Literal, Test, TestFunction};
+use jsonpath_parser::errors::Parsed;
+use jsonpath_parser::model::{Filter, FnArg, Literal, Test, TestFunction};
 use std::alloc::Global;
 
 /// The call of the function of this name with one argument.

@@ -1,11 +1,11 @@
 //! Comparisons and their sides (RFC 9535, 2.3.5.1).
 ghost use Rattle.std.specs.Prelude.{◌≡◌, IsOk, IsSome};
-ghost use Rattle.jsonpath_tree.specs.Making.{Makes, comparison_of, operator_of};
-ghost use Rattle.jsonpath_tree.specs.Syntax as tree;
-ghost use Rattle.jsonpath_tree.specs.View.{call_view, comparable_view, comparison_view, literal_view, singular_view};
+ghost use Rattle.jsonpath_parser.specs.tree.Making.{Makes, comparison_of, operator_of};
+ghost use Rattle.jsonpath_parser.specs.tree.Syntax as tree;
+ghost use Rattle.jsonpath_parser.specs.tree.View.{call_view, comparable_view, comparison_view, literal_view, singular_view};
 
-use jsonpath_core::errors::Parsed;
-use jsonpath_tree::model::{Comparable, Comparison, Literal, SingularQuery, TestFunction};
+use jsonpath_parser::errors::Parsed;
+use jsonpath_parser::model::{Comparable, Comparison, Literal, SingularQuery, TestFunction};
 use std::alloc::Global;
 
 /// The comparison of left and right by this operator: `==`, `!=`, `>`, `>=`, `<` or `<=`.

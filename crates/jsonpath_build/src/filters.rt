@@ -1,13 +1,15 @@
 //! Logical expressions, and what they ask (RFC 9535, 2.3.5.1).
 ghost use Rattle.std.specs.Prelude.{◌≡◌, true, false, IfOk, IfErr, option_map};
-ghost use Rattle.jsonpath_tree.specs.Making.{Makes, comparison_of};
-ghost use Rattle.jsonpath_tree.specs.Syntax as tree;
-ghost use Rattle.jsonpath_tree.specs.View.{atom_view, call_view, comparable_view, filter_view, filters_view, query_view, segments_view, test_view};
-ghost use Rattle.jsonpath_core.specs.declared.errors.JsonPathError.TheVariants.{OutOfMemory};
+ghost use Rattle.jsonpath_parser.specs.tree.Making.{Makes, comparison_of};
+ghost use Rattle.jsonpath_parser.specs.tree.Syntax as tree;
+ghost use Rattle.jsonpath_parser.specs.tree.View.{atom_view, call_view, comparable_view, filter_view, filters_view, query_view, segments_view, test_view};
+ghost use Rattle.jsonpath_parser.specs.declared.errors.JsonPathError.TheVariants.{OutOfMemory};
 
 use crate::comparisons::cmp;
-use jsonpath_core::errors::Parsed;
-use jsonpath_tree::model::{Comparable, Filter, FilterAtom, JpQuery, Segment, Test, TestFunction};
+use jsonpath_parser::errors::Parsed;
+use jsonpath_parser::model::{
+    Comparable, Filter, FilterAtom, JpQuery, Segment, Test, TestFunction,
+};
 use std::alloc::Global;
 
 /// The test of `@` and these segments.

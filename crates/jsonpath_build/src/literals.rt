@@ -1,11 +1,11 @@
 //! Literals (RFC 9535, 2.3.5.1).
 ghost use Rattle.std.specs.Prelude.{◌≡◌, Some, IfOk, IfErr};
-ghost use Rattle.jsonpath_tree.specs.Syntax as tree;
-ghost use Rattle.jsonpath_tree.specs.View.{literal_view};
-ghost use Rattle.jsonpath_core.specs.declared.errors.JsonPathError.TheVariants.{OutOfMemory};
+ghost use Rattle.jsonpath_parser.specs.tree.Syntax as tree;
+ghost use Rattle.jsonpath_parser.specs.tree.View.{literal_view};
+ghost use Rattle.jsonpath_parser.specs.declared.errors.JsonPathError.TheVariants.{OutOfMemory};
 
-use jsonpath_core::errors::Parsed;
-use jsonpath_tree::model::Literal;
+use jsonpath_parser::errors::Parsed;
+use jsonpath_parser::model::Literal;
 use std::alloc::Global;
 
 /// The literal `null`.

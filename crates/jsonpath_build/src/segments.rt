@@ -1,12 +1,12 @@
 //! Selectors, segments and the query (RFC 9535, 2.1 to 2.5).
 ghost use Rattle.std.specs.Prelude.{◌≡◌, IfOk, IfErr};
-ghost use Rattle.jsonpath_tree.specs.Syntax as tree;
-ghost use Rattle.jsonpath_tree.specs.View.{filter_view, query_view, segment_view, segments_view, selector_view, selectors_view};
-ghost use Rattle.jsonpath_core.specs.declared.errors.JsonPathError.TheVariants.{OutOfMemory};
+ghost use Rattle.jsonpath_parser.specs.tree.Syntax as tree;
+ghost use Rattle.jsonpath_parser.specs.tree.View.{filter_view, query_view, segment_view, segments_view, selector_view, selectors_view};
+ghost use Rattle.jsonpath_parser.specs.declared.errors.JsonPathError.TheVariants.{OutOfMemory};
 
 use crate::slices::SliceParts;
-use jsonpath_core::errors::Parsed;
-use jsonpath_tree::model::{Filter, JpQuery, Segment, Selector, slice_from};
+use jsonpath_parser::errors::Parsed;
+use jsonpath_parser::model::{Filter, JpQuery, Segment, Selector, slice_from};
 use std::alloc::Global;
 
 /// The selector `*`.

@@ -1,11 +1,11 @@
 //! Queries of at most one node, and their steps (RFC 9535, 2.3.5.1).
 ghost use Rattle.std.specs.Prelude.{◌≡◌, [], ◌∷◌, map, IfOk, IfErr};
-ghost use Rattle.jsonpath_tree.specs.Syntax as tree;
-ghost use Rattle.jsonpath_tree.specs.View.{step_view, singular_view};
-ghost use Rattle.jsonpath_core.specs.declared.errors.JsonPathError.TheVariants.{OutOfMemory};
+ghost use Rattle.jsonpath_parser.specs.tree.Syntax as tree;
+ghost use Rattle.jsonpath_parser.specs.tree.View.{step_view, singular_view};
+ghost use Rattle.jsonpath_parser.specs.declared.errors.JsonPathError.TheVariants.{OutOfMemory};
 
-use jsonpath_core::errors::Parsed;
-use jsonpath_tree::model::{SingularQuery, SingularQuerySegment};
+use jsonpath_parser::errors::Parsed;
+use jsonpath_parser::model::{SingularQuery, SingularQuerySegment};
 use std::alloc::Global;
 
 /// The step to the member of this name.

@@ -2,11 +2,11 @@
 use Rattle.std.proofs.Common.{◌≡◌, ℕ, suc, ◌+◌, ◌-◌, ◌<◌, ◌≤◌, Bool, true, false, ◌==◌, ℤ, List, [], ◌∷◌, ◌++◌, length, drop, codes, Option, Some, refl, ap, ◌∙◌, append_assoc, length-append, arith}
 use Rattle.std.proofs.lemmas.Bool.Decides.{nat_tests}
 use Rattle.jsonpath_parser.specs.Grammar.{Between, IsNoBareTest, SpellsLogical, SpellsConjunction, SpellsMoreOr, SpellsMoreAnd, SpellsBasic, SpellsComparison, SpellsTest, SpellsArgument}
-use Rattle.jsonpath_lexical.specs.Lexical.{is_blank}
-use Rattle.jsonpath_lexical.specs.inner.Reading.{Read, first, skip_blank}
+use Rattle.jsonpath_parser.specs.words.Lexical.{is_blank}
+use Rattle.jsonpath_parser.specs.words.inner.Reading.{Read, first, skip_blank}
 use Rattle.jsonpath_parser.specs.inner.ReadingGrammar.{is_int_first, operand_behind, comparable_of, filter_of, is_operator_first, is_twice, operator_at, logical_at, operand_at, group_at, negated_at, compared_at, plain_at, basic_at, ands_at, conjunction_at, ors_at, disjunction_at}
-use Rattle.jsonpath_tree.specs.Syntax.{Operator, Filter, or, and, atom, Filters, no_filters, filter_then, Atom, group, test, comparison, Comparison, compare, Comparable, Test, Argument, literal_argument, test_argument, filter_argument}
-use Rattle.jsonpath_lexical.proofs.Fronts.{skip_over}
+use Rattle.jsonpath_parser.specs.tree.Syntax.{Operator, Filter, or, and, atom, Filters, no_filters, filter_then, Atom, group, test, comparison, Comparison, compare, Comparable, Test, Argument, literal_argument, test_argument, filter_argument}
+use Rattle.jsonpath_parser.proofs.laws.words.Fronts.{skip_over}
 use Rattle.jsonpath_parser.proofs.Turns.{many_end, many_read, operand_read}
 use Rattle.jsonpath_parser.proofs.NumberComplete.{EndsNumber}
 use Rattle.jsonpath_parser.proofs.CompleteParts.{ends_logical, ends_conjunction, ends_basic, ends_operand, EndsLogical, EndsConjunction, EndsBasic, EndsOperand, logical_ends, conjunction_ends, basic_ends, follows, front_other}

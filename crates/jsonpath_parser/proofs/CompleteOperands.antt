@@ -2,16 +2,16 @@
 use Rattle.std.proofs.Common.{◌≡◌, ℕ, suc, ◌+◌, ◌-◌, ◌<◌, ◌≤◌, true, false, ◌==◌, ℤ, List, [], ◌∷◌, ◌++◌, length, codes, Option, Some, refl, sym, ap, ◌∙◌, inl, inr, append_assoc, append-nil, length-append, arith}
 use Rattle.std.proofs.lemmas.Bool.Decides.{nat_tests}
 use Rattle.jsonpath_parser.specs.Grammar.{SpellsSingularStep, SpellsSingularSteps, SpellsCalled, SpellsLiteral, SpellsSegment, SpellsSegments, SpellsComparable, SpellsTest, SpellsCall, SpellsArgument, SpellsArguments, SpellsMoreArguments}
-use Rattle.jsonpath_lexical.specs.Lexical.{is_function_first, IsBlank, IsFunctionName, is_quote}
-use Rattle.jsonpath_lexical.specs.inner.Reading.{Read, first, skip_blank}
+use Rattle.jsonpath_parser.specs.words.Lexical.{is_function_first, IsBlank, IsFunctionName, is_quote}
+use Rattle.jsonpath_parser.specs.words.inner.Reading.{Read, first, skip_blank}
 use Rattle.jsonpath_parser.specs.inner.ReadingGrammar.{is_int_first, steps_of, comparable_of, word_at, word_literal, all_segments_at, arguments_at, all_arguments_at, called_at, word_operand_at, operand_at}
-use Rattle.jsonpath_lexical.specs.inner.ReadingStrings.{string_at}
-use Rattle.jsonpath_tree.specs.Syntax.{Literal, number, string, bool, null, SingularStep, name_step, index_step, current, root, name, index, Segment, one, Segments, no_segments, segment, Comparable, literal, function, singular, Test, relative, absolute, call, Call, custom_call, length_call, value_call, count_call, search_call, match_call, Argument, literal_argument, test_argument, Arguments, no_arguments, argument}
-use Rattle.jsonpath_tree.specs.Typing.{call_of}
-use Rattle.jsonpath_lexical.proofs.Fronts.{skip_over}
+use Rattle.jsonpath_parser.specs.words.inner.ReadingStrings.{string_at}
+use Rattle.jsonpath_parser.specs.tree.Syntax.{Literal, number, string, bool, null, SingularStep, name_step, index_step, current, root, name, index, Segment, one, Segments, no_segments, segment, Comparable, literal, function, singular, Test, relative, absolute, call, Call, custom_call, length_call, value_call, count_call, search_call, match_call, Argument, literal_argument, test_argument, Arguments, no_arguments, argument}
+use Rattle.jsonpath_parser.specs.tree.Typing.{call_of}
+use Rattle.jsonpath_parser.proofs.laws.words.Fronts.{skip_over}
 use Rattle.jsonpath_parser.proofs.Turns.{separated_end, separated_read}
 use Rattle.jsonpath_parser.proofs.NumberComplete.{EndsNumber}
-use Rattle.jsonpath_lexical.proofs.StringComplete.{complete_string}
+use Rattle.jsonpath_parser.proofs.laws.words.StringComplete.{complete_string}
 use Rattle.jsonpath_parser.proofs.CompleteParts.{EndsLogical, EndsOperand, EndsSegments, stops, ends_segments, skip_more, follows}
 use Rattle.jsonpath_parser.proofs.CompleteStarts.{basic_other, call_start, argument_start}
 use Rattle.jsonpath_parser.proofs.CompleteWords.{word_over, word_start, string_start, custom_of}

@@ -6,11 +6,11 @@ use Rattle.std.specs.List.{prefix_len}
 use Rattle.std.specs.Str.Parse.{digits_value}
 use Rattle.std.specs.Char.{is_ascii_digit}
 use Rattle.jsonpath_parser.specs.Grammar.{SpellsPositive, SpellsInt, IsInRange, SpellsShorthand}
-use Rattle.jsonpath_lexical.specs.Lexical.{is_blank, is_name_first, is_name_byte, is_function_byte, IsRun, IsBlank, IsName}
-use Rattle.jsonpath_lexical.specs.inner.Reading.{first, skip_blank, split_while, is_magnitude, magnitude_at, int_at, name_at}
+use Rattle.jsonpath_parser.specs.words.Lexical.{is_blank, is_name_first, is_name_byte, is_function_byte, IsRun, IsBlank, IsName}
+use Rattle.jsonpath_parser.specs.words.inner.Reading.{first, skip_blank, split_while, is_magnitude, magnitude_at, int_at, name_at}
 use Rattle.jsonpath_parser.specs.inner.ReadingGrammar.{is_int_first, shorthand_at, starts_segment, is_operator_first}
-use Rattle.jsonpath_tree.specs.Syntax.{Selector, name, wildcard, index, slice, filter}
-use Rattle.jsonpath_lexical.proofs.Fronts.{run_over, skip_over, back, front}
+use Rattle.jsonpath_parser.specs.tree.Syntax.{Selector, name, wildcard, index, slice, filter}
+use Rattle.jsonpath_parser.proofs.laws.words.Fronts.{run_over, skip_over, back, front}
 use Rattle.jsonpath_parser.proofs.NumberComplete.{continues_number}
 
 -- ---- what may follow, after blanks

@@ -4,14 +4,14 @@
 use Rattle.std.proofs.Common.{◌≡◌, ℕ, suc, ◌+◌, ◌-◌, ◌<◌, ◌≤◌, true, false, ◌==◌, ℤ, List, [], ◌∷◌, ◌++◌, length, codes, Option, Some, refl, sym, ap, ◌∙◌, subst, inl, inr, append_assoc, length-append, arith}
 use Rattle.std.proofs.lemmas.Bool.Decides.{nat_tests}
 use Rattle.jsonpath_parser.specs.Grammar.{Between, IsSeveral, SpellsSelector, SpellsSelectors, SpellsMoreSelectors, SpellsSegment, SpellsSegments, SpellsLogical, SpellsArgument, SpellsTest}
-use Rattle.jsonpath_lexical.specs.Lexical.{is_name_byte, IsBlank, is_quote}
-use Rattle.jsonpath_lexical.specs.inner.Reading.{Read, first, skip_blank}
+use Rattle.jsonpath_parser.specs.words.Lexical.{is_name_byte, IsBlank, is_quote}
+use Rattle.jsonpath_parser.specs.words.inner.Reading.{Read, first, skip_blank}
 use Rattle.jsonpath_parser.specs.inner.ReadingGrammar.{is_int_first, selection_of, filter_of, starts_segment, numbered_at, shorthand_at, logical_at, selector_at, selectors_at, selection_at, descendant_at, segment_at, segments_at, all_segments_at}
-use Rattle.jsonpath_lexical.specs.inner.ReadingStrings.{string_at}
-use Rattle.jsonpath_tree.specs.Syntax.{Selector, name, wildcard, index, slice, filter, Selectors, no_selectors, selector, Segment, one, several, descendant, Segments, no_segments, segment, Filter, or, and, atom, group, test, comparison, Argument, test_argument, filter_argument}
-use Rattle.jsonpath_lexical.proofs.Fronts.{skip_over}
+use Rattle.jsonpath_parser.specs.words.inner.ReadingStrings.{string_at}
+use Rattle.jsonpath_parser.specs.tree.Syntax.{Selector, name, wildcard, index, slice, filter, Selectors, no_selectors, selector, Segment, one, several, descendant, Segments, no_segments, segment, Filter, or, and, atom, group, test, comparison, Argument, test_argument, filter_argument}
+use Rattle.jsonpath_parser.proofs.laws.words.Fronts.{skip_over}
 use Rattle.jsonpath_parser.proofs.Turns.{many_end, many_read, separated_end, separated_read}
-use Rattle.jsonpath_lexical.proofs.StringComplete.{complete_string}
+use Rattle.jsonpath_parser.proofs.laws.words.StringComplete.{complete_string}
 use Rattle.jsonpath_parser.proofs.CompleteParts.{EndsLogical, EndsSegments, follows, complete_shorthand, shorthand_start}
 use Rattle.jsonpath_parser.proofs.CompleteSlices.{Taken, starts_numbered, numbered_other, index_start, slice_start, complete_index, complete_slice}
 use Rattle.jsonpath_parser.proofs.CompleteStarts.{regroup, basic_other, segment_start, segment_some, name_ends, logical_start, selector_start}

@@ -5,11 +5,11 @@ use Rattle.std.specs.Char.{is_ascii_digit}
 use Rattle.std.proofs.Common.{◌≡◌, ℕ, Bool, true, false, ◌||◌, ◌==◌, ℤ, List, [], ◌∷◌, ◌++◌, Option, Some, None, refl, ap, ◌∙◌, inl, inr, append_assoc, arith}
 use Rattle.std.proofs.lemmas.Bool.Decides.{nat_tests}
 use Rattle.jsonpath_parser.specs.Grammar.{SpellsIndex, SpellsBound, SpellsStep, SpellsSlice}
-use Rattle.jsonpath_lexical.specs.Lexical.{is_blank, IsBlank, is_quote}
-use Rattle.jsonpath_lexical.specs.inner.Reading.{first, skip_blank, int_at}
+use Rattle.jsonpath_parser.specs.words.Lexical.{is_blank, IsBlank, is_quote}
+use Rattle.jsonpath_parser.specs.words.inner.Reading.{first, skip_blank, int_at}
 use Rattle.jsonpath_parser.specs.inner.ReadingGrammar.{is_int_first, end_at, step_at, slice_at, numbered_at}
-use Rattle.jsonpath_tree.specs.Syntax.{Selector, index, slice}
-use Rattle.jsonpath_lexical.proofs.Fronts.{skip_over}
+use Rattle.jsonpath_parser.specs.tree.Syntax.{Selector, index, slice}
+use Rattle.jsonpath_parser.proofs.laws.words.Fronts.{skip_over}
 use Rattle.jsonpath_parser.proofs.CompleteParts.{ends_logical, EndsLogical, logical_stops, skip_more, skip_again, front_other, int_start, int_over}
 
 -- a byte that begins an index or a slice

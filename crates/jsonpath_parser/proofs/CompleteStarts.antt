@@ -2,10 +2,10 @@
 use Rattle.std.proofs.Common.{◌≡◌, ℕ, ◌<◌, Bool, true, false, ◌||◌, ◌==◌, ℤ, List, ◌++◌, length, codes, Option, refl, inl, inr, append_assoc, arith}
 use Rattle.std.proofs.lemmas.Bool.Decides.{nat_tests}
 use Rattle.jsonpath_parser.specs.Grammar.{SpellsNot, SpellsLiteral, SpellsSelector, SpellsSegment, SpellsSegments, SpellsLogical, SpellsConjunction, SpellsOr, SpellsAnd, SpellsBasic, SpellsComparable, SpellsTest, SpellsCall, SpellsArgument}
-use Rattle.jsonpath_lexical.specs.Lexical.{is_blank, is_name_byte, is_function_first, is_quote}
-use Rattle.jsonpath_lexical.specs.inner.Reading.{first}
+use Rattle.jsonpath_parser.specs.words.Lexical.{is_blank, is_name_byte, is_function_first, is_quote}
+use Rattle.jsonpath_parser.specs.words.inner.Reading.{first}
 use Rattle.jsonpath_parser.specs.inner.ReadingGrammar.{is_int_first, starts_segment}
-use Rattle.jsonpath_tree.specs.Syntax.{Literal, number, string, bool, null, current, root, Selector, name, wildcard, index, slice, filter, Segment, one, several, descendant, Segments, no_segments, segment, Filter, or, and, atom, Filters, no_filters, filter_then, Atom, group, test, comparison, compare, Comparable, literal, function, singular, Test, relative, absolute, call, Call, custom_call, length_call, value_call, count_call, search_call, match_call, Argument, literal_argument, test_argument, filter_argument}
+use Rattle.jsonpath_parser.specs.tree.Syntax.{Literal, number, string, bool, null, current, root, Selector, name, wildcard, index, slice, filter, Segment, one, several, descendant, Segments, no_segments, segment, Filter, or, and, atom, Filters, no_filters, filter_then, Atom, group, test, comparison, compare, Comparable, literal, function, singular, Test, relative, absolute, call, Call, custom_call, length_call, value_call, count_call, search_call, match_call, Argument, literal_argument, test_argument, filter_argument}
 use Rattle.jsonpath_parser.proofs.CompleteParts.{front_other}
 use Rattle.jsonpath_parser.proofs.CompleteSlices.{numbered_other, index_start, slice_start}
 use Rattle.jsonpath_parser.proofs.CompleteWords.{word_start, string_start}

@@ -1,3 +1,7 @@
+pub mod Deciding
+pub mod ErrorEquality
+pub mod NormalLemmas
+pub mod laws
 pub mod Complete
 pub mod CompleteFilters
 pub mod CompleteOperands

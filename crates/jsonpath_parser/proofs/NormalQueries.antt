@@ -10,18 +10,18 @@ use Rattle.std.specs.Char.{digit_char, digit_value, is_ascii_digit}
 use Rattle.std.specs.Int.Digits.{digits_of, AllBelowBase, number_from_digits}
 use Rattle.std.specs.List.{concat}
 use Rattle.std.specs.Str.Parse.{digits_value}
-use Rattle.jsonpath_lexical.specs.Depth.{depth_from, next_place, opens, closes, outside, inside}
+use Rattle.jsonpath_parser.specs.words.Depth.{depth_from, next_place, opens, closes, outside, inside}
 use Rattle.jsonpath_parser.specs.Derives.{Derives}
 use Rattle.jsonpath_parser.specs.Grammar.{SpellsInt, SpellsPositive, SpellsSegment, SpellsSegments}
-use Rattle.jsonpath_lexical.specs.Lexical.{IsRun, is_quote}
-use Rattle.jsonpath_core.specs.Location.{Step, name, index, Location}
-use Rattle.jsonpath_core.specs.Normal.{name_char, name_chars, index_digits, step_text, steps_text, IsNormal}
-use Rattle.jsonpath_tree.specs.Steps.{step_segment, steps_query, HasIndexesInRange}
-use Rattle.jsonpath_lexical.specs.Strings as strings
-use Rattle.jsonpath_lexical.specs.Strings.{is_hex_digit, SpellsChar, SpellsChars, SpellsString}
-use Rattle.jsonpath_tree.specs.Typing.{Typed}
+use Rattle.jsonpath_parser.specs.words.Lexical.{IsRun, is_quote}
+use Rattle.jsonpath_parser.specs.Location.{Step, name, index, Location}
+use Rattle.jsonpath_parser.specs.Normal.{name_char, name_chars, index_digits, step_text, steps_text, IsNormal}
+use Rattle.jsonpath_parser.specs.tree.Steps.{step_segment, steps_query, HasIndexesInRange}
+use Rattle.jsonpath_parser.specs.words.Strings as strings
+use Rattle.jsonpath_parser.specs.words.Strings.{is_hex_digit, SpellsChar, SpellsChars, SpellsString}
+use Rattle.jsonpath_parser.specs.tree.Typing.{Typed}
 use Rattle.jsonpath_parser.specs.Values.{IsValued}
-use Rattle.jsonpath_core.proofs.NormalLemmas.{at_char, quoted, bracketed, nonzero, positive}
+use Rattle.jsonpath_parser.proofs.NormalLemmas.{at_char, quoted, bracketed, nonzero, positive}
 use Rattle.jsonpath_parser.proofs.SoundParts.{pos_range}
 
 -- ---- names

@@ -3,13 +3,13 @@ use Rattle.std.proofs.Common.{◌≡◌, ℕ, ◌≤◌, Bool, true, false, ◌|
 use Rattle.std.proofs.lemmas.Bool.Decides.{nat_tests}
 use Rattle.std.specs.Str.Parse.{digits_value}
 use Rattle.std.specs.Char.{is_ascii_digit}
-use Rattle.jsonpath_lexical.specs.Lexical.{IsRun}
-use Rattle.jsonpath_lexical.specs.Numbers.{Exponent, raised, lowered, is_exponent_mark, IsDigits, SpellsSign, IsWholePart, SpellsFraction, SpellsExponent, signed, SpellsNumber}
-use Rattle.jsonpath_lexical.specs.inner.Reading.{first, split_while}
-use Rattle.jsonpath_lexical.specs.inner.ReadingNumbers.{digits_at, sign_at, whole_part_at, fraction_at, signed_digits_at, exponent_at, scaled_value, number_at}
+use Rattle.jsonpath_parser.specs.words.Lexical.{IsRun}
+use Rattle.jsonpath_parser.specs.words.Numbers.{Exponent, raised, lowered, is_exponent_mark, IsDigits, SpellsSign, IsWholePart, SpellsFraction, SpellsExponent, signed, SpellsNumber}
+use Rattle.jsonpath_parser.specs.words.inner.Reading.{first, split_while}
+use Rattle.jsonpath_parser.specs.words.inner.ReadingNumbers.{digits_at, sign_at, whole_part_at, fraction_at, signed_digits_at, exponent_at, scaled_value, number_at}
 use Rattle.jsonpath_parser.specs.inner.ReadingGrammar.{is_int_first}
-use Rattle.jsonpath_lexical.proofs.Fronts.{run_over}
-use Rattle.jsonpath_lexical.proofs.NumberValues.{one_value, sound_value}
+use Rattle.jsonpath_parser.proofs.laws.words.Fronts.{run_over}
+use Rattle.jsonpath_parser.proofs.laws.words.NumberValues.{one_value, sound_value}
 
 -- a byte that may continue a number literal: a digit, `.`, `e` or `E`
 abbrev pub continues_number : ℕ → Bool

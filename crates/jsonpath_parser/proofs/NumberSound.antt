@@ -5,12 +5,12 @@ use Rattle.std.proofs.lemmas.Option.{cond_some}
 use Rattle.std.specs.List.{prefix_len}
 use Rattle.std.specs.Str.Parse.{digits_value}
 use Rattle.std.specs.Char.{is_ascii_digit}
-use Rattle.jsonpath_lexical.specs.Lexical.{IsRun}
-use Rattle.jsonpath_lexical.specs.Numbers.{Exponent, raised, lowered, is_exponent_mark, IsDigits, SpellsSign, IsWholePart, SpellsFraction, SpellsExponent, signed, IsValue, SpellsNumber}
-use Rattle.jsonpath_lexical.specs.inner.Reading.{first, split_while}
-use Rattle.jsonpath_lexical.specs.inner.ReadingNumbers.{digits_at, sign_at, whole_part_at, fraction_at, signed_digits_at, exponent_at, scaled_value, number_at}
-use Rattle.jsonpath_lexical.proofs.Fronts.{run_holds}
-use Rattle.jsonpath_lexical.proofs.NumberValues.{sound_value}
+use Rattle.jsonpath_parser.specs.words.Lexical.{IsRun}
+use Rattle.jsonpath_parser.specs.words.Numbers.{Exponent, raised, lowered, is_exponent_mark, IsDigits, SpellsSign, IsWholePart, SpellsFraction, SpellsExponent, signed, IsValue, SpellsNumber}
+use Rattle.jsonpath_parser.specs.words.inner.Reading.{first, split_while}
+use Rattle.jsonpath_parser.specs.words.inner.ReadingNumbers.{digits_at, sign_at, whole_part_at, fraction_at, signed_digits_at, exponent_at, scaled_value, number_at}
+use Rattle.jsonpath_parser.proofs.laws.words.Fronts.{run_holds}
+use Rattle.jsonpath_parser.proofs.laws.words.NumberValues.{sound_value}
 use Rattle.jsonpath_parser.proofs.SoundParts.{bind_ok, chosen, at_front}
 
 -- the parts of a pair in an option

@@ -2,13 +2,13 @@
 use Rattle.std.proofs.Common.{◌≡◌, ℕ, suc, ◌<◌, ◌≤◌, ◌==◌, Bool, true, false, ℤ, List, [], ◌∷◌, ◌++◌, length, codes, Option, Some, le_refl, refl, sym, ap, ◌∙◌, subst, inl, inr, append-nil, arith}
 use Rattle.std.proofs.lemmas.Option.{cond_some}
 use Rattle.jsonpath_parser.specs.Grammar.{Spells, SpellsArgument, SpellsSegments, SpellsSegment, SpellsSelector, SpellsSelectors, SpellsLogical, SpellsConjunction, SpellsOperand, SpellsBasic, SpellsComparison, SpellsComparable, SpellsLiteral, SpellsTest, SpellsCall, SpellsShorthand, Between}
-use Rattle.jsonpath_lexical.specs.Numbers.{SpellsNumber}
+use Rattle.jsonpath_parser.specs.words.Numbers.{SpellsNumber}
 use Rattle.jsonpath_parser.specs.Parts.{Spelling, SpellsRelative, SpellsChild, SpellsSliceParts, SpellsSteps, SpellsSingular, always}
-use Rattle.jsonpath_lexical.specs.inner.Reading.{Read, first, skip_blank}
+use Rattle.jsonpath_parser.specs.words.inner.Reading.{Read, first, skip_blank}
 use Rattle.jsonpath_parser.specs.inner.ReadingGrammar.{number_reading, is_int_first, filter_of, comparable_of, steps_of, numbered_at, shorthand_at, selection_at, descendant_at, argument_at}
 use Rattle.jsonpath_parser.specs.inner.ReadingParts.{taken_at, inner_at, operand_in, basic_in, conjunction_in, logical_in, segments_in, segment_in, selector_in, child_in, literal_in, test_in, call_in, relative_in, query_in, singular_of, singular_in, atom_of, atom_in, comparison_of_atom, comparison_in, slice_in}
-use Rattle.jsonpath_tree.specs.Syntax.{Literal, SingularStep, SingularQuery, Selector, name, wildcard, index, slice, filter, Segment, one, several, descendant, Segments, Filter, or, and, atom, Atom, group, test, comparison, Comparison, Comparable, literal, function, singular, Test, relative, absolute, call, Call, Argument, literal_argument, test_argument, filter_argument, Query}
-use Rattle.jsonpath_tree.specs.Typing.{is_typed, is_typed_segment, is_typed_selector, is_typed_filter, is_typed_atom, is_typed_comparison, is_typed_comparable, is_typed_truth, is_typed_call}
+use Rattle.jsonpath_parser.specs.tree.Syntax.{Literal, SingularStep, SingularQuery, Selector, name, wildcard, index, slice, filter, Segment, one, several, descendant, Segments, Filter, or, and, atom, Atom, group, test, comparison, Comparison, Comparable, literal, function, singular, Test, relative, absolute, call, Call, Argument, literal_argument, test_argument, filter_argument, Query}
+use Rattle.jsonpath_parser.specs.tree.Typing.{is_typed, is_typed_segment, is_typed_selector, is_typed_filter, is_typed_atom, is_typed_comparison, is_typed_comparable, is_typed_truth, is_typed_call}
 use Rattle.jsonpath_parser.specs.declared.grammar.literals.Numbers.{Numbers}
 use Rattle.jsonpath_parser.specs.declared.grammar.literals.Numbers.TheVariants.{Valued, Any}
 use Rattle.jsonpath_parser.specs.Unambiguous.{IsUnambiguous}

@@ -2,17 +2,17 @@
 use Rattle.std.specs.Char.{is_ascii_digit}
 use Rattle.std.proofs.Common.{◌≡◌, ℕ, ◌<◌, ◌≤◌, true, ℤ, List, [], ◌∷◌, ◌++◌, length, Option, Some, None, refl, ap, ◌∙◌, inl, inr, append_assoc, append-nil, length-append, arith}
 use Rattle.jsonpath_parser.specs.Grammar.{SpellsBound, SpellsStep, SpellsSlice, SpellsSelector, SpellsArgument}
-use Rattle.jsonpath_lexical.specs.Lexical.{IsBlank}
-use Rattle.jsonpath_lexical.specs.inner.Reading.{Read, first, skip_blank}
+use Rattle.jsonpath_parser.specs.words.Lexical.{IsBlank}
+use Rattle.jsonpath_parser.specs.words.inner.Reading.{Read, first, skip_blank}
 use Rattle.jsonpath_parser.specs.inner.ReadingGrammar.{is_int_first, slice_at, numbered_at, selector_at}
-use Rattle.jsonpath_tree.specs.Syntax.{Selector, name, wildcard, index, slice, filter, Argument}
+use Rattle.jsonpath_parser.specs.tree.Syntax.{Selector, name, wildcard, index, slice, filter, Argument}
 use Rattle.jsonpath_parser.proofs.CompleteParts.{EndsLogical, front_other, int_start, int_over}
 use Rattle.jsonpath_parser.proofs.CompleteSegments.{complete_logical, selector_string, selector_numbered, selector_filter, selector_star}
 use Rattle.jsonpath_parser.proofs.CompleteSlices.{blank_digit, int_other, end_over, end_colon, step_none, step_over, slice_short, slice_long, pieces, numbered_colon, numbered_slice, complete_index, index_start, slice_start}
 use Rattle.jsonpath_parser.proofs.CompleteStarts.{basic_other, logical_start}
 use Rattle.jsonpath_parser.proofs.CompleteWords.{string_start}
-use Rattle.jsonpath_lexical.proofs.Fronts.{skip_over}
-use Rattle.jsonpath_lexical.proofs.StringComplete.{complete_string}
+use Rattle.jsonpath_parser.proofs.laws.words.Fronts.{skip_over}
+use Rattle.jsonpath_parser.proofs.laws.words.StringComplete.{complete_string}
 
 -- what follows the first `:` of a slice, to the end of the text
 slice_end : (start end step : Option ℤ) (b c d : List ℕ) → IsBlank b → SpellsBound end c → SpellsStep step d → slice_at start (b ++ (c ++ (d ++ []))) ≡ Some (slice start end step, [])

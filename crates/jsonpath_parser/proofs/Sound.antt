@@ -4,10 +4,10 @@ use Rattle.std.proofs.lemmas.Bool.Decides.{nat_tests}
 use Rattle.std.proofs.lemmas.Option.{cond_some}
 use Rattle.jsonpath_parser.specs.declared.grammar.literals.Numbers.TheVariants.{Valued, Any}
 use Rattle.jsonpath_parser.specs.Grammar.{SpellsArgument, Spells}
-use Rattle.jsonpath_lexical.specs.inner.Reading.{Read, after_byte}
+use Rattle.jsonpath_parser.specs.words.inner.Reading.{Read, after_byte}
 use Rattle.jsonpath_parser.specs.inner.ReadingGrammar.{number_reading, argument_at, query_at, whole_query}
-use Rattle.jsonpath_lexical.specs.inner.ReadingNumbers.{number_at}
-use Rattle.jsonpath_tree.specs.Syntax.{Argument, Query}
+use Rattle.jsonpath_parser.specs.words.inner.ReadingNumbers.{number_at}
+use Rattle.jsonpath_parser.specs.tree.Syntax.{Argument, Query}
 use Rattle.jsonpath_parser.specs.Values.{IsValued, IsAny}
 use Rattle.jsonpath_parser.proofs.NumberSound.{sound_number}
 use Rattle.jsonpath_parser.proofs.SoundFilters.{sound_disjunction}

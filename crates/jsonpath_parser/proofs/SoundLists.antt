@@ -1,9 +1,9 @@
 -- What is read is spelled so: lists of parts, of which each is.
 use Rattle.std.proofs.Common.{◌≡◌, ℕ, zero, suc, Bool, true, cond, ◌==◌, List, [], ◌∷◌, ◌++◌, drop, codes, Some, refl, sym, ap, ◌∙◌, inl, inr, append_assoc, arith}
 use Rattle.jsonpath_parser.specs.Grammar.{Behind}
-use Rattle.jsonpath_lexical.specs.inner.Reading.{Read, ◌>>=◌, first, skip_blank}
+use Rattle.jsonpath_parser.specs.words.inner.Reading.{Read, ◌>>=◌, first, skip_blank}
 use Rattle.jsonpath_parser.specs.inner.ReadingLists.{many_at, separated_at}
-use Rattle.jsonpath_lexical.proofs.Fronts.{skip_split}
+use Rattle.jsonpath_parser.proofs.laws.words.Fronts.{skip_split}
 use Rattle.jsonpath_parser.proofs.SoundParts.{bind_ok, chosen, at_front, Spelled, same_parts, moved}
 
 -- the pieces of a text with more behind a mark

@@ -9,12 +9,12 @@ use Rattle.std.specs.Char.{digit_value, is_ascii_digit}
 use Rattle.std.specs.List.{prefix_len}
 use Rattle.std.specs.Str.Parse.{digits_value, digits_value_after}
 use Rattle.jsonpath_parser.specs.Grammar.{SpellsInt, IsInRange, SpellsIndex, SpellsBound, SpellsStep, SpellsShorthand, SpellsOperator, SpellsLiteral, SpellsSelector}
-use Rattle.jsonpath_lexical.specs.Lexical.{is_name_first, is_name_byte, is_function_first, is_function_byte, IsRun, IsName, IsFunctionName}
-use Rattle.jsonpath_lexical.specs.inner.Reading.{first, after_byte, skip_blank, split_while, is_magnitude, magnitude_at, int_at, name_at}
+use Rattle.jsonpath_parser.specs.words.Lexical.{is_name_first, is_name_byte, is_function_first, is_function_byte, IsRun, IsName, IsFunctionName}
+use Rattle.jsonpath_parser.specs.words.inner.Reading.{first, after_byte, skip_blank, split_while, is_magnitude, magnitude_at, int_at, name_at}
 use Rattle.jsonpath_parser.specs.inner.ReadingGrammar.{is_int_first, end_at, step_at, slice_at, numbered_at, shorthand_at, word_at, word_literal, operator_at}
-use Rattle.jsonpath_tree.specs.Syntax.{Literal, bool, null, Operator, equal, not_equal, greater, greater_or_equal, less, less_or_equal, Selector, name, wildcard, index, slice}
-use Rattle.jsonpath_lexical.proofs.Fronts.{run_holds, skip_split}
-use Rattle.jsonpath_lexical.proofs.Ints.{magnitude_tells}
+use Rattle.jsonpath_parser.specs.tree.Syntax.{Literal, bool, null, Operator, equal, not_equal, greater, greater_or_equal, less, less_or_equal, Selector, name, wildcard, index, slice}
+use Rattle.jsonpath_parser.proofs.laws.words.Fronts.{run_holds, skip_split}
+use Rattle.jsonpath_parser.proofs.laws.words.Ints.{magnitude_tells}
 
 -- ---- chains, choices and pieces
 

@@ -3,15 +3,15 @@
 -- What an argument of a call reads is taken as a premise, so no law is mutual.
 use Rattle.std.proofs.Common.{◌≡◌, ℕ, suc, true, false, ◌==◌, ℤ, List, [], ◌∷◌, ◌++◌, length, drop, slice_index, codes, Option, Some, refl, sym, ap, ◌∙◌, subst, ◌⊎◌, inl, inr, append_assoc, append-nil, arith}
 use Rattle.jsonpath_parser.specs.Grammar.{Between, IsSeveral, SpellsSelector, SpellsSelectors, SpellsMoreSelectors, SpellsShorthand, SpellsSegment, SpellsSegments, SpellsLogical, SpellsArgument, SpellsSingularStep, SpellsSingularSteps}
-use Rattle.jsonpath_lexical.specs.Lexical.{IsBlank, is_quote}
-use Rattle.jsonpath_lexical.specs.inner.Reading.{Read, first, after_byte, skip_blank}
+use Rattle.jsonpath_parser.specs.words.Lexical.{IsBlank, is_quote}
+use Rattle.jsonpath_parser.specs.words.inner.Reading.{Read, first, after_byte, skip_blank}
 use Rattle.jsonpath_parser.specs.inner.ReadingGrammar.{selection_of, step_of_segment, steps_of, filter_of, shorthand_at, starts_segment, logical_at, selector_at, selectors_at, selection_at, descendant_at, segment_at, all_segments_at}
-use Rattle.jsonpath_lexical.specs.inner.ReadingStrings.{string_at}
-use Rattle.jsonpath_tree.specs.Syntax.{SingularStep, name_step, index_step, Selector, name, wildcard, index, slice, filter, Selectors, no_selectors, selector, Segment, one, several, descendant, Segments, no_segments, segment, Filter, atom, test, Argument, literal_argument, test_argument, filter_argument}
-use Rattle.jsonpath_lexical.proofs.Fronts.{skip_split}
+use Rattle.jsonpath_parser.specs.words.inner.ReadingStrings.{string_at}
+use Rattle.jsonpath_parser.specs.tree.Syntax.{SingularStep, name_step, index_step, Selector, name, wildcard, index, slice, filter, Selectors, no_selectors, selector, Segment, one, several, descendant, Segments, no_segments, segment, Filter, atom, test, Argument, literal_argument, test_argument, filter_argument}
+use Rattle.jsonpath_parser.proofs.laws.words.Fronts.{skip_split}
 use Rattle.jsonpath_parser.proofs.SoundLists.{sound_many, sound_separated}
 use Rattle.jsonpath_parser.proofs.SoundParts.{bind_ok, chosen, at_front, two_front, byte_read, Spelled, moved, glue, sound_shorthand, sound_numbered}
-use Rattle.jsonpath_lexical.proofs.StringSound.{sound_string}
+use Rattle.jsonpath_parser.proofs.laws.words.StringSound.{sound_string}
 
 -- the pieces of a text between two others
 pub between : (before after text t1 t2 t3 t4 rest b a c : List ℕ) → text ≡ before ++ t1 → t1 ≡ b ++ t2 → t2 ≡ a ++ t3 → t3 ≡ c ++ t4 → t4 ≡ after ++ rest → text ≡ (before ++ (b ++ (a ++ (c ++ after)))) ++ rest

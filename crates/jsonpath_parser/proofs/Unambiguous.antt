@@ -1,14 +1,14 @@
 -- No text spells two trees: a query that is spelled is read, and reading is a function, so a query's text spells one; and each other kind of tree can stand in a query.
 use Rattle.std.proofs.Common.{◌≡◌, ℕ, true, false, ℤ, List, [], ◌++◌, codes, Option, Some, refl, sym, ap, inl, append-nil}
 use Rattle.jsonpath_parser.specs.Grammar.{Spells, SpellsSegments, SpellsSegment, SpellsSelector, SpellsLogical, SpellsConjunction, SpellsBasic, SpellsComparison, SpellsComparable, SpellsLiteral, SpellsTest, SpellsCall}
-use Rattle.jsonpath_lexical.specs.Numbers.{SpellsNumber}
+use Rattle.jsonpath_parser.specs.words.Numbers.{SpellsNumber}
 use Rattle.jsonpath_parser.specs.Parts.{Spelling, SpellsRelative, SpellsChild, SpellsSliceParts, SpellsSteps, SpellsSingular}
-use Rattle.jsonpath_tree.specs.Syntax.{current, equal, slice, filter, one, descendant, no_segments, segment, Filter, or, and, atom, test, comparison, compare, literal, singular, relative, call}
+use Rattle.jsonpath_parser.specs.tree.Syntax.{current, equal, slice, filter, one, descendant, no_segments, segment, Filter, or, and, atom, test, comparison, compare, literal, singular, relative, call}
 use Rattle.jsonpath_parser.specs.Unambiguous.{NoTextDerivesTwoTrees, SpellsOneTree, IsUnambiguous}
 use Rattle.jsonpath_parser.specs.Values.{IsValued, IsAny}
-use Rattle.jsonpath_lexical.specs.inner.Reading.{Read, first}
+use Rattle.jsonpath_parser.specs.words.inner.Reading.{Read, first}
 use Rattle.jsonpath_parser.specs.inner.ReadingGrammar.{number_reading, is_int_first}
-use Rattle.jsonpath_lexical.specs.inner.ReadingNumbers.{number_at}
+use Rattle.jsonpath_parser.specs.words.inner.ReadingNumbers.{number_at}
 use Rattle.jsonpath_parser.specs.inner.ReadingParts.{slice_in}
 use Rattle.jsonpath_parser.specs.declared.grammar.literals.Numbers.TheVariants.{Valued, Any}
 use Rattle.jsonpath_parser.proofs.Complete.{complete_query, valued_start, valued_over, any_start, any_over}

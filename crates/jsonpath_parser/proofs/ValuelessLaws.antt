@@ -3,8 +3,8 @@ use Rattle.std.proofs.Common.{◌≡◌, ℕ, ℤ, List, [], ◌++◌, ◌-◌, 
 use Rattle.std.proofs.lemmas.List.{take_at}
 use Rattle.std.proofs.lemmas.Str.{IsCharBoundary-at_seam}
 use Rattle.std.specs.Str.{IsUtf8, IsCharBoundary}
-use Rattle.jsonpath_lexical.specs.Numbers.{SpellsNumber}
-use Rattle.jsonpath_lexical.specs.inner.ReadingNumbers.{number_at}
+use Rattle.jsonpath_parser.specs.words.Numbers.{SpellsNumber}
+use Rattle.jsonpath_parser.specs.words.inner.ReadingNumbers.{number_at}
 use Rattle.jsonpath_parser.specs.inner.ReadingQuery.{valueless_of, valueless_at}
 use Rattle.jsonpath_parser.specs.Valueless.{IsValuelessIn}
 use Rattle.jsonpath_parser.proofs.NumberSound.{sound_number}

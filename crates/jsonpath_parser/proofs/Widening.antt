@@ -1,7 +1,7 @@
 -- What is spelled with some number literals is spelled with more of them.
 use Rattle.std.proofs.Common.{inl, inr, ℕ, ℤ, true, false, Option, List, ◌++◌, codes}
 use Rattle.jsonpath_parser.specs.Grammar.{Between, Behind, Then, IsNothing, SpellsLiteral, SpellsSelector, SpellsSelectors, SpellsMoreSelectors, SpellsSegment, SpellsSegments, SpellsLogical, SpellsConjunction, SpellsOperand, SpellsOr, SpellsMoreOr, SpellsAnd, SpellsMoreAnd, SpellsBasic, SpellsComparison, SpellsComparable, SpellsTest, SpellsCall, SpellsArgument, SpellsArguments, SpellsMoreArguments, Spells}
-use Rattle.jsonpath_tree.specs.Syntax.{Literal, number, string, bool, null, Selector, name, wildcard, index, slice, filter, Selectors, no_selectors, selector, Segment, one, several, descendant, Segments, no_segments, segment, Filter, or, and, atom, Filters, no_filters, filter_then, Atom, group, test, comparison, Comparison, compare, Comparable, literal, function, singular, Test, relative, absolute, call, Call, custom_call, length_call, value_call, count_call, search_call, match_call, Argument, literal_argument, test_argument, filter_argument, Arguments, no_arguments, argument, Query}
+use Rattle.jsonpath_parser.specs.tree.Syntax.{Literal, number, string, bool, null, Selector, name, wildcard, index, slice, filter, Selectors, no_selectors, selector, Segment, one, several, descendant, Segments, no_segments, segment, Filter, or, and, atom, Filters, no_filters, filter_then, Atom, group, test, comparison, Comparison, compare, Comparable, literal, function, singular, Test, relative, absolute, call, Call, custom_call, length_call, value_call, count_call, search_call, match_call, Argument, literal_argument, test_argument, filter_argument, Arguments, no_arguments, argument, Query}
 
 between_wider : (S T : List ℕ → Type 0) → ((a : List ℕ) → S a → T a) → (x y text : List ℕ) → Between x S y text → Between x T y text
 between_wider S T wider x y text h = let (b, a, c, hb, ha, hc, e) = h in (b, a, c, hb, wider a ha, hc, e)

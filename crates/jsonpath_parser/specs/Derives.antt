@@ -1,16 +1,16 @@
 -- When a text is a query, and which refusal it gets when it is none.
 use Rattle.std.specs.Prelude.{◌≡◌, ◌≤◌, ◌<◌, ℕ, List, Result, MatchResult, length, string_bytes}
-use Rattle.jsonpath_lexical.specs.Depth.{depth}
-use Rattle.jsonpath_lexical.specs.Numbers.{SpellsNumber}
+use Rattle.jsonpath_parser.specs.words.Depth.{depth}
+use Rattle.jsonpath_parser.specs.words.Numbers.{SpellsNumber}
 use Rattle.jsonpath_parser.specs.Grammar.{Spells}
-use Rattle.jsonpath_tree.specs.Syntax.{Query}
-use Rattle.jsonpath_tree.specs.Typing.{Typed}
+use Rattle.jsonpath_parser.specs.tree.Syntax.{Query}
+use Rattle.jsonpath_parser.specs.tree.Typing.{Typed}
 use Rattle.jsonpath_parser.specs.Valueless.{IsValuelessIn}
 use Rattle.jsonpath_parser.specs.Values.{IsValued}
-use Rattle.jsonpath_tree.specs.View.{query_view}
-use Rattle.jsonpath_tree.specs.declared.model.JpQuery.{JpQuery}
-use Rattle.jsonpath_core.specs.declared.errors.JsonPathError.{JsonPathError}
-use Rattle.jsonpath_core.specs.declared.errors.JsonPathError.TheVariants.{PestError, InvalidNumber, MaxNestingDepthExceeded, OutOfMemory}
+use Rattle.jsonpath_parser.specs.tree.View.{query_view}
+use Rattle.jsonpath_parser.specs.declared.tree.model.JpQuery.{JpQuery}
+use Rattle.jsonpath_parser.specs.declared.errors.JsonPathError.{JsonPathError}
+use Rattle.jsonpath_parser.specs.declared.errors.JsonPathError.TheVariants.{PestError, InvalidNumber, MaxNestingDepthExceeded, OutOfMemory}
 
 -- the text is the query of this tree: it nests no deeper than the limit, spells the tree, each number literal as its value, and the tree is well-typed
 pub record Derives (limit : ℕ) (text : List ℕ) (tree : Query) : Type 0 where

@@ -5,10 +5,10 @@ use Rattle.std.specs.Prelude.{◌≡◌, ◌⊎◌, ℕ, zero, suc, ◌≤◌, �
 use Rattle.std.specs.Str.{byte}
 use Rattle.std.specs.Str.Parse.{digits_value}
 use Rattle.std.specs.Char.{is_ascii_digit}
-use Rattle.jsonpath_lexical.specs.Lexical.{IsRun, IsBlank, IsName, IsFunctionName}
-use Rattle.jsonpath_lexical.specs.Strings.{SpellsString}
-use Rattle.jsonpath_tree.specs.Typing.{is_table_name}
-use Rattle.jsonpath_tree.specs.Syntax.{Literal, number, string, bool, null, SingularStep, name_step, index_step, SingularQuery, current, root, Operator, equal, not_equal, greater, greater_or_equal, less, less_or_equal, Selector, name, wildcard, index, slice, filter, Selectors, no_selectors, selector, Segment, one, several, descendant, Segments, no_segments, segment, Filter, or, and, atom, Filters, no_filters, filter_then, Atom, group, test, comparison, Comparison, compare, Comparable, literal, function, singular, Test, relative, absolute, call, Call, custom_call, length_call, value_call, count_call, search_call, match_call, Argument, literal_argument, test_argument, filter_argument, Arguments, no_arguments, argument, Query}
+use Rattle.jsonpath_parser.specs.words.Lexical.{IsRun, IsBlank, IsName, IsFunctionName}
+use Rattle.jsonpath_parser.specs.words.Strings.{SpellsString}
+use Rattle.jsonpath_parser.specs.tree.Typing.{is_table_name}
+use Rattle.jsonpath_parser.specs.tree.Syntax.{Literal, number, string, bool, null, SingularStep, name_step, index_step, SingularQuery, current, root, Operator, equal, not_equal, greater, greater_or_equal, less, less_or_equal, Selector, name, wildcard, index, slice, filter, Selectors, no_selectors, selector, Segment, one, several, descendant, Segments, no_segments, segment, Filter, or, and, atom, Filters, no_filters, filter_then, Atom, group, test, comparison, Comparison, compare, Comparable, literal, function, singular, Test, relative, absolute, call, Call, custom_call, length_call, value_call, count_call, search_call, match_call, Argument, literal_argument, test_argument, filter_argument, Arguments, no_arguments, argument, Query}
 
 -- a digit from 1 to 9, then digits (2.3.3.1)
 abbrev pub SpellsPositive : ℕ → List ℕ → Type 0

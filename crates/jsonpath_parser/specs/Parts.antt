@@ -1,12 +1,12 @@
 -- What the grammar functions of a cursor answer: each reads one kind of tree at the cursor's place (RFC 9535, 2.1 to 2.5).
 use Rattle.std.specs.Prelude.{◌≡◌, ℕ, ◌≤◌, ◌-◌, Bool, true, ℤ, List, [], ◌++◌, length, codes, Option, Result, MatchResult, IfOk, IfErr, OnErr, string_bytes, ⊤}
 use Rattle.jsonpath_parser.specs.Grammar.{SpellsSlice, SpellsSingularSteps, SpellsSingularQuery, SpellsSegment, SpellsTest}
-use Rattle.jsonpath_lexical.specs.Numbers.{SpellsNumber}
-use Rattle.jsonpath_tree.specs.Syntax.{SingularStep, SingularQuery, Segment, descendant, Segments, relative}
+use Rattle.jsonpath_parser.specs.words.Numbers.{SpellsNumber}
+use Rattle.jsonpath_parser.specs.tree.Syntax.{SingularStep, SingularQuery, Segment, descendant, Segments, relative}
 use Rattle.jsonpath_parser.specs.Valueless.{IsValuelessIn}
 use Rattle.jsonpath_parser.specs.Values.{IsValued}
-use Rattle.jsonpath_core.specs.declared.errors.JsonPathError.{JsonPathError}
-use Rattle.jsonpath_core.specs.declared.errors.JsonPathError.TheVariants.{PestError, InvalidNumber, OutOfMemory}
+use Rattle.jsonpath_parser.specs.declared.errors.JsonPathError.{JsonPathError}
+use Rattle.jsonpath_parser.specs.declared.errors.JsonPathError.TheVariants.{PestError, InvalidNumber, OutOfMemory}
 use Rattle.jsonpath_parser.specs.declared.cursor.Cursor.{Cursor}
 
 -- the text of a cursor

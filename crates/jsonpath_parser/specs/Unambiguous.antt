@@ -1,9 +1,9 @@
 -- No text spells two trees (RFC 9535, 2.1 to 2.5): a law of the grammar, which no answer and no memory has a part in.
 use Rattle.std.specs.Prelude.{◌≡◌, ℕ, ℤ, List, Option}
 use Rattle.jsonpath_parser.specs.Derives.{Derives}
-use Rattle.jsonpath_lexical.specs.Numbers.{SpellsNumber}
+use Rattle.jsonpath_parser.specs.words.Numbers.{SpellsNumber}
 use Rattle.jsonpath_parser.specs.Parts.{Spelling}
-use Rattle.jsonpath_tree.specs.Syntax.{Query}
+use Rattle.jsonpath_parser.specs.tree.Syntax.{Query}
 use Rattle.jsonpath_parser.specs.Values.{IsValued, IsAny}
 
 -- No text derives two trees, whatever the limits of depth.

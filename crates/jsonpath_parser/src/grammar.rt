@@ -1,10 +1,10 @@
 //! The reading functions: from a text to a tree and the text after it (RFC 9535, 2.1 to 2.5). Each reads its text
 //! once, from the left, and never goes back over what it has read, so the time is linear in the text.
 ghost use Rattle.std.specs.Prelude.{◌≡◌, ℕ, ◌≤◌, length};
-ghost use Rattle.jsonpath_lexical.specs.inner.Reading.{Gives, Reads};
+ghost use Rattle.jsonpath_parser.specs.words.inner.Reading.{Gives, Reads};
 ghost use Rattle.jsonpath_parser.specs.inner.ReadingGrammar as spec;
 ghost use Rattle.jsonpath_parser.specs.inner.ReadingGrammar.{number_reading};
-ghost use Rattle.jsonpath_tree.specs.View.{query_view};
+ghost use Rattle.jsonpath_parser.specs.tree.View.{query_view};
 
 mod calls;
 mod filters;
@@ -18,9 +18,9 @@ mod words;
 
 pub use self::literals::Numbers;
 use self::segments::segments;
-use jsonpath_lexical::stop::Stop;
-use jsonpath_lexical::text::{first, skip};
-use jsonpath_tree::model::JpQuery;
+use crate::tree::model::JpQuery;
+use crate::words::stop::Stop;
+use crate::words::text::{first, skip};
 use std::alloc::Global;
 
 /// `$` and segments (2.1.1, 2.2.1).

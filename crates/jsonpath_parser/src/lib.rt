@@ -1,19 +1,25 @@
-//! JSONPath query texts (RFC 9535): the reading of a query tree, or of a part of one, from a text. The tree itself stands in
-//! `jsonpath_tree`, and the words of its texts are read by `jsonpath_lexical`.
+//! JSONPath query texts (RFC 9535): the query tree, and its reading, or that of a part of one, from a text.
+//!
+//! A text is read by its words (`words`), along the grammar (`grammar`), into a tree (`tree`); `parse` reads a whole query, and
+//! `cursor` a part of one. Where that fails, `errors` has why.
 #![tactic(auto)]
 
 mod cursor;
+mod error_equality;
+pub mod errors;
 mod grammar;
 mod one_tree;
 mod parse;
+mod tree;
+mod words;
 
-pub use cursor::{
+pub use crate::cursor::{
     Cursor, child_segment, comp_expr, comparable, filter_atom, function_expr, jp_query, literal,
     logical_expr, logical_expr_and, rel_query, segment, segments, selector, singular_query,
     singular_query_segments, slice_selector, test,
 };
-pub use jsonpath_core::errors::Parsed;
-pub use jsonpath_core::{equal_errors_hold_the_same, errors};
-pub use jsonpath_tree::{equal_parts_are_one_tree, is_typed, let_go, model};
-pub use one_tree::{no_text_derives_two_trees, no_text_spells_two_trees};
-pub use parse::{MAX_NESTING_DEPTH, parse_json_path, parse_json_path_within};
+pub use crate::error_equality::equal_errors_hold_the_same;
+pub use crate::errors::Parsed;
+pub use crate::one_tree::{no_text_derives_two_trees, no_text_spells_two_trees};
+pub use crate::parse::{MAX_NESTING_DEPTH, parse_json_path, parse_json_path_within};
+pub use crate::tree::{equal_parts_are_one_tree, is_typed, let_go, model};

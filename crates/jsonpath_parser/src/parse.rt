@@ -1,28 +1,28 @@
 //! Query texts to query trees, at a limit of depth (RFC 9535, 2.1 and 4.1).
 ghost use Rattle.std.specs.Prelude.{◌≡◌, ◌-◌, ◌<◌, ◌≤◌, length, drop, Some, IfOk, IfErr};
 ghost use Rattle.std.specs.Str.{IsCharBoundary};
-ghost use Rattle.jsonpath_lexical.specs.Depth as spec;
-ghost use Rattle.jsonpath_lexical.specs.inner.Reading.{Gives};
+ghost use Rattle.jsonpath_parser.specs.words.Depth as spec;
+ghost use Rattle.jsonpath_parser.specs.words.inner.Reading.{Gives};
 ghost use Rattle.jsonpath_parser.specs.Derives.{Derives, Answers, IsRefusal};
 ghost use Rattle.jsonpath_parser.specs.Grammar.{Spells};
 ghost use Rattle.jsonpath_parser.specs.inner.ReadingQuery as reading;
 ghost use Rattle.jsonpath_parser.specs.inner.ReadingQuery.{IsTextRefusal, IsReadRefusal};
-ghost use Rattle.jsonpath_core.specs.Location.{Location};
-ghost use Rattle.jsonpath_core.specs.Normal.{IsNormal};
-ghost use Rattle.jsonpath_lexical.specs.Numbers.{SpellsNumber};
-ghost use Rattle.jsonpath_tree.specs.Steps.{steps_query, HasIndexesInRange};
-ghost use Rattle.jsonpath_tree.specs.Syntax.{Query};
+ghost use Rattle.jsonpath_parser.specs.Location.{Location};
+ghost use Rattle.jsonpath_parser.specs.Normal.{IsNormal};
+ghost use Rattle.jsonpath_parser.specs.words.Numbers.{SpellsNumber};
+ghost use Rattle.jsonpath_parser.specs.tree.Steps.{steps_query, HasIndexesInRange};
+ghost use Rattle.jsonpath_parser.specs.tree.Syntax.{Query};
 ghost use Rattle.jsonpath_parser.specs.Valueless.{IsValuelessIn};
-ghost use Rattle.jsonpath_tree.specs.View.{query_view};
+ghost use Rattle.jsonpath_parser.specs.tree.View.{query_view};
 ghost use Rattle.jsonpath_parser.specs.declared.grammar.literals.Numbers.TheVariants.{Valued};
 
+use crate::errors::{JsonPathError, Parsed};
 use crate::grammar::{Numbers, whole_query};
-use jsonpath_core::errors::{JsonPathError, Parsed};
-use jsonpath_lexical::depth::exceeds;
-use jsonpath_lexical::number::number;
-use jsonpath_lexical::stop::Stop;
-use jsonpath_tree::is_typed;
-use jsonpath_tree::model::JpQuery;
+use crate::tree::is_typed;
+use crate::tree::model::JpQuery;
+use crate::words::depth::exceeds;
+use crate::words::number::number;
+use crate::words::stop::Stop;
 use std::alloc::Global;
 
 /// How many brackets may stand open in a query text.

@@ -1,11 +1,11 @@
 -- What a deletion leaves, and what it answers.
 use Rattle.std.specs.Prelude.{◌≡◌, ℕ, List, []}
 use Rattle.jsonpath_parser.specs.Derives.{Derives}
-use Rattle.jsonpath_tree.specs.Syntax.{Query}
+use Rattle.jsonpath_parser.specs.tree.Syntax.{Query}
 use Rattle.jsonpath_base.specs.Tree.{Tree}
 use Rattle.jsonpath_base.specs.Without.{without, is_among, distinct_count}
-use Rattle.jsonpath_node.specs.Document.{Document}
-use Rattle.jsonpath_node.specs.Meaning.{selected}
+use Rattle.jsonpath_rust.specs.documents.Document.{Document}
+use Rattle.jsonpath_rust.specs.documents.Meaning.{selected}
 
 -- The tree left is the document without all locations that the query selects, removed at once; and so many distinct ones there are.
 pub record IsDeletion (q : Query) (doc : Document) (left : Tree) (count : ℕ) : Type 0 where

@@ -2,40 +2,40 @@
 ghost use Rattle.std.specs.Prelude.{◌≡◌, ◌≤◌, map, All, IsTrue, IsFalse, IfOk, IfErr, IfSome, MatchResult};
 ghost use Rattle.std.specs.List.{AllZip};
 ghost use Rattle.jsonpath_parser.specs.Derives.{Derives};
-ghost use Rattle.jsonpath_core.specs.Location.{Location};
-ghost use Rattle.jsonpath_core.specs.Normal.{IsNormal};
-ghost use Rattle.jsonpath_tree.specs.Steps.{HasIndexesInRange};
-ghost use Rattle.jsonpath_tree.specs.Syntax.{Query};
-ghost use Rattle.jsonpath_tree.specs.Typing as typing;
-ghost use Rattle.jsonpath_tree.specs.View.{query_view};
-ghost use Rattle.jsonpath_core.specs.declared.errors.JsonPathError.TheVariants.{OutOfMemory};
-ghost use Rattle.jsonpath_node.specs.Document.{document_of};
-ghost use Rattle.jsonpath_node.specs.Meaning.{selected};
-ghost use Rattle.jsonpath_state.specs.Asking.{IsProcessStop};
-ghost use Rattle.jsonpath_node.specs.Patterns.{segments_patterns, IsStop, IsQueryRefusal};
-ghost use Rattle.jsonpath_state.specs.State.{root_content};
-ghost use Rattle.jsonpath_node.specs.Answer.{IsNodeAt, IsPathAt, IsValueAt, Lists, shown, paths_of, node_there};
-ghost use Rattle.jsonpath_state.specs.Processed.{processed};
+ghost use Rattle.jsonpath_parser.specs.Location.{Location};
+ghost use Rattle.jsonpath_parser.specs.Normal.{IsNormal};
+ghost use Rattle.jsonpath_parser.specs.tree.Steps.{HasIndexesInRange};
+ghost use Rattle.jsonpath_parser.specs.tree.Syntax.{Query};
+ghost use Rattle.jsonpath_parser.specs.tree.Typing as typing;
+ghost use Rattle.jsonpath_parser.specs.tree.View.{query_view};
+ghost use Rattle.jsonpath_parser.specs.declared.errors.JsonPathError.TheVariants.{OutOfMemory};
+ghost use Rattle.jsonpath_rust.specs.documents.Document.{document_of};
+ghost use Rattle.jsonpath_rust.specs.documents.Meaning.{selected};
+ghost use Rattle.jsonpath_rust.specs.states.Asking.{IsProcessStop};
+ghost use Rattle.jsonpath_rust.specs.documents.Patterns.{segments_patterns, IsStop, IsQueryRefusal};
+ghost use Rattle.jsonpath_rust.specs.states.State.{root_content};
+ghost use Rattle.jsonpath_rust.specs.documents.Answer.{IsNodeAt, IsPathAt, IsValueAt, Lists, shown, paths_of, node_there};
+ghost use Rattle.jsonpath_rust.specs.states.Processed.{processed};
 
 mod deletion;
 pub mod queryable;
 
+use crate::documents::queryable::Queryable;
+pub use crate::documents::{Queried, QueryPath, QueryRef, not_a_reference, replace_by_path};
 pub use crate::query::deletion::{
     delete_selected, delete_within, nothing_selected_deletes_nothing,
 };
+use crate::selection::selected_paths;
+pub use crate::selection::{Prepared, Runner, selected_locations, selected_nodes, selected_values};
+pub use crate::states::{Query, apply, selector, state};
+use crate::states::{processed_nodes, processed_values};
 pub use jsonpath_base::{
     Step, at, at_mut, put_at, put_is_there, put_leaves_the_rest, remove_all, same_is_an_equivalence,
 };
-use jsonpath_node::queryable::Queryable;
-pub use jsonpath_node::{Queried, QueryPath, QueryRef, not_a_reference, replace_by_path};
 use jsonpath_parser::model::JpQuery;
 use jsonpath_parser::{
     MAX_NESTING_DEPTH, is_typed, let_go, parse_json_path, parse_json_path_within,
 };
-pub use jsonpath_state::{Query, apply, selector, state};
-use jsonpath_state::{processed_nodes, processed_values};
-use jsonpath_walk::selected_paths;
-pub use jsonpath_walk::{Prepared, Runner, selected_locations, selected_nodes, selected_values};
 use std::alloc::Global;
 
 /// The nodes that a query text selects in a document, in order (RFC 9535, 2.1.2): their values and their Normalized

@@ -1,6 +1,6 @@
 //! A pattern so large that `regex` may refuse it; which of the two it does is left open.
+use crate::fault::Fault;
 use crate::tests::runs::{ends_so, texts};
-use jpath_program::fault::Fault;
 use jsonpath_base::found;
 use jsonpath_parser::errors::JsonPathError;
 use regex::Regex;

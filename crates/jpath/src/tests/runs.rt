@@ -1,6 +1,6 @@
 //! Runs by their words and their input.
-use jpath_program::fault::Fault;
-use jpath_program::run::run;
+use crate::fault::Fault;
+use crate::run::run;
 use std::alloc::Global;
 
 // ---- how a run ends

@@ -1,6 +1,6 @@
 //! Streams that give and take little at a time, and that fail.
+use crate::run::run;
 use crate::tests::runs::texts;
-use jpath_program::run::run;
 use std::alloc::Global;
 use std::io;
 use std::io::{ErrorKind, Read, Write};

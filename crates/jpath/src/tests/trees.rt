@@ -1,6 +1,6 @@
 //! Documents asked by trees that no text spells.
-use jpath_program::output::printed;
-use jpath_program::words::{Command, Listing};
+use crate::output::printed;
+use crate::words::{Command, Listing};
 use jsonpath_base::whole;
 use jsonpath_parser::let_go;
 use jsonpath_parser::model::{JpQuery, Segment, Selector};

@@ -12,8 +12,8 @@ use mathlib.Core.Option as maybe
 use Rattle.serde_json.specs.Rows.{list_row, map_row}
 use Rattle.serde_json.specs.contracts.value.Value.{the_row}
 use Rattle.serde_json.specs.declared.value.Value.{Value, Array, Object}
-use Rattle.jsonpath_core.specs.Location as location
-use Rattle.jsonpath_core.specs.Location.{Location}
+use Rattle.jsonpath_parser.specs.Location as location
+use Rattle.jsonpath_parser.specs.Location.{Location}
 use Rattle.jsonpath_base.specs.Put.{put}
 use Rattle.jsonpath_base.specs.Steps.{step_view}
 use Rattle.jsonpath_base.specs.Values.{value_tree}

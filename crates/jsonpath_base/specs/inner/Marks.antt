@@ -1,7 +1,7 @@
 -- The set of locations that marks hold, for the contracts of removal alone.
 use Rattle.std.specs.Prelude.{◌≡◌, ◌<◌, ℕ, ◌+◌, suc, List, [], ◌∷◌, Bool, true, false, ◌||◌, Option, Some, None}
 use Rattle.std.specs.Map.{lookup}
-use Rattle.jsonpath_core.specs.Location.{Step, name, index, Location}
+use Rattle.jsonpath_parser.specs.Location.{Step, name, index, Location}
 use Rattle.jsonpath_base.specs.Without.{is_step, is_location}
 use Rattle.jsonpath_base.specs.declared.marks.Key.{Key}
 use Rattle.jsonpath_base.specs.declared.marks.Key.TheVariants.{Name, Index}

@@ -2,7 +2,7 @@
 use Rattle.std.specs.Prelude.{ℕ, suc, List, [], ◌∷◌, Bool, if◌then◌else◌, Option, Some, None}
 use Rattle.std.specs.Map.{lookup}
 use Rattle.serde_json.specs.Data.{Data, null, boolean, number, string, array, object, Items, no_items, item, Members, no_members, member}
-use Rattle.jsonpath_core.specs.Location.{name, index, Location}
+use Rattle.jsonpath_parser.specs.Location.{name, index, Location}
 use Rattle.jsonpath_base.specs.inner.Marks.{is_key, marked, marked_by}
 use Rattle.jsonpath_base.specs.declared.marks.Key.{Key}
 use Rattle.jsonpath_base.specs.declared.marks.Marks.{Marks}

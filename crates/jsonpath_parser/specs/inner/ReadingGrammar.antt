@@ -3,15 +3,15 @@
 -- An argument of a call is the widest production: a literal, a query or a call alone, or a logical expression. So it is read once, and what stands in its place makes of it what it wants.
 use Rattle.std.specs.Prelude.{ℕ, zero, suc, Bool, true, false, ◌&&◌, ◌||◌, ◌==◌, ℤ, pos, unwrap_or, if◌then◌else◌, List, [], ◌∷◌, length, drop, slice_index, codes, bytes_eq, Option, Some, None}
 use Rattle.std.specs.Char.{is_ascii_digit}
-use Rattle.jsonpath_lexical.specs.Lexical.{is_function_first, is_function_byte, is_quote}
-use Rattle.jsonpath_lexical.specs.inner.Reading.{Read, ◌>>=◌, split_while, skip_blank, first, after_byte, int_at, name_at}
+use Rattle.jsonpath_parser.specs.words.Lexical.{is_function_first, is_function_byte, is_quote}
+use Rattle.jsonpath_parser.specs.words.inner.Reading.{Read, ◌>>=◌, split_while, skip_blank, first, after_byte, int_at, name_at}
 use Rattle.jsonpath_parser.specs.inner.ReadingLists.{found_then, many_at, separated_at}
-use Rattle.jsonpath_lexical.specs.inner.ReadingNumbers.{number_at}
-use Rattle.jsonpath_lexical.specs.inner.ReadingStrings.{string_at}
+use Rattle.jsonpath_parser.specs.words.inner.ReadingNumbers.{number_at}
+use Rattle.jsonpath_parser.specs.words.inner.ReadingStrings.{string_at}
 use Rattle.jsonpath_parser.specs.declared.grammar.literals.Numbers.{Numbers}
 use Rattle.jsonpath_parser.specs.declared.grammar.literals.Numbers.TheVariants.{Valued, Any}
-use Rattle.jsonpath_tree.specs.Syntax.{Literal, number, string, bool, null, SingularStep, name_step, index_step, current, root, Operator, equal, not_equal, greater, greater_or_equal, less, less_or_equal, Selector, name, wildcard, index, slice, filter, Selectors, no_selectors, selector, Segment, one, several, descendant, Segments, no_segments, segment, Filter, or, and, atom, Filters, no_filters, filter_then, group, test, comparison, compare, Comparable, literal, function, singular, relative, absolute, call, Call, Argument, literal_argument, test_argument, filter_argument, Arguments, no_arguments, argument, Query}
-use Rattle.jsonpath_tree.specs.Typing.{call_of}
+use Rattle.jsonpath_parser.specs.tree.Syntax.{Literal, number, string, bool, null, SingularStep, name_step, index_step, current, root, Operator, equal, not_equal, greater, greater_or_equal, less, less_or_equal, Selector, name, wildcard, index, slice, filter, Selectors, no_selectors, selector, Segment, one, several, descendant, Segments, no_segments, segment, Filter, or, and, atom, Filters, no_filters, filter_then, group, test, comparison, compare, Comparable, literal, function, singular, relative, absolute, call, Call, Argument, literal_argument, test_argument, filter_argument, Arguments, no_arguments, argument, Query}
+use Rattle.jsonpath_parser.specs.tree.Typing.{call_of}
 
 -- ---- how the code's values are seen
 

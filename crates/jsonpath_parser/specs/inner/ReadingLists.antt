@@ -1,7 +1,7 @@
 -- What the reading functions compute of lists: parts that stand one after the other. `more` puts a part in front of others, and `none` is the list of none. Only contracts inside the crate cite it.
 use Rattle.std.specs.Prelude.{ℕ, zero, suc, Bool, ◌==◌, if◌then◌else◌, List, drop, Some, None}
-use Rattle.jsonpath_tree.specs.Syntax.{list_of}
-use Rattle.jsonpath_lexical.specs.inner.Reading.{Read, ◌>>=◌, first, skip_blank}
+use Rattle.jsonpath_parser.specs.tree.Syntax.{list_of}
+use Rattle.jsonpath_parser.specs.words.inner.Reading.{Read, ◌>>=◌, first, skip_blank}
 
 -- what is read behind parts that were found
 abbrev pub found_then : {A B : Type 0} → (A → B → B) → List A → Read B → Read B

@@ -2,17 +2,17 @@
 use Rattle.std.specs.Prelude.{◌≡◌, ◌⊎◌, ℕ, suc, ◌≤◌, ◌==◌, Bool, true, false, if◌then◌else◌, ℤ, List, [], length, Option, Some, None, Result, Ok, Err, MatchResult, IsOkAnd, IfOk, IfErr, OnErr, ◌-◌, drop, string_bytes, ⊤}
 use Rattle.std.specs.Borrow.{Bor}
 use Rattle.jsonpath_parser.specs.Parts.{text_of, rest_of}
-use Rattle.jsonpath_lexical.specs.inner.Reading.{Read, ◌>>=◌, first}
+use Rattle.jsonpath_parser.specs.words.inner.Reading.{Read, ◌>>=◌, first}
 use Rattle.jsonpath_parser.specs.inner.ReadingGrammar.{number_reading, comparable_of, filter_of, shorthand_at, selection_at, operand_at, basic_at, conjunction_at, all_segments_at, segment_at, selector_at, logical_at, argument_at}
-use Rattle.jsonpath_tree.specs.Syntax.{Literal, SingularQuery, Selector, slice, Segment, one, Segments, Filter, atom, Atom, comparison, Comparison, Comparable, literal, function, singular, Test, relative, absolute, call, Call, Argument, literal_argument, test_argument, filter_argument, Query}
+use Rattle.jsonpath_parser.specs.tree.Syntax.{Literal, SingularQuery, Selector, slice, Segment, one, Segments, Filter, atom, Atom, comparison, Comparison, Comparable, literal, function, singular, Test, relative, absolute, call, Call, Argument, literal_argument, test_argument, filter_argument, Query}
 use Rattle.jsonpath_parser.specs.Valueless.{IsValuelessIn}
-use Rattle.jsonpath_core.specs.declared.errors.JsonPathError.{JsonPathError}
-use Rattle.jsonpath_core.specs.declared.errors.JsonPathError.TheVariants.{PestError, InvalidNumber, OutOfMemory}
+use Rattle.jsonpath_parser.specs.declared.errors.JsonPathError.{JsonPathError}
+use Rattle.jsonpath_parser.specs.declared.errors.JsonPathError.TheVariants.{PestError, InvalidNumber, OutOfMemory}
 use Rattle.jsonpath_parser.specs.declared.grammar.literals.Numbers.{Numbers}
 use Rattle.jsonpath_parser.specs.declared.grammar.literals.Numbers.TheVariants.{Valued, Any}
 use Rattle.jsonpath_parser.specs.declared.cursor.Cursor.{Cursor}
-use Rattle.jsonpath_lexical.specs.declared.stop.Stop.{Stop}
-use Rattle.jsonpath_lexical.specs.declared.stop.Stop.TheVariants.{Memory}
+use Rattle.jsonpath_parser.specs.declared.words.stop.Stop.{Stop}
+use Rattle.jsonpath_parser.specs.declared.words.stop.Stop.TheVariants.{Memory}
 
 -- ---- what an operand, or a logical expression, is as another kind of tree
 

@@ -1,14 +1,14 @@
 -- Which tree a whole text is read as, and which refusal it gets. The laws of proofs/ join it to the grammar, so a user need not believe it.
 use Rattle.std.specs.Prelude.{◌≡◌, ◌<◌, ◌≤◌, ℕ, true, is_some, if◌then◌else◌, List, [], length, take, ◌-◌, ℤ, Option, Some, None, string_bytes, ⊤}
-use Rattle.jsonpath_lexical.specs.Depth.{depth}
-use Rattle.jsonpath_lexical.specs.inner.Reading.{◌>>=◌}
+use Rattle.jsonpath_parser.specs.words.Depth.{depth}
+use Rattle.jsonpath_parser.specs.words.inner.Reading.{◌>>=◌}
 use Rattle.jsonpath_parser.specs.inner.ReadingGrammar.{number_reading, whole_query}
-use Rattle.jsonpath_lexical.specs.inner.ReadingNumbers.{number_at}
-use Rattle.jsonpath_tree.specs.Syntax.{Query}
-use Rattle.jsonpath_tree.specs.Typing.{is_typed}
+use Rattle.jsonpath_parser.specs.words.inner.ReadingNumbers.{number_at}
+use Rattle.jsonpath_parser.specs.tree.Syntax.{Query}
+use Rattle.jsonpath_parser.specs.tree.Typing.{is_typed}
 use Rattle.jsonpath_parser.specs.Valueless.{IsValuelessIn}
-use Rattle.jsonpath_core.specs.declared.errors.JsonPathError.{JsonPathError}
-use Rattle.jsonpath_core.specs.declared.errors.JsonPathError.TheVariants.{PestError, InvalidNumber, MaxNestingDepthExceeded, OutOfMemory}
+use Rattle.jsonpath_parser.specs.declared.errors.JsonPathError.{JsonPathError}
+use Rattle.jsonpath_parser.specs.declared.errors.JsonPathError.TheVariants.{PestError, InvalidNumber, MaxNestingDepthExceeded, OutOfMemory}
 use Rattle.jsonpath_parser.specs.declared.grammar.literals.Numbers.{Numbers}
 use Rattle.jsonpath_parser.specs.declared.grammar.literals.Numbers.TheVariants.{Valued, Any}
 

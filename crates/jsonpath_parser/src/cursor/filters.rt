@@ -1,17 +1,15 @@
 //! The grammar functions for logical expressions and what stands in them (RFC 9535, 2.3.5.1 and 2.4).
 ghost use Rattle.jsonpath_parser.specs.Grammar.{SpellsLogical, SpellsConjunction, SpellsBasic, SpellsComparison, SpellsComparable, SpellsLiteral, SpellsTest, SpellsCall};
 ghost use Rattle.jsonpath_parser.specs.Parts.{ReadsPart, always};
-ghost use Rattle.jsonpath_tree.specs.Typing as typed;
-ghost use Rattle.jsonpath_tree.specs.View.{filter_view, atom_view, comparison_view, comparable_view, literal_view, test_view, call_view};
+ghost use Rattle.jsonpath_parser.specs.tree.Typing as typed;
+ghost use Rattle.jsonpath_parser.specs.tree.View.{filter_view, atom_view, comparison_view, comparable_view, literal_view, test_view, call_view};
 
 use super::Cursor;
 use super::part::part;
+use crate::errors::Parsed;
 use crate::grammar::productions;
-use jsonpath_core::errors::Parsed;
-use jsonpath_tree::model::{
-    Comparable, Comparison, Filter, FilterAtom, Literal, Test, TestFunction,
-};
-use jsonpath_tree::typing;
+use crate::tree::model::{Comparable, Comparison, Filter, FilterAtom, Literal, Test, TestFunction};
+use crate::tree::typing;
 use std::alloc::Global;
 
 /// Reads a logical expression (2.3.5.1). It answers `Or` of the operands of `||` where there are two or more, else what the

@@ -4,10 +4,10 @@ ghost use Rattle.jsonpath_parser.specs.inner.ReadingParts.{IsCursorRefusal, Take
 ghost use Rattle.jsonpath_parser.specs.declared.grammar.literals.Numbers.TheVariants.{Valued};
 
 use super::Cursor;
+use crate::errors::{JsonPathError, Parsed};
 use crate::grammar::Numbers;
 use crate::parse::literal_at;
-use jsonpath_core::errors::{JsonPathError, Parsed};
-use jsonpath_lexical::stop::Stop;
+use crate::words::stop::Stop;
 use std::alloc::Global;
 
 /// The refusal of a text whose reading stopped; `again` is what reading gives where any number literal is taken.

@@ -2,15 +2,15 @@
 ghost use Rattle.std.specs.Prelude.{map};
 ghost use Rattle.jsonpath_parser.specs.Grammar.{Spells, SpellsSegments, SpellsSegment, SpellsSelector};
 ghost use Rattle.jsonpath_parser.specs.Parts.{ReadsPart, SpellsRelative, SpellsChild, SpellsSliceParts, SpellsSteps, SpellsSingular, always};
-ghost use Rattle.jsonpath_tree.specs.Typing as typed;
-ghost use Rattle.jsonpath_tree.specs.View.{query_view, segments_view, segment_view, selector_view, singular_view, step_view};
+ghost use Rattle.jsonpath_parser.specs.tree.Typing as typed;
+ghost use Rattle.jsonpath_parser.specs.tree.View.{query_view, segments_view, segment_view, selector_view, singular_view, step_view};
 
 use super::Cursor;
 use super::part::part;
+use crate::errors::Parsed;
 use crate::grammar::productions;
-use jsonpath_core::errors::Parsed;
-use jsonpath_tree::model::{JpQuery, Segment, Selector, SingularQuery, SingularQuerySegment};
-use jsonpath_tree::typing;
+use crate::tree::model::{JpQuery, Segment, Selector, SingularQuery, SingularQuerySegment};
+use crate::tree::typing;
 use std::alloc::Global;
 
 /// Reads a query: `$` and segments (2.1.1, 2.2.1). It answers the query tree.

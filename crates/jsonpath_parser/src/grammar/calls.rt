@@ -1,16 +1,16 @@
 //! Calls of functions (RFC 9535, 2.4).
 ghost use Rattle.std.specs.Prelude.{◌≡◌, ℕ, ◌<◌, ◌≤◌, length, IfOk};
-ghost use Rattle.jsonpath_lexical.specs.inner.Reading.{Reads};
+ghost use Rattle.jsonpath_parser.specs.words.inner.Reading.{Reads};
 ghost use Rattle.jsonpath_parser.specs.inner.ReadingGrammar as spec;
 ghost use Rattle.jsonpath_parser.specs.inner.ReadingGrammar.{number_reading};
-ghost use Rattle.jsonpath_tree.specs.View.{call_view, arguments_view};
+ghost use Rattle.jsonpath_parser.specs.tree.View.{call_view, arguments_view};
 
 use super::filters::argument;
 use super::literals::Numbers;
-use jsonpath_lexical::stop::Stop;
-use jsonpath_lexical::text::{first, skip, skip_blank};
-use jsonpath_tree::call_of;
-use jsonpath_tree::model::{FnArg, TestFunction};
+use crate::tree::call_of;
+use crate::tree::model::{FnArg, TestFunction};
+use crate::words::stop::Stop;
+use crate::words::text::{first, skip, skip_blank};
 use std::alloc::Global;
 
 /// Arguments with commas between them.

@@ -1,18 +1,18 @@
 //! Logical expressions, and the arguments of calls, which are the widest production (RFC 9535, 2.3.5.1 and 2.4).
 ghost use Rattle.std.specs.Prelude.{◌≡◌, ℕ, ◌<◌, ◌≤◌, [], ◌∷◌, length, IfOk};
-ghost use Rattle.jsonpath_lexical.specs.inner.Reading.{Reads};
+ghost use Rattle.jsonpath_parser.specs.words.inner.Reading.{Reads};
 ghost use Rattle.jsonpath_parser.specs.inner.ReadingGrammar as spec;
 ghost use Rattle.jsonpath_parser.specs.inner.ReadingGrammar.{number_reading};
 ghost use Rattle.jsonpath_parser.specs.inner.ReadingLists.{found_then};
-ghost use Rattle.jsonpath_tree.specs.Syntax.{filter_then};
-ghost use Rattle.jsonpath_tree.specs.View.{argument_view, filter_view, filters_view};
+ghost use Rattle.jsonpath_parser.specs.tree.Syntax.{filter_then};
+ghost use Rattle.jsonpath_parser.specs.tree.View.{argument_view, filter_view, filters_view};
 
 use super::literals::Numbers;
 use super::operands::{comparable, filter, negated_test, operand};
 use super::words::{is_operator_first, is_twice, read_operator};
-use jsonpath_lexical::stop::Stop;
-use jsonpath_lexical::text::{first, skip, skip_blank};
-use jsonpath_tree::model::{Filter, FilterAtom, FnArg};
+use crate::tree::model::{Filter, FilterAtom, FnArg};
+use crate::words::stop::Stop;
+use crate::words::text::{first, skip, skip_blank};
 use std::alloc::Global;
 
 /// A group in parentheses.

@@ -1,10 +1,10 @@
 //! Number literals in a query text (RFC 9535, 2.3.5.1).
 ghost use Rattle.std.specs.Prelude.{◌<◌, ◌≢◌, length, IfOk, Some, IfErr};
-ghost use Rattle.jsonpath_lexical.specs.inner.Reading.{Reads};
+ghost use Rattle.jsonpath_parser.specs.words.inner.Reading.{Reads};
 ghost use Rattle.jsonpath_parser.specs.inner.ReadingGrammar.{number_reading};
 
-use jsonpath_lexical::number::number;
-use jsonpath_lexical::stop::Stop;
+use crate::words::number::number;
+use crate::words::stop::Stop;
 
 /// How number literals are read.
 #[derive(Clone, Copy, Debug)]

@@ -1,22 +1,22 @@
 //! What stands on a side of a comparison, or alone (RFC 9535, 2.3.5.1).
 ghost use Rattle.std.specs.Prelude.{◌≡◌, ◌≢◌, ℕ, ◌<◌, ◌≤◌, length, IfOk, map, option_map, IfErr};
-ghost use Rattle.jsonpath_lexical.specs.inner.Reading.{Gives, Reads};
+ghost use Rattle.jsonpath_parser.specs.words.inner.Reading.{Gives, Reads};
 ghost use Rattle.jsonpath_parser.specs.inner.ReadingGrammar as spec;
 ghost use Rattle.jsonpath_parser.specs.inner.ReadingGrammar.{number_reading};
-ghost use Rattle.jsonpath_tree.specs.View.{argument_view, comparable_view, filter_view, segment_view, segments_view, step_view};
+ghost use Rattle.jsonpath_parser.specs.tree.View.{argument_view, comparable_view, filter_view, segment_view, segments_view, step_view};
 
 use super::calls::called;
 use super::literals::{Numbers, number_literal};
 use super::segments::segments;
 use super::slices::is_int_first;
 use super::words::{word, word_literal};
-use jsonpath_lexical::stop::Stop;
-use jsonpath_lexical::string::string;
-use jsonpath_lexical::text::{first, skip};
-use jsonpath_tree::model::{
+use crate::tree::model::{
     Comparable, Filter, FilterAtom, FnArg, JpQuery, Literal, Segment, Selector, SingularQuery,
     SingularQuerySegment, Test,
 };
+use crate::words::stop::Stop;
+use crate::words::string::string;
+use crate::words::text::{first, skip};
 use std::alloc::Global;
 
 /// A call, or a literal that is a word.

@@ -1,9 +1,9 @@
 //! The productions that a part of a query may be: what is read, and how that is turned into the tree (RFC 9535, 2.1 to 2.5).
 ghost use Rattle.std.specs.Prelude.{◌≡◌, true, Ok};
-ghost use Rattle.jsonpath_lexical.specs.inner.Reading.{Gives, Reads};
+ghost use Rattle.jsonpath_parser.specs.words.inner.Reading.{Gives, Reads};
 ghost use Rattle.jsonpath_parser.specs.inner.ReadingGrammar.{numbered_at};
 ghost use Rattle.jsonpath_parser.specs.inner.ReadingParts as spec;
-ghost use Rattle.jsonpath_tree.specs.View.{literal_view, singular_view, argument_view, atom_view, call_view, comparison_view, query_view, segment_view, segments_view, selector_view, test_view};
+ghost use Rattle.jsonpath_parser.specs.tree.View.{literal_view, singular_view, argument_view, atom_view, call_view, comparison_view, query_view, segment_view, segments_view, selector_view, test_view};
 
 pub use super::filters::{basic, conjunction, logical};
 use super::literals::Numbers;
@@ -13,12 +13,12 @@ use super::selectors::selection;
 pub use super::selectors::selector;
 use super::slices;
 use super::words::shorthand;
-use jsonpath_lexical::stop::Stop;
-use jsonpath_lexical::text::first;
-use jsonpath_tree::model::{
+use crate::tree::model::{
     Comparison, Filter, FilterAtom, FnArg, JpQuery, Literal, Segment, Selector, SingularQuery,
     Test, TestFunction,
 };
+use crate::words::stop::Stop;
+use crate::words::text::first;
 use std::alloc::Global;
 
 /// What may stand behind `..`.

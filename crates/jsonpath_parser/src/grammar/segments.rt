@@ -1,16 +1,16 @@
 //! Segments (RFC 9535, 2.5).
 ghost use Rattle.std.specs.Prelude.{◌≡◌, ℕ, ◌<◌, ◌≤◌, length, IfOk};
-ghost use Rattle.jsonpath_lexical.specs.inner.Reading.{Reads};
+ghost use Rattle.jsonpath_parser.specs.words.inner.Reading.{Reads};
 ghost use Rattle.jsonpath_parser.specs.inner.ReadingGrammar as spec;
 ghost use Rattle.jsonpath_parser.specs.inner.ReadingGrammar.{number_reading};
-ghost use Rattle.jsonpath_tree.specs.View.{segment_view, segments_view};
+ghost use Rattle.jsonpath_parser.specs.tree.View.{segment_view, segments_view};
 
 use super::literals::Numbers;
 use super::selectors::selection;
 use super::words::shorthand;
-use jsonpath_lexical::stop::Stop;
-use jsonpath_lexical::text::{byte_at, first, skip, skip_blank};
-use jsonpath_tree::model::Segment;
+use crate::tree::model::Segment;
+use crate::words::stop::Stop;
+use crate::words::text::{byte_at, first, skip, skip_blank};
 use std::alloc::Global;
 
 /// What stands behind `..` (2.5.2.1).

@@ -1,17 +1,17 @@
 //! Selectors, and selectors between brackets (RFC 9535, 2.3 and 2.5.1).
 ghost use Rattle.std.specs.Prelude.{◌≡◌, ℕ, ◌<◌, ◌≤◌, length, IfOk};
-ghost use Rattle.jsonpath_lexical.specs.inner.Reading.{Reads};
+ghost use Rattle.jsonpath_parser.specs.words.inner.Reading.{Reads};
 ghost use Rattle.jsonpath_parser.specs.inner.ReadingGrammar as spec;
 ghost use Rattle.jsonpath_parser.specs.inner.ReadingGrammar.{number_reading};
-ghost use Rattle.jsonpath_tree.specs.View.{selector_view, selectors_view, segment_view};
+ghost use Rattle.jsonpath_parser.specs.tree.View.{selector_view, selectors_view, segment_view};
 
 use super::filters::logical;
 use super::literals::Numbers;
 use super::slices::numbered;
-use jsonpath_lexical::stop::Stop;
-use jsonpath_lexical::string::string;
-use jsonpath_lexical::text::{first, skip, skip_blank};
-use jsonpath_tree::model::{Segment, Selector};
+use crate::tree::model::{Segment, Selector};
+use crate::words::stop::Stop;
+use crate::words::string::string;
+use crate::words::text::{first, skip, skip_blank};
 use std::alloc::Global;
 
 /// A selector (2.3).

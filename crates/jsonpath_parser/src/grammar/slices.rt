@@ -1,13 +1,13 @@
 //! Indexes and slices (RFC 9535, 2.3.3 and 2.3.4).
 ghost use Rattle.std.specs.Prelude.{◌≡◌, ◌≢◌, ◌<◌, ◌≤◌, length, IfOk, IfErr};
-ghost use Rattle.jsonpath_lexical.specs.inner.Reading.{Reads};
+ghost use Rattle.jsonpath_parser.specs.words.inner.Reading.{Reads};
 ghost use Rattle.jsonpath_parser.specs.inner.ReadingGrammar as spec;
-ghost use Rattle.jsonpath_tree.specs.View.{selector_view};
+ghost use Rattle.jsonpath_parser.specs.tree.View.{selector_view};
 
-use jsonpath_lexical::int::int;
-use jsonpath_lexical::stop::Stop;
-use jsonpath_lexical::text::{first, skip, skip_blank};
-use jsonpath_tree::model::Selector;
+use crate::tree::model::Selector;
+use crate::words::int::int;
+use crate::words::stop::Stop;
+use crate::words::text::{first, skip, skip_blank};
 
 /// Whether an int, or a number literal, begins with this byte.
 #[inline]

@@ -1,19 +1,19 @@
 //! Names, words and operators (RFC 9535, 2.3.5.1, 2.4 and 2.5.1.1).
 ghost use Rattle.std.specs.Prelude.{◌≡◌, ◌≢◌, ◌<◌, ◌≤◌, length, IfOk, option_map, string_bytes, IfErr};
-ghost use Rattle.jsonpath_lexical.specs.inner.Reading.{Reads};
-ghost use Rattle.jsonpath_lexical.specs.inner.Reading as reading;
+ghost use Rattle.jsonpath_parser.specs.words.inner.Reading.{Reads};
+ghost use Rattle.jsonpath_parser.specs.words.inner.Reading as reading;
 ghost use Rattle.jsonpath_parser.specs.inner.ReadingGrammar as spec;
-ghost use Rattle.jsonpath_tree.specs.View.{selector_view, literal_view, operator_view};
+ghost use Rattle.jsonpath_parser.specs.tree.View.{selector_view, literal_view, operator_view};
 
-use jsonpath_lexical::stop::Stop;
-use jsonpath_lexical::text::{
+use crate::tree::model::{Literal, Operator, Selector};
+use crate::words::stop::Stop;
+use crate::words::text::{
     byte_at, first, function_run, is_function_first, is_name_first, name_run, skip,
 };
-use jsonpath_tree::model::{Literal, Operator, Selector};
 use std::alloc::Global;
 
 /// A shorthand name (2.5.1.1).
-#[tactic(auto, unfolding(jsonpath_lexical::specs::inner::Reading::name_at))]
+#[tactic(auto, unfolding(crate::specs::words::inner::Reading::name_at))]
 fn name(alloc: Global, s: &str) -> Result<(String, &str), Stop>
     ensures value { Reads string_bytes result (reading.name_at s.now) }
     ensures within { IfOk result (λ p. length p.1.now ≤ length s.now) }

@@ -2,24 +2,24 @@
 ghost use Rattle.std.specs.Prelude.{◌≡◌, Bool, true, false, map, IsTrue, IfOk, IfErr, OnOk, OnErr, MatchResult};
 ghost use Rattle.std.specs.Result.{IsErrAnd};
 ghost use Rattle.jsonpath_parser.specs.Derives.{Derives};
-ghost use Rattle.jsonpath_tree.specs.Syntax.{Query};
-ghost use Rattle.jsonpath_tree.specs.View.{query_view};
+ghost use Rattle.jsonpath_parser.specs.tree.Syntax.{Query};
+ghost use Rattle.jsonpath_parser.specs.tree.View.{query_view};
 ghost use Rattle.jsonpath_base.specs.SetFunctions.{set_function};
 ghost use Rattle.jsonpath_base.specs.Values.{value_tree, value_is_whole};
 ghost use Rattle.jsonpath_base.specs.Without.{without, is_among, distinct_count};
 ghost use Rattle.jsonpath_rust.specs.Defaults.{IsUnsupported};
 ghost use Rattle.jsonpath_rust.specs.Deleting.{IsDeletion, Deletes, NothingSelectedDeletesNothing};
-ghost use Rattle.jsonpath_node.specs.Document.{document_of};
-ghost use Rattle.jsonpath_node.specs.Meaning.{selected};
-ghost use Rattle.jsonpath_node.specs.Patterns.{IsStop, IsQueryRefusal};
+ghost use Rattle.jsonpath_rust.specs.documents.Document.{document_of};
+ghost use Rattle.jsonpath_rust.specs.documents.Meaning.{selected};
+ghost use Rattle.jsonpath_rust.specs.documents.Patterns.{IsStop, IsQueryRefusal};
 
+use crate::documents::Queried;
+use crate::documents::queryable::Queryable;
+use crate::selection::selected_locations;
 use jsonpath_base::remove_all;
-use jsonpath_node::Queried;
-use jsonpath_node::queryable::Queryable;
 use jsonpath_parser::errors::JsonPathError;
 use jsonpath_parser::model::JpQuery;
 use jsonpath_parser::{MAX_NESTING_DEPTH, let_go, parse_json_path_within};
-use jsonpath_walk::selected_locations;
 use serde_json::Value;
 use std::alloc::Global;
 

@@ -1,3 +1,3 @@
 //! The types that are documents.
+pub use crate::documents::queryable::{Arg, Queryable};
 pub use crate::query::deletion::Deletable;
-pub use jsonpath_node::queryable::{Arg, Queryable};

@@ -1,7 +1,7 @@
 use Rattle.std.proofs.Common.{◌≡◌, map, drop}
 use Rattle.std.specs.List.{list_all}
 use Rattle.jsonpath_base.specs.Same.{same}
-use Rattle.jsonpath_node.specs.Args.{arg_value}
+use Rattle.jsonpath_rust.specs.documents.Args.{arg_value}
 use Rattle.jpath_doc.specs.DocTree.{doc_tree}
 use Rattle.jpath_doc.proofs.customs.are_same_as.Given as goal
 

@@ -1,6 +1,6 @@
 use Rattle.std.proofs.Common.{◌≡◌, ◌≤◌, ◌+◌, ◌*◌, map, reverse, drop}
 use Rattle.jsonpath_base.specs.Same.{same_members}
-use Rattle.jsonpath_node.specs.inner.Size.{size, trees_size, members_size}
+use Rattle.jsonpath_rust.specs.documents.inner.Size.{size, trees_size, members_size}
 use Rattle.jpath_doc.specs.DocTree.{doc_tree, pairs_of, trees, members}
 use Rattle.jpath_doc.proofs.Comparing.{same_lists}
 use Rattle.jpath_doc.proofs.sameness.+same.Given as goal

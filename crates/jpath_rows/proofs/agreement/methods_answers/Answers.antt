@@ -1,4 +1,4 @@
-use Rattle.jsonpath_node.specs.Document.{document_of}
+use Rattle.jsonpath_rust.specs.documents.Document.{document_of}
 use Rattle.jpath_rows.proofs.Agreeing.{paths_alike, values_alike}
 use Rattle.jpath_rows.proofs.agreement.methods_answers.Goals as goal
 

@@ -14,7 +14,7 @@ use Rattle.serde_json.specs.Rows.{list_row as L, map_row as K}
 use Rattle.serde_json.specs.View.{view, items_view, members_view}
 use Rattle.serde_json.specs.Find.{as_array, as_object}
 use Rattle.std.specs.Map.{lookup, set_value}
-use Rattle.jsonpath_core.specs.Location.{name, index}
+use Rattle.jsonpath_parser.specs.Location.{name, index}
 use Rattle.jsonpath_base.specs.Places.{at}
 use Rattle.jsonpath_base.specs.Put.{put}
 use Rattle.jsonpath_base.specs.Values.{value_tree, value_is_whole}

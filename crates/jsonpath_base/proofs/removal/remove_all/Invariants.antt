@@ -1,5 +1,5 @@
 use Rattle.std.proofs.Common.{◌≡◌, ◌≤◌, drop, map, length, ◌+◌}
-use Rattle.jsonpath_core.specs.Location.{Location}
+use Rattle.jsonpath_parser.specs.Location.{Location}
 use Rattle.jsonpath_base.specs.Steps.{location_view}
 use Rattle.jsonpath_base.specs.Without.{is_among, distinct_count}
 use Rattle.jsonpath_base.specs.inner.Marks.{marked}

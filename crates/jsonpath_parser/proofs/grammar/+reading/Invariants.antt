@@ -3,8 +3,8 @@ use denote.Text.{Utf8}
 use denote.Shadow.{shadow}
 use Rattle.jsonpath_parser.specs.inner.ReadingGrammar.{number_reading, argument_at, selectors_at, segments_at, all_segments_at, arguments_at, ands_at, ors_at}
 use Rattle.jsonpath_parser.specs.inner.ReadingLists.{found_then}
-use Rattle.jsonpath_tree.specs.Syntax.{selector, segment, filter_then, argument}
-use Rattle.jsonpath_tree.specs.View.{segment_view, selector_view, filter_view, argument_view}
+use Rattle.jsonpath_parser.specs.tree.Syntax.{selector, segment, filter_then, argument}
+use Rattle.jsonpath_parser.specs.tree.View.{segment_view, selector_view, filter_view, argument_view}
 use Rattle.jsonpath_parser.proofs.grammar.+reading.Given as goal
 
 abbrev pub decreases-calls::arguments : goal.decreases-calls::arguments

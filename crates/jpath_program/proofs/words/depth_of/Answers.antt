@@ -1,6 +1,0 @@
-use Rattle.std.proofs.Common.{◌∙◌, rules}
-use Rattle.jpath_program.proofs.Depths.{depth_of-parsed}
-use Rattle.jpath_program.proofs.words.depth_of.Goals as goal
-
-pub returns : goal.returns
-returns c = c.ok.ensures.value ∙ depth_of-parsed c.args.word.now c.parse.result c.parse.ensures.value.0 (search rules)

@@ -1,4 +1,0 @@
-pub mod Equality
-pub mod Errors
-pub mod Location
-pub mod Normal

@@ -1,8 +1,0 @@
-use Rattle.std.proofs.Common.{◌≡◌, ◌≤◌, nat_lt, drop}
-use Rattle.jsonpath_lexical.specs.Depth.{depth, depth_from}
-use Rattle.jsonpath_lexical.specs.inner.Places.{place_view}
-use Rattle.jsonpath_lexical.proofs.depth.exceeds.Given as goal
-
-abbrev pub invariant-loop-byte : goal.invariant-loop-byte
-invariant-loop-byte l =
-    (l.nesting ≤ l.limit) × (nat_lt l.limit (depth_from (place_view l.place) l.nesting (drop l.byte-index l.text)) ≡ nat_lt l.limit (depth l.text))

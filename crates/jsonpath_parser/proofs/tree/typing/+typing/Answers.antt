@@ -1,0 +1,14 @@
+use Rattle.jsonpath_parser.proofs.laws.tree.Typed.{segments_all, selectors_all, filters_all, arguments_all}
+use Rattle.jsonpath_parser.proofs.tree.typing.+typing.Goals as goal
+
+pub arguments-arguments-init : goal.arguments-arguments-init
+arguments-arguments-init t c = arguments_all c.args.arguments.now
+
+pub filters-filters-init : goal.filters-filters-init
+filters-filters-init t c = filters_all c.args.filters.now
+
+pub segments-segments-init : goal.segments-segments-init
+segments-segments-init t c = segments_all c.args.segments.now
+
+pub selectors-selectors-init : goal.selectors-selectors-init
+selectors-selectors-init t c = selectors_all c.args.selectors.now

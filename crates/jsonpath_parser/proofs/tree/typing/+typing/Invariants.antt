@@ -1,0 +1,17 @@
+use Rattle.std.proofs.Common.{◌≡◌, map, drop}
+use Rattle.std.specs.List.{list_all}
+use Rattle.jsonpath_parser.specs.tree.Typing.{is_typed, is_typed_segment, are_typed_selectors, is_typed_selector, are_typed_filters, is_typed_filter, are_typed_arguments, is_typed_argument}
+use Rattle.jsonpath_parser.specs.tree.View.{segment_view, segments_of, selector_view, selectors_of, filter_view, filters_of, argument_view, arguments_of}
+use Rattle.jsonpath_parser.proofs.tree.typing.+typing.Given as goal
+
+abbrev pub invariant-arguments-arguments : goal.invariant-arguments-arguments
+invariant-arguments-arguments l = are_typed_arguments (arguments_of (map argument_view l.arguments)) ≡ list_all (λ x. is_typed_argument (argument_view x)) (drop l.one-index l.arguments)
+
+abbrev pub invariant-filters-filters : goal.invariant-filters-filters
+invariant-filters-filters l = are_typed_filters (filters_of (map filter_view l.filters)) ≡ list_all (λ x. is_typed_filter (filter_view x)) (drop l.one-index l.filters)
+
+abbrev pub invariant-segments-segments : goal.invariant-segments-segments
+invariant-segments-segments l = is_typed (segments_of (map segment_view l.segments)) ≡ list_all (λ x. is_typed_segment (segment_view x)) (drop l.one-index l.segments)
+
+abbrev pub invariant-selectors-selectors : goal.invariant-selectors-selectors
+invariant-selectors-selectors l = are_typed_selectors (selectors_of (map selector_view l.selectors)) ≡ list_all (λ x. is_typed_selector (selector_view x)) (drop l.one-index l.selectors)

@@ -1,0 +1,7 @@
+pub mod Syntax
+pub mod Steps
+pub mod View
+pub mod Typing
+pub mod Making
+pub mod Shown
+pub mod inner

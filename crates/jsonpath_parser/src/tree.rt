@@ -1,0 +1,10 @@
+//! Query trees (RFC 9535, 2.1 to 2.5): what stands below `jsonpath_parser`, which re-exports what of it is public.
+mod equality;
+pub mod model;
+mod release;
+pub mod typing;
+
+pub use equality::equal_parts_are_one_tree;
+pub use model::call::call_of;
+pub use release::let_go;
+pub use typing::is_typed;

@@ -1,0 +1,3 @@
+pub mod documents
+pub mod selection
+pub mod states

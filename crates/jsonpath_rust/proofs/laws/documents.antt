@@ -1,0 +1,9 @@
+pub mod Arguments
+pub mod Following
+pub mod LendingLaws
+pub mod Made
+pub mod MemberCounts
+pub mod NodesAt
+pub mod NormalSteps
+pub mod Parts
+pub mod Trees

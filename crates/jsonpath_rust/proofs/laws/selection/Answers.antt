@@ -1,0 +1,82 @@
+-- What the calls answer, from what the walk gave.
+use Rattle.std.proofs.Common.{◌≡◌, ◌↔◌, ℕ, List, [], ◌∷◌, map, Bool, true, false, Option, None, Some, option_map, IfSome, IfNone, IsTrue, IsFalse, sym, ◌∙◌, ap, subst, refl}
+use Rattle.std.proofs.lemmas.Bool.{false≢true}
+use Rattle.std.specs.List.{AllByRecursion, AllZip}
+use Rattle.jsonpath_parser.proofs.NormalLemmas.{only_path}
+use Rattle.jsonpath_parser.specs.tree.Syntax.{Query}
+use Rattle.jsonpath_parser.specs.Normal.{normal}
+use Rattle.jsonpath_base.specs.Tree.{Tree, has_distinct_names}
+use Rattle.jsonpath_base.specs.Places.{at}
+use Rattle.jsonpath_rust.specs.documents.Document.{Document}
+use Rattle.jsonpath_rust.specs.documents.Node.{Node}
+use Rattle.jsonpath_rust.specs.documents.Meaning.{nodelist, selected}
+use Rattle.jsonpath_rust.specs.documents.Answer.{IsNodeAt, IsPathAt, IsValueAt}
+use Rattle.jsonpath_rust.specs.selection.Prepared.{IsFirstNode}
+use Rattle.jsonpath_rust.specs.selection.inner.Sinks.{any, first, any_in, first_in, give, answer_of}
+use Rattle.jsonpath_rust.proofs.laws.documents.NodesAt.{nodes_at}
+use Rattle.jsonpath_rust.proofs.laws.selection.Sinks.{any_given, only_first}
+
+nodes_zipped : (doc : Document) (ns : List Node) → AllByRecursion (λ n. at n.location doc.root ≡ Some n.tree) ns → AllZip (IsNodeAt doc) (map (λ n. n.location) ns) (map answer_of ns)
+nodes_zipped doc [] h = tt
+nodes_zipped doc (n ∷ ns) h = (((refl, only_path n.location), h.0), nodes_zipped doc ns h.1)
+
+paths_zipped : (doc : Document) (ns : List Node) → AllZip (IsPathAt doc) (map (λ n. n.location) ns) (map (λ n. normal n.location) ns)
+paths_zipped doc [] = tt
+paths_zipped doc (n ∷ ns) = ((refl, only_path n.location), paths_zipped doc ns)
+
+values_zipped : (doc : Document) (ns : List Node) → AllByRecursion (λ n. at n.location doc.root ≡ Some n.tree) ns → AllZip (IsValueAt doc) (map (λ n. n.location) ns) (map (λ n. n.tree) ns)
+values_zipped doc [] h = tt
+values_zipped doc (n ∷ ns) h = (h.0, values_zipped doc ns h.1)
+
+-- the answered list, where it shows the nodelist
+pub nodes_answered : (q : Query) (doc : Document) (answer : List (List ℕ × Tree)) → IsTrue (has_distinct_names doc.root) → answer ≡ map answer_of (nodelist q doc) → AllZip (IsNodeAt doc) (selected q doc) answer
+nodes_answered q doc answer distinct e = subst (AllZip (IsNodeAt doc) (selected q doc)) (sym e) (nodes_zipped doc (nodelist q doc) (nodes_at q doc distinct))
+
+pub paths_answered : (q : Query) (doc : Document) (answer : List (List ℕ)) → answer ≡ map (λ n. normal n.location) (nodelist q doc) → AllZip (IsPathAt doc) (selected q doc) answer
+paths_answered q doc answer e = subst (AllZip (IsPathAt doc) (selected q doc)) (sym e) (paths_zipped doc (nodelist q doc))
+
+pub values_answered : (q : Query) (doc : Document) (answer : List Tree) → IsTrue (has_distinct_names doc.root) → answer ≡ map (λ n. n.tree) (nodelist q doc) → AllZip (IsValueAt doc) (selected q doc) answer
+values_answered q doc answer distinct e = subst (AllZip (IsValueAt doc) (selected q doc)) (sym e) (values_zipped doc (nodelist q doc) (nodes_at q doc distinct))
+
+-- ---- where the walk ends at the first node
+
+first_there : (q : Query) (doc : Document) (b : Bool) (answer : List ℕ × Tree) (ns : List Node) → nodelist q doc ≡ ns → AllByRecursion (λ n. at n.location doc.root ≡ Some n.tree) ns → Some (b, answer) ≡ first_in (give (first None) ns) → IsFirstNode q doc answer
+first_there q doc b answer [] e h k = absurd cc
+first_there q doc b answer (n ∷ ns) e h k =
+    let same : ◌≡◌ {A = Bool × (List ℕ × Tree)} (b, answer) (true, answer_of n) = cc (k ∙ only_first n ns) in
+    record {
+      location = n.location;
+      rest = map (λ m. m.location) ns;
+      selects = ap (map (λ m. m.location)) e;
+      node = subst (IsNodeAt doc n.location) (sym (ap (λ p. p.1) same)) ((refl, only_path n.location), h.0);
+    }
+
+none_there : (ns : List Node) → None ≡ first_in (give (first None) ns) → ns ≡ []
+none_there [] k = refl
+none_there (n ∷ ns) k = absurd (cc (k ∙ only_first n ns))
+
+first_whole : (b : Bool) (answer : List ℕ × Tree) (ns : List Node) → Some (b, answer) ≡ first_in (give (first None) ns) → IsTrue b
+first_whole b answer [] k = absurd cc
+first_whole b answer (n ∷ ns) k =
+    let same : ◌≡◌ {A = Bool × (List ℕ × Tree)} (b, answer) (true, answer_of n) = cc (k ∙ only_first n ns) in
+    ap (λ p. p.0) same
+
+-- what was kept of the first node, where the nodelist was given
+pub first_answered : {X : Type 0} (w : X → Bool) (f : X → List ℕ × Tree) (q : Query) (doc : Document) (o : Option X) → IsTrue (has_distinct_names doc.root) → option_map (λ x. (w x, f x)) o ≡ first_in (give (first None) (nodelist q doc)) → IfSome o (λ x. IsFirstNode q doc (f x))
+first_answered w f q doc None distinct e = tt
+first_answered w f q doc (Some x) distinct e = first_there q doc (w x) (f x) (nodelist q doc) refl (nodes_at q doc distinct) e
+
+pub none_answered : {X : Type 0} (w : X → Bool) (f : X → List ℕ × Tree) (q : Query) (doc : Document) (o : Option X) → option_map (λ x. (w x, f x)) o ≡ first_in (give (first None) (nodelist q doc)) → IfNone o (selected q doc ≡ [])
+none_answered w f q doc None e = ap (map (λ n. n.location)) (none_there (nodelist q doc) e)
+none_answered w f q doc (Some x) e = tt
+
+pub whole_answered : {X : Type 0} (w : X → Bool) (f : X → List ℕ × Tree) (ns : List Node) (o : Option X) → option_map (λ x. (w x, f x)) o ≡ first_in (give (first None) ns) → IfSome o (λ x. IsTrue (w x))
+whole_answered w f ns None e = tt
+whole_answered w f ns (Some x) e = first_whole (w x) (f x) ns e
+
+-- whether there is a node
+pub no_node : (b : Bool) (ns : List Node) → b ≡ any_in (give (any false) ns) → IsFalse b ↔ (map (λ n. n.location) ns ≡ [])
+no_node b [] e = (λ h. refl, λ h. e)
+no_node b (n ∷ ns) e =
+    let is : b ≡ true = e ∙ any_given (n ∷ ns) in
+    (λ h. absurd (false≢true (sym h ∙ is)), λ h. absurd cc)

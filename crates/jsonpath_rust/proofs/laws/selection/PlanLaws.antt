@@ -1,0 +1,179 @@
+-- How the steps of the making of a plan follow one another.
+use Rattle.std.proofs.Common.{◌≡◌, ℕ, ◌+◌, ◌<◌, ◌≤◌, List, [], ◌∷◌, ◌++◌, map, length, get_or, take, true, Bool, refl, sym, ◌∙◌, ap, subst, append_assoc, append-nil, if◌then◌else◌, IsTrue}
+use Rattle.std.proofs.Math.Seq.{get_or-append_seam}
+use Rattle.std.proofs.lemmas.List.{map-append, map_more, get_or_append_left, take_all}
+use Rattle.std.proofs.Math.ListN.{length-map}
+use Rattle.std.proofs.lemmas.Bool.{and_from}
+use Rattle.std.proofs.lemmas.List.Folds.{list_all-append}
+use Rattle.std.specs.List.{list_all}
+use Rattle.jsonpath_parser.specs.tree.Syntax as tree
+use Rattle.jsonpath_parser.specs.tree.View.{segments_of}
+use Rattle.jsonpath_rust.specs.selection.inner.PlanViews.{Kept, KeptPart, nodes, value, kept_view, kept_from, rooted_view, segments_in, segment_view, is_same_wanted, query_in, part_at, part_is_rooted, IsSettled, IsRooted, AreRooted}
+use Rattle.jsonpath_rust.specs.selection.inner.PlanMaking.{Extends, IsRight, Made, IsBeside, IsKept, IsNumbered, IsNumberOf, kept_in, parts_of, source_of}
+use Rattle.jsonpath_rust.specs.declared.selection.plan.Entry.{Entry}
+use Rattle.jsonpath_rust.specs.declared.selection.plan.Rooted.{Rooted}
+use Rattle.jsonpath_rust.specs.declared.selection.plan.Segment.{Segment}
+use Rattle.jsonpath_rust.specs.declared.selection.plan.keeping.Source.{Source}
+use Rattle.jsonpath_rust.specs.declared.selection.plan.make.Maker.{Maker}
+use Rattle.jsonpath_rust.specs.declared.selection.sink.Wanted.{Wanted}
+use Rattle.jsonpath_rust.specs.declared.selection.sink.Wanted.TheVariants.{Any, Count, Only, Values}
+
+extends_none : (a : Kept) → Extends a a
+extends_none a = record { more = []; is = sym (append-nil a) }
+
+extends_on : (a b c : Kept) → Extends a b → Extends b c → Extends a c
+extends_on a b c h k = record { more = h.more ++ k.more; is = k.is ∙ ap (λ x. x ++ k.more) h.is ∙ append_assoc a h.more k.more }
+
+-- nothing more is kept
+pub made_none : {A : Type 0} (m : Maker) (part : Kept → A) (a : A) → ((kept : Kept) → part kept ≡ a) → Made m m part a
+made_none m part a s = record { grows = extends_none (kept_in m); says = λ kept h. s kept; right = λ r. r }
+
+-- nothing is kept between the two
+right_beside : (old new : Maker) → IsBeside old new → IsRight old → IsRight new
+right_beside old new b r =
+    let e : kept_in new ≡ kept_in old = ap parts_of b.met in
+    record {
+      is = ap kept_view b.entries ∙ r.is ∙ sym e;
+      settled = λ kept x. ap (map (λ p. rooted_view kept p.part)) b.entries ∙ r.settled kept (subst (λ k. Extends k kept) e x) ∙ sym e;
+      rooted = ap (list_all part_is_rooted) e ∙ r.rooted;
+    }
+
+pub made_beside : {A : Type 0} (old new : Maker) (part : Kept → A) (a : A) → IsBeside old new → ((kept : Kept) → part kept ≡ a) → Made old new part a
+made_beside old new part a b s = record {
+  grows = subst (Extends (kept_in old)) (sym (ap parts_of b.met)) (extends_none (kept_in old));
+  says = λ kept h. s kept;
+  right = right_beside old new b;
+}
+
+pub made_after : {A : Type 0} {old mid new : Maker} {part : Kept → A} {a : A} → IsBeside old mid → Made mid new part a → Made old new part a
+made_after {old = old} {mid = mid} {new = new} b m = record {
+  grows = subst (λ k. Extends k (kept_in new)) (ap parts_of b.met) m.grows;
+  says = m.says;
+  right = λ r. m.right (right_beside old mid b r);
+}
+
+pub made_before : {A : Type 0} {old mid new : Maker} {part : Kept → A} {a : A} → IsBeside mid new → Made old mid part a → Made old new part a
+made_before {old = old} {mid = mid} {new = new} b m =
+    let e : kept_in new ≡ kept_in mid = ap parts_of b.met in
+    record {
+      grows = subst (Extends (kept_in old)) (sym e) m.grows;
+      says = λ kept x. m.says kept (subst (λ k. Extends k kept) e x);
+      right = λ r. right_beside mid new b (m.right r);
+    }
+
+-- the part in other words, or what holds it
+pub made_as : {A B : Type 0} {old new : Maker} {part : Kept → A} {a : A} (k : A → B) (whole : Kept → B) (b : B) → ((kept : Kept) → whole kept ≡ k (part kept)) → b ≡ k a → Made old new part a → Made old new whole b
+made_as k whole b e f m = record { grows = m.grows; says = λ kept h. e kept ∙ ap k (m.says kept h) ∙ sym f; right = m.right }
+
+-- two parts, one after the other
+pub made_both : {A B C : Type 0} {old mid new : Maker} {first : Kept → A} {second : Kept → B} {a : A} {b : B} (k : A → B → C) (whole : Kept → C) (c : C) → ((kept : Kept) → whole kept ≡ k (first kept) (second kept)) → c ≡ k a b → Made old mid first a → Made mid new second b → Made old new whole c
+made_both {old = old} {mid = mid} {new = new} {first = first} {second = second} {a = a} {b = b} k whole c e f m n = record {
+  grows = extends_on (kept_in old) (kept_in mid) (kept_in new) m.grows n.grows;
+  says = λ kept h. e kept ∙ ap (λ x. k x (second kept)) (m.says kept (extends_on (kept_in mid) (kept_in new) kept n.grows h)) ∙ ap (k a) (n.says kept h) ∙ sym f;
+  right = λ r. n.right (m.right r);
+}
+
+-- none of a list
+pub made_start : {X Y A : Type 0} (m : Maker) (view : Kept → X → A) (source : Y → A) (xs : List X) (ys : List Y) → xs ≡ [] → Made m m (λ kept. map (view kept) xs) (map source (take 0 ys))
+made_start m view source xs ys e = made_none m (λ kept. map (view kept) xs) (map source (take 0 ys)) (λ kept. ap (map (view kept)) e)
+
+-- all of a list
+pub made_end : {Y A : Type 0} {old new : Maker} (part : Kept → List A) (source : Y → A) (ys : List Y) (i : ℕ) → length ys ≤ i → Made old new part (map source (take i ys)) → Made old new part (map source ys)
+made_end part source ys i h m = record { grows = m.grows; says = λ kept x. m.says kept x ∙ ap (map source) (take_all i ys h); right = m.right }
+
+pub map_next : {X Y A : Type 0} (view : X → A) (source : Y → A) (xs zs : List X) (x : X) (ys : List Y) (i : ℕ) (y : Y) → zs ≡ xs ++ x ∷ [] → i < length ys → y ≡ get_or ys i y → map view xs ≡ map source (take i ys) → view x ≡ source y → map view zs ≡ map source (take (i + 1) ys)
+map_next view source xs zs x ys i y p h e m n = ap (map view) p ∙ map-append view xs (x ∷ []) ∙ ap (λ l. l ++ view x ∷ []) m ∙ ap (λ a. map source (take i ys) ++ a ∷ []) (n ∙ ap source e) ∙ sym (map_more source ys i y h)
+
+-- one more of a list
+pub made_next : {X Y A : Type 0} {old mid new : Maker} (view : Kept → X → A) (source : Y → A) (xs zs : List X) (x : X) (ys : List Y) (i : ℕ) (y : Y) → zs ≡ xs ++ x ∷ [] → i < length ys → y ≡ get_or ys i y → Made old mid (λ kept. map (view kept) xs) (map source (take i ys)) → Made mid new (λ kept. view kept x) (source y) → Made old new (λ kept. map (view kept) zs) (map source (take (i + 1) ys))
+made_next view source xs zs x ys i y p h e m n = made_both (λ done a. done ++ a ∷ []) _ _ (λ kept. ap (map (view kept)) p ∙ map-append (view kept) xs (x ∷ [])) (map_more source ys i y h ∙ ap (λ z. map source (take i ys) ++ source z ∷ []) (sym e)) m n
+
+-- ---- entries
+
+pub same_self : (w : Wanted) → is_same_wanted w w ≡ true
+same_self Any = refl
+same_self Count = refl
+same_self Only = refl
+same_self Values = refl
+
+-- the query of a part, for what is wanted of it
+pub query_in-nodes : (w : Wanted) (q : tree.Query) → query_in w (nodes w q) ≡ q
+query_in-nodes w q = ap (λ b. (if b then q else tree.no_segments)) (same_self w)
+
+kept_push : (kept : Kept) (es : List Entry) (e : Entry) → kept_from kept (es ++ e ∷ []) ≡ kept_from kept es ++ rooted_view (kept_from kept es) e.part ∷ []
+kept_push kept [] e = refl
+kept_push kept (x ∷ es) e = kept_push (kept ++ rooted_view kept x.part ∷ []) es e
+
+-- the entry of this number keeps what is sought
+pub made_found : (old new : Maker) (s : Source) (n : ℕ) → IsBeside old new → IsNumberOf old.met.items s n → Made old new (λ kept. part_at kept n) (source_of s)
+made_found old new s n b h = made_before b (record {
+  grows = extends_none (kept_in old);
+  says = λ kept x. ap (λ l. part_at l n) x.is ∙ get_or_append_left (kept_in old) x.more (value []) n (subst (λ k. n < k) (sym (length-map old.met.items (λ e. source_of e.source))) h.within) ∙ h.is;
+  right = λ r. r;
+})
+
+-- the entry that was made keeps what it was made of
+pub made_kept : {old mid new : Maker} (part : Rooted) (s : Source) (n : ℕ) → IsKept mid new part s n → (AreRooted (kept_in mid) → IsTrue (part_is_rooted (source_of s))) → Made old mid (λ kept. rooted_view kept part) (source_of s) → Made old new (λ kept. part_at kept n) (source_of s)
+made_kept {old = old} {mid = mid} {new = new} part s n k root m =
+    let p : KeptPart = source_of s in
+    let seam : n ≡ length (kept_in mid) = k.number ∙ sym (length-map mid.met.items (λ e. source_of e.source)) in
+    let grown : kept_in new ≡ kept_in mid ++ p ∷ [] = ap parts_of k.met ∙ map-append (λ e. source_of e.source) mid.met.items _ in
+    let grows : Extends (kept_in mid) (kept_in new) = record { more = p ∷ []; is = grown } in
+    record {
+      grows = extends_on (kept_in old) (kept_in mid) (kept_in new) m.grows grows;
+      says = λ kept x. ap (λ l. part_at l n) (x.is ∙ ap (λ l. l ++ x.more) grown ∙ append_assoc (kept_in mid) (p ∷ []) x.more) ∙ ap (λ i. part_at (kept_in mid ++ p ∷ x.more) i) seam ∙ get_or-append_seam (kept_in mid) p x.more (value []);
+      right = λ r.
+          let was : IsRight mid = m.right r in
+          record {
+            is = ap kept_view k.entries ∙ kept_push [] mid.kept.items _ ∙ ap (λ l. l ++ rooted_view l part ∷ []) was.is ∙ ap (λ q. kept_in mid ++ q ∷ []) (m.says (kept_in mid) (extends_none (kept_in mid))) ∙ sym grown;
+            settled = λ kept x.
+                let on : Extends (kept_in mid) kept = extends_on (kept_in mid) (kept_in new) kept grows x in
+                ap (map (λ e. rooted_view kept e.part)) k.entries ∙ map-append (λ e. rooted_view kept e.part) mid.kept.items _ ∙ ap (λ l. l ++ rooted_view kept part ∷ []) (was.settled kept on) ∙ ap (λ q. kept_in mid ++ q ∷ []) (m.says kept on) ∙ sym grown;
+            rooted = ap (list_all part_is_rooted) grown ∙ list_all-append part_is_rooted (kept_in mid) (p ∷ []) ∙ and_from _ _ was.rooted (and_from _ _ (root was.rooted) refl);
+          };
+    }
+
+-- one part, and then another one
+made_past : {A B : Type 0} {old mid new : Maker} {part : Kept → A} {other : Kept → B} {a : A} {b : B} → Made old mid part a → Made mid new other b → Made old new other b
+made_past {old = old} {mid = mid} {new = new} m n = record {
+  grows = extends_on (kept_in old) (kept_in mid) (kept_in new) m.grows n.grows;
+  says = n.says;
+  right = λ r. n.right (m.right r);
+}
+
+pub numbered_found : (old new : Maker) (part : Rooted) (s : Source) (n : ℕ) → IsBeside old new → IsNumberOf old.met.items s n → IsNumbered old new part s n
+numbered_found old new part s n b h = record { made = λ m root. made_past m (made_found old new s n b h) }
+
+pub numbered_kept : (old mid new : Maker) (part : Rooted) (s : Source) (n : ℕ) → IsBeside old mid → IsKept mid new part s n → IsNumbered old new part s n
+numbered_kept old mid new part s n b k = record { made = λ m root. made_kept part s n k (λ r. root (subst AreRooted (ap parts_of b.met) r)) (made_before b m) }
+
+-- the part that was made stands for the source, so what it shows, the source has
+pub source_rooted : {A : Type 0} {old new : Maker} {part : Kept → A} {a : A} (test : A → Bool) → Made old new part a → ((kept : Kept) → AreRooted kept → IsTrue (test (part kept))) → AreRooted (kept_in new) → IsTrue (test a)
+source_rooted {new = new} test m shows r = sym (ap test (m.says (kept_in new) (extends_none (kept_in new)))) ∙ shows (kept_in new) r
+
+-- ---- the plan
+
+-- where nothing was kept before, what is kept is what each entry was made of
+end_right : {A : Type 0} {old new : Maker} {part : Kept → A} {a : A} → Made old new part a → old.kept.items ≡ [] → old.met.items ≡ [] → IsRight new
+end_right m k s = m.right (record {
+  is = ap kept_view k ∙ sym (ap parts_of s);
+  settled = λ kept x. ap (map (λ e. rooted_view kept e.part)) k ∙ sym (ap parts_of s);
+  rooted = ap (λ l. list_all part_is_rooted (parts_of l)) s;
+})
+
+-- that is all that is kept
+end_extends : (new : Maker) → IsRight new → Extends (kept_in new) (kept_view new.kept.items)
+end_extends new r = subst (Extends (kept_in new)) (sym r.is) (extends_none (kept_in new))
+
+pub plan_made : {old new : Maker} {was : List tree.Segment} (gs : List Segment) → Made old new (λ kept. map (segment_view kept) gs) was → old.kept.items ≡ [] → old.met.items ≡ [] → segments_in (kept_view new.kept.items) gs ≡ segments_of was
+plan_made {new = new} gs m k s = ap segments_of (m.says (kept_view new.kept.items) (end_extends new (end_right m k s)))
+
+pub plan_settled : {A : Type 0} {old new : Maker} {part : Kept → A} {a : A} → Made old new part a → old.kept.items ≡ [] → old.met.items ≡ [] → IsSettled new.kept.items
+plan_settled {new = new} m k s =
+    let r : IsRight new = end_right m k s in
+    r.settled (kept_view new.kept.items) (end_extends new r) ∙ sym r.is
+
+pub plan_rooted : {A : Type 0} {old new : Maker} {part : Kept → A} {a : A} → Made old new part a → old.kept.items ≡ [] → old.met.items ≡ [] → IsRooted new.kept.items
+plan_rooted m k s =
+    let r = end_right m k s in
+    ap (list_all part_is_rooted) r.is ∙ r.rooted

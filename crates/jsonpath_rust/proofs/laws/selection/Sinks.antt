@@ -1,0 +1,159 @@
+-- What a sink has, once it was given nodes.
+use Rattle.std.proofs.Common.{◌≡◌, ℕ, suc, pos, min, ◌+◌, ◌≤◌, List, [], ◌∷◌, ◌++◌, map, length, append-nil, append_assoc, refl, sym, ◌∙◌, ap, arith, Bool, true, false, IsTrue, All, Result, IfOk, Some, None, option_map}
+use Rattle.std.proofs.lemmas.List.Elements.{All-from_recursion}
+use Rattle.std.proofs.lemmas.Result.{IfOk-weaker}
+use Rattle.std.proofs.lemmas.Bool.{false≢true}
+use Rattle.std.specs.List.{AllByRecursion}
+use Rattle.jsonpath_parser.specs.Location.{Location}
+use Rattle.jsonpath_parser.specs.Normal.{normal}
+use Rattle.jsonpath_base.specs.Tree.{Tree, number}
+use Rattle.jsonpath_rust.specs.documents.Node.{Node, has_node}
+use Rattle.jsonpath_rust.specs.documents.Functions.{count_value, count_of, only_value}
+use Rattle.jsonpath_rust.specs.selection.inner.Sinks as sinks
+use Rattle.jsonpath_rust.specs.selection.inner.Sinks.{Seen, nodes, paths, values, locations, any, count, nothing, one, several, first, add, give, full, any_in, only_in, first_in, nodes_in, nodes_whole, paths_in, locations_in, values_in, values_whole, answer_of, Took}
+
+pub give-append : (s : Seen) (xs ys : List Node) → give s (xs ++ ys) ≡ give (give s xs) ys
+give-append s [] ys = refl
+give-append s (x ∷ xs) ys = give-append (add s x) xs ys
+
+add-full : (s : Seen) (n : Node) → full s ≡ true → add s n ≡ s
+add-full (nodes bs ns) n h = absurd (false≢true h)
+add-full (paths ps) n h = absurd (false≢true h)
+add-full (values bs ts) n h = absurd (false≢true h)
+add-full (locations ls) n h = absurd (false≢true h)
+add-full (any b) n h = ap any (sym h)
+add-full (count k) n h = absurd (false≢true h)
+add-full nothing n h = absurd (false≢true h)
+add-full (one b t) n h = absurd (false≢true h)
+add-full several n h = refl
+add-full (first None) n h = absurd (false≢true h)
+add-full (first (Some p)) n h = refl
+
+-- a sink that wants no more nodes stays as it is
+pub give-full : (s : Seen) (ns : List Node) → full s ≡ true → give s ns ≡ s
+give-full s [] h = refl
+give-full s (n ∷ ns) h = ap (λ z. give z ns) (add-full s n h) ∙ give-full s ns h
+
+pub true_false : {A : Type 0} → true ≡ false → A
+true_false h = absurd (false≢true (sym h))
+
+-- where no node is to be given, nothing is done
+pub took_none : (s : Seen) (ns : List Node) → ns ≡ [] → Took s ns s true
+took_none s ns e = record { given = sym (ap (give s) e); stopped = λ h. true_false h }
+
+pub took_as : (s : Seen) (xs ys : List Node) (z : Seen) (b : Bool) → xs ≡ ys → Took s xs z b → Took s ys z b
+took_as s xs ys z b e h = record { given = h.given ∙ ap (give s) e; stopped = h.stopped }
+
+pub took_then : (s : Seen) (xs ys all : List Node) (m z : Seen) (a b : Bool) → xs ++ ys ≡ all → Took s xs m a → Took m ys z b → Took s all z b
+took_then s xs ys all m z a b e h k = record { given = k.given ∙ ap (λ q. give q ys) h.given ∙ sym (give-append s xs ys) ∙ ap (give s) e; stopped = k.stopped }
+
+-- the rest makes no difference
+pub took_stop : (s : Seen) (xs ys all : List Node) (m : Seen) (a b : Bool) → xs ++ ys ≡ all → Took s xs m a → a ≡ false → Took s all m b
+took_stop s xs ys all m a b e h f = record { given = sym (give-full m ys (h.stopped f)) ∙ ap (λ q. give q ys) h.given ∙ sym (give-append s xs ys) ∙ ap (give s) e; stopped = λ _. h.stopped f }
+
+-- a call's answer, with what it gave in other words
+pub result_as : {E : Type 0} (r : Result Bool E) (s z : Seen) (xs ys : List Node) → xs ≡ ys → IfOk r (λ b. Took s xs z b) → IfOk r (λ b. Took s ys z b)
+result_as r s z xs ys e h = IfOk-weaker r (λ b. Took s xs z b) (λ b. Took s ys z b) (λ b k. took_as s xs ys z b e k) h
+
+pub result_then : {E : Type 0} (r : Result Bool E) (s m z : Seen) (xs ys all : List Node) (a : Bool) → xs ++ ys ≡ all → Took s xs m a → IfOk r (λ b. Took m ys z b) → IfOk r (λ b. Took s all z b)
+result_then r s m z xs ys all a e h k = IfOk-weaker r (λ b. Took m ys z b) (λ b. Took s all z b) (λ b q. took_then s xs ys all m z a b e h q) k
+
+-- ---- inside a filter
+
+pub any_given : (ns : List Node) → any_in (give (any false) ns) ≡ has_node ns
+any_given [] = refl
+any_given (n ∷ ns) = ap any_in (give-full (any true) ns refl)
+
+pub give-count : (k : ℕ) (ns : List Node) → k ≤ 9223372036854775807 → give (count k) ns ≡ count (min (k + length ns) 9223372036854775807)
+give-count k [] h = ap count (omega (arith, h))
+give-count k (n ∷ ns) h = give-count (min (suc k) 9223372036854775807) ns (omega arith) ∙ ap count (omega (arith, h))
+
+twice : (n : ℕ) → min (min (0 + n) 9223372036854775807) 9223372036854775807 ≡ min n 9223372036854775807
+twice n = omega arith
+
+pub counted_all : (ns : List Node) → Some (count_value (sinks.count_in (give (count 0) ns))) ≡ count_of ns
+counted_all ns = ap (λ s. Some (count_value (sinks.count_in s))) (give-count 0 ns (omega arith)) ∙ ap (λ k. Some (number (pos k))) (twice (length ns))
+
+-- the tree of the only node, which is whole
+pub only_all : (ns : List Node) → option_map (λ p. p.1) (only_in (give nothing ns)) ≡ only_value ns
+only_all [] = refl
+only_all (n ∷ []) = refl
+only_all (n ∷ m ∷ ns) = ap (λ s. option_map (λ p. p.1) (only_in s)) (give-full several ns refl)
+
+pub only_whole : (ns : List Node) (p : Bool × Tree) → only_in (give nothing ns) ≡ Some p → IsTrue p.0
+only_whole [] p e = cc
+only_whole (n ∷ []) p e = let h : (true, n.tree) ≡ p = cc in sym (ap (λ q. q.0) h)
+only_whole (n ∷ m ∷ ns) p e = let h : None ≡ Some p = sym (ap only_in (give-full several ns refl)) ∙ e in cc
+
+-- ---- what it has in the end
+
+-- the first node is kept
+pub only_first : (n : Node) (ns : List Node) → first_in (give (first None) (n ∷ ns)) ≡ Some (true, answer_of n)
+only_first n ns = ap first_in (give-full (first (Some (true, answer_of n))) ns refl)
+
+give-nodes : (bs : List Bool) (ms : List (List ℕ × Tree)) (ns : List Node) → give (nodes bs ms) ns ≡ nodes (bs ++ map (λ n. true) ns) (ms ++ map answer_of ns)
+give-nodes bs ms [] = ap (λ x. nodes x ms) (sym (append-nil bs)) ∙ ap (nodes (bs ++ [])) (sym (append-nil ms))
+give-nodes bs ms (n ∷ ns) =
+    give-nodes (bs ++ true ∷ []) (ms ++ answer_of n ∷ []) ns ∙ ap (λ x. nodes x ((ms ++ answer_of n ∷ []) ++ map answer_of ns)) (append_assoc bs (true ∷ []) (map (λ m. true) ns))
+    ∙ ap (nodes (bs ++ true ∷ map (λ m. true) ns)) (append_assoc ms (answer_of n ∷ []) (map answer_of ns))
+
+give-paths : (ps : List (List ℕ)) (ns : List Node) → give (paths ps) ns ≡ paths (ps ++ map (λ n. normal n.location) ns)
+give-paths ps [] = ap paths (sym (append-nil ps))
+give-paths ps (n ∷ ns) = give-paths (ps ++ normal n.location ∷ []) ns ∙ ap paths (append_assoc ps (normal n.location ∷ []) (map (λ m. normal m.location) ns))
+
+give-locations : (ls : List Location) (ns : List Node) → give (locations ls) ns ≡ locations (ls ++ map (λ n. n.location) ns)
+give-locations ls [] = ap locations (sym (append-nil ls))
+give-locations ls (n ∷ ns) = give-locations (ls ++ n.location ∷ []) ns ∙ ap locations (append_assoc ls (n.location ∷ []) (map (λ m. m.location) ns))
+
+pub give-values : (bs : List Bool) (ts : List Tree) (ns : List Node) → give (values bs ts) ns ≡ values (bs ++ map (λ n. true) ns) (ts ++ map (λ n. n.tree) ns)
+give-values bs ts [] = ap (λ x. values x ts) (sym (append-nil bs)) ∙ ap (values (bs ++ [])) (sym (append-nil ts))
+give-values bs ts (n ∷ ns) =
+    give-values (bs ++ true ∷ []) (ts ++ n.tree ∷ []) ns ∙ ap (λ x. values x ((ts ++ n.tree ∷ []) ++ map (λ m. m.tree) ns)) (append_assoc bs (true ∷ []) (map (λ m. true) ns))
+    ∙ ap (values (bs ++ true ∷ map (λ m. true) ns)) (append_assoc ts (n.tree ∷ []) (map (λ m. m.tree) ns))
+
+pub values_all : (ns : List Node) → values_in (give (values [] []) ns) ≡ map (λ n. n.tree) ns
+values_all ns = ap values_in (give-values [] [] ns)
+
+pub trues : (ns : List Node) → All (λ b. IsTrue b) (map (λ n. true) ns)
+trues ns = All-from_recursion (λ b. IsTrue b) (map (λ n. true) ns) (each ns)
+  where
+    each : (ns : List Node) → AllByRecursion (λ b. IsTrue b) (map (λ n. true) ns)
+    each [] = tt
+    each (n ∷ ns) = (refl, each ns)
+
+-- what an empty sink has, once it was given these nodes
+given_to_nodes : {X : Type 0} (w : X → Bool) (f : X → List ℕ × Tree) (xs : List X) (z : Seen) (ns : List Node) → xs ≡ [] → z ≡ give (nodes (map w xs) (map f xs)) ns → z ≡ nodes (map (λ n. true) ns) (map answer_of ns)
+given_to_nodes w f xs z ns h e = e ∙ ap (λ ys. give (nodes (map w ys) (map f ys)) ns) h ∙ give-nodes [] [] ns
+
+given_to_values : {X : Type 0} (w : X → Bool) (f : X → Tree) (xs : List X) (z : Seen) (ns : List Node) → xs ≡ [] → z ≡ give (values (map w xs) (map f xs)) ns → z ≡ values (map (λ n. true) ns) (map (λ n. n.tree) ns)
+given_to_values w f xs z ns h e = e ∙ ap (λ ys. give (values (map w ys) (map f ys)) ns) h ∙ give-values [] [] ns
+
+pub given_nodes : {X : Type 0} (w : X → Bool) (f : X → List ℕ × Tree) (xs : List X) (z : Seen) (ns : List Node) → xs ≡ [] → z ≡ give (nodes (map w xs) (map f xs)) ns → nodes_in z ≡ map answer_of ns
+given_nodes w f xs z ns h e = ap nodes_in (given_to_nodes w f xs z ns h e)
+
+pub given_nodes_whole : {X : Type 0} (w : X → Bool) (f : X → List ℕ × Tree) (xs : List X) (z : Seen) (ns : List Node) → xs ≡ [] → z ≡ give (nodes (map w xs) (map f xs)) ns → nodes_whole z ≡ map (λ n. true) ns
+given_nodes_whole w f xs z ns h e = ap nodes_whole (given_to_nodes w f xs z ns h e)
+
+pub given_paths : {X : Type 0} (f : X → List ℕ) (xs : List X) (z : Seen) (ns : List Node) → xs ≡ [] → z ≡ give (paths (map f xs)) ns → paths_in z ≡ map (λ n. normal n.location) ns
+given_paths f xs z ns h e = ap paths_in (e ∙ ap (λ ys. give (paths (map f ys)) ns) h ∙ give-paths [] ns)
+
+pub given_locations : {X : Type 0} (f : X → Location) (xs : List X) (z : Seen) (ns : List Node) → xs ≡ [] → z ≡ give (locations (map f xs)) ns → locations_in z ≡ map (λ n. n.location) ns
+given_locations f xs z ns h e = ap locations_in (e ∙ ap (λ ys. give (locations (map f ys)) ns) h ∙ give-locations [] ns)
+
+pub given_values : {X : Type 0} (w : X → Bool) (f : X → Tree) (xs : List X) (z : Seen) (ns : List Node) → xs ≡ [] → z ≡ give (values (map w xs) (map f xs)) ns → values_in z ≡ map (λ n. n.tree) ns
+given_values w f xs z ns h e = ap values_in (given_to_values w f xs z ns h e)
+
+pub given_values_whole : {X : Type 0} (w : X → Bool) (f : X → Tree) (xs : List X) (z : Seen) (ns : List Node) → xs ≡ [] → z ≡ give (values (map w xs) (map f xs)) ns → values_whole z ≡ map (λ n. true) ns
+given_values_whole w f xs z ns h e = ap values_whole (given_to_values w f xs z ns h e)
+
+-- where each test is true, each element passes
+by_tests : {X : Type 0} (w : X → Bool) (xs : List X) (ns : List Node) → map w xs ≡ map (λ n. true) ns → AllByRecursion (λ x. IsTrue (w x)) xs
+by_tests w [] ns e = tt
+by_tests w (x ∷ xs) [] e = cc
+by_tests w (x ∷ xs) (n ∷ ns) e =
+    let first : w x ≡ true = cc in
+    let rest : map w xs ≡ map (λ m. true) ns = cc in
+    (first, by_tests w xs ns rest)
+
+pub all_whole : {X : Type 0} (w : X → Bool) (xs : List X) (ns : List Node) → map w xs ≡ map (λ n. true) ns → All (λ x. IsTrue (w x)) xs
+all_whole w xs ns e = All-from_recursion (λ x. IsTrue (w x)) xs (by_tests w xs ns e)

@@ -1,0 +1,218 @@
+-- What is found below a pointer: the children of its value, and the lists and objects there and below.
+use Rattle.std.proofs.Common.{◌≡◌, ℕ, suc, ◌+◌, ◌<◌, ◌≤◌, List, [], ◌∷◌, ◌++◌, map, filter, cond, length, get_or, drop, drop-cons, add-one, append_assoc, append-nil, refl, sym, ◌∙◌, ap, arith, Bool, true, false, Option, Some, None, option_map}
+use Rattle.std.proofs.lemmas.List.{map-append, at_drop_all}
+use Rattle.std.specs.List.{flat_map}
+use Rattle.jsonpath_parser.specs.Location.{Location, name, index}
+use Rattle.jsonpath_parser.specs.Normal.{step_text, steps_text}
+use Rattle.jsonpath_base.specs.Tree as base
+use Rattle.jsonpath_base.specs.Tree.{Tree, null, truth, number, text, list, object, Trees, no_trees, Members, no_members, elements, pairs, as_list, as_members}
+use Rattle.jsonpath_rust.specs.documents.Node.{Node, root_node, element_nodes, member_nodes, children, children_at, subtree, subtree_at, subtrees_at, member_subtrees}
+use Rattle.jsonpath_rust.specs.states.Process.{lists_same, lists_places}
+use Rattle.jsonpath_rust.specs.states.State.{Place, refs, under, found_from, has_parts, parents_in, parents_from, in_parts, some, place_of}
+use Rattle.jsonpath_rust.specs.states.inner.Evaluating.{parts_from}
+use Rattle.jsonpath_rust.specs.declared.states.state.pointer.Pointer.{Pointer}
+use Rattle.jsonpath_rust.proofs.laws.documents.Parts.{filter_more}
+use Rattle.jsonpath_rust.proofs.laws.documents.Trees.{subtree-children, total, sizes_at}
+use Rattle.jsonpath_rust.specs.documents.inner.Size.{size, trees_size, members_size}
+
+-- ---- a loop that counts: G k gives what is left from the k-th element on, g k gives that element
+
+pub counted_next : {X Y : Type 0} (G : ℕ → List X → List Y) (g : ℕ → X → List Y) → ((k : ℕ) (x : X) (xs : List X) → G k (x ∷ xs) ≡ g k x ++ G (suc k) xs) → (xs : List X) (i : ℕ) (x : X) (was now all : List Y) → i < length xs → x ≡ get_or xs i x → now ≡ was ++ g i x → was ++ G i (drop i xs) ≡ all → now ++ G (i + 1) (drop (i + 1) xs) ≡ all
+counted_next G g more xs i x was now all h e p v =
+    ap (λ ys. ys ++ G (i + 1) (drop (i + 1) xs)) p ∙ append_assoc was (g i x) (G (i + 1) (drop (i + 1) xs))
+    ∙ ap (λ ys. was ++ ys) (ap (λ j. g i x ++ G j (drop j xs)) (add-one i) ∙ sym (more i x (drop (suc i) xs)) ∙ ap (λ y. G i (y ∷ drop (suc i) xs)) e ∙ ap (G i) (sym (drop-cons xs i x h))) ∙ v
+
+pub counted_end : {X Y : Type 0} (G : ℕ → List X → List Y) → ((k : ℕ) → G k [] ≡ []) → (xs : List X) (i : ℕ) (was all : List Y) → length xs ≤ i → was ++ G i (drop i xs) ≡ all → was ≡ all
+counted_end G none xs i was all h v = sym (append-nil was) ∙ ap (λ ys. was ++ ys) (sym (none i) ∙ sym (at_drop_all (G i) xs i h)) ∙ v
+
+-- ---- the children of a list or an object
+
+pub parts-list : (p : Place) (ts : List Tree) → Some ts ≡ as_list p.tree → Some (map (under p.path) (element_nodes [] 0 ts)) ≡ parts_from p
+parts-list p ts h = of_tree p.path p.tree ts h
+  where
+    of_tree : (path : List ℕ) (t : Tree) (ts : List Tree) → Some ts ≡ as_list t → Some (map (under path) (element_nodes [] 0 ts)) ≡ parts_from (record { path = path; tree = t })
+    of_tree path (list us) ts h = ap (λ o. option_map (λ xs. map (under path) (element_nodes [] 0 xs)) o) h
+    of_tree path (object us) ts h = cc
+    of_tree path null ts h = cc
+    of_tree path (truth b) ts h = cc
+    of_tree path (number n) ts h = cc
+    of_tree path (text s) ts h = cc
+
+pub parts-members : (p : Place) (ms : List (List ℕ × Tree)) → Some ms ≡ as_members p.tree → Some (map (under p.path) (member_nodes [] ms)) ≡ parts_from p
+parts-members p ms h = of_tree p.path p.tree ms h
+  where
+    of_tree : (path : List ℕ) (t : Tree) (ms : List (List ℕ × Tree)) → Some ms ≡ as_members t → Some (map (under path) (member_nodes [] ms)) ≡ parts_from (record { path = path; tree = t })
+    of_tree path (object us) ms h = ap (λ o. option_map (λ xs. map (under path) (member_nodes [] xs)) o) h
+    of_tree path (list us) ms h = cc
+    of_tree path null ms h = cc
+    of_tree path (truth b) ms h = cc
+    of_tree path (number n) ms h = cc
+    of_tree path (text s) ms h = cc
+
+pub parts-none : (p : Place) → None ≡ as_list p.tree → None ≡ as_members p.tree → None ≡ parts_from p
+parts-none p h k = of_tree p.path p.tree h k
+  where
+    of_tree : (path : List ℕ) (t : Tree) → None ≡ as_list t → None ≡ as_members t → None ≡ parts_from (record { path = path; tree = t })
+    of_tree path (list us) h k = cc
+    of_tree path (object us) h k = cc
+    of_tree path null h k = refl
+    of_tree path (truth b) h k = refl
+    of_tree path (number n) h k = refl
+    of_tree path (text s) h k = refl
+
+-- ---- the nodes of a subtree, from another place
+
+abbrev shift : Location → Node → Node
+shift l n = record { location = l ++ n.location; tree = n.tree }
+
+mutual
+  subtree-shift : (l m : Location) (t : Tree) → subtree_at (l ++ m) t ≡ map (shift l) (subtree_at m t)
+  subtree-shift l m (list ts) = ap (λ ns. record { location = l ++ m; tree = list ts } ∷ ns) (subtrees-shift l m 0 ts)
+  subtree-shift l m (object ms) = ap (λ ns. record { location = l ++ m; tree = object ms } ∷ ns) (members-shift l m ms)
+  subtree-shift l m null = refl
+  subtree-shift l m (truth b) = refl
+  subtree-shift l m (number n) = refl
+  subtree-shift l m (text s) = refl
+
+  subtrees-shift : (l m : Location) (k : ℕ) (ts : Trees) → subtrees_at (l ++ m) k ts ≡ map (shift l) (subtrees_at m k ts)
+  subtrees-shift l m k no_trees = refl
+  subtrees-shift l m k (base.tree t ts) =
+      ap (λ q. subtree_at q t ++ subtrees_at (l ++ m) (suc k) ts) (append_assoc l m (index k ∷ []))
+      ∙ ap (λ ns. ns ++ subtrees_at (l ++ m) (suc k) ts) (subtree-shift l (m ++ index k ∷ []) t)
+      ∙ ap (λ ns. map (shift l) (subtree_at (m ++ index k ∷ []) t) ++ ns) (subtrees-shift l m (suc k) ts)
+      ∙ sym (map-append (shift l) (subtree_at (m ++ index k ∷ []) t) (subtrees_at m (suc k) ts))
+
+  members-shift : (l m : Location) (ms : Members) → member_subtrees (l ++ m) ms ≡ map (shift l) (member_subtrees m ms)
+  members-shift l m no_members = refl
+  members-shift l m (base.member k t ms) =
+      ap (λ q. subtree_at q t ++ member_subtrees (l ++ m) ms) (append_assoc l m (name k ∷ []))
+      ∙ ap (λ ns. ns ++ member_subtrees (l ++ m) ms) (subtree-shift l (m ++ name k ∷ []) t)
+      ∙ ap (λ ns. map (shift l) (subtree_at (m ++ name k ∷ []) t) ++ ns) (members-shift l m ms)
+      ∙ sym (map-append (shift l) (subtree_at (m ++ name k ∷ []) t) (member_subtrees m ms))
+
+steps_text-append : (l m : Location) → steps_text (l ++ m) ≡ steps_text l ++ steps_text m
+steps_text-append [] m = refl
+steps_text-append (s ∷ l) m = ap (λ x. step_text s ++ x) (steps_text-append l m) ∙ sym (append_assoc (step_text s) (steps_text l) (steps_text m))
+
+under-shift : (path : List ℕ) (l : Location) (ns : List Node) → map (under path) (map (shift l) ns) ≡ map (under (path ++ steps_text l)) ns
+under-shift path l [] = refl
+under-shift path l (n ∷ ns) =
+    ap (λ x. record { path = path ++ x; tree = n.tree } ∷ map (under path) (map (shift l) ns)) (steps_text-append l n.location)
+    ∙ ap (λ x. record { path = x; tree = n.tree } ∷ map (under path) (map (shift l) ns)) (sym (append_assoc path (steps_text l) (steps_text n.location)))
+    ∙ ap (λ qs. under (path ++ steps_text l) n ∷ qs) (under-shift path l ns)
+
+-- the nodes below a node, from that node's own place
+under-subtree : (path : List ℕ) (n : Node) → map (under path) (subtree n) ≡ found_from (under path n) subtree
+under-subtree path n = ap (λ l. map (under path) (subtree_at l n.tree)) (sym (append-nil n.location)) ∙ ap (map (under path)) (subtree-shift n.location [] n.tree) ∙ under-shift path n.location (subtree_at [] n.tree)
+
+filter-append : {A : Type 0} (h : A → Bool) (xs ys : List A) → filter h (xs ++ ys) ≡ filter h xs ++ filter h ys
+filter-append h [] ys = refl
+filter-append h (x ∷ xs) ys =
+    filter_more h x (xs ++ ys) ∙ ap (λ zs. cond (h x) (x ∷ []) [] ++ zs) (filter-append h xs ys) ∙ sym (append_assoc (cond (h x) (x ∷ []) []) (filter h xs) (filter h ys)) ∙ ap (λ zs. zs ++ filter h ys) (sym (filter_more h x xs))
+
+parents-below : (path : List ℕ) (ns : List Node) → filter (λ q. has_parts q.tree) (map (under path) (flat_map subtree ns)) ≡ flat_map parents_in (map (under path) ns)
+parents-below path [] = refl
+parents-below path (n ∷ ns) =
+    let h : Place → Bool = λ q. has_parts q.tree in
+    ap (filter h) (map-append (under path) (subtree n) (flat_map subtree ns)) ∙ filter-append h (map (under path) (subtree n)) (map (under path) (flat_map subtree ns))
+    ∙ ap (λ qs. filter h qs ++ filter h (map (under path) (flat_map subtree ns))) (under-subtree path n) ∙ ap (λ qs. parents_in (under path n) ++ qs) (parents-below path ns)
+
+-- it, if it has parts, and those below each part
+parents-parts : (p : Place) → parents_in p ≡ cond (has_parts p.tree) (p ∷ []) [] ++ flat_map parents_in (found_from p children)
+parents-parts p =
+    let h : Place → Bool = λ q. has_parts q.tree in
+    ap (λ ns. filter h (map (under p.path) ns)) (subtree-children [] p.tree)
+    ∙ filter_more h (under p.path (root_node p.tree)) (map (under p.path) (flat_map subtree (children_at [] p.tree)))
+    ∙ ap (λ x. cond (has_parts p.tree) (record { path = x; tree = p.tree } ∷ []) [] ++ filter h (map (under p.path) (flat_map subtree (children_at [] p.tree)))) (append-nil p.path)
+    ∙ ap (λ qs. cond (has_parts p.tree) (p ∷ []) [] ++ qs) (parents-below p.path (children_at [] p.tree))
+
+pub parents-some : (p : Place) (ps : List Place) → Some ps ≡ parts_from p → parents_in p ≡ p ∷ flat_map parents_in ps
+parents-some p ps e = here (has_parts p.tree) refl
+  where
+    same_parts : (xs ys : List Place) → Some xs ≡ Some ys → flat_map parents_in ys ≡ flat_map parents_in xs
+    same_parts xs ys h = sym (ap (λ o. flat_map parents_in (or_none o)) h)
+      where
+        or_none : Option (List Place) → List Place
+        or_none None = []
+        or_none (Some zs) = zs
+
+    here : (b : Bool) → has_parts p.tree ≡ b → parents_in p ≡ p ∷ flat_map parents_in ps
+    here true h = parents-parts p ∙ ap (λ b. cond b (p ∷ []) [] ++ flat_map parents_in (found_from p children)) h ∙ ap (λ qs. p ∷ qs) (same_parts ps (found_from p children) (e ∙ ap (λ b. cond b (Some (found_from p children)) None) h))
+    here false h = cc
+
+pub parents-none : (p : Place) → None ≡ parts_from p → parents_in p ≡ []
+parents-none p e = of_tree p.path p.tree e
+  where
+    of_tree : (path : List ℕ) (t : Tree) → None ≡ parts_from (record { path = path; tree = t }) → parents_in (record { path = path; tree = t }) ≡ []
+    of_tree path (list us) h = cc
+    of_tree path (object us) h = cc
+    of_tree path null h = refl
+    of_tree path (truth b) h = refl
+    of_tree path (number n) h = refl
+    of_tree path (text s) h = refl
+
+-- the lists and objects there and below are some exactly where there is a list or an object
+pub parents-from : (p : Place) → some (parents_in p) ≡ parents_from p
+parents-from p = here (has_parts p.tree) refl
+  where
+    none_parents : (q : Place) → has_parts q.tree ≡ false → parents_in q ≡ []
+    none_parents q h = parents-none q (sym (ap (λ b. cond b (Some (found_from q children)) None) h))
+
+    here : (b : Bool) → has_parts p.tree ≡ b → some (parents_in p) ≡ in_parts (has_parts p.tree) (parents_in p)
+    here true h = ap some (parents-parts p) ∙ ap (λ b. some (cond b (p ∷ []) [] ++ flat_map parents_in (found_from p children))) h ∙ ap (λ b. refs (cond b (p ∷ []) [] ++ flat_map parents_in (found_from p children))) (sym h) ∙ ap refs (sym (parents-parts p)) ∙ ap (λ b. in_parts b (parents_in p)) (sym h)
+    here false h = ap some (none_parents p h) ∙ ap (λ b. in_parts b (parents_in p)) (sym h)
+
+-- ---- each part is smaller
+
+elements-total : (path : List ℕ) (k : ℕ) (ts : Trees) → total (map (λ (q : Place). size q.tree) (map (under path) (element_nodes [] k (elements ts)))) ≡ trees_size ts
+elements-total path k no_trees = refl
+elements-total path k (base.tree t ts) = ap (λ n. size t + n) (elements-total path (suc k) ts)
+
+members-total : (path : List ℕ) (ms : Members) → total (map (λ (q : Place). size q.tree) (map (under path) (member_nodes [] (pairs ms)))) ≡ members_size ms
+members-total path no_members = refl
+members-total path (base.member k t ms) = ap (λ n. size t + n) (members-total path ms)
+
+abbrev or_total : Option (List Place) → ℕ
+or_total None = 0
+or_total (Some ps) = total (map (λ q. size q.tree) ps)
+
+parts-size : (path : List ℕ) (t : Tree) (ps : List Place) → Some ps ≡ parts_from (record { path = path; tree = t }) → total (map (λ q. size q.tree) ps) < size t
+parts-size path (list us) ps h = omega (arith, ap or_total h, elements-total path 0 us)
+parts-size path (object us) ps h = omega (arith, ap or_total h, members-total path us)
+parts-size path null ps h = cc
+parts-size path (truth b) ps h = cc
+parts-size path (number n) ps h = cc
+parts-size path (text s) ps h = cc
+
+pub part_size : {A : Type 0} (seen : A → Place) (p : Place) (xs : List A) (i : ℕ) (x : A) → Some (map seen xs) ≡ parts_from p → i < length xs → x ≡ get_or xs i x → size (seen x).tree < size p.tree
+part_size seen p xs i x h lt e = omega (arith, parts-size p.path p.tree (map seen xs) h, sizes_at seen (λ (q : Place). size q.tree) xs i x lt e)
+
+-- the children that a test keeps
+pub kept-parts : (h : Place → Bool) (p : Place) (ps : List Place) → Some ps ≡ parts_from p → refs (filter h ps) ≡ in_parts (has_parts p.tree) (filter h (found_from p children))
+kept-parts h p ps e = here (has_parts p.tree) refl
+  where
+    or_none : Option (List Place) → List Place
+    or_none None = []
+    or_none (Some zs) = zs
+
+    here : (b : Bool) → has_parts p.tree ≡ b → refs (filter h ps) ≡ in_parts (has_parts p.tree) (filter h (found_from p children))
+    here true k = ap (λ o. refs (filter h (or_none o))) (e ∙ ap (λ b. cond b (Some (found_from p children)) None) k) ∙ ap (λ b. in_parts b (filter h (found_from p children))) (sym k)
+    here false k = cc
+
+-- ---- trees of places
+
+pub places-trees : {A : Type 0} (tree : A → Tree) (ps : List (Pointer A)) → map (λ (q : Place). q.tree) (map (place_of tree) ps) ≡ map (λ p. tree p.inner.now) ps
+places-trees tree [] = refl
+places-trees tree (p ∷ ps) = ap (λ ts. tree p.inner.now ∷ ts) (places-trees tree ps)
+
+pub are_trees-list : (t : Tree) (ts : List Tree) (ps : List Place) → Some ts ≡ as_list t → lists_same ts (map (λ (q : Place). q.tree) ps) ≡ lists_places t ps
+are_trees-list (list us) ts ps h = ap (λ o. lists_same (or_none o) (map (λ (q : Place). q.tree) ps)) h
+  where
+    or_none : Option (List Tree) → List Tree
+    or_none None = []
+    or_none (Some zs) = zs
+are_trees-list (object us) ts ps h = cc
+are_trees-list null ts ps h = cc
+are_trees-list (truth b) ts ps h = cc
+are_trees-list (number n) ts ps h = cc
+are_trees-list (text s) ts ps h = cc

@@ -1,0 +1,13 @@
+use Rattle.std.proofs.Common.{List, map, ap, sym, ◌∙◌}
+use Rattle.jsonpath_parser.specs.tree.View.{step_view}
+use Rattle.jsonpath_parser.specs.declared.tree.model.SingularQuerySegment.{SingularQuerySegment}
+use Rattle.jsonpath_rust.specs.documents.Meaning.{value_at}
+use Rattle.jsonpath_rust.specs.declared.selection.sink.Wanted.TheVariants.{Only}
+use Rattle.jsonpath_rust.proofs.laws.selection.DirectLaws.{lookup_only}
+use Rattle.jsonpath_rust.proofs.selection.direct.direct_value.Goals as goal
+
+pub returns-in-Lookup-clause-value : goal.returns-in-Lookup-clause-value
+returns-in-Lookup-clause-value g c = λ kept d n e.
+    let t = g.T.Queryable.tree c.args.at.now in
+    let there = c.value_at.ensures.value ∙ ap (λ (ss : List SingularQuerySegment). value_at (map step_view ss) t) c.deref.ensures.value in
+    c.lent.ensures.value ∙ there ∙ sym (lookup_only kept _ _ Only d n t c.in-Lookup.is e)

@@ -1,0 +1,13 @@
+use Rattle.std.proofs.Common.{◌∙◌, ap}
+use Rattle.jsonpath_rust.specs.documents.Document.{document_of}
+use Rattle.jsonpath_rust.specs.documents.Meaning.{nodelist}
+use Rattle.jsonpath_rust.specs.selection.Prepared.{runner_view}
+use Rattle.jsonpath_rust.specs.selection.inner.Sinks.{any_in}
+use Rattle.jsonpath_rust.proofs.laws.selection.Answers.{no_node}
+use Rattle.jsonpath_rust.proofs.laws.selection.Kept.{of_some}
+use Rattle.jsonpath_rust.proofs.selection.runner.Runner.has_node_limited.Goals as goal
+
+pub returns-in-Some-clause-none : goal.returns-in-Some-clause-none
+returns-in-Some-clause-none g c =
+    let doc = document_of g.T.Queryable.tree g.T.Queryable.custom c.args.value.now in
+    no_node _ (nodelist (runner_view c.args.self.now) doc) (c.has_any.ensures ∙ ap any_in (of_some _ _ _ c.in-Some.is c.in_ok-_goes_on.ensures.gave).given)

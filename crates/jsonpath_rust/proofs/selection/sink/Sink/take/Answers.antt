@@ -1,0 +1,5 @@
+use Rattle.std.proofs.Common.{refl}
+use Rattle.jsonpath_rust.proofs.selection.sink.Sink.take.Goals as goal
+
+pub returns-in-Only-clause-gave : goal.returns-in-Only-clause-gave
+returns-in-Only-clause-gave g c = rw c.in-Only.is (c.take_only.ensures _ refl)

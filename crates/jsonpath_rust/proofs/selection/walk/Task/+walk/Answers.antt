@@ -1,0 +1,1440 @@
+-- The answers of the walk: of segments and selectors, of filters, of functions and of subqueries.
+use Rattle.std.proofs.Common.{◌≡◌, ◌<◌, ℕ, length, map, List, [], ◌∷◌, ◌++◌, append-nil, arith, Some, option_to_list, sym, ◌∙◌, ap, refl, subst, All, IsTrue, string_bytes, w64, SFits, rules}
+use Rattle.std.proofs.lemmas.Int.{to_z-of_z}
+use Rattle.std.proofs.lemmas.List.{map-append}
+use Rattle.std.proofs.lemmas.Result.{IfOk-weaker}
+use Rattle.std.proofs.lemmas.List.Elements.{All-head, All-tail, All-nil}
+use Rattle.std.specs.List.{flat_map}
+use Rattle.jsonpath_parser.specs.Location.{name, index}
+use Rattle.jsonpath_parser.specs.tree.View.{operator_view, step_view}
+use Rattle.jsonpath_parser.specs.declared.tree.model.SingularQuerySegment.{SingularQuerySegment}
+use Rattle.jsonpath_rust.specs.selection.inner.PlanViews.{segments_in, segment_view, selectors_in, selector_view, filters_in, filter_view, nodes_view, side_view, call_view, called_view, call_in, comparison_in, arguments_in, argument_view, steps_query}
+use Rattle.jsonpath_rust.specs.selection.inner.PlanViews as plan
+use Rattle.jsonpath_rust.specs.declared.selection.plan.Argument.{Argument}
+use Rattle.jsonpath_rust.specs.declared.selection.plan.Filter.{Filter}
+use Rattle.jsonpath_rust.specs.declared.selection.plan.Segment.{Segment}
+use Rattle.jsonpath_rust.specs.declared.selection.plan.Selector.{Selector}
+use Rattle.jsonpath_rust.specs.declared.selection.sink.Wanted.TheVariants.{Any, Count, Only, Values}
+use Rattle.jsonpath_rust.proofs.laws.selection.PlanEquations.{called, segment_view-Descendant, segment_view-Selector, segment_view-Selectors, selector_view-Name, selector_view-Wildcard, selector_view-Index, selector_view-Slice, selector_view-Filter, filter_view-Or, filter_view-And, filter_view-Group, filter_view-Exists, filter_view-Call, filter_view-Comparison, filter_view-Kept, called_view-Here, called_view-Kept, nodes_view-Lookup, nodes_view-Walk, nodes_view-Kept, side_view-Literal, side_view-Lookup, side_view-Kept, side_view-Call, argument_view-Literal, argument_view-Pattern, argument_view-Nodes, argument_view-Call, argument_view-Filter, call_view-Length, call_view-Value, call_view-Count, call_view-Search, call_view-Match}
+use Rattle.jsonpath_base.specs.Tree.{get, truth, text}
+use Rattle.jsonpath_base.specs.Slice.{slice_of}
+use Rattle.jsonpath_rust.specs.documents.Node.{below, children, root_node, subtree}
+use Rattle.jsonpath_rust.specs.documents.Meaning.{picks, all_pick, replaced, indexed, element, holds, some_holds, each_holds, value_of, value_at, answer, comparison_holds, negated, nodelist, all_trees, argued, tested}
+use Rattle.jsonpath_rust.specs.selection.inner.Passing.{action_weight}
+use Rattle.jsonpath_rust.specs.documents.inner.Weight.{segment_weight, selectors_weight, selector_weight, segments_weight, filter_weight, filters_weight, test_weight, comparable_weight, comparison_weight, call_weight, argument_weight, arguments_weight}
+use Rattle.jsonpath_rust.specs.documents.Patterns.{segments_patterns, segment_patterns, selectors_patterns, selector_patterns, filter_patterns, filters_patterns, test_patterns, comparable_patterns, comparison_patterns, call_patterns, argument_patterns, arguments_patterns}
+use Rattle.jsonpath_rust.specs.selection.inner.Walking.{action_patterns, through, node_of, step_of, acted}
+use Rattle.jsonpath_rust.specs.selection.inner.Sinks.{seen, give, start}
+use Rattle.jsonpath_rust.specs.selection.inner.Keeping.{document, gave, given_by, kept_of, nodes_or_none, query_of, slot_at, slots_of, value_by}
+use Rattle.jsonpath_rust.specs.selection.inner.Keeping as keeping
+use Rattle.jsonpath_rust.specs.declared.selection.way.StepRef.TheVariants.{Name, Index}
+use Rattle.jsonpath_rust.proofs.laws.selection.Sinks.{took_none, took_as, took_stop, result_as, result_then, true_false}
+use Rattle.jsonpath_rust.proofs.laws.selection.Walks.{down, down_tree, down_same, turn_next, turn_stop, turn_end, selector_turns, element_turns, member_turns, place_next, place_stop, below_more, flat_map-alone, flat_map-filter}
+use Rattle.jsonpath_rust.proofs.laws.selection.Leading.{leads_below, leads_indexed}
+use Rattle.jsonpath_rust.proofs.laws.documents.NodesAt.{member_there}
+use Rattle.jsonpath_rust.proofs.laws.selection.HaltingLaws.{part_as, part_left, part_right, part_both, part_at, part_rest, pattern_asked}
+use Rattle.jsonpath_rust.proofs.laws.documents.Trees.{child_there, all_at, element_size, pair_size, member_size, element_at, sliced-list, named_some, named_none}
+use Rattle.jsonpath_rust.proofs.laws.documents.Parts.{part_of, kept_true, kept_false, some_found, some_next, each_failed, each_next, parts_end, ok_as, ok_through, differs, passed_on, joined_next}
+use Rattle.jsonpath_rust.proofs.laws.selection.Kept.{kept_query, found_there, gave_or_none, of_some, err_is}
+use Rattle.jsonpath_rust.proofs.laws.selection.RootedLaws.{answer_as, answer_kept, comparison_as, comparison_kept, kept_call_same, kept_comparison_same}
+use Rattle.jsonpath_rust.specs.documents.Comparing.{compares}
+use Rattle.jsonpath_rust.specs.documents.Functions.{length_of, as_value, as_trees, as_truth, is_matched, is_true}
+use Rattle.jsonpath_rust.specs.documents.inner.Operands.{operand_tree, side_tree, arg_trees, AreWhole, is_entire}
+use Rattle.jsonpath_rust.proofs.laws.selection.NodelistLaws.{through-applied, nodelist-through}
+use Rattle.jsonpath_rust.specs.declared.selection.way.StepRef.{StepRef}
+use Rattle.jsonpath_rust.specs.selection.inner.Arguing.{value, nodes, holding, value_held, only_held, count_held, trees_held, truth_held, OnlyIsWhole, HeldAreWhole}
+use Rattle.jsonpath_rust.proofs.laws.selection.Arguing.{as_value_held, as_only_held, as_count_held, as_trees_held, as_truth_held, only_is_whole, held_are_whole}
+use Rattle.jsonpath_rust.specs.selection.inner.Halting.{IsHalt}
+use Rattle.jsonpath_rust.proofs.laws.selection.Standing.{still, stands_as, stays, at_root, on, on_ok}
+use Rattle.jsonpath_rust.proofs.selection.walk.Task.+walk.Goals as goal
+
+pub walk-take-requires : goal.walk-take-requires
+walk-take-requires g t c = c.requires.stands.whole
+
+pub act-go_on-requires : goal.act-go_on-requires
+act-go_on-requires g t c κs within =
+    let kept = kept_of c.args.self.now in
+    let e = ap (action_weight kept) c.in-All.is in
+    (down _ _ _ _ _ _ c.decreases (omega (arith, e)) (omega (arith, c.requires.stands.within)), (within, (c.requires.stands, part_right _ _ _ c.requires.part)))
+
+pub act-filter_holds-requires : goal.act-filter_holds-requires
+act-filter_holds-requires g t c κs within =
+    let kept = kept_of c.args.self.now in
+    let e = ap (action_weight kept) c.in-If.is in
+    (down _ _ _ _ _ _ c.decreases (omega (arith, e)) (omega (arith, c.requires.stands.within)), (within, (c.requires.stands, part_as (action_patterns kept) _ _ _ c.in-If.is (part_left _ _ _ c.requires.part))))
+
+pub act-go_on-requires-then-branch : goal.act-go_on-requires-then-branch
+act-go_on-requires-then-branch g t c κs within =
+    let kept = kept_of c.args.self.now in
+    let e = ap (action_weight kept) c.in-If.is in
+    (down _ _ _ _ _ _ c.decreases (omega (arith, e)) (omega (arith, c.requires.stands.within)), (within, (still c.requires.stands c.in_ok-filter_holds-in-If.ensures.returns, part_right _ _ _ c.requires.part)))
+
+pub act-descend-requires : goal.act-descend-requires
+act-descend-requires g t c κs within =
+    let kept = kept_of c.args.self.now in
+    let e = ap (action_weight kept) c.in-Below.is in
+    (down_same _ _ _ _ _ _ c.decreases (omega (arith, e)) (omega arith), (within, (c.requires.stands, part_as (λ z. action_patterns kept z ++ segments_patterns (segments_in kept c.args.rest.now)) _ _ _ c.in-Below.is c.requires.part)))
+
+pub act-returns-in-All-clause-gave : goal.act-returns-in-All-clause-gave
+act-returns-in-All-clause-gave g t c =
+    let kept = kept_of c.args.self.now in
+    let tree = g.T.Queryable.tree in
+    let d = document tree g.T.Queryable.custom c.args.self.now in
+    let n = node_of tree c.args.trail.now.way.steps.items c.args.at.now in
+    let rest = through (segments_in kept c.args.rest.now) d in
+    result_as _ _ _ _ _ (sym (append-nil (rest n)) ∙ ap (λ a. flat_map rest (acted kept a d n)) (sym c.in-All.is)) c.go_on.ensures.gave
+
+pub act-returns-then-branch-clause-gave : goal.act-returns-then-branch-clause-gave
+act-returns-then-branch-clause-gave g t c =
+    let kept = kept_of c.args.self.now in
+    let tree = g.T.Queryable.tree in
+    let d = document tree g.T.Queryable.custom c.args.self.now in
+    let n = node_of tree c.args.trail.now.way.steps.items c.args.at.now in
+    let rest = through (segments_in kept c.args.rest.now) d in
+    let h = c.in_ok-filter_holds-in-If.ensures in
+    result_as _ _ _ _ _ (ap (λ q. rest (node_of tree q c.args.at.now)) h.returns.same ∙ kept_true rest (holds (filter_view kept c.in-If.filter.now) d) n (sym h.holds ∙ c.if-branch.true) ∙ ap (λ a. flat_map rest (acted kept a d n)) (sym c.in-If.is)) c.go_on-then-branch.ensures.gave
+
+pub act-returns-else-branch-clause-gave : goal.act-returns-else-branch-clause-gave
+act-returns-else-branch-clause-gave g t c =
+    let kept = kept_of c.args.self.now in
+    let tree = g.T.Queryable.tree in
+    let d = document tree g.T.Queryable.custom c.args.self.now in
+    let n = node_of tree c.args.trail.now.way.steps.items c.args.at.now in
+    let rest = through (segments_in kept c.args.rest.now) d in
+    let h = c.in_ok-filter_holds-in-If.ensures in
+    took_none _ _ (ap (λ a. flat_map rest (acted kept a d n)) c.in-If.is ∙ kept_false rest (holds (filter_view kept c.in-If.filter.now) d) n (sym h.holds ∙ c.if-branch.false))
+
+pub act-returns-in-Below-clause-gave : goal.act-returns-in-Below-clause-gave
+act-returns-in-Below-clause-gave g t c =
+    let kept = kept_of c.args.self.now in
+    let tree = g.T.Queryable.tree in
+    let d = document tree g.T.Queryable.custom c.args.self.now in
+    let n = node_of tree c.args.trail.now.way.steps.items c.args.at.now in
+    let rest = through (segments_in kept c.args.rest.now) d in
+    result_as _ _ _ _ _ (ap (λ a. flat_map rest (acted kept a d n)) (sym c.in-Below.is)) c.descend.ensures.gave
+
+pub descend-each_member-requires : goal.descend-each_member-requires
+descend-each_member-requires g t c κs within =
+    let kept = kept_of c.args.self.now in
+    let tree = g.T.Queryable.tree in
+    let P : List _ → Type 0 = All (λ m. IsTrue (g.T.Queryable.is_whole m.1.now)) in
+    let first = c.in-Some.ensures kept in (
+      down _ _ _ _ _ _ c.decreases (omega (arith, first.lighter)) (omega (arith, c.requires.stands.within)),
+      (
+        within,
+        (
+          c.requires.stands,
+          (
+            record {
+              list = ap (λ xs. Some (map (λ m. (m.0.now, tree m.1.now)) xs)) c.deref.ensures.value ∙ rw c.in-Some-2.is at (c.in_ok-listed.ensures.value c.requires.stands.whole);
+              whole = subst P (sym c.deref.ensures.value) (rw c.in-Some-2.is at (c.in_ok-listed.ensures.whole c.requires.stands.whole));
+            },
+            part_as (λ ps. ps ++ segments_patterns (segments_in kept c.args.rest.now)) _ _ _ (sym first.patterns) c.requires.part,
+          ),
+        ),
+      ),
+    )
+
+pub descend-each_member-requires-in-Some-2 : goal.descend-each_member-requires-in-Some-2
+descend-each_member-requires-in-Some-2 g t c κs within =
+    let tree = g.T.Queryable.tree in
+    let P : List _ → Type 0 = All (λ m. IsTrue (g.T.Queryable.is_whole m.1.now)) in (
+      down_tree _ _ _ _ _ c.decreases (omega arith),
+      (
+        within,
+        (
+          still c.requires.stands c.in_ok-each_member.ensures.returns,
+          (
+            record {
+              list = ap (λ xs. Some (map (λ m. (m.0.now, tree m.1.now)) xs)) c.deref.ensures.value ∙ rw c.in-Some-2.is at (c.in_ok-listed.ensures.value c.requires.stands.whole);
+              whole = subst P (sym c.deref.ensures.value) (rw c.in-Some-2.is at (c.in_ok-listed.ensures.whole c.requires.stands.whole));
+            },
+            c.requires.part,
+          ),
+        ),
+      ),
+    )
+
+pub descend-returns-in-Some-2-clause-gave : goal.descend-returns-in-Some-2-clause-gave
+descend-returns-in-Some-2-clause-gave g t c =
+    let kept = kept_of c.args.self.now in
+    let tree = g.T.Queryable.tree in
+    let d = document tree g.T.Queryable.custom c.args.self.now in
+    let n = node_of tree c.args.trail.now.way.steps.items c.args.at.now in
+    let rest = through (segments_in kept c.args.rest.now) d in
+    let h = replaced (segment_view kept c.args.segment.now) d in
+    let here = flat_map rest (flat_map (acted kept c.in-Some.action d) (children n)) in
+    let further = flat_map rest (flat_map (λ m. flat_map h (subtree m)) (children n)) in
+    let same = ap (λ q. here ++ flat_map rest (flat_map (λ m. flat_map h (subtree m)) (children (node_of tree q c.args.at.now)))) c.in_ok-each_member.ensures.returns.same in
+    let makes = ap (λ ns. flat_map rest ns ++ further) ((c.in-Some.ensures kept).makes d n) in
+    result_then _ _ _ _ _ _ _ _ (same ∙ makes ∙ below_more rest h n.location n.tree) c.in_ok-each_member.ensures.gave c.each_member-in-Some-2.ensures.gave
+
+pub descend-pass-requires : goal.descend-pass-requires
+descend-pass-requires g t c κs within =
+    (down _ _ _ _ _ _ c.decreases (omega arith) (omega (arith, c.requires.stands.within)), (within, (c.requires.stands, c.requires.part)))
+
+pub descend-each_child-requires : goal.descend-each_child-requires
+descend-each_child-requires g t c κs within = (down_tree _ _ _ _ _ c.decreases (omega arith), (within, (still c.requires.stands c.in_ok-pass.ensures.returns, c.requires.part)))
+
+pub descend-returns-clause-gave : goal.descend-returns-clause-gave
+descend-returns-clause-gave g t c =
+    let kept = kept_of c.args.self.now in
+    let tree = g.T.Queryable.tree in
+    let d = document tree g.T.Queryable.custom c.args.self.now in
+    let n = node_of tree c.args.trail.now.way.steps.items c.args.at.now in
+    let rest = through (segments_in kept c.args.rest.now) d in
+    let h = replaced (segment_view kept c.args.segment.now) d in
+    let here = flat_map rest (h n) in
+    let same = ap (λ q. here ++ flat_map rest (flat_map (λ m. flat_map h (subtree m)) (children (node_of tree q c.args.at.now)))) c.in_ok-pass.ensures.returns.same in
+    result_then _ _ _ _ _ _ _ _ (same ∙ below_more rest h n.location n.tree) c.in_ok-pass.ensures.gave c.each_child.ensures.gave
+
+pub descend-returns-then-not-branch-clause-gave : goal.descend-returns-then-not-branch-clause-gave
+descend-returns-then-not-branch-clause-gave g t c =
+    let kept = kept_of c.args.self.now in
+    let tree = g.T.Queryable.tree in
+    let d = document tree g.T.Queryable.custom c.args.self.now in
+    let n = node_of tree c.args.trail.now.way.steps.items c.args.at.now in
+    let rest = through (segments_in kept c.args.rest.now) d in
+    let h = replaced (segment_view kept c.args.segment.now) d in
+    let further = flat_map rest (flat_map (λ m. flat_map h (subtree m)) (children n)) in
+    let makes = ap (λ ns. flat_map rest ns ++ further) ((c.in-Some.ensures kept).makes d n) in
+    took_stop _ _ _ _ _ _ _ (makes ∙ below_more rest h n.location n.tree) c.in_ok-each_member.ensures.gave c.if-not-branch.true
+
+pub descend-returns-then-not-branch-2-clause-gave : goal.descend-returns-then-not-branch-2-clause-gave
+descend-returns-then-not-branch-2-clause-gave g t c =
+    let kept = kept_of c.args.self.now in
+    let tree = g.T.Queryable.tree in
+    let d = document tree g.T.Queryable.custom c.args.self.now in
+    let n = node_of tree c.args.trail.now.way.steps.items c.args.at.now in
+    let rest = through (segments_in kept c.args.rest.now) d in
+    let h = replaced (segment_view kept c.args.segment.now) d in
+    took_stop _ _ _ _ _ _ _ (below_more rest h n.location n.tree) c.in_ok-pass.ensures.gave c.if-not-branch-2.true
+
+pub go_on-take-requires : goal.go_on-take-requires
+go_on-take-requires g t c = c.requires.stands.whole
+
+pub go_on-walk-requires : goal.go_on-walk-requires
+go_on-walk-requires g t c κs within = (down_tree _ _ _ _ _ c.decreases (omega arith), (within, (c.requires.stands, c.requires.part)))
+
+pub at_child-is_idle-requires : goal.at_child-is_idle-requires
+at_child-is_idle-requires g t c = c.requires.stands.whole
+
+pub at_child-returns-then-is_idle-clause-gave : goal.at_child-returns-then-is_idle-clause-gave
+at_child-returns-then-is_idle-clause-gave g t c =
+    let kept = kept_of c.args.self.now in
+    let tree = g.T.Queryable.tree in
+    let d = document tree g.T.Queryable.custom c.args.self.now in
+    let rest = through (segments_in kept c.args.rest.now) d in
+    took_none _ _ (ap (flat_map rest) (c.is_idle.ensures c.if-is_idle.true kept d _))
+
+pub at_child-act-requires : goal.at_child-act-requires
+at_child-act-requires g t c κs within = (down_tree _ _ _ _ _ c.decreases (omega arith), (within, (stands_as c.in_ok-push.ensures.steps c.requires.stands, c.requires.part)))
+
+pub at_child-returns-clause-gave : goal.at_child-returns-clause-gave
+at_child-returns-clause-gave g t c =
+    let kept = kept_of c.args.self.now in
+    let tree = g.T.Queryable.tree in
+    let d = document tree g.T.Queryable.custom c.args.self.now in
+    let rest = through (segments_in kept c.args.rest.now) d in
+    let x = tree c.args.child.value.now in
+    took_as _ _ _ _ _ (ap (λ q. flat_map rest (acted kept c.args.action d (node_of tree q c.args.child.value.now))) c.in_ok-push.ensures.steps ∙ ap (λ l. flat_map rest (acted kept c.args.action d (record { location = l; tree = x }))) (map-append step_of c.args.trail.now.way.steps.items (c.args.child.step ∷ []))) c.in_ok-goes_on.ensures.gave
+
+pub each_child-at_child-requires : goal.each_child-at_child-requires
+each_child-at_child-requires g t c κs within =
+    let tree = g.T.Queryable.tree in
+    let items = c.deref-value-items.result.now in
+    let P : List _ → Type 0 = All (λ x. IsTrue (g.T.Queryable.is_whole x)) in
+    let some = ap (λ xs. Some (map tree xs)) c.deref-value-items.ensures.value ∙ c.in-Some.ensures.value c.requires.stands.whole in
+    let whole = subst P (sym c.deref-value-items.ensures.value) (c.in-Some.ensures.whole c.requires.stands.whole) in
+    let s = element_size tree (tree c.args.at.now) items c.loop-i.i c.value-item.result some c.loop-i-test.true c.value-item.is in
+    let was = still c.requires.stands c.loop-i.invariant.returns in
+    (down_tree _ _ _ _ _ c.decreases (omega (arith, s)), (within, (record { whole = all_at (λ x. IsTrue (g.T.Queryable.is_whole x)) items c.loop-i.i c.value-item.result whole c.loop-i-test.true c.value-item.is; within = omega (arith, s, c.requires.stands.within); here = leads_below c.loop-i.trail.way.steps.items (Index c.loop-i.i) (tree c.args.self.now.root.now) _ _ was.here (child_there tree (tree c.args.at.now) items c.loop-i.i c.value-item.result some c.loop-i-test.true c.value-item.is); ready = was.ready }, c.requires.part)))
+
+pub each_member-at_child-requires : goal.each_member-at_child-requires
+each_member-at_child-requires g t c κs within =
+    let tree = g.T.Queryable.tree in
+    let items = c.args.members.now.list.now in
+    let some = c.requires.listed.list in
+    let whole = c.requires.listed.whole in
+    let s = pair_size (λ m. (m.0.now, tree m.1.now)) (tree c.args.members.now.of.now) items c.loop-member.member-index c.member-item.result some c.loop-member-test.true c.member-item.is in
+    let was = still c.requires.stands c.loop-member.invariant.returns in
+    let there = member_there (λ m. (m.0.now, tree m.1.now)) (tree c.args.members.now.of.now) items c.loop-member.member-index c.member-item.result (g.met.T.Queryable.distinct c.args.members.now.of.now c.requires.stands.whole) some c.loop-member-test.true c.member-item.is in
+    (down_tree _ _ _ _ _ c.decreases (omega (arith, s)), (within, (record { whole = all_at (λ m. IsTrue (g.T.Queryable.is_whole m.1.now)) items c.loop-member.member-index c.member-item.result whole c.loop-member-test.true c.member-item.is; within = omega (arith, s, c.requires.stands.within); here = leads_below c.loop-member.trail.way.steps.items (Name c.member-item.result.0) (tree c.args.self.now.root.now) _ _ was.here there; ready = was.ready }, c.requires.part)))
+
+pub each_child-returns-then-not-branch-clause-gave : goal.each_child-returns-then-not-branch-clause-gave
+each_child-returns-then-not-branch-clause-gave g t c =
+    let kept = kept_of c.args.self.now in
+    let tree = g.T.Queryable.tree in
+    let d = document tree g.T.Queryable.custom c.args.self.now in
+    let n = node_of tree c.args.trail.now.way.steps.items c.args.at.now in
+    let rest = through (segments_in kept c.args.rest.now) d in
+    let act = acted kept c.args.action d in
+    let inv = c.loop-i.invariant in
+    let k = took_as _ _ _ _ _ (ap (λ q. flat_map rest (act (below (map step_of q) (index c.loop-i.i) (tree c.value-item.result)))) inv.returns.same) c.in_ok-at_child.ensures.gave in
+    record { given = turn_stop _ _ (element_turns tree n.location rest act) c.deref-value-items.result.now c.loop-i.i c.value-item.result _ _ _ _ c.loop-i-test.true c.value-item.is k c.if-not-branch.true inv.given; stopped = λ _. k.stopped c.if-not-branch.true }
+
+pub each_child-loop-i-preserved : goal.each_child-loop-i-preserved
+each_child-loop-i-preserved g t c =
+    let kept = kept_of c.args.self.now in
+    let tree = g.T.Queryable.tree in
+    let d = document tree g.T.Queryable.custom c.args.self.now in
+    let n = node_of tree c.args.trail.now.way.steps.items c.args.at.now in
+    let rest = through (segments_in kept c.args.rest.now) d in
+    let act = acted kept c.args.action d in
+    let inv = c.loop-i.invariant in
+    let k = took_as _ _ _ _ _ (ap (λ q. flat_map rest (act (below (map step_of q) (index c.loop-i.i) (tree c.value-item.result)))) inv.returns.same) c.in_ok-at_child.ensures.gave in
+    record { returns = on inv.returns c.in_ok-at_child.ensures.returns; given = turn_next _ _ (element_turns tree n.location rest act) c.deref-value-items.result.now c.loop-i.i c.value-item.result _ _ _ _ c.loop-i-test.true c.value-item.is k inv.given }
+
+pub each_child-each_member-requires : goal.each_child-each_member-requires
+each_child-each_member-requires g t c κs within =
+    let tree = g.T.Queryable.tree in
+    let P : List _ → Type 0 = All (λ m. IsTrue (g.T.Queryable.is_whole m.1.now)) in (
+      down_tree _ _ _ _ _ c.decreases (omega arith),
+      (
+        within,
+        (
+          c.requires.stands,
+          (
+            record {
+              list = ap (λ xs. Some (map (λ m. (m.0.now, tree m.1.now)) xs)) c.deref.ensures.value ∙ rw c.in-Some-2.is at (c.in_ok-listed.ensures.value c.requires.stands.whole);
+              whole = subst P (sym c.deref.ensures.value) (rw c.in-Some-2.is at (c.in_ok-listed.ensures.whole c.requires.stands.whole));
+            },
+            c.requires.part,
+          ),
+        ),
+      ),
+    )
+
+pub each_member-returns-then-not-branch-clause-gave : goal.each_member-returns-then-not-branch-clause-gave
+each_member-returns-then-not-branch-clause-gave g t c =
+    let kept = kept_of c.args.self.now in
+    let tree = g.T.Queryable.tree in
+    let d = document tree g.T.Queryable.custom c.args.self.now in
+    let n = node_of tree c.args.trail.now.way.steps.items c.args.members.now.of.now in
+    let rest = through (segments_in kept c.args.rest.now) d in
+    let act = acted kept c.args.action d in
+    let inv = c.loop-member.invariant in
+    let k = took_as _ _ _ _ _ (ap (λ q. flat_map rest (act (below (map step_of q) (name c.member-item.result.0.now) (tree c.member-item.result.1.now)))) inv.returns.same) c.in_ok-at_child.ensures.gave in
+    record { given = turn_stop _ _ (member_turns (λ m. (m.0.now, tree m.1.now)) n.location rest act) c.args.members.now.list.now c.loop-member.member-index c.member-item.result _ _ _ _ c.loop-member-test.true c.member-item.is k c.if-not-branch.true inv.given; stopped = λ _. k.stopped c.if-not-branch.true }
+
+pub each_member-loop-member-preserved : goal.each_member-loop-member-preserved
+each_member-loop-member-preserved g t c =
+    let kept = kept_of c.args.self.now in
+    let tree = g.T.Queryable.tree in
+    let d = document tree g.T.Queryable.custom c.args.self.now in
+    let n = node_of tree c.args.trail.now.way.steps.items c.args.members.now.of.now in
+    let rest = through (segments_in kept c.args.rest.now) d in
+    let act = acted kept c.args.action d in
+    let inv = c.loop-member.invariant in
+    let k = took_as _ _ _ _ _ (ap (λ q. flat_map rest (act (below (map step_of q) (name c.member-item.result.0.now) (tree c.member-item.result.1.now)))) inv.returns.same) c.in_ok-at_child.ensures.gave in
+    record { returns = on inv.returns c.in_ok-at_child.ensures.returns; given = turn_next _ _ (member_turns (λ m. (m.0.now, tree m.1.now)) n.location rest act) c.args.members.now.list.now c.loop-member.member-index c.member-item.result _ _ _ _ c.loop-member-test.true c.member-item.is k inv.given }
+
+pub pass-pick-requires : goal.pass-pick-requires
+pass-pick-requires g t c κs within =
+    let kept = kept_of c.args.self.now in
+    let e = ap (segment_view kept) c.in-Selector.is ∙ segment_view-Selector kept c.in-Selector.selector in
+    (down _ _ _ _ _ _ c.decreases (omega (arith, ap segment_weight e)) (omega (arith, c.requires.stands.within)), (within, (c.requires.stands, part_as (λ z. segment_patterns z ++ segments_patterns (segments_in kept c.args.rest.now)) _ _ _ e c.requires.part)))
+
+pub pass-pick_each-requires : goal.pass-pick_each-requires
+pass-pick_each-requires g t c κs within =
+    let kept = kept_of c.args.self.now in
+    let e = ap (segment_view kept) c.in-Selectors.is ∙ segment_view-Selectors kept c.in-Selectors.selectors in
+    (down _ _ _ _ _ _ c.decreases (omega (arith, ap segment_weight e, ap (λ (xs : List Selector). selectors_weight (selectors_in kept xs)) c.deref.ensures.value)) (omega (arith, c.requires.stands.within)), (within, (c.requires.stands, part_as (λ (xs : List Selector). selectors_patterns (selectors_in kept xs) ++ segments_patterns (segments_in kept c.args.rest.now)) _ _ _ (sym c.deref.ensures.value) (part_as (λ z. segment_patterns z ++ segments_patterns (segments_in kept c.args.rest.now)) _ _ _ e c.requires.part))))
+
+pub pass-act-requires : goal.pass-act-requires
+pass-act-requires g t c κs within =
+    let kept = kept_of c.args.self.now in
+    let e = ap (segment_view kept) c.in-Descendant.is ∙ segment_view-Descendant kept c.in-Descendant.inner in
+    (down _ _ _ _ _ _ c.decreases (omega (arith, ap segment_weight e, ap (λ (x : Segment). segment_weight (segment_view kept x)) c.deref-in-Descendant.ensures)) (omega (arith, c.requires.stands.within)), (within, (c.requires.stands, part_as (λ (x : Segment). segment_patterns (segment_view kept x) ++ segments_patterns (segments_in kept c.args.rest.now)) _ _ _ (sym c.deref-in-Descendant.ensures) (part_as (λ z. segment_patterns z ++ segments_patterns (segments_in kept c.args.rest.now)) _ _ _ e c.requires.part))))
+
+pub pass-returns-in-Selector-clause-gave : goal.pass-returns-in-Selector-clause-gave
+pass-returns-in-Selector-clause-gave g t c =
+    let kept = kept_of c.args.self.now in
+    let tree = g.T.Queryable.tree in
+    let d = document tree g.T.Queryable.custom c.args.self.now in
+    let n = node_of tree c.args.trail.now.way.steps.items c.args.at.now in
+    let rest = through (segments_in kept c.args.rest.now) d in
+    let e = ap (segment_view kept) c.in-Selector.is ∙ segment_view-Selector kept c.in-Selector.selector in
+    result_as _ _ _ _ _ (ap (flat_map rest) (sym (ap (λ s. replaced s d n) e))) c.pick.ensures.gave
+
+pub pass-returns-in-Selectors-clause-gave : goal.pass-returns-in-Selectors-clause-gave
+pass-returns-in-Selectors-clause-gave g t c =
+    let kept = kept_of c.args.self.now in
+    let tree = g.T.Queryable.tree in
+    let d = document tree g.T.Queryable.custom c.args.self.now in
+    let n = node_of tree c.args.trail.now.way.steps.items c.args.at.now in
+    let rest = through (segments_in kept c.args.rest.now) d in
+    let e = ap (segment_view kept) c.in-Selectors.is ∙ segment_view-Selectors kept c.in-Selectors.selectors in
+    result_as _ _ _ _ _ (ap (flat_map rest) (ap (λ (ss : List Selector). all_pick (selectors_in kept ss) d n) c.deref.ensures.value ∙ sym (ap (λ s. replaced s d n) e))) c.pick_each.ensures.gave
+
+pub pass-returns-in-Descendant-clause-gave : goal.pass-returns-in-Descendant-clause-gave
+pass-returns-in-Descendant-clause-gave g t c =
+    let kept = kept_of c.args.self.now in
+    let tree = g.T.Queryable.tree in
+    let d = document tree g.T.Queryable.custom c.args.self.now in
+    let n = node_of tree c.args.trail.now.way.steps.items c.args.at.now in
+    let rest = through (segments_in kept c.args.rest.now) d in
+    let e = ap (segment_view kept) c.in-Descendant.is ∙ segment_view-Descendant kept c.in-Descendant.inner in
+    result_as _ _ _ _ _ (ap (flat_map rest) (ap (λ (s : Segment). flat_map (replaced (segment_view kept s) d) (subtree n)) c.deref-in-Descendant.ensures ∙ sym (ap (λ s. replaced s d n) e))) c.act.ensures.gave
+
+pub pick-at_child-requires : goal.pick-at_child-requires
+pick-at_child-requires g t c κs within =
+    let kept = kept_of c.args.self.now in
+    let tree = g.T.Queryable.tree in
+    let s = member_size c.deref.result.now (tree c.args.at.now) (tree c.in-Some.value.now) (c.in-Some.ensures.value c.requires.stands.whole) in
+    let e = ap (selector_view kept) c.in-Name.is ∙ selector_view-Name kept c.in-Name.name in
+    let there = ap (λ q. get q (tree c.args.at.now)) (c.deref-in-Some.ensures ∙ sym c.deref.ensures) ∙ sym (c.in-Some.ensures.value c.requires.stands.whole) in
+    (down _ _ _ _ _ _ c.decreases (omega (arith, ap selector_weight e)) (omega (arith, s, c.requires.stands.within)), (within, (record { whole = c.in-Some.ensures.whole c.requires.stands.whole; within = omega (arith, s, c.requires.stands.within); here = leads_below c.args.trail.now.way.steps.items (Name c.deref-in-Some.result) (tree c.args.self.now.root.now) _ _ c.requires.stands.here there; ready = c.requires.stands.ready }, part_right _ _ _ c.requires.part)))
+
+pub pick-each_child-requires : goal.pick-each_child-requires
+pick-each_child-requires g t c κs within =
+    let kept = kept_of c.args.self.now in
+    let e = ap (selector_view kept) c.in-Wildcard.is ∙ selector_view-Wildcard kept in
+    (down _ _ _ _ _ _ c.decreases (omega (arith, ap selector_weight e)) (omega (arith, c.requires.stands.within)), (within, (c.requires.stands, part_right _ _ _ c.requires.part)))
+
+pub pick-at_child-requires-in-Some-element : goal.pick-at_child-requires-in-Some-element
+pick-at_child-requires-in-Some-element g t c κs within =
+    let kept = kept_of c.args.self.now in
+    let e = ap (selector_view kept) c.in-Index.is ∙ selector_view-Index kept c.in-Index.index in
+    let found = c.in-Some-element.ensures in
+    let steps = c.args.trail.now.way.steps.items in
+    (down _ _ _ _ _ _ c.decreases (omega (arith, ap selector_weight e)) (omega (arith, found.smaller, c.requires.stands.within)), (within, (record { whole = found.whole; within = omega (arith, found.smaller, c.requires.stands.within); here = leads_indexed steps _ _ _ _ _ (g.met.T.Queryable.distinct c.args.at.now c.requires.stands.whole) c.requires.stands.here (found.value (map step_of steps)); ready = c.requires.stands.ready }, part_right _ _ _ c.requires.part)))
+
+pub pick-element-requires : goal.pick-element-requires
+pick-element-requires g t c = c.requires.stands.whole
+
+pub pick-pick_slice-requires : goal.pick-pick_slice-requires
+pick-pick_slice-requires g t c κs within =
+    let kept = kept_of c.args.self.now in
+    let e = ap (selector_view kept) c.in-Slice.is ∙ selector_view-Slice kept c.in-Slice.start c.in-Slice.end c.in-Slice.step in
+    (down _ _ _ _ _ _ c.decreases (omega (arith, ap selector_weight e)) (omega (arith, c.requires.stands.within)), (within, (c.requires.stands, part_right _ _ _ c.requires.part)))
+
+pub pick-each_child-requires-in-Filter : goal.pick-each_child-requires-in-Filter
+pick-each_child-requires-in-Filter g t c κs within =
+    let kept = kept_of c.args.self.now in
+    let e = ap (selector_view kept) c.in-Filter.is ∙ selector_view-Filter kept c.in-Filter.filter in
+    (down _ _ _ _ _ _ c.decreases (omega (arith, ap selector_weight e)) (omega (arith, c.requires.stands.within)), (within, (c.requires.stands, part_as (λ z. selector_patterns z ++ segments_patterns (segments_in kept c.args.rest.now)) _ _ _ e c.requires.part)))
+
+pub pick-returns-in-Some-clause-gave : goal.pick-returns-in-Some-clause-gave
+pick-returns-in-Some-clause-gave g t c =
+    let kept = kept_of c.args.self.now in
+    let tree = g.T.Queryable.tree in
+    let d = document tree g.T.Queryable.custom c.args.self.now in
+    let n = node_of tree c.args.trail.now.way.steps.items c.args.at.now in
+    let rest = through (segments_in kept c.args.rest.now) d in
+    let e = ap (selector_view kept) c.in-Name.is ∙ selector_view-Name kept c.in-Name.name in
+    let k = string_bytes c.in-Name.name in
+    let x = tree c.in-Some.value.now in
+    let h = c.in-Some.ensures.value c.requires.stands.whole ∙ ap (λ q. get q n.tree) c.deref.ensures in
+    result_as _ _ _ _ _ (ap (flat_map rest) (ap (λ q. below n.location (name q) x ∷ []) c.deref-in-Some.ensures ∙ named_some n.location k n.tree x h ∙ sym (ap (λ s. picks s d n) e))) c.at_child.ensures.gave
+
+pub pick-returns-in-None-clause-gave : goal.pick-returns-in-None-clause-gave
+pick-returns-in-None-clause-gave g t c =
+    let kept = kept_of c.args.self.now in
+    let tree = g.T.Queryable.tree in
+    let d = document tree g.T.Queryable.custom c.args.self.now in
+    let n = node_of tree c.args.trail.now.way.steps.items c.args.at.now in
+    let rest = through (segments_in kept c.args.rest.now) d in
+    let e = ap (selector_view kept) c.in-Name.is ∙ selector_view-Name kept c.in-Name.name in
+    let h = c.in-None.ensures.value c.requires.stands.whole ∙ ap (λ q. get q n.tree) c.deref.ensures in
+    took_none _ _ (ap (flat_map rest) (ap (λ s. picks s d n) e ∙ named_none n.location (string_bytes c.in-Name.name) n.tree h))
+
+pub pick-returns-in-Wildcard-clause-gave : goal.pick-returns-in-Wildcard-clause-gave
+pick-returns-in-Wildcard-clause-gave g t c =
+    let kept = kept_of c.args.self.now in
+    let tree = g.T.Queryable.tree in
+    let d = document tree g.T.Queryable.custom c.args.self.now in
+    let n = node_of tree c.args.trail.now.way.steps.items c.args.at.now in
+    let rest = through (segments_in kept c.args.rest.now) d in
+    let e = ap (selector_view kept) c.in-Wildcard.is ∙ selector_view-Wildcard kept in
+    result_as _ _ _ _ _ (ap (flat_map rest) (flat_map-alone (children n) ∙ sym (ap (λ s. picks s d n) e))) c.each_child.ensures.gave
+
+pub pick-returns-in-Some-element-clause-gave : goal.pick-returns-in-Some-element-clause-gave
+pick-returns-in-Some-element-clause-gave g t c =
+    let kept = kept_of c.args.self.now in
+    let tree = g.T.Queryable.tree in
+    let d = document tree g.T.Queryable.custom c.args.self.now in
+    let n = node_of tree c.args.trail.now.way.steps.items c.args.at.now in
+    let rest = through (segments_in kept c.args.rest.now) d in
+    let e = ap (selector_view kept) c.in-Index.is ∙ selector_view-Index kept c.in-Index.index in
+    let fits : SFits w64 c.in-Index.index = search rules in
+    let z = to_z-of_z w64 c.in-Index.index fits in
+    result_as _ _ _ _ _ (ap (flat_map rest) (c.in-Some-element.ensures.value n.location ∙ ap (λ i. indexed i n) z ∙ sym (ap (λ s. picks s d n) e))) c.at_child-in-Some-element.ensures.gave
+
+pub pick-returns-in-None-element-clause-gave : goal.pick-returns-in-None-element-clause-gave
+pick-returns-in-None-element-clause-gave g t c =
+    let kept = kept_of c.args.self.now in
+    let tree = g.T.Queryable.tree in
+    let d = document tree g.T.Queryable.custom c.args.self.now in
+    let n = node_of tree c.args.trail.now.way.steps.items c.args.at.now in
+    let rest = through (segments_in kept c.args.rest.now) d in
+    let e = ap (selector_view kept) c.in-Index.is ∙ selector_view-Index kept c.in-Index.index in
+    let fits : SFits w64 c.in-Index.index = search rules in
+    let z = to_z-of_z w64 c.in-Index.index fits in
+    took_none _ _ (ap (flat_map rest) (ap (λ s. picks s d n) e ∙ sym (c.in-None-element.ensures.value n.location ∙ ap (λ i. indexed i n) z)))
+
+pub pick-returns-in-Slice-clause-gave : goal.pick-returns-in-Slice-clause-gave
+pick-returns-in-Slice-clause-gave g t c =
+    let kept = kept_of c.args.self.now in
+    let tree = g.T.Queryable.tree in
+    let d = document tree g.T.Queryable.custom c.args.self.now in
+    let n = node_of tree c.args.trail.now.way.steps.items c.args.at.now in
+    let rest = through (segments_in kept c.args.rest.now) d in
+    let e = ap (selector_view kept) c.in-Slice.is ∙ selector_view-Slice kept c.in-Slice.start c.in-Slice.end c.in-Slice.step in
+    result_as _ _ _ _ _ (ap (flat_map rest) (sym (ap (λ s. picks s d n) e))) c.pick_slice.ensures.gave
+
+pub pick-returns-in-Filter-clause-gave : goal.pick-returns-in-Filter-clause-gave
+pick-returns-in-Filter-clause-gave g t c =
+    let kept = kept_of c.args.self.now in
+    let tree = g.T.Queryable.tree in
+    let d = document tree g.T.Queryable.custom c.args.self.now in
+    let n = node_of tree c.args.trail.now.way.steps.items c.args.at.now in
+    let rest = through (segments_in kept c.args.rest.now) d in
+    let e = ap (selector_view kept) c.in-Filter.is ∙ selector_view-Filter kept c.in-Filter.filter in
+    result_as _ _ _ _ _ (ap (flat_map rest) (flat_map-filter (holds (filter_view kept c.in-Filter.filter) d) (children n) ∙ sym (ap (λ s. picks s d n) e))) c.each_child-in-Filter.ensures.gave
+
+pub pick_each-pick-requires : goal.pick_each-pick-requires
+pick_each-pick-requires g t c κs within =
+    let kept = kept_of c.args.self.now in
+    let w = part_of (λ (x : Selector). selector_weight (selector_view kept x)) (λ xs. selectors_weight (selectors_in kept xs)) (λ x xs. refl) c.args.selectors.now c.loop-selector.selector-index c.selector-item.result c.loop-selector-test.true c.selector-item.is in
+    (down _ _ _ _ _ _ c.decreases (omega (arith, w)) (omega (arith, c.requires.stands.within)), (within, (still c.requires.stands c.loop-selector.invariant.returns, part_both _ _ _ (part_at (λ (x : Selector). selector_patterns (selector_view kept x)) (λ xs. selectors_patterns (selectors_in kept xs)) (λ x xs. refl) _ c.args.selectors.now c.loop-selector.selector-index c.selector-item.result c.loop-selector-test.true c.selector-item.is (part_left _ _ _ c.requires.part)) (part_right _ _ _ c.requires.part))))
+
+pub pick_each-returns-then-not-branch-clause-gave : goal.pick_each-returns-then-not-branch-clause-gave
+pick_each-returns-then-not-branch-clause-gave g t c =
+    let kept = kept_of c.args.self.now in
+    let tree = g.T.Queryable.tree in
+    let d = document tree g.T.Queryable.custom c.args.self.now in
+    let n = node_of tree c.args.trail.now.way.steps.items c.args.at.now in
+    let rest = through (segments_in kept c.args.rest.now) d in
+    let inv = c.loop-selector.invariant in
+    let k = took_as _ _ _ _ _ (ap (λ q. flat_map rest (picks (selector_view kept c.selector-item.result) d (node_of tree q c.args.at.now))) inv.returns.same) c.in_ok-pick.ensures.gave in
+    record { given = turn_stop _ _ (selector_turns kept d n rest) c.args.selectors.now c.loop-selector.selector-index c.selector-item.result _ _ _ _ c.loop-selector-test.true c.selector-item.is k c.if-not-branch.true inv.given; stopped = λ _. k.stopped c.if-not-branch.true }
+
+pub pick_each-loop-selector-preserved : goal.pick_each-loop-selector-preserved
+pick_each-loop-selector-preserved g t c =
+    let kept = kept_of c.args.self.now in
+    let tree = g.T.Queryable.tree in
+    let d = document tree g.T.Queryable.custom c.args.self.now in
+    let n = node_of tree c.args.trail.now.way.steps.items c.args.at.now in
+    let rest = through (segments_in kept c.args.rest.now) d in
+    let inv = c.loop-selector.invariant in
+    let k = took_as _ _ _ _ _ (ap (λ q. flat_map rest (picks (selector_view kept c.selector-item.result) d (node_of tree q c.args.at.now))) inv.returns.same) c.in_ok-pick.ensures.gave in
+    record { returns = on inv.returns c.in_ok-pick.ensures.returns; given = turn_next _ _ (selector_turns kept d n rest) c.args.selectors.now c.loop-selector.selector-index c.selector-item.result _ _ _ _ c.loop-selector-test.true c.selector-item.is k inv.given }
+
+pub pick_each-returns-clause-gave : goal.pick_each-returns-clause-gave
+pick_each-returns-clause-gave g t c =
+    let kept = kept_of c.args.self.now in
+    let tree = g.T.Queryable.tree in
+    let d = document tree g.T.Queryable.custom c.args.self.now in
+    let n = node_of tree c.args.trail.now.way.steps.items c.args.at.now in
+    let rest = through (segments_in kept c.args.rest.now) d in
+    record { given = turn_end _ _ (selector_turns kept d n rest) c.args.selectors.now c.loop-selector.selector-index _ _ c.loop-selector-test.false c.loop-selector.invariant.given; stopped = λ h. true_false h }
+
+pub pick_slice-returns-in_default-clause-gave : goal.pick_slice-returns-in_default-clause-gave
+pick_slice-returns-in_default-clause-gave g t c =
+    let kept = kept_of c.args.self.now in
+    let tree = g.T.Queryable.tree in
+    let d = document tree g.T.Queryable.custom c.args.self.now in
+    let n = node_of tree c.args.trail.now.way.steps.items c.args.at.now in
+    let rest = through (segments_in kept c.args.rest.now) d in
+    let h = c.in_default.ensures.value c.requires.stands.whole in
+    took_none _ _ (ap (λ o. flat_map rest (flat_map (λ ts. flat_map (λ k. element k n) (slice_of c.args.slice.0 c.args.slice.1 c.args.slice.2 (length ts))) (option_to_list o))) (sym h))
+
+pub pick_slice-at_child-requires : goal.pick_slice-at_child-requires
+pick_slice-at_child-requires g t c κs within =
+    let tree = g.T.Queryable.tree in
+    let items = c.in-Some.items.now.items in
+    let some = c.in-Some.ensures.value c.requires.stands.whole in
+    let inv = c.loop-position.invariant in
+    let position = c.in-Some-position.position in
+    let P : ℕ → Type 0 = λ i. i < length items in
+    let inside : position < length items = All-head P position _ (subst (All P) c.in-Some-position.ensures.steps inv.below) in
+    let s = element_size tree (tree c.args.at.now) items position c.index-value.result.now some inside c.index-value.ensures in
+    let was = still c.requires.stands inv.returns in
+    (down _ _ _ _ _ _ c.decreases (omega arith) (omega (arith, s, c.requires.stands.within)), (within, (record { whole = all_at (λ x. IsTrue (g.T.Queryable.is_whole x)) items position c.index-value.result.now (c.in-Some.ensures.whole c.requires.stands.whole) inside c.index-value.ensures; within = omega (arith, s, c.requires.stands.within); here = leads_below c.loop-position.trail.way.steps.items (Index position) (tree c.args.self.now.root.now) _ _ was.here (child_there tree (tree c.args.at.now) items position c.index-value.result.now some inside c.index-value.ensures); ready = was.ready }, c.requires.part)))
+
+pub pick_slice-index-value-requires : goal.pick_slice-index-value-requires
+pick_slice-index-value-requires g t c =
+    let items = c.in-Some.items.now.items in
+    let inv = c.loop-position.invariant in
+    let position = c.in-Some-position.position in
+    let steps = c.in-Some-position.ensures.steps in
+    let P : ℕ → Type 0 = λ i. i < length items in
+    let inside : position < length items = All-head P position _ (subst (All P) steps inv.below) in
+    omega (arith, inside, c.in-Some.items.now.ok.0)
+
+pub pick_slice-returns-then-not-branch-clause-gave : goal.pick_slice-returns-then-not-branch-clause-gave
+pick_slice-returns-then-not-branch-clause-gave g t c =
+    let kept = kept_of c.args.self.now in
+    let tree = g.T.Queryable.tree in
+    let whole = g.T.Queryable.is_whole in
+    let custom = g.T.Queryable.custom in
+    let d = document tree custom c.args.self.now in
+    let n = node_of tree c.args.trail.now.way.steps.items c.args.at.now in
+    let rest = through (segments_in kept c.args.rest.now) d in
+    let items = c.in-Some.items.now.items in
+    let some = c.in-Some.ensures.value c.requires.stands.whole in
+    let inv = c.loop-position.invariant in
+    let position = c.in-Some-position.position in
+    let steps = c.in-Some-position.ensures.steps in
+    let P : ℕ → Type 0 = λ i. i < length items in
+    let inside : position < length items = All-head P position _ (subst (All P) steps inv.below) in
+    let x = tree c.index-value.result.now in
+    let here = element_at tree n.location n.tree items position c.index-value.result.now some inside c.index-value.ensures in
+    let k = took_as _ _ _ _ _ (ap (λ q. flat_map rest (below (map step_of q) (index position) x ∷ [])) inv.returns.same ∙ ap (flat_map rest) here) c.in_ok-at_child.ensures.gave in
+    record { given = place_stop rest (λ j. element j n) _ _ position _ _ _ _ steps k c.if-not-branch.true inv.given ∙ ap (λ ns. give (seen tree whole c.args.sink.now) (flat_map rest ns)) (sliced-list tree n items c.args.slice.0 c.args.slice.1 c.args.slice.2 some); stopped = λ _. k.stopped c.if-not-branch.true }
+
+pub pick_slice-loop-position-preserved : goal.pick_slice-loop-position-preserved
+pick_slice-loop-position-preserved g t c =
+    let kept = kept_of c.args.self.now in
+    let tree = g.T.Queryable.tree in
+    let d = document tree g.T.Queryable.custom c.args.self.now in
+    let n = node_of tree c.args.trail.now.way.steps.items c.args.at.now in
+    let rest = through (segments_in kept c.args.rest.now) d in
+    let items = c.in-Some.items.now.items in
+    let some = c.in-Some.ensures.value c.requires.stands.whole in
+    let inv = c.loop-position.invariant in
+    let position = c.in-Some-position.position in
+    let steps = c.in-Some-position.ensures.steps in
+    let P : ℕ → Type 0 = λ i. i < length items in
+    let inside : position < length items = All-head P position _ (subst (All P) steps inv.below) in
+    let x = tree c.index-value.result.now in
+    let here = element_at tree n.location n.tree items position c.index-value.result.now some inside c.index-value.ensures in
+    let k = took_as _ _ _ _ _ (ap (λ q. flat_map rest (below (map step_of q) (index position) x ∷ [])) inv.returns.same ∙ ap (flat_map rest) here) c.in_ok-at_child.ensures.gave in
+    record { returns = record { same = c.in_ok-at_child.ensures.returns.same ∙ inv.returns.same; ready = c.in_ok-at_child.ensures.returns.ready }; below = All-tail P position _ (subst (All P) steps inv.below); given = place_next rest (λ j. element j n) _ _ position _ _ _ _ steps k inv.given }
+
+pub pick_slice-returns-clause-gave : goal.pick_slice-returns-clause-gave
+pick_slice-returns-clause-gave g t c =
+    let kept = kept_of c.args.self.now in
+    let tree = g.T.Queryable.tree in
+    let whole = g.T.Queryable.is_whole in
+    let custom = g.T.Queryable.custom in
+    let d = document tree custom c.args.self.now in
+    let n = node_of tree c.args.trail.now.way.steps.items c.args.at.now in
+    let rest = through (segments_in kept c.args.rest.now) d in
+    let items = c.in-Some.items.now.items in
+    let some = c.in-Some.ensures.value c.requires.stands.whole in
+    let inv = c.loop-position.invariant in
+    record { given = ap (λ is. give (seen tree whole c.loop-position.sink) (flat_map rest (flat_map (λ j. element j n) is))) (sym c.in-None.ensures.steps.0) ∙ inv.given ∙ ap (λ ns. give (seen tree whole c.args.sink.now) (flat_map rest ns)) (sliced-list tree n items c.args.slice.0 c.args.slice.1 c.args.slice.2 some); stopped = λ h. true_false h }
+
+pub at_child-returns-clause-returns : goal.at_child-returns-clause-returns
+at_child-returns-clause-returns g t c =
+    let back = c.in_ok-goes_on.ensures.returns in
+    record { same = c.pop.ensures _ _ (back.same ∙ c.in_ok-push.ensures.steps); ready = back.ready }
+
+pub act-returns-then-branch-clause-returns : goal.act-returns-then-branch-clause-returns
+act-returns-then-branch-clause-returns g t c = on_ok _ _ c.in_ok-filter_holds-in-If.ensures.returns c.go_on-then-branch.ensures.returns
+
+pub descend-returns-clause-returns : goal.descend-returns-clause-returns
+descend-returns-clause-returns g t c = on_ok _ _ c.in_ok-pass.ensures.returns c.each_child.ensures.returns
+
+pub some_holds-filter_holds-requires : goal.some_holds-filter_holds-requires
+some_holds-filter_holds-requires g t c κs within =
+    let kept = kept_of c.args.self.now in
+    let w = part_of (λ (x : Filter). filter_weight (filter_view kept x)) (λ xs. filters_weight (filters_in kept xs)) (λ x xs. refl) c.args.parts.now c.loop-part.part-index c.part-item.result c.loop-part-test.true c.part-item.is in
+    (down _ _ _ _ _ _ c.decreases (omega (arith, w)) (omega (arith, c.requires.stands.within)), (within, (still c.requires.stands c.loop-part.invariant.returns, part_at (λ (x : Filter). filter_patterns (filter_view kept x)) (λ xs. filters_patterns (filters_in kept xs)) (λ x xs. refl) _ c.args.parts.now c.loop-part.part-index c.part-item.result c.loop-part-test.true c.part-item.is c.requires.part)))
+
+pub some_holds-returns-then-branch-clause-holds : goal.some_holds-returns-then-branch-clause-holds
+some_holds-returns-then-branch-clause-holds g t c =
+    let kept = kept_of c.args.self.now in
+    let tree = g.T.Queryable.tree in
+    let d = document tree g.T.Queryable.custom c.args.self.now in
+    let n = node_of tree c.args.trail.now.way.steps.items c.args.at.now in
+    let inv = c.loop-part.invariant in
+    let item = c.part-item.result in
+    let here = c.in_ok-filter_holds.ensures.holds ∙ ap (λ q. holds (filter_view kept item) d (node_of tree q c.args.at.now)) inv.returns.same in
+    some_found (λ (fs : List Filter). some_holds (filters_in kept fs) d n) (λ f. holds (filter_view kept f) d n) (λ x xs. refl) c.args.parts.now c.loop-part.part-index item _ c.loop-part-test.true c.part-item.is (sym here ∙ c.if-branch.true) inv.holds
+
+pub some_holds-loop-part-preserved : goal.some_holds-loop-part-preserved
+some_holds-loop-part-preserved g t c =
+    let kept = kept_of c.args.self.now in
+    let tree = g.T.Queryable.tree in
+    let d = document tree g.T.Queryable.custom c.args.self.now in
+    let n = node_of tree c.args.trail.now.way.steps.items c.args.at.now in
+    let inv = c.loop-part.invariant in
+    let item = c.part-item.result in
+    let here = c.in_ok-filter_holds.ensures.holds ∙ ap (λ q. holds (filter_view kept item) d (node_of tree q c.args.at.now)) inv.returns.same in
+    record { returns = on inv.returns c.in_ok-filter_holds.ensures.returns; holds = some_next (λ (fs : List Filter). some_holds (filters_in kept fs) d n) (λ f. holds (filter_view kept f) d n) (λ x xs. refl) c.args.parts.now c.loop-part.part-index item _ c.loop-part-test.true c.part-item.is (sym here ∙ c.if-branch.false) inv.holds }
+
+pub some_holds-returns-clause-holds : goal.some_holds-returns-clause-holds
+some_holds-returns-clause-holds g t c =
+    let kept = kept_of c.args.self.now in
+    let tree = g.T.Queryable.tree in
+    let d = document tree g.T.Queryable.custom c.args.self.now in
+    let n = node_of tree c.args.trail.now.way.steps.items c.args.at.now in
+    parts_end (λ (fs : List Filter). some_holds (filters_in kept fs) d n) c.args.parts.now c.loop-part.part-index _ c.loop-part-test.false c.loop-part.invariant.holds
+
+pub each_holds-filter_holds-requires : goal.each_holds-filter_holds-requires
+each_holds-filter_holds-requires g t c κs within =
+    let kept = kept_of c.args.self.now in
+    let w = part_of (λ (x : Filter). filter_weight (filter_view kept x)) (λ xs. filters_weight (filters_in kept xs)) (λ x xs. refl) c.args.parts.now c.loop-part.part-index c.part-item.result c.loop-part-test.true c.part-item.is in
+    (down _ _ _ _ _ _ c.decreases (omega (arith, w)) (omega (arith, c.requires.stands.within)), (within, (still c.requires.stands c.loop-part.invariant.returns, part_at (λ (x : Filter). filter_patterns (filter_view kept x)) (λ xs. filters_patterns (filters_in kept xs)) (λ x xs. refl) _ c.args.parts.now c.loop-part.part-index c.part-item.result c.loop-part-test.true c.part-item.is c.requires.part)))
+
+pub each_holds-returns-then-not-branch-clause-holds : goal.each_holds-returns-then-not-branch-clause-holds
+each_holds-returns-then-not-branch-clause-holds g t c =
+    let kept = kept_of c.args.self.now in
+    let tree = g.T.Queryable.tree in
+    let d = document tree g.T.Queryable.custom c.args.self.now in
+    let n = node_of tree c.args.trail.now.way.steps.items c.args.at.now in
+    let inv = c.loop-part.invariant in
+    let item = c.part-item.result in
+    let here = c.in_ok-filter_holds.ensures.holds ∙ ap (λ q. holds (filter_view kept item) d (node_of tree q c.args.at.now)) inv.returns.same in
+    each_failed (λ (fs : List Filter). each_holds (filters_in kept fs) d n) (λ f. holds (filter_view kept f) d n) (λ x xs. refl) c.args.parts.now c.loop-part.part-index item _ c.loop-part-test.true c.part-item.is (sym here ∙ c.if-not-branch.true) inv.holds
+
+pub each_holds-loop-part-preserved : goal.each_holds-loop-part-preserved
+each_holds-loop-part-preserved g t c =
+    let kept = kept_of c.args.self.now in
+    let tree = g.T.Queryable.tree in
+    let d = document tree g.T.Queryable.custom c.args.self.now in
+    let n = node_of tree c.args.trail.now.way.steps.items c.args.at.now in
+    let inv = c.loop-part.invariant in
+    let item = c.part-item.result in
+    let here = c.in_ok-filter_holds.ensures.holds ∙ ap (λ q. holds (filter_view kept item) d (node_of tree q c.args.at.now)) inv.returns.same in
+    record { returns = on inv.returns c.in_ok-filter_holds.ensures.returns; holds = each_next (λ (fs : List Filter). each_holds (filters_in kept fs) d n) (λ f. holds (filter_view kept f) d n) (λ x xs. refl) c.args.parts.now c.loop-part.part-index item _ c.loop-part-test.true c.part-item.is (sym here ∙ c.if-not-branch.false) inv.holds }
+
+pub each_holds-returns-clause-holds : goal.each_holds-returns-clause-holds
+each_holds-returns-clause-holds g t c =
+    let kept = kept_of c.args.self.now in
+    let tree = g.T.Queryable.tree in
+    let d = document tree g.T.Queryable.custom c.args.self.now in
+    let n = node_of tree c.args.trail.now.way.steps.items c.args.at.now in
+    parts_end (λ (fs : List Filter). each_holds (filters_in kept fs) d n) c.args.parts.now c.loop-part.part-index _ c.loop-part-test.false c.loop-part.invariant.holds
+
+pub custom-argument-requires : goal.custom-argument-requires
+custom-argument-requires g t c κs within =
+    let kept = kept_of c.args.self.now in
+    let w = part_of (λ (x : Argument). argument_weight (argument_view kept x Values)) (λ xs. arguments_weight (arguments_in kept xs)) (λ x xs. refl) c.args.args.now c.loop-arg.arg-index c.arg-item.result c.loop-arg-test.true c.arg-item.is in
+    (down _ _ _ _ _ _ c.decreases (omega (arith, w)) (omega (arith, c.requires.stands.within)), (within, (still c.requires.stands c.loop-arg.invariant.returns, part_at (λ (x : Argument). argument_patterns (argument_view kept x Values)) (λ xs. arguments_patterns (arguments_in kept xs)) (λ x xs. refl) _ c.args.args.now c.loop-arg.arg-index c.arg-item.result c.loop-arg-test.true c.arg-item.is c.requires.part)))
+
+pub custom-push_to-requires-clause-within : goal.custom-push_to-requires-clause-within
+custom-push_to-requires-clause-within g t c = c.in_ok-argument.ensures.within
+
+pub custom-push_to-requires-clause-whole : goal.custom-push_to-requires-clause-whole
+custom-push_to-requires-clause-whole g t c =
+    let kept = kept_of c.args.self.now in
+    let tree = g.T.Queryable.tree in
+    let d = document tree g.T.Queryable.custom c.args.self.now in
+    let n = node_of tree c.loop-arg.trail.way.steps.items c.args.at.now in
+    subst HeldAreWhole (sym c.in_ok-argument.ensures.held) (held_are_whole (argued (argument_view kept c.arg-item.result Values) d n))
+
+pub custom-push_to-requires-clause-others : goal.custom-push_to-requires-clause-others
+custom-push_to-requires-clause-others g t c = c.loop-arg.invariant.whole
+
+pub custom-loop-arg-init : goal.custom-loop-arg-init
+custom-loop-arg-init g t c =
+    let kept = kept_of c.args.self.now in
+    let tree = g.T.Queryable.tree in
+    let d = document tree g.T.Queryable.custom c.args.self.now in
+    let n = node_of tree c.args.trail.now.way.steps.items c.args.at.now in
+    let whole = g.T.Queryable.is_whole in
+    record { returns = stays c.requires.stands.ready; trees = ap (λ xs. arg_trees tree xs ++ all_trees (arguments_in kept c.args.args.now) d n) c.new-values.ensures.items; whole = subst (AreWhole whole) (sym c.new-values.ensures.items) (All-nil _) }
+
+pub custom-loop-arg-preserved : goal.custom-loop-arg-preserved
+custom-loop-arg-preserved g t c =
+    let kept = kept_of c.args.self.now in
+    let tree = g.T.Queryable.tree in
+    let d = document tree g.T.Queryable.custom c.args.self.now in
+    let n = node_of tree c.args.trail.now.way.steps.items c.args.at.now in
+    let inv = c.loop-arg.invariant in
+    let item = c.arg-item.result in
+    let was = arg_trees tree c.loop-arg.values.items in
+    let pushed = c.in_ok-push_to.ensures in
+    let trees = ap trees_held c.in_ok-argument.ensures.held ∙ as_trees_held (argued (argument_view kept item Values) d (node_of tree c.loop-arg.trail.way.steps.items c.args.at.now)) ∙ ap (λ q. as_trees (argued (argument_view kept item Values) d (node_of tree q c.args.at.now))) inv.returns.same in
+    record { returns = on inv.returns c.in_ok-argument.ensures.returns; trees = joined_next (λ (xs : List Argument). all_trees (arguments_in kept xs) d n) (λ a. as_trees (argued (argument_view kept a Values) d n)) (λ x xs. refl) c.args.args.now c.loop-arg.arg-index item was _ _ c.loop-arg-test.true c.arg-item.is (pushed.value ∙ ap (λ ts. was ++ ts) trees) inv.trees; whole = pushed.whole }
+
+pub custom-returns-clause-value : goal.custom-returns-clause-value
+custom-returns-clause-value g t c =
+    let kept = kept_of c.args.self.now in
+    let tree = g.T.Queryable.tree in
+    let d = document tree g.T.Queryable.custom c.args.self.now in
+    let n = node_of tree c.args.trail.now.way.steps.items c.args.at.now in
+    let custom = g.T.Queryable.custom in
+    let inv = c.loop-arg.invariant in
+    let all = arg_trees tree c.loop-arg.values.items in
+    let end = sym (append-nil all) ∙ parts_end (λ (xs : List Argument). all ++ all_trees (arguments_in kept xs) d n) c.args.args.now c.loop-arg.arg-index _ c.loop-arg-test.false inv.trees in
+    let nm = string_bytes c.args.name.now in
+    ap (λ x. Some x) (c.in_ok-extension_custom.ensures.value ∙ ap (λ k. custom k (arg_trees tree c.deref-3.result.now)) c.deref-2.ensures ∙ ap (λ xs. custom nm (arg_trees tree xs)) c.deref-3.ensures.value ∙ ap (custom nm) end)
+
+pub gather-walk-requires : goal.gather-walk-requires
+gather-walk-requires g t c κs within = (down _ _ _ _ _ _ c.decreases (omega arith) (omega (arith, c.requires.stands.within)), (within, (c.requires.stands, c.requires.part)))
+
+pub gather-returns-in-Some-clause-given : goal.gather-returns-in-Some-clause-given
+gather-returns-in-Some-clause-given g t c =
+    let kept = kept_of c.args.self.now in
+    let tree = g.T.Queryable.tree in
+    let d = document tree g.T.Queryable.custom c.args.self.now in
+    let n = node_of tree c.args.trail.now.way.steps.items c.args.at.now in
+    let found = rw c.in-Some.is at (c.in_ok-sink.ensures.given kept) in
+    found.given d n refl
+
+pub gather-returns-clause-given : goal.gather-returns-clause-given
+gather-returns-clause-given g t c =
+    let kept = kept_of c.args.self.now in
+    let tree = g.T.Queryable.tree in
+    let d = document tree g.T.Queryable.custom c.args.self.now in
+    let n = node_of tree c.args.trail.now.way.steps.items c.args.at.now in
+    c.in_ok-_goes_on.ensures.gave.given ∙ ap (λ s. give s (through (segments_in kept c.args.segments.now) d n)) c.start-sink.ensures
+
+pub filter_holds-some_holds-requires : goal.filter_holds-some_holds-requires
+filter_holds-some_holds-requires g t c κs within =
+    let kept = kept_of c.args.self.now in
+    let e = ap (filter_view kept) c.in-Or.is ∙ filter_view-Or kept c.in-Or.parts in
+    (down _ _ _ _ _ _ c.decreases (omega (arith, ap filter_weight e, ap (λ (xs : List Filter). filters_weight (filters_in kept xs)) c.deref.ensures.value)) (omega (arith, c.requires.stands.within)), (within, (c.requires.stands, part_as (λ (xs : List Filter). filters_patterns (filters_in kept xs)) _ _ _ (sym c.deref.ensures.value) (part_as filter_patterns _ _ _ e c.requires.part))))
+
+pub filter_holds-each_holds-requires : goal.filter_holds-each_holds-requires
+filter_holds-each_holds-requires g t c κs within =
+    let kept = kept_of c.args.self.now in
+    let e = ap (filter_view kept) c.in-And.is ∙ filter_view-And kept c.in-And.parts in
+    (down _ _ _ _ _ _ c.decreases (omega (arith, ap filter_weight e, ap (λ (xs : List Filter). filters_weight (filters_in kept xs)) c.deref-in-And.ensures.value)) (omega (arith, c.requires.stands.within)), (within, (c.requires.stands, part_as (λ (xs : List Filter). filters_patterns (filters_in kept xs)) _ _ _ (sym c.deref-in-And.ensures.value) (part_as filter_patterns _ _ _ e c.requires.part))))
+
+pub filter_holds-filter_holds-requires : goal.filter_holds-filter_holds-requires
+filter_holds-filter_holds-requires g t c κs within =
+    let kept = kept_of c.args.self.now in
+    let e = ap (filter_view kept) c.in-Group.is ∙ filter_view-Group kept c.in-Group.expr c.in-Group.not in
+    (down _ _ _ _ _ _ c.decreases (omega (arith, ap filter_weight e, ap (λ (x : Filter). filter_weight (filter_view kept x)) c.deref-in-Group.ensures)) (omega (arith, c.requires.stands.within)), (within, (c.requires.stands, part_as (λ (x : Filter). filter_patterns (filter_view kept x)) _ _ _ (sym c.deref-in-Group.ensures) (part_as filter_patterns _ _ _ e c.requires.part))))
+
+pub filter_holds-exists-requires : goal.filter_holds-exists-requires
+filter_holds-exists-requires g t c κs within =
+    let kept = kept_of c.args.self.now in
+    let e = ap (filter_view kept) c.in-Exists.is ∙ filter_view-Exists kept c.in-Exists.nodes c.in-Exists.not in
+    (down _ _ _ _ _ _ c.decreases (omega (arith, ap filter_weight e)) (omega (arith, c.requires.stands.within)), (within, (c.requires.stands, part_as filter_patterns _ _ _ e c.requires.part)))
+
+pub filter_holds-called-requires : goal.filter_holds-called-requires
+filter_holds-called-requires g t c κs within =
+    let kept = kept_of c.args.self.now in
+    let e = ap (filter_view kept) c.in-Call.is ∙ filter_view-Call kept c.in-Call.call c.in-Call.not in
+    (down _ _ _ _ _ _ c.decreases (omega (arith, ap filter_weight e)) (omega arith), (within, (c.requires.stands, part_as filter_patterns _ _ _ e c.requires.part)))
+
+pub filter_holds-is_true-requires : goal.filter_holds-is_true-requires
+filter_holds-is_true-requires g t c = c.in_ok-called-in-Call.ensures.whole
+
+pub filter_holds-comparison_holds-requires : goal.filter_holds-comparison_holds-requires
+filter_holds-comparison_holds-requires g t c κs within =
+    let kept = kept_of c.args.self.now in
+    let e = ap (filter_view kept) c.in-Comparison.is ∙ filter_view-Comparison kept _ _ _ in
+    (down _ _ _ _ _ _ c.decreases (omega (arith, ap filter_weight e)) (omega (arith, c.requires.stands.within)), (within, (c.requires.stands, part_as filter_patterns _ _ _ e c.requires.part)))
+
+pub filter_holds-kept_comparison-requires : goal.filter_holds-kept_comparison-requires
+filter_holds-kept_comparison-requires g t c κs within =
+    let kept = kept_of c.args.self.now in
+    let e = ap (filter_view kept) c.in-Kept.is ∙ filter_view-Kept kept c.in-Kept.number in
+    (down _ _ _ _ _ _ c.decreases (omega (arith, ap filter_weight e)) (omega arith), (within, (part_as filter_patterns _ _ _ e c.requires.part, c.requires.stands.ready)))
+
+pub filter_holds-returns-in-Or-clause-holds : goal.filter_holds-returns-in-Or-clause-holds
+filter_holds-returns-in-Or-clause-holds g t c =
+    let kept = kept_of c.args.self.now in
+    let tree = g.T.Queryable.tree in
+    let d = document tree g.T.Queryable.custom c.args.self.now in
+    let n = node_of tree c.args.trail.now.way.steps.items c.args.at.now in
+    let e = ap (filter_view kept) c.in-Or.is ∙ filter_view-Or kept c.in-Or.parts in
+    ok_as _ _ _ (ap (λ (fs : List Filter). some_holds (filters_in kept fs) d n) c.deref.ensures.value ∙ sym (ap (λ f. holds f d n) e)) c.some_holds.ensures.holds
+
+pub filter_holds-returns-in-And-clause-holds : goal.filter_holds-returns-in-And-clause-holds
+filter_holds-returns-in-And-clause-holds g t c =
+    let kept = kept_of c.args.self.now in
+    let tree = g.T.Queryable.tree in
+    let d = document tree g.T.Queryable.custom c.args.self.now in
+    let n = node_of tree c.args.trail.now.way.steps.items c.args.at.now in
+    let e = ap (filter_view kept) c.in-And.is ∙ filter_view-And kept c.in-And.parts in
+    ok_as _ _ _ (ap (λ (fs : List Filter). each_holds (filters_in kept fs) d n) c.deref-in-And.ensures.value ∙ sym (ap (λ f. holds f d n) e)) c.each_holds.ensures.holds
+
+pub filter_holds-returns-in_ok-filter_holds-in-Group-clause-holds : goal.filter_holds-returns-in_ok-filter_holds-in-Group-clause-holds
+filter_holds-returns-in_ok-filter_holds-in-Group-clause-holds g t c =
+    let kept = kept_of c.args.self.now in
+    let tree = g.T.Queryable.tree in
+    let d = document tree g.T.Queryable.custom c.args.self.now in
+    let n = node_of tree c.args.trail.now.way.steps.items c.args.at.now in
+    let e = ap (filter_view kept) c.in-Group.is ∙ filter_view-Group kept c.in-Group.expr c.in-Group.not in
+    differs _ _ ∙ ap (negated c.in-Group.not) (c.in_ok-filter_holds-in-Group.ensures.holds ∙ ap (λ (f : Filter). holds (filter_view kept f) d n) c.deref-in-Group.ensures) ∙ sym (ap (λ f. holds f d n) e)
+
+pub filter_holds-returns-in_ok-exists-in-Exists-clause-holds : goal.filter_holds-returns-in_ok-exists-in-Exists-clause-holds
+filter_holds-returns-in_ok-exists-in-Exists-clause-holds g t c =
+    let kept = kept_of c.args.self.now in
+    let tree = g.T.Queryable.tree in
+    let d = document tree g.T.Queryable.custom c.args.self.now in
+    let n = node_of tree c.args.trail.now.way.steps.items c.args.at.now in
+    let e = ap (filter_view kept) c.in-Exists.is ∙ filter_view-Exists kept c.in-Exists.nodes c.in-Exists.not in
+    differs _ _ ∙ ap (negated c.in-Exists.not) c.in_ok-exists-in-Exists.ensures.holds ∙ sym (ap (λ f. holds f d n) e)
+
+pub filter_holds-returns-in_ok-called-in-Call-clause-holds : goal.filter_holds-returns-in_ok-called-in-Call-clause-holds
+filter_holds-returns-in_ok-called-in-Call-clause-holds g t c =
+    let kept = kept_of c.args.self.now in
+    let tree = g.T.Queryable.tree in
+    let d = document tree g.T.Queryable.custom c.args.self.now in
+    let n = node_of tree c.args.trail.now.way.steps.items c.args.at.now in
+    let e = ap (filter_view kept) c.in-Call.is ∙ filter_view-Call kept c.in-Call.call c.in-Call.not in
+    let seen = c.is_true.ensures ∙ ap is_true c.in_ok-called-in-Call.ensures.value in
+    differs _ _ ∙ ap (negated c.in-Call.not) seen ∙ sym (ap (λ f. holds f d n) e)
+
+pub filter_holds-returns-in-Comparison-clause-holds : goal.filter_holds-returns-in-Comparison-clause-holds
+filter_holds-returns-in-Comparison-clause-holds g t c =
+    let kept = kept_of c.args.self.now in
+    let tree = g.T.Queryable.tree in
+    let d = document tree g.T.Queryable.custom c.args.self.now in
+    let n = node_of tree c.args.trail.now.way.steps.items c.args.at.now in
+    let e = ap (filter_view kept) c.in-Comparison.is ∙ filter_view-Comparison kept _ _ _ in
+    ok_as _ _ _ (sym (ap (λ f. holds f d n) e)) c.comparison_holds.ensures.holds
+
+pub filter_holds-returns-in-Kept-clause-holds : goal.filter_holds-returns-in-Kept-clause-holds
+filter_holds-returns-in-Kept-clause-holds g t c =
+    let kept = kept_of c.args.self.now in
+    let tree = g.T.Queryable.tree in
+    let d = document tree g.T.Queryable.custom c.args.self.now in
+    let n = node_of tree c.args.trail.now.way.steps.items c.args.at.now in
+    let e = ap (filter_view kept) c.in-Kept.is ∙ filter_view-Kept kept c.in-Kept.number in
+    ok_as _ _ _ (sym (ap (λ f. holds f d n) e)) (c.kept_comparison.ensures.holds n)
+
+pub exists-is_there-requires : goal.exists-is_there-requires
+exists-is_there-requires g t c = c.requires.stands.whole
+
+pub exists-nodes-requires : goal.exists-nodes-requires
+exists-nodes-requires g t c κs within = (down_tree _ _ _ _ _ c.decreases (omega arith), (within, (c.requires.stands, c.requires.part)))
+
+pub exists-returns-in-Some-clause-holds : goal.exists-returns-in-Some-clause-holds
+exists-returns-in-Some-clause-holds g t c =
+    let kept = kept_of c.args.self.now in
+    let tree = g.T.Queryable.tree in
+    let d = document tree g.T.Queryable.custom c.args.self.now in
+    let n = node_of tree c.args.trail.now.way.steps.items c.args.at.now in
+    of_some (λ b. b ≡ as_truth (tested (nodes_view kept c.args.nodes.now Any) d n)) _ _ c.in-Some.is (c.is_there.ensures kept d n refl)
+
+pub exists-returns-clause-holds : goal.exists-returns-clause-holds
+exists-returns-clause-holds g t c =
+    let kept = kept_of c.args.self.now in
+    let tree = g.T.Queryable.tree in
+    let d = document tree g.T.Queryable.custom c.args.self.now in
+    let n = node_of tree c.args.trail.now.way.steps.items c.args.at.now in
+    c.has_any.ensures ∙ ap truth_held c.in_ok-gathered.ensures.held ∙ as_truth_held (tested (nodes_view kept c.args.nodes.now Any) d n)
+
+pub comparison_holds-lent_compare-requires-clause-ready : goal.comparison_holds-lent_compare-requires-clause-ready
+comparison_holds-lent_compare-requires-clause-ready g t c = c.requires.stands.ready
+
+pub comparison_holds-lent_compare-requires-clause-whole : goal.comparison_holds-lent_compare-requires-clause-whole
+comparison_holds-lent_compare-requires-clause-whole g t c = c.requires.stands.whole
+
+pub comparison_holds-side-requires : goal.comparison_holds-side-requires
+comparison_holds-side-requires g t c κs within =
+    (down _ _ _ _ _ _ c.decreases (omega arith) (omega (arith, c.requires.stands.within)), (within, (c.requires.stands, part_left _ _ _ c.requires.part)))
+
+pub comparison_holds-side-requires-2 : goal.comparison_holds-side-requires-2
+comparison_holds-side-requires-2 g t c κs within =
+    (down _ _ _ _ _ _ c.decreases (omega arith) (omega (arith, c.requires.stands.within)), (within, (still c.requires.stands c.in_ok-left.ensures.returns, part_right _ _ _ c.requires.part)))
+
+pub comparison_holds-returns-in-Some-clause-holds : goal.comparison_holds-returns-in-Some-clause-holds
+comparison_holds-returns-in-Some-clause-holds g t c =
+    let n = node_of g.T.Queryable.tree c.args.trail.now.way.steps.items c.args.at.now in
+    c.in-Some.ensures n refl
+
+pub comparison_holds-as_side-requires : goal.comparison_holds-as_side-requires
+comparison_holds-as_side-requires g t c = c.in_ok-left.ensures.whole
+
+pub comparison_holds-as_side-requires-2 : goal.comparison_holds-as_side-requires-2
+comparison_holds-as_side-requires-2 g t c = c.in_ok-right.ensures.whole
+
+pub comparison_holds-returns-clause-holds : goal.comparison_holds-returns-clause-holds
+comparison_holds-returns-clause-holds g t c =
+    let kept = kept_of c.args.self.now in
+    let tree = g.T.Queryable.tree in
+    let d = document tree g.T.Queryable.custom c.args.self.now in
+    let n = node_of tree c.args.trail.now.way.steps.items c.args.at.now in
+    let op = operator_view c.args.operator in
+    let right = c.in_ok-right.ensures.value ∙ ap (λ q. value_of (side_view kept c.args.sides.1.now) d (node_of tree q c.args.at.now)) c.in_ok-left.ensures.returns.same in
+    c.compares.ensures ∙ ap (λ o. compares op o (side_tree tree c.as_side-2.result)) (c.as_side.ensures.value ∙ c.in_ok-left.ensures.value) ∙ ap (compares op (value_of (side_view kept c.args.sides.0.now) d n)) (c.as_side-2.ensures.value ∙ right)
+
+pub comparison_holds-returns-clause-returns : goal.comparison_holds-returns-clause-returns
+comparison_holds-returns-clause-returns g t c = record { same = c.in_ok-right.ensures.returns.same ∙ c.in_ok-left.ensures.returns.same; ready = c.in_ok-right.ensures.returns.ready }
+
+pub side-called-requires : goal.side-called-requires
+side-called-requires g t c κs within =
+    let kept = kept_of c.args.self.now in
+    let e = ap (side_view kept) c.in-Call.is ∙ side_view-Call kept c.in-Call.call in
+    (down _ _ _ _ _ _ c.decreases (omega (arith, ap comparable_weight e)) (omega arith), (within, (c.requires.stands, part_as comparable_patterns _ _ _ e c.requires.part)))
+
+pub side-value_at-requires : goal.side-value_at-requires
+side-value_at-requires g t c = c.requires.stands.whole
+
+pub side-kept_value-requires : goal.side-kept_value-requires
+side-kept_value-requires g t c = record { ready = c.requires.stands.ready }
+
+pub side-lent-requires : goal.side-lent-requires
+side-lent-requires g t c = c.value_at.ensures.whole
+
+pub side-returns-in-Literal-clause-value : goal.side-returns-in-Literal-clause-value
+side-returns-in-Literal-clause-value g t c =
+    let kept = kept_of c.args.self.now in
+    let tree = g.T.Queryable.tree in
+    let d = document tree g.T.Queryable.custom c.args.self.now in
+    let n = node_of tree c.args.trail.now.way.steps.items c.args.at.now in
+    let e = ap (side_view kept) c.in-Literal.is ∙ side_view-Literal kept c.in-Literal.literal in
+    ap (λ x. Some x) c.scalar_of.ensures ∙ sym (ap (λ x. value_of x d n) e)
+
+pub side-returns-in-Lookup-clause-value : goal.side-returns-in-Lookup-clause-value
+side-returns-in-Lookup-clause-value g t c =
+    let kept = kept_of c.args.self.now in
+    let tree = g.T.Queryable.tree in
+    let d = document tree g.T.Queryable.custom c.args.self.now in
+    let n = node_of tree c.args.trail.now.way.steps.items c.args.at.now in
+    let e = ap (side_view kept) c.in-Lookup.is ∙ side_view-Lookup kept c.in-Lookup.steps in
+    c.lent.ensures.value ∙ c.value_at.ensures.value ∙ ap (λ (ss : List SingularQuerySegment). value_at (map step_view ss) n.tree) c.deref.ensures.value ∙ sym (ap (λ x. value_of x d n) e)
+
+pub side-returns-in_ok-kept_value-in-Kept-clause-value : goal.side-returns-in_ok-kept_value-in-Kept-clause-value
+side-returns-in_ok-kept_value-in-Kept-clause-value g t c =
+    let kept = kept_of c.args.self.now in
+    let tree = g.T.Queryable.tree in
+    let d = document tree g.T.Queryable.custom c.args.self.now in
+    let n = node_of tree c.args.trail.now.way.steps.items c.args.at.now in
+    let e = ap (side_view kept) c.in-Kept.is ∙ side_view-Kept kept c.in-Kept.number in
+    c.in_ok-kept_value-in-Kept.ensures.value ∙ sym (ap (λ x. value_of x d n) e)
+
+pub side-returns-in_ok-kept_value-in-Kept-clause-returns : goal.side-returns-in_ok-kept_value-in-Kept-clause-returns
+side-returns-in_ok-kept_value-in-Kept-clause-returns g t c = record { same = refl; ready = c.in_ok-kept_value-in-Kept.ensures.ready }
+
+pub side-returns-in-Call-clause-value : goal.side-returns-in-Call-clause-value
+side-returns-in-Call-clause-value g t c =
+    let kept = kept_of c.args.self.now in
+    let tree = g.T.Queryable.tree in
+    let d = document tree g.T.Queryable.custom c.args.self.now in
+    let n = node_of tree c.args.trail.now.way.steps.items c.args.at.now in
+    let e = ap (side_view kept) c.in-Call.is ∙ side_view-Call kept c.in-Call.call in
+    ok_through _ (operand_tree tree) _ _ (sym (ap (λ x. value_of x d n) e)) c.called.ensures.value
+
+pub answer-custom-requires : goal.answer-custom-requires
+answer-custom-requires g t c κs within =
+    let kept = kept_of c.args.self.now in
+    let e = ap (call_view kept) c.in-Custom.is ∙ called kept c.in-Custom.name c.in-Custom.args in
+    (down _ _ _ _ _ _ c.decreases (omega (arith, ap call_weight e, ap (λ (xs : List Argument). arguments_weight (arguments_in kept xs)) c.deref.ensures.value)) (omega (arith, c.requires.stands.within)), (within, (c.requires.stands, part_as (λ (xs : List Argument). arguments_patterns (arguments_in kept xs)) _ _ _ (sym c.deref.ensures.value) (part_as call_patterns _ _ _ e c.requires.part))))
+
+pub answer-value-requires : goal.answer-value-requires
+answer-value-requires g t c κs within =
+    let kept = kept_of c.args.self.now in
+    let e = ap (call_view kept) c.in-Length.is ∙ call_view-Length kept c.in-Length.arg in
+    (down _ _ _ _ _ _ c.decreases (omega (arith, ap call_weight e)) (omega (arith, c.requires.stands.within)), (within, (c.requires.stands, part_as call_patterns _ _ _ e c.requires.part)))
+
+pub answer-length-requires : goal.answer-length-requires
+answer-length-requires g t c = c.in_ok-value-in-Length.ensures.whole
+
+pub answer-argument-requires : goal.answer-argument-requires
+answer-argument-requires g t c κs within =
+    let kept = kept_of c.args.self.now in
+    let e = ap (call_view kept) c.in-Value.is ∙ call_view-Value kept c.in-Value.arg in
+    (down _ _ _ _ _ _ c.decreases (omega (arith, ap call_weight e)) (omega (arith, c.requires.stands.within)), (within, (c.requires.stands, part_as call_patterns _ _ _ e c.requires.part)))
+
+pub answer-argument-requires-in-Count : goal.answer-argument-requires-in-Count
+answer-argument-requires-in-Count g t c κs within =
+    let kept = kept_of c.args.self.now in
+    let e = ap (call_view kept) c.in-Count.is ∙ call_view-Count kept c.in-Count.arg in
+    (down _ _ _ _ _ _ c.decreases (omega (arith, ap call_weight e)) (omega (arith, c.requires.stands.within)), (within, (c.requires.stands, part_as call_patterns _ _ _ e c.requires.part)))
+
+pub answer-only-requires-clause-within : goal.answer-only-requires-clause-within
+answer-only-requires-clause-within g t c = c.in_ok-argument-in-Value.ensures.within
+
+pub answer-only-requires-clause-whole : goal.answer-only-requires-clause-whole
+answer-only-requires-clause-whole g t c =
+    let kept = kept_of c.args.self.now in
+    let tree = g.T.Queryable.tree in
+    let d = document tree g.T.Queryable.custom c.args.self.now in
+    let n = node_of tree c.args.trail.now.way.steps.items c.args.at.now in
+    subst OnlyIsWhole (sym c.in_ok-argument-in-Value.ensures.held) (only_is_whole (argued (argument_view kept c.in-Value.arg Only) d n))
+
+pub answer-count-requires : goal.answer-count-requires
+answer-count-requires g t c = c.in_ok-argument-in-Count.ensures.within
+
+pub answer-match_or_search-requires : goal.answer-match_or_search-requires
+answer-match_or_search-requires g t c κs within =
+    let kept = kept_of c.args.self.now in
+    let e = ap (call_view kept) c.in-Search.is ∙ call_view-Search kept c.in-Search.text c.in-Search.pattern in
+    (down _ _ _ _ _ _ c.decreases (omega (arith, ap call_weight e)) (omega (arith, c.requires.stands.within)), (within, (c.requires.stands, part_as call_patterns _ _ _ e c.requires.part)))
+
+pub answer-match_or_search-requires-in-Match : goal.answer-match_or_search-requires-in-Match
+answer-match_or_search-requires-in-Match g t c κs within =
+    let kept = kept_of c.args.self.now in
+    let e = ap (call_view kept) c.in-Match.is ∙ call_view-Match kept c.in-Match.text c.in-Match.pattern in
+    (down _ _ _ _ _ _ c.decreases (omega (arith, ap call_weight e)) (omega (arith, c.requires.stands.within)), (within, (c.requires.stands, part_as call_patterns _ _ _ e c.requires.part)))
+
+pub answer-returns-in-Custom-clause-value : goal.answer-returns-in-Custom-clause-value
+answer-returns-in-Custom-clause-value g t c =
+    let kept = kept_of c.args.self.now in
+    let tree = g.T.Queryable.tree in
+    let d = document tree g.T.Queryable.custom c.args.self.now in
+    let n = node_of tree c.args.trail.now.way.steps.items c.args.at.now in
+    let custom = g.T.Queryable.custom in
+    let e = ap (call_view kept) c.in-Custom.is ∙ called kept c.in-Custom.name c.in-Custom.args in
+    ok_through _ (operand_tree tree) _ _ (ap (λ (xs : List Argument). Some (custom (string_bytes c.in-Custom.name) (all_trees (arguments_in kept xs) d n))) c.deref.ensures.value ∙ sym (ap (λ f. answer f d n) e)) c.custom.ensures.value
+
+pub answer-returns-in_ok-spend-in-Length-clause-value : goal.answer-returns-in_ok-spend-in-Length-clause-value
+answer-returns-in_ok-spend-in-Length-clause-value g t c =
+    let kept = kept_of c.args.self.now in
+    let tree = g.T.Queryable.tree in
+    let d = document tree g.T.Queryable.custom c.args.self.now in
+    let n = node_of tree c.args.trail.now.way.steps.items c.args.at.now in
+    let e = ap (call_view kept) c.in-Length.is ∙ call_view-Length kept c.in-Length.arg in
+    ok_through _ (operand_tree tree) _ _ (ap length_of c.in_ok-value-in-Length.ensures.value ∙ sym (ap (λ f. answer f d n) e)) c.length.ensures.value
+
+pub answer-returns-in_ok-argument-in-Value-clause-value : goal.answer-returns-in_ok-argument-in-Value-clause-value
+answer-returns-in_ok-argument-in-Value-clause-value g t c =
+    let kept = kept_of c.args.self.now in
+    let tree = g.T.Queryable.tree in
+    let d = document tree g.T.Queryable.custom c.args.self.now in
+    let n = node_of tree c.args.trail.now.way.steps.items c.args.at.now in
+    let e = ap (call_view kept) c.in-Value.is ∙ call_view-Value kept c.in-Value.arg in
+    c.only.ensures.value ∙ ap only_held c.in_ok-argument-in-Value.ensures.held ∙ as_only_held (argued (argument_view kept c.in-Value.arg Only) d n) ∙ sym (ap (λ f. answer f d n) e)
+
+pub answer-returns-in_ok-argument-in-Count-clause-value : goal.answer-returns-in_ok-argument-in-Count-clause-value
+answer-returns-in_ok-argument-in-Count-clause-value g t c =
+    let kept = kept_of c.args.self.now in
+    let tree = g.T.Queryable.tree in
+    let d = document tree g.T.Queryable.custom c.args.self.now in
+    let n = node_of tree c.args.trail.now.way.steps.items c.args.at.now in
+    let e = ap (call_view kept) c.in-Count.is ∙ call_view-Count kept c.in-Count.arg in
+    c.count.ensures.value ∙ ap count_held c.in_ok-argument-in-Count.ensures.held ∙ as_count_held (argued (argument_view kept c.in-Count.arg Count) d n) ∙ sym (ap (λ f. answer f d n) e)
+
+pub answer-returns-in-Search-clause-value : goal.answer-returns-in-Search-clause-value
+answer-returns-in-Search-clause-value g t c =
+    let kept = kept_of c.args.self.now in
+    let tree = g.T.Queryable.tree in
+    let d = document tree g.T.Queryable.custom c.args.self.now in
+    let n = node_of tree c.args.trail.now.way.steps.items c.args.at.now in
+    let e = ap (call_view kept) c.in-Search.is ∙ call_view-Search kept c.in-Search.text c.in-Search.pattern in
+    ok_through _ (operand_tree tree) _ _ (sym (ap (λ f. answer f d n) e)) c.match_or_search.ensures.value
+
+pub answer-returns-in-Match-clause-value : goal.answer-returns-in-Match-clause-value
+answer-returns-in-Match-clause-value g t c =
+    let kept = kept_of c.args.self.now in
+    let tree = g.T.Queryable.tree in
+    let d = document tree g.T.Queryable.custom c.args.self.now in
+    let n = node_of tree c.args.trail.now.way.steps.items c.args.at.now in
+    let e = ap (call_view kept) c.in-Match.is ∙ call_view-Match kept c.in-Match.text c.in-Match.pattern in
+    ok_through _ (operand_tree tree) _ _ (sym (ap (λ f. answer f d n) e)) c.match_or_search-in-Match.ensures.value
+
+pub match_or_search-value-requires : goal.match_or_search-value-requires
+match_or_search-value-requires g t c κs within = (down _ _ _ _ _ _ c.decreases (omega arith) (omega (arith, c.requires.stands.within)), (within, (c.requires.stands, part_left _ _ _ (part_rest _ _ _ c.requires.part))))
+
+pub match_or_search-value-requires-2 : goal.match_or_search-value-requires-2
+match_or_search-value-requires-2 g t c κs within = (down _ _ _ _ _ _ c.decreases (omega arith) (omega (arith, c.requires.stands.within)), (within, (still c.requires.stands c.in_ok-text.ensures.returns, part_right _ _ _ (part_rest _ _ _ c.requires.part))))
+
+pub match_or_search-is_matched-requires-clause-text : goal.match_or_search-is_matched-requires-clause-text
+match_or_search-is_matched-requires-clause-text g t c = c.in_ok-text.ensures.whole
+
+pub match_or_search-is_matched-requires-clause-pattern : goal.match_or_search-is_matched-requires-clause-pattern
+match_or_search-is_matched-requires-clause-pattern g t c = c.in_ok-pattern.ensures.whole
+
+pub match_or_search-returns-clause-value : goal.match_or_search-returns-clause-value
+match_or_search-returns-clause-value g t c =
+    let kept = kept_of c.args.self.now in
+    let tree = g.T.Queryable.tree in
+    let d = document tree g.T.Queryable.custom c.args.self.now in
+    let n = node_of tree c.args.trail.now.way.steps.items c.args.at.now in
+    let pattern = c.in_ok-pattern.ensures.value ∙ ap (λ q. as_value (argued (argument_view kept c.args.args.1.now Only) d (node_of tree q c.args.at.now))) c.in_ok-text.ensures.returns.same in
+    let entire = is_entire c.args.extent in
+    ap (λ b. Some (truth b)) (c.in_ok-found.ensures.value ∙ ap (λ o. is_matched entire o (operand_tree tree c.in_ok-pattern.pattern)) c.in_ok-text.ensures.value ∙ ap (is_matched entire (as_value (argued (argument_view kept c.args.args.0.now Only) d n))) pattern)
+
+pub match_or_search-returns-clause-returns : goal.match_or_search-returns-clause-returns
+match_or_search-returns-clause-returns g t c =
+    let back = on c.in_ok-text.ensures.returns c.in_ok-pattern.ensures.returns in
+    record { same = back.same; ready = back.ready }
+
+pub match_or_search-returns-in_err-found-clause-ready : goal.match_or_search-returns-in_err-found-clause-ready
+match_or_search-returns-in_err-found-clause-ready g t c =
+    let back = on c.in_ok-text.ensures.returns c.in_ok-pattern.ensures.returns in
+    err_is _ _ back.ready
+
+pub match_or_search-returns-in_err-found-clause-refused : goal.match_or_search-returns-in_err-found-clause-refused
+match_or_search-returns-in_err-found-clause-refused g t c =
+    let kept = kept_of c.args.self.now in
+    let tree = g.T.Queryable.tree in
+    let d = document tree g.T.Queryable.custom c.args.self.now in
+    let n = node_of tree c.args.trail.now.way.steps.items c.args.at.now in
+    let pattern = c.in_ok-pattern.ensures.value ∙ ap (λ q. as_value (argued (argument_view kept c.args.args.1.now Only) d (node_of tree q c.args.at.now))) c.in_ok-text.ensures.returns.same in
+    let q = query_of c.args.self.now in
+    let why : IsHalt c.args.self.now.limit q d c.in_err-found.field-0.0 = λ h spent. pattern_asked q d (is_entire c.args.extent) (argument_view kept c.args.args.1.now Only) _ n _ c.requires.part c.requires.stands.here pattern (c.in_err-found.ensures.refused h) in
+    passed_on c.from_residual-in_err-found.result _ (IsHalt c.args.self.now.limit q d) c.from_residual-in_err-found.ensures.1 (λ y e. subst (IsHalt c.args.self.now.limit q d) (sym e) why)
+
+pub value-argument-requires : goal.value-argument-requires
+value-argument-requires g t c κs within = (down_tree _ _ _ _ _ c.decreases (omega arith), (within, (c.requires.stands, c.requires.part)))
+
+pub value-value-requires-clause-within : goal.value-value-requires-clause-within
+value-value-requires-clause-within g t c = c.in_ok-argument.ensures.within
+
+pub value-value-requires-clause-whole : goal.value-value-requires-clause-whole
+value-value-requires-clause-whole g t c =
+    let kept = kept_of c.args.self.now in
+    let tree = g.T.Queryable.tree in
+    let d = document tree g.T.Queryable.custom c.args.self.now in
+    let n = node_of tree c.args.trail.now.way.steps.items c.args.at.now in
+    subst OnlyIsWhole (sym c.in_ok-argument.ensures.held) (only_is_whole (argued (argument_view kept c.args.arg.now Only) d n))
+
+pub value-returns-clause-value : goal.value-returns-clause-value
+value-returns-clause-value g t c =
+    let kept = kept_of c.args.self.now in
+    let tree = g.T.Queryable.tree in
+    let d = document tree g.T.Queryable.custom c.args.self.now in
+    let n = node_of tree c.args.trail.now.way.steps.items c.args.at.now in
+    c.value.ensures.value ∙ ap value_held c.in_ok-argument.ensures.held ∙ as_value_held (argued (argument_view kept c.args.arg.now Only) d n)
+
+pub argument-nodes-requires : goal.argument-nodes-requires
+argument-nodes-requires g t c κs within =
+    let kept = kept_of c.args.self.now in
+    let e = ap (λ a. argument_view kept a c.args.wanted) c.in-Nodes.is ∙ argument_view-Nodes kept c.in-Nodes.nodes c.args.wanted in
+    (down _ _ _ _ _ _ c.decreases (omega (arith, ap argument_weight e)) (omega (arith, c.requires.stands.within)), (within, (c.requires.stands, part_as argument_patterns _ _ _ e c.requires.part)))
+
+pub argument-called-requires : goal.argument-called-requires
+argument-called-requires g t c κs within =
+    let kept = kept_of c.args.self.now in
+    let e = ap (λ a. argument_view kept a c.args.wanted) c.in-Call.is ∙ argument_view-Call kept c.in-Call.call c.args.wanted in
+    (down _ _ _ _ _ _ c.decreases (omega (arith, ap argument_weight e)) (omega arith), (within, (c.requires.stands, part_as argument_patterns _ _ _ e c.requires.part)))
+
+pub argument-filter_holds-requires : goal.argument-filter_holds-requires
+argument-filter_holds-requires g t c κs within =
+    let kept = kept_of c.args.self.now in
+    let e = ap (λ a. argument_view kept a c.args.wanted) c.in-Filter.is ∙ argument_view-Filter kept c.in-Filter.filter c.args.wanted in
+    (down _ _ _ _ _ _ c.decreases (omega (arith, ap argument_weight e)) (omega (arith, c.requires.stands.within)), (within, (c.requires.stands, part_as argument_patterns _ _ _ e c.requires.part)))
+
+pub argument-returns-in-Literal-clause-held : goal.argument-returns-in-Literal-clause-held
+argument-returns-in-Literal-clause-held g t c =
+    let kept = kept_of c.args.self.now in
+    let tree = g.T.Queryable.tree in
+    let d = document tree g.T.Queryable.custom c.args.self.now in
+    let n = node_of tree c.args.trail.now.way.steps.items c.args.at.now in
+    let e = ap (λ a. argument_view kept a c.args.wanted) c.in-Literal.is ∙ argument_view-Literal kept c.in-Literal.literal c.args.wanted in
+    ap (λ x. value (Some x)) c.scalar_of.ensures ∙ sym (ap (λ a. holding c.args.wanted (argued a d n)) e)
+
+pub argument-returns-in-Pattern-clause-held : goal.argument-returns-in-Pattern-clause-held
+argument-returns-in-Pattern-clause-held g t c =
+    let kept = kept_of c.args.self.now in
+    let tree = g.T.Queryable.tree in
+    let d = document tree g.T.Queryable.custom c.args.self.now in
+    let n = node_of tree c.args.trail.now.way.steps.items c.args.at.now in
+    let e = ap (λ a. argument_view kept a c.args.wanted) c.in-Pattern.is ∙ argument_view-Pattern kept c.in-Pattern.text c.in-Pattern._number c.args.wanted in
+    ap (λ s. value (Some (text s))) c.deref.ensures ∙ sym (ap (λ a. holding c.args.wanted (argued a d n)) e)
+
+pub argument-returns-in_ok-gathered-in-Nodes-clause-held : goal.argument-returns-in_ok-gathered-in-Nodes-clause-held
+argument-returns-in_ok-gathered-in-Nodes-clause-held g t c =
+    let kept = kept_of c.args.self.now in
+    let tree = g.T.Queryable.tree in
+    let d = document tree g.T.Queryable.custom c.args.self.now in
+    let n = node_of tree c.args.trail.now.way.steps.items c.args.at.now in
+    let e = ap (λ a. argument_view kept a c.args.wanted) c.in-Nodes.is ∙ argument_view-Nodes kept c.in-Nodes.nodes c.args.wanted in
+    c.in_ok-gathered-in-Nodes.ensures.held ∙ sym (ap (λ a. holding c.args.wanted (argued a d n)) e)
+
+pub argument-returns-in_ok-value-in-Call-clause-held : goal.argument-returns-in_ok-value-in-Call-clause-held
+argument-returns-in_ok-value-in-Call-clause-held g t c =
+    let kept = kept_of c.args.self.now in
+    let tree = g.T.Queryable.tree in
+    let d = document tree g.T.Queryable.custom c.args.self.now in
+    let n = node_of tree c.args.trail.now.way.steps.items c.args.at.now in
+    let e = ap (λ a. argument_view kept a c.args.wanted) c.in-Call.is ∙ argument_view-Call kept c.in-Call.call c.args.wanted in
+    ap value c.in_ok-value-in-Call.ensures.value ∙ sym (ap (λ a. holding c.args.wanted (argued a d n)) e)
+
+pub argument-returns-in_ok-value-in-Call-clause-within : goal.argument-returns-in_ok-value-in-Call-clause-within
+argument-returns-in_ok-value-in-Call-clause-within g t c = c.in_ok-value-in-Call.ensures.whole
+
+pub argument-returns-in_ok-truth-in-Filter-clause-held : goal.argument-returns-in_ok-truth-in-Filter-clause-held
+argument-returns-in_ok-truth-in-Filter-clause-held g t c =
+    let kept = kept_of c.args.self.now in
+    let tree = g.T.Queryable.tree in
+    let d = document tree g.T.Queryable.custom c.args.self.now in
+    let n = node_of tree c.args.trail.now.way.steps.items c.args.at.now in
+    let e = ap (λ a. argument_view kept a c.args.wanted) c.in-Filter.is ∙ argument_view-Filter kept c.in-Filter.filter c.args.wanted in
+    ap (λ b. value (Some (truth b))) c.in_ok-truth-in-Filter.ensures.holds ∙ sym (ap (λ a. holding c.args.wanted (argued a d n)) e)
+
+pub nodes-looked_up-requires : goal.nodes-looked_up-requires
+nodes-looked_up-requires g t c = c.requires.stands.whole
+
+pub nodes-gather-requires : goal.nodes-gather-requires
+nodes-gather-requires g t c κs within =
+    let kept = kept_of c.args.self.now in
+    let e = ap (λ ns. nodes_view kept ns c.args.wanted) c.in-Walk.is ∙ nodes_view-Walk kept c.in-Walk.segments c.args.wanted in
+    (down _ _ _ _ _ _ c.decreases (omega (arith, ap test_weight e, ap (λ (xs : List Segment). segments_weight (segments_in kept xs)) c.deref-in-Walk.ensures.value)) (omega (arith, c.requires.stands.within)), (within, (c.requires.stands, part_as (λ (xs : List Segment). segments_patterns (segments_in kept xs)) _ _ _ (sym c.deref-in-Walk.ensures.value) (part_as test_patterns _ _ _ e c.requires.part))))
+
+pub nodes-kept_nodes-requires : goal.nodes-kept_nodes-requires
+nodes-kept_nodes-requires g t c κs within =
+    let kept = kept_of c.args.self.now in
+    let e = ap (λ ns. nodes_view kept ns c.args.wanted) c.in-Kept.is ∙ nodes_view-Kept kept c.in-Kept.number c.args.wanted in
+    (down _ _ _ _ _ _ c.decreases (omega (arith, ap test_weight e)) (omega (arith, c.requires.stands.within)), (within, (part_as test_patterns _ _ _ e c.requires.part, c.requires.stands.ready)))
+
+pub nodes-returns-in_ok-looked_up-in-Lookup-clause-held : goal.nodes-returns-in_ok-looked_up-in-Lookup-clause-held
+nodes-returns-in_ok-looked_up-in-Lookup-clause-held g t c =
+    let kept = kept_of c.args.self.now in
+    let tree = g.T.Queryable.tree in
+    let d = document tree g.T.Queryable.custom c.args.self.now in
+    let n = node_of tree c.args.trail.now.way.steps.items c.args.at.now in
+    let e = ap (λ ns. nodes_view kept ns c.args.wanted) c.in-Lookup.is ∙ nodes_view-Lookup kept c.in-Lookup.steps c.args.wanted in
+    let ns = ap (λ (ss : List SingularQuerySegment). through (steps_query (map step_view ss)) d n) c.deref.ensures.value ∙ through-applied (steps_query (map step_view c.in-Lookup.steps.items)) d n in
+    ap nodes (c.in_ok-looked_up-in-Lookup.ensures.given d n refl ∙ ap (give (start c.args.wanted)) ns) ∙ sym (ap (λ q. holding c.args.wanted (tested q d n)) e)
+
+pub nodes-returns-in_ok-gather-in-Walk-clause-held : goal.nodes-returns-in_ok-gather-in-Walk-clause-held
+nodes-returns-in_ok-gather-in-Walk-clause-held g t c =
+    let kept = kept_of c.args.self.now in
+    let tree = g.T.Queryable.tree in
+    let d = document tree g.T.Queryable.custom c.args.self.now in
+    let n = node_of tree c.args.trail.now.way.steps.items c.args.at.now in
+    let e = ap (λ ns. nodes_view kept ns c.args.wanted) c.in-Walk.is ∙ nodes_view-Walk kept c.in-Walk.segments c.args.wanted in
+    let ns = ap (λ (gs : List Segment). through (segments_in kept gs) d n) c.deref-in-Walk.ensures.value ∙ through-applied (segments_in kept c.in-Walk.segments.items) d n in
+    ap nodes (c.in_ok-gather-in-Walk.ensures.given ∙ ap (give (start c.args.wanted)) ns) ∙ sym (ap (λ q. holding c.args.wanted (tested q d n)) e)
+
+pub nodes-returns-in-Kept-clause-held : goal.nodes-returns-in-Kept-clause-held
+nodes-returns-in-Kept-clause-held g t c =
+    let kept = kept_of c.args.self.now in
+    let tree = g.T.Queryable.tree in
+    let d = document tree g.T.Queryable.custom c.args.self.now in
+    let n = node_of tree c.args.trail.now.way.steps.items c.args.at.now in
+    let e = ap (λ ns. nodes_view kept ns c.args.wanted) c.in-Kept.is ∙ nodes_view-Kept kept c.in-Kept.number c.args.wanted in
+    IfOk-weaker c.kept_nodes.result _ _ (λ g h. ap nodes h ∙ sym (ap (λ q. holding c.args.wanted (tested q d n)) e)) c.kept_nodes.ensures.given
+
+pub kept_nodes-of_one-requires : goal.kept_nodes-of_one-requires
+kept_nodes-of_one-requires g t c = c.requires.ready.root
+
+pub kept_nodes-gather-requires : goal.kept_nodes-gather-requires
+kept_nodes-gather-requires g t c κs within =
+    let kept = kept_of c.args.self.now in
+    let e = kept_query kept c.args.number c.args.wanted _ c.in-Some.ensures.part in
+    let root = at_root (ap (λ w. w.steps.items) c.replace-here.ensures.after ∙ c.new-root.ensures) c.requires.ready in
+    (down _ _ _ _ _ _ c.decreases (omega (arith, ap segments_weight e)) (omega arith), (within, (root, part_as segments_patterns _ _ _ e c.requires.part)))
+
+pub kept_nodes-keep-requires : goal.kept_nodes-keep-requires
+kept_nodes-keep-requires g t c = subst (λ k. c.args.number < k) (sym c.in_ok-nodes.ensures.returns.ready.kept.room) c.in-Some.ensures.within
+
+pub kept_nodes-returns-in_default-clause-given : goal.kept_nodes-returns-in_default-clause-given
+kept_nodes-returns-in_default-clause-given g t c =
+    let d = document g.T.Queryable.tree g.T.Queryable.custom c.args.self.now in
+    c.in_ok-of_one.ensures.given ∙ sym (ap (λ q. give (start c.args.wanted) (nodelist q d)) c.in_default.ensures.none)
+
+pub kept_nodes-returns-then-is_some-clause-given : goal.kept_nodes-returns-then-is_some-clause-given
+kept_nodes-returns-then-is_some-clause-given g t c =
+    let kept = kept_of c.args.self.now in
+    let tree = g.T.Queryable.tree in
+    let whole = g.T.Queryable.is_whole in
+    let d = document tree g.T.Queryable.custom c.args.self.now in
+    let slot = slot_at tree whole (slots_of c.args.trail.now.cache) c.args.number in
+    let there : slot ≡ Some (gave_or_none slot) = found_there (λ s. gave tree whole s.now) c.get.result slot c.get.ensures (sym c.is_some.ensures ∙ c.if-is_some.true) in
+    ap nodes_or_none there ∙ ap (λ s. nodes_or_none (Some s)) (c.requires.ready.kept.right c.args.number _ there ∙ ap (λ p. given_by p d) c.in-Some.ensures.part) ∙ ap (λ q. give (start c.args.wanted) (nodelist q d)) (sym (kept_query kept c.args.number c.args.wanted _ c.in-Some.ensures.part))
+
+pub kept_nodes-returns-then-is_some-clause-returns : goal.kept_nodes-returns-then-is_some-clause-returns
+kept_nodes-returns-then-is_some-clause-returns g t c = stays c.requires.ready
+
+pub kept_nodes-returns-clause-given : goal.kept_nodes-returns-clause-given
+kept_nodes-returns-clause-given g t c =
+    let kept = kept_of c.args.self.now in
+    let tree = g.T.Queryable.tree in
+    let d = document tree g.T.Queryable.custom c.args.self.now in
+    let gs = segments_in kept c.in-Some.segments.now in
+    let at = λ (q : List StepRef). through gs d (node_of tree q c.args.self.now.root.now) in
+    let all = ap at (ap (λ w. w.steps.items) c.replace-here.ensures.after ∙ c.new-root.ensures) ∙ nodelist-through gs d ∙ ap (λ q. nodelist q d) (sym (kept_query kept c.args.number c.args.wanted _ c.in-Some.ensures.part)) in
+    ap nodes_or_none c.keep.ensures.value ∙ c.in_ok-nodes.ensures.given ∙ ap (give (start c.args.wanted)) all
+
+pub kept_nodes-returns-clause-returns : goal.kept_nodes-returns-clause-returns
+kept_nodes-returns-clause-returns g t c =
+    let kept = kept_of c.args.self.now in
+    let tree = g.T.Queryable.tree in
+    let d = document tree g.T.Queryable.custom c.args.self.now in
+    let gs = segments_in kept c.in-Some.segments.now in
+    let at = λ (q : List StepRef). through gs d (node_of tree q c.args.self.now.root.now) in
+    let all = ap at (ap (λ w. w.steps.items) c.replace-here.ensures.after ∙ c.new-root.ensures) ∙ nodelist-through gs d in
+    let given = ap keeping.nodes (c.in_ok-nodes.ensures.given ∙ ap (give (start c.args.wanted)) all) ∙ sym (ap (λ p. given_by p d) c.in-Some.ensures.part) in
+    record { same = ap (λ w. w.steps.items) c.replace-here.ensures.value; ready = record { root = c.requires.ready.root; kept = c.keep.ensures.right kept d given c.in_ok-nodes.ensures.returns.ready.kept } }
+
+pub called-answer-requires : goal.called-answer-requires
+called-answer-requires g t c κs within =
+    let kept = kept_of c.args.self.now in
+    let e = ap (called_view kept) c.in-Here.is ∙ called_view-Here kept c.in-Here.call ∙ ap (call_view kept) (sym c.deref.ensures) in
+    (down_same _ _ _ _ _ _ c.decreases (sym (ap call_weight e)) (omega (arith, c.requires.stands.within)), (within, (c.requires.stands, part_as call_patterns _ _ _ e c.requires.part)))
+
+pub called-kept_answer-requires : goal.called-kept_answer-requires
+called-kept_answer-requires g t c κs within =
+    let kept = kept_of c.args.self.now in
+    let e = ap (called_view kept) c.in-Kept.is ∙ called_view-Kept kept c.in-Kept.number in
+    (down_same _ _ _ _ _ _ c.decreases (sym (ap call_weight e)) (omega arith), (within, (part_as call_patterns _ _ _ e c.requires.part, c.requires.stands.ready)))
+
+pub called-returns-in-Here-clause-value : goal.called-returns-in-Here-clause-value
+called-returns-in-Here-clause-value g t c =
+    let kept = kept_of c.args.self.now in
+    let tree = g.T.Queryable.tree in
+    let d = document tree g.T.Queryable.custom c.args.self.now in
+    let n = node_of tree c.args.trail.now.way.steps.items c.args.at.now in
+    let e = ap (called_view kept) c.in-Here.is ∙ called_view-Here kept c.in-Here.call ∙ ap (call_view kept) (sym c.deref.ensures) in
+    ok_through _ (operand_tree tree) _ _ (sym (ap (λ f. answer f d n) e)) c.answer.ensures.value
+
+pub called-returns-in-Kept-clause-value : goal.called-returns-in-Kept-clause-value
+called-returns-in-Kept-clause-value g t c =
+    let kept = kept_of c.args.self.now in
+    let tree = g.T.Queryable.tree in
+    let d = document tree g.T.Queryable.custom c.args.self.now in
+    let n = node_of tree c.args.trail.now.way.steps.items c.args.at.now in
+    let e = ap (called_view kept) c.in-Kept.is ∙ called_view-Kept kept c.in-Kept.number in
+    ok_through _ (operand_tree tree) _ _ (sym (ap (λ f. answer f d n) e)) (c.kept_answer.ensures.value n)
+
+pub kept_answer-answer-requires : goal.kept_answer-answer-requires
+kept_answer-answer-requires g t c κs within =
+    let e = ap call_in c.in-Some.ensures.part in
+    let root = at_root (ap (λ w. w.steps.items) c.replace-here.ensures.after ∙ c.new-root.ensures) c.requires.ready in
+    (down_same _ _ _ _ _ _ c.decreases (sym (ap call_weight e)) (omega arith), (within, (root, part_as call_patterns _ _ _ e c.requires.part)))
+
+pub kept_answer-keep-requires : goal.kept_answer-keep-requires
+kept_answer-keep-requires g t c = subst (λ k. c.args.number < k) (sym c.in_ok-given.ensures.returns.ready.kept.room) c.in-Some.ensures.within
+
+pub kept_answer-returns-in_default-clause-value : goal.kept_answer-returns-in_default-clause-value
+kept_answer-returns-in_default-clause-value g t c = λ n.
+    let d = document g.T.Queryable.tree g.T.Queryable.custom c.args.self.now in
+    sym (ap (λ f. answer f d n) c.in_default.ensures.none)
+
+pub kept_answer-returns-in-Some-2-clause-value : goal.kept_answer-returns-in-Some-2-clause-value
+kept_answer-returns-in-Some-2-clause-value g t c = λ n.
+    let kept = kept_of c.args.self.now in
+    let tree = g.T.Queryable.tree in
+    let d = document tree g.T.Queryable.custom c.args.self.now in
+    of_some (λ v. operand_tree tree v ≡ value_by (plan.part_at kept c.args.number) d) _ _ c.in-Some-2.is c.in_ok-value.ensures.value ∙ ap (λ p. value_by p d) c.in-Some.ensures.part ∙ sym (ap (λ p. answer (call_in p) d (root_node d.root)) c.in-Some.ensures.part) ∙ kept_call_same kept c.args.number d (root_node d.root) n c.args.self.now.plan.now.rooted
+
+pub kept_answer-returns-clause-value : goal.kept_answer-returns-clause-value
+kept_answer-returns-clause-value g t c = λ n.
+    let kept = kept_of c.args.self.now in
+    let tree = g.T.Queryable.tree in
+    let d = document tree g.T.Queryable.custom c.args.self.now in
+    let top = ap (λ (q : List StepRef). node_of tree q c.args.self.now.root.now) (ap (λ w. w.steps.items) c.replace-here.ensures.after ∙ c.new-root.ensures) in
+    c.in_ok-first.ensures.value ∙ answer_as _ _ d _ (root_node d.root) _ (ap call_in c.in-Some.ensures.part) top c.in_ok-given.ensures.value ∙ kept_call_same kept c.args.number d (root_node d.root) n c.args.self.now.plan.now.rooted
+
+pub kept_answer-returns-clause-returns : goal.kept_answer-returns-clause-returns
+kept_answer-returns-clause-returns g t c =
+    let kept = kept_of c.args.self.now in
+    let tree = g.T.Queryable.tree in
+    let d = document tree g.T.Queryable.custom c.args.self.now in
+    let top = ap (λ (q : List StepRef). node_of tree q c.args.self.now.root.now) (ap (λ w. w.steps.items) c.replace-here.ensures.after ∙ c.new-root.ensures) in
+    let given = answer_kept _ _ d _ _ _ c.in-Some.ensures.part top c.in_ok-given.ensures.whole c.in_ok-given.ensures.value in
+    record { same = ap (λ w. w.steps.items) c.replace-here.ensures.value; ready = record { root = c.requires.ready.root; kept = c.keep.ensures.right kept d given c.in_ok-given.ensures.returns.ready.kept } }
+
+pub kept_comparison-comparison_holds-requires : goal.kept_comparison-comparison_holds-requires
+kept_comparison-comparison_holds-requires g t c κs within =
+    let e = ap comparison_in c.in-Some.ensures.part in
+    let root = at_root (ap (λ w. w.steps.items) c.replace-here.ensures.after ∙ c.new-root.ensures) c.requires.ready in
+    (down_same _ _ _ _ _ _ c.decreases (sym (ap comparison_weight e)) (omega arith), (within, (root, part_as comparison_patterns _ _ _ e c.requires.part)))
+
+pub kept_comparison-keep-requires : goal.kept_comparison-keep-requires
+kept_comparison-keep-requires g t c = subst (λ k. c.args.number < k) (sym c.in_ok-held.ensures.returns.ready.kept.room) c.in-Some.ensures.within
+
+pub kept_comparison-returns-in_default-clause-holds : goal.kept_comparison-returns-in_default-clause-holds
+kept_comparison-returns-in_default-clause-holds g t c = λ n.
+    let d = document g.T.Queryable.tree g.T.Queryable.custom c.args.self.now in
+    sym (ap (λ q. comparison_holds q d n) c.in_default.ensures.none)
+
+pub kept_comparison-returns-in-Some-2-clause-holds : goal.kept_comparison-returns-in-Some-2-clause-holds
+kept_comparison-returns-in-Some-2-clause-holds g t c = λ n.
+    let kept = kept_of c.args.self.now in
+    let tree = g.T.Queryable.tree in
+    let d = document tree g.T.Queryable.custom c.args.self.now in
+    c.is_true.ensures ∙ ap is_true (of_some (λ v. operand_tree tree v ≡ value_by (plan.part_at kept c.args.number) d) _ _ c.in-Some-2.is c.in_ok-value.ensures.value ∙ ap (λ p. value_by p d) c.in-Some.ensures.part) ∙ sym (ap (λ p. comparison_holds (comparison_in p) d (root_node d.root)) c.in-Some.ensures.part) ∙ kept_comparison_same kept c.args.number d (root_node d.root) n c.args.self.now.plan.now.rooted
+
+pub kept_comparison-returns-clause-holds : goal.kept_comparison-returns-clause-holds
+kept_comparison-returns-clause-holds g t c = λ n.
+    let kept = kept_of c.args.self.now in
+    let tree = g.T.Queryable.tree in
+    let d = document tree g.T.Queryable.custom c.args.self.now in
+    let top = ap (λ (q : List StepRef). node_of tree q c.args.self.now.root.now) (ap (λ w. w.steps.items) c.replace-here.ensures.after ∙ c.new-root.ensures) in
+    comparison_as _ _ d _ (root_node d.root) _ (ap comparison_in c.in-Some.ensures.part) top c.in_ok-held.ensures.holds ∙ kept_comparison_same kept c.args.number d (root_node d.root) n c.args.self.now.plan.now.rooted
+
+pub kept_comparison-returns-clause-returns : goal.kept_comparison-returns-clause-returns
+kept_comparison-returns-clause-returns g t c =
+    let kept = kept_of c.args.self.now in
+    let tree = g.T.Queryable.tree in
+    let d = document tree g.T.Queryable.custom c.args.self.now in
+    let top = ap (λ (q : List StepRef). node_of tree q c.args.self.now.root.now) (ap (λ w. w.steps.items) c.replace-here.ensures.after ∙ c.new-root.ensures) in
+    let given = comparison_kept _ _ d _ _ c.in-Some.ensures.part top c.in_ok-held.ensures.holds in
+    record { same = ap (λ w. w.steps.items) c.replace-here.ensures.value; ready = record { root = c.requires.ready.root; kept = c.keep.ensures.right kept d given c.in_ok-held.ensures.returns.ready.kept } }

@@ -1,0 +1,14 @@
+use Rattle.std.proofs.Common.{◌<◌, length, arith, subst, sym}
+use Rattle.jsonpath_rust.specs.selection.inner.Way.{IsSpelled}
+use Rattle.jsonpath_rust.proofs.laws.selection.WayLaws.{may_cut, spelled_back, at_most_one}
+use Rattle.jsonpath_rust.proofs.selection.way.Way.pop.Goals as goal
+
+pub truncate-requires : goal.truncate-requires
+truncate-requires c =
+    let less : length c.pop.new.self.items < length c.args.self.now.starts.items = omega (arith, c.if-len.true, c.len.ensures, c.len-2.ensures, c.pop.new.self.ok.0, c.args.self.now.starts.ok.0) in
+    λ _. may_cut _ _ _ _ _ _ _ c.pop.ensures.items (at_most_one c.pop.result) c.in-Some.ensures.items less c.args.self.now.spelled
+
+pub invariant_of-self : goal.invariant_of-self
+invariant_of-self c =
+    let less : length c.pop.new.self.items < length c.args.self.now.starts.items = omega (arith, c.if-len.true, c.len.ensures, c.len-2.ensures, c.pop.new.self.ok.0, c.args.self.now.starts.ok.0) in
+    record { spelled = subst (IsSpelled c.pop.new.self.items c.pop-then-len.new.self.items) (sym c.truncate.ensures.bytes) (spelled_back _ _ _ _ _ _ _ c.pop.ensures.items (at_most_one c.pop.result) c.in-Some.ensures.items less c.args.self.now.spelled) }

@@ -1,0 +1,18 @@
+use Rattle.std.proofs.Common.{◌≡◌, Ok, Err, length}
+use Rattle.std.specs.Vec.Iter.{into_iter_items, into_iter_len}
+use Rattle.std.specs.List.{AllByRecursion}
+use Rattle.jsonpath_rust.specs.states.State.{SomeHas}
+use Rattle.jsonpath_rust.specs.states.inner.Evaluating.{Completes}
+use Rattle.jsonpath_parser.specs.declared.errors.JsonPathError.{JsonPathError}
+use Rattle.jsonpath_rust.proofs.states.state.data.Data.flat_map.Given as goal
+
+abbrev pub invariant-loop-p : goal.invariant-loop-p
+invariant-loop-p g l =
+    let rest = into_iter_items l.p-iterator in
+    let all = into_iter_items l.initial.p-iterator in
+    record {
+      len : into_iter_len l.p-iterator ≡ length rest;
+      can : AllByRecursion (goal.F-pre g l.f) rest;
+      made : Completes (λ p r. goal.F-post g l.f p (Ok r)) all rest l.all.items;
+      refused : (e : JsonPathError) → SomeHas (λ p. goal.F-post g l.f p (Err e)) rest → SomeHas (λ p. goal.F-post g l.f p (Err e)) all;
+    }

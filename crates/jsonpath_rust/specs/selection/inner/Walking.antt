@@ -1,0 +1,45 @@
+-- How a walk meets the nodes of a query, for the contracts of the walk alone: the definitions here are no part of what a query means.
+use Rattle.std.specs.Prelude.{◌≡◌, List, [], ◌∷◌, map, filter, Bool, Some}
+use Rattle.std.specs.List.{flat_map}
+use Rattle.jsonpath_parser.specs.Location.{Step, name, index}
+use Rattle.jsonpath_parser.specs.tree.Syntax.{Argument, Segments, no_segments, segment}
+use Rattle.jsonpath_base.specs.Places.{at}
+use Rattle.jsonpath_base.specs.Tree.{Tree}
+use Rattle.jsonpath_rust.specs.documents.Node.{Node, subtree}
+use Rattle.jsonpath_rust.specs.documents.Document.{Document}
+use Rattle.jsonpath_rust.specs.documents.Meaning.{replaced, holds}
+use Rattle.jsonpath_rust.specs.documents.Patterns.{segment_patterns, filter_patterns}
+use Rattle.jsonpath_rust.specs.selection.inner.PlanViews.{Kept, segment_view, filter_view}
+use Rattle.jsonpath_rust.specs.declared.selection.way.StepRef.{StepRef}
+use Rattle.jsonpath_rust.specs.declared.selection.way.StepRef.TheVariants.{Name, Index}
+use Rattle.jsonpath_rust.specs.declared.selection.action.Action.{Action}
+use Rattle.jsonpath_rust.specs.declared.selection.action.Action.TheVariants.{All, If, Below}
+
+abbrev pub step_of : StepRef → Step
+step_of (Name k) = name k.now
+step_of (Index i) = index i
+
+-- the node of a value that these steps lead to
+abbrev pub node_of : {A : Type 0} → (A → Tree) → List StepRef → A → Node
+node_of tree steps x = record { location = map step_of steps; tree = tree x }
+
+-- these steps lead from the root to the value
+abbrev pub LeadTo : {A : Type 0} → (A → Tree) → List StepRef → A → A → Type 0
+LeadTo tree steps root x = at (map step_of steps) (tree root) ≡ Some (tree x)
+
+-- The segments applied to one node, and the rest to each node that comes, before the next one.
+abbrev pub through : Segments → Document → Node → List Node
+through no_segments d n = n ∷ []
+through (segment g gs) d n = flat_map (through gs d) (replaced g d n)
+
+-- the nodes that an action makes of one node
+abbrev pub acted : Kept → Action → Document → Node → List Node
+acted kept All d n = n ∷ []
+acted kept (If f) d n = filter (holds (filter_view kept f.now) d) (n ∷ [])
+acted kept (Below g) d n = flat_map (replaced (segment_view kept g.now) d) (subtree n)
+
+-- the patterns that stand in an action
+abbrev pub action_patterns : Kept → Action → List (Bool × Argument)
+action_patterns kept All = []
+action_patterns kept (If f) = filter_patterns (filter_view kept f.now)
+action_patterns kept (Below g) = segment_patterns (segment_view kept g.now)

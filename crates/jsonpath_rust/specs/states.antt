@@ -1,0 +1,5 @@
+pub mod State
+pub mod Process
+pub mod Asking
+pub mod Processed
+pub mod inner

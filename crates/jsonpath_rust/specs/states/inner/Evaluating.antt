@@ -1,0 +1,54 @@
+-- The parts of the plain evaluator, for its contracts alone: the definitions here are no part of what a query means.
+use Rattle.std.specs.Prelude.{◌≡◌, List, [], ◌++◌, Bool, Option, Some, None, if◌then◌else◌, string_bytes}
+use Rattle.std.specs.List.{flat_map, AllZip}
+use Rattle.jsonpath_parser.specs.tree.Syntax.{Argument}
+use Rattle.jsonpath_parser.specs.tree.View.{filter_view}
+use Rattle.jsonpath_rust.specs.states.Asking.{IsBelow, IsAsked, AsksPatternAt}
+use Rattle.jsonpath_rust.specs.documents.Document.{Document}
+use Rattle.jsonpath_rust.specs.documents.Node.{children}
+use Rattle.jsonpath_rust.specs.documents.Patterns.{filter_patterns, selectors_patterns}
+use Rattle.jsonpath_rust.specs.states.Process.{holds_at, joined_from}
+use Rattle.jsonpath_rust.specs.states.State.{Place, Content, nothing, named_from, children_from, indexed_from, sliced_from, parents_from, kept_from, found_from, has_parts, pointers}
+use Rattle.jsonpath_rust.specs.documents.inner.Parts.{selectors_in}
+use Rattle.jsonpath_rust.specs.declared.states.evaluate.segments.Part.{Part}
+use Rattle.jsonpath_rust.specs.declared.states.evaluate.segments.Part.TheVariants.{Name, Wildcard, Index, Slice, Parents, Kept, Joined}
+use Rattle.jsonpath_rust.specs.declared.documents.halt.Halt.{Halt}
+use Rattle.jsonpath_rust.specs.declared.documents.halt.Halt.TheVariants.{Memory}
+use Rattle.jsonpath_rust.specs.declared.states.state.data.Data.{Data}
+use Rattle.jsonpath_rust.specs.declared.states.state.pointer.Pointer.{Pointer}
+
+-- the children of a list or an object
+abbrev pub parts_from : Place → Option (List Place)
+parts_from p = if has_parts p.tree then Some (found_from p children) else None
+
+-- what a part makes of one node
+abbrev pub part_content : Part → Document → Place → Content
+part_content (Name s) d p = named_from (string_bytes s.now) p
+part_content Wildcard d p = children_from p
+part_content (Index i) d p = indexed_from i p
+part_content (Slice start end step) d p = sliced_from start end step p
+part_content Parents d p = parents_from p
+part_content (Kept f) d p = kept_from (holds_at (filter_view f.now) d) p
+part_content (Joined ss) d p = joined_from (selectors_in ss.now) d nothing p
+
+-- the patterns that stand in a part
+abbrev pub part_patterns : Part → List (Bool × Argument)
+part_patterns (Kept f) = filter_patterns (filter_view f.now)
+part_patterns (Joined ss) = selectors_patterns (selectors_in ss.now)
+part_patterns _ = []
+
+-- ---- why an answer is refused
+
+-- memory ran out, or one of these patterns was asked at a value in the document or in a node of the state
+abbrev pub HaltsBelow : List (Bool × Argument) → Document → Content → Halt → Type 0
+HaltsBelow patterns d c halt = (halt ≡ Memory → ⊥) → AsksPatternAt patterns d (IsBelow d c)
+
+-- the same, or it was asked at the state itself
+abbrev pub HaltsAt : List (Bool × Argument) → Document → Content → Halt → Type 0
+HaltsAt patterns d c halt = (halt ≡ Memory → ⊥) → AsksPatternAt patterns d (IsAsked d c)
+
+-- ---- the turns of `flat_map`
+
+-- answers at the rest can be completed to answers at all
+abbrev pub Completes : {A : Type 0} → (Pointer A → Data A → Type 0) → List (Pointer A) → List (Pointer A) → List (Pointer A) → Type 0
+Completes {A} Gives all rest got = (ds : List (Data A)) → AllZip Gives rest ds → (es : List (Data A)) × AllZip Gives all es × (flat_map pointers es ≡ got ++ flat_map pointers ds)

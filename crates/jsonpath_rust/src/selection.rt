@@ -1,0 +1,42 @@
+//! The walk: the nodes of a query, met depth-first in the order of its nodelist (RFC 9535, 2.1.2). What a query means stands in
+//! `documents`.
+//!
+//! A query is compiled to a plan (`plan`), once. The walk (`walk`, `children`) goes by the plan; inside filters (`filter`,
+//! `function`, `subquery`) it looks up names and indexes (`singular`, `sides`, `lookup`, `direct`), walks from the node at hand, or takes
+//! what is kept of the root (`cache`, `rooted`, `early`) and of patterns (`finders`, `lent`). The nodes go to a sink (`sink`) with
+//! the way that leads to them (`way`).
+mod action;
+mod argument;
+mod budget;
+mod cache;
+mod children;
+mod cost;
+mod direct;
+mod early;
+mod filter;
+mod finders;
+mod function;
+mod give;
+mod lent;
+mod lookup;
+mod nodelist;
+mod patterns;
+mod plan;
+mod planned;
+mod prepared;
+mod recent;
+mod rooted;
+mod runner;
+mod sides;
+mod singular;
+mod sink;
+mod subquery;
+mod trail;
+mod walk;
+mod way;
+
+pub use crate::selection::nodelist::{
+    selected_locations, selected_nodes, selected_paths, selected_values,
+};
+pub use crate::selection::prepared::Prepared;
+pub use crate::selection::runner::Runner;

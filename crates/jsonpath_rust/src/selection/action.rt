@@ -1,0 +1,49 @@
+//! What a walk does at the children of a value.
+ghost use Rattle.std.specs.Prelude.{◌≡◌, [], IsTrue, IfSome};
+ghost use Rattle.jsonpath_parser.specs.Location.{Location};
+ghost use Rattle.jsonpath_rust.specs.documents.Document.{Document};
+ghost use Rattle.jsonpath_rust.specs.selection.inner.PlanViews.{Kept, segment_view};
+ghost use Rattle.jsonpath_rust.specs.selection.inner.Walking.{acted};
+ghost use Rattle.jsonpath_rust.specs.selection.inner.Passing.{GoesToEachChild};
+
+use crate::documents::queryable::Queryable;
+use crate::documents::queryable::children::is_leaf;
+use crate::selection::plan::{Filter, Segment, Selector};
+
+/// What is done at a child.
+#[derive(Clone, Copy)]
+pub enum Action<'s> {
+    /// The rest.
+    All,
+    /// The rest, if the filter holds there.
+    If(&'s Filter),
+    /// The segment and then the rest, there and at each node below.
+    Below(&'s Segment),
+}
+
+/// Whether the action surely makes no node of the value: a leaf has nothing below.
+#[inline(always)]
+pub fn is_idle<T: Queryable>(action: Action<'_>, value: &T) -> bool
+    requires { IsTrue (T.is_whole value.now) }
+    ensures { IsTrue result → (kept : Kept) (d : Document) (l : Location) → acted kept action.entry d (record { location = l; tree = T.tree value.now }) ≡ [] }
+{
+    match action {
+        Action::Below(_) => is_leaf(value),
+        _ => false,
+    }
+}
+
+/// What the segment does at each child, where that is all it does.
+#[inline(always)]
+pub fn of_each_child(segment: &Segment) -> Option<Action<'_>>
+    ensures { (kept : Kept) → IfSome result (GoesToEachChild kept (segment_view kept segment.now)) }
+{
+    match segment {
+        Segment::Selector(selector) => match selector {
+            Selector::Wildcard => Some(Action::All),
+            Selector::Filter(filter) => Some(Action::If(filter)),
+            _ => None,
+        },
+        _ => None,
+    }
+}

@@ -1,0 +1,68 @@
+//! How much work a walk may take. Who lets strangers ask limits it: their queries can be dear by what they mean.
+ghost use Rattle.std.specs.Prelude.{◌≡◌, IfErr};
+ghost use Rattle.jsonpath_rust.specs.selection.inner.Halting.{IsSpent};
+ghost use Rattle.jsonpath_rust.specs.declared.selection.budget.Limit.TheVariants.{Unlimited};
+
+use crate::documents::halt::{Halt, Walked};
+
+/// Whether the work of a walk is limited.
+#[derive(Clone, Copy, Debug)]
+pub enum Limit {
+    Unlimited,
+    Limited,
+}
+
+/// The work that is left to a walk, in units, and whether it is limited.
+#[derive(Clone, Copy, Debug)]
+pub struct Budget {
+    pub limit: Limit,
+    left: usize,
+}
+
+impl Budget {
+    /// Any amount of work.
+    pub fn unlimited() -> Self
+        ensures { result.limit ≡ Unlimited }
+    {
+        Budget {
+            limit: Limit::Unlimited,
+            left: usize::MAX,
+        }
+    }
+
+    /// So many units.
+    pub fn of(units: usize) -> Self {
+        Budget {
+            limit: Limit::Limited,
+            left: units,
+        }
+    }
+
+    /// Takes so many units from what is left. Where it is less, and limited, the walk halts.
+    #[inline(always)]
+    pub fn spend(&mut self, limit: Limit, units: usize) -> Walked<()>
+        ensures { IfErr result (IsSpent limit) }
+    {
+        if units <= self.left {
+            self.left -= units;
+            return Ok(());
+        }
+        self.run_out(limit)
+    }
+
+    /// Nothing is left, where that is limited.
+    fn run_out(&mut self, limit: Limit) -> Walked<()>
+        ensures { IfErr result (IsSpent limit) }
+    {
+        match limit {
+            Limit::Unlimited => {
+                self.left = usize::MAX;
+                Ok(())
+            }
+            Limit::Limited => {
+                self.left = 0;
+                Err(Halt::Spent)
+            }
+        }
+    }
+}

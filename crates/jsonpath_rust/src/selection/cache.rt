@@ -1,0 +1,136 @@
+//! What one call of the evaluator keeps: what was worked out once, by the number of its entry in the plan.
+ghost use Rattle.std.specs.Prelude.{◌≡◌, ◌<◌, ℕ, length, None, Some, option_map, IfOk};
+ghost use Rattle.jsonpath_rust.specs.documents.Document.{Document};
+ghost use Rattle.jsonpath_rust.specs.selection.inner.Keeping.{AreEmpty, Keeps, gathered, gave, given_by, nodes, nodes_or_none, slots_of, slot_at};
+ghost use Rattle.jsonpath_rust.specs.selection.inner.PlanViews.{Kept, part_at};
+ghost use Rattle.jsonpath_rust.specs.selection.inner.Sinks.{seen, any_in, count_in, only_in};
+
+use crate::documents::queryable::Queryable;
+use crate::documents::value::Operand;
+use crate::selection::sink::Sink;
+use std::alloc::{AllocError, Global};
+
+/// What is kept for one call.
+#[derive(Drop)]
+pub struct Cache<'a, 's, T> {
+    /// What each entry of the plan gave, once it is worked out.
+    pub slots: Vec<Option<Given<'a, 's, T>>>,
+}
+
+/// What an entry gave.
+#[derive(Drop)]
+pub enum Given<'a, 's, T> {
+    /// What was wanted of nodes.
+    Nodes(Sink<'a, T>),
+    /// A value, if there is one.
+    Value(Operand<'a, 's, T>),
+}
+
+impl<'a, 's, T: Queryable> Cache<'a, 's, T> {
+    /// For no entry.
+    #[inline(always)]
+    pub fn empty(alloc: Global) -> Self {
+        Cache {
+            slots: Vec::new(alloc),
+        }
+    }
+
+    /// For so many entries, none of which is worked out.
+    pub fn new(alloc: Global, count: usize) -> Result<Self, AllocError>
+        ensures { IfOk result (λ c. (kept : Kept) (doc : Document) → length kept ≡ count → Keeps T.tree T.is_whole kept doc c) }
+    {
+        let slots = empty_slots(alloc, count)?;
+        Ok(Cache { slots })
+    }
+
+    /// What the entry of this number gave, if it is worked out.
+    #[inline(always)]
+    pub fn get(&self, number: usize) -> Option<&Given<'a, 's, T>>
+        ensures { option_map (λ s. gave T.tree T.is_whole s.now) result ≡ slot_at T.tree T.is_whole (slots_of self.now) number }
+    {
+        match self.slots.get(number) {
+            Some(Some(given)) => Some(given),
+            _ => None,
+        }
+    }
+
+    /// Keeps what the entry of this number gave.
+    pub fn keep(&mut self, number: usize, given: Given<'a, 's, T>)
+        requires { number < length (slots_of self.old) }
+        ensures value { slot_at T.tree T.is_whole (slots_of self.new) number ≡ Some (gave T.tree T.is_whole given.entry) }
+        ensures right { (kept : Kept) (doc : Document) → gave T.tree T.is_whole given.entry ≡ given_by (part_at kept number) doc → Keeps T.tree T.is_whole kept doc self.old → Keeps T.tree T.is_whole kept doc self.new }
+    {
+        self.slots[number] = Some(given);
+    }
+}
+
+/// So many slots, with nothing in them.
+fn empty_slots<'a, 's, T: Queryable>(
+    alloc: Global,
+    count: usize,
+) -> Result<Vec<Option<Given<'a, 's, T>>>, AllocError>
+    ensures count { IfOk result (λ v. length v.items ≡ count) }
+    ensures empty { IfOk result (λ v. AreEmpty v.items) }
+{
+    let mut slots = Vec::with_capacity(alloc, count)?;
+    while slots.len() < count {
+        slots.push(None)?;
+    }
+    Ok(slots)
+}
+
+/// What the nodes of a query gave to a sink: one of its own, or that of the entry of a number.
+#[derive(Drop)]
+pub enum Gathered<'a, T> {
+    Own(Sink<'a, T>),
+    Kept(usize),
+}
+
+impl<'a, T: Queryable> Gathered<'a, T> {
+    /// The sink that the nodes were given to.
+    #[inline(always)]
+    pub fn sink<'k, 's>(&'k self, cache: &'k Cache<'a, 's, T>) -> Option<&'k Sink<'a, T>>
+        ensures { nodes_or_none (option_map (λ s. nodes (seen T.tree T.is_whole s.now)) result) ≡ gathered T.tree T.is_whole cache.now self.now }
+    {
+        match self {
+            Gathered::Own(sink) => Some(sink),
+            Gathered::Kept(number) => match cache.get(*number) {
+                Some(Given::Nodes(sink)) => Some(sink),
+                _ => None,
+            },
+        }
+    }
+
+    /// Whether there is a node, where that is wanted.
+    #[inline(always)]
+    pub fn has_any<'s>(&self, cache: &Cache<'a, 's, T>) -> bool
+        ensures { result ≡ any_in (gathered T.tree T.is_whole cache.now self.now) }
+    {
+        match self.sink(cache) {
+            Some(sink) => sink.has_any(),
+            None => false,
+        }
+    }
+
+    /// How many nodes there are, where that is wanted.
+    #[inline(always)]
+    pub fn counted<'s>(&self, cache: &Cache<'a, 's, T>) -> usize
+        ensures { result ≡ count_in (gathered T.tree T.is_whole cache.now self.now) }
+    {
+        match self.sink(cache) {
+            Some(sink) => sink.counted(),
+            None => 0,
+        }
+    }
+
+    /// The value of the only node, where that is wanted.
+    #[inline(always)]
+    pub fn only<'s>(&self, cache: &Cache<'a, 's, T>) -> Option<&'a T>
+        ensures { option_map (λ v. (T.is_whole v.now, T.tree v.now)) result ≡ only_in (gathered T.tree T.is_whole cache.now self.now) }
+    {
+        match self.sink(cache) {
+            Some(sink) => sink.only(),
+            None => None,
+        }
+    }
+}

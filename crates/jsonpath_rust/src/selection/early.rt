@@ -1,0 +1,69 @@
+//! Entries that are worked out before the walk, so that never more than a few are on their way at once.
+ghost use Rattle.std.specs.Prelude.{◌≡◌, [], IfErr, OnOk};
+ghost use Rattle.jsonpath_rust.specs.declared.documents.halt.Halt.TheVariants.{Memory};
+ghost use Rattle.jsonpath_rust.specs.selection.inner.Keeping.{IsReady};
+
+use crate::documents::halt::{Halt, Walked};
+use crate::documents::queryable::Queryable;
+use crate::selection::plan::{Rooted, Turn};
+use crate::selection::sink::Wanted;
+use crate::selection::trail::Trail;
+use crate::selection::walk::Task;
+use crate::selection::way::Way;
+
+impl<'a: 's, 's, T: Queryable> Task<'a, 's, T> {
+    /// Works out the entries whose turn is early, inner ones first, and comes back to the root.
+    pub fn work_out_early(&self, trail: &mut Trail<'a, 's, '_, T>) -> Walked<()>
+        requires { IsReady T.tree T.is_whole T.custom self.now trail.old.cache }
+        ensures ready { OnOk result (IsReady T.tree T.is_whole T.custom self.now trail.new.cache) }
+        ensures way { OnOk result (trail.new.way.steps.items ≡ []) }
+        ensures memory { IfErr result (λ h. h ≡ Memory) }
+    {
+        for number in 0..self.plan.kept.len() {
+            if let Some(wanted) = self.early_want(number) {
+                self.work_out(number, wanted, trail)?;
+            }
+        }
+        trail.way = Way::new(self.alloc);
+        Ok(())
+    }
+
+    /// What is wanted of the entry of this number, if its turn is early.
+    fn early_want(&self, number: usize) -> Option<Wanted> {
+        let entry = self.plan.kept.get(number)?;
+        match (&entry.part, entry.turn) {
+            (Rooted::Nodes(_segments, wanted), Turn::Early) => Some(*wanted),
+            _ => None,
+        }
+    }
+
+    /// Works out an entry. Where a pattern in it is refused it is left, for the walk may never ask it. Where no work is left the
+    /// walk finds that out by itself.
+    fn work_out(
+        &self,
+        number: usize,
+        wanted: Wanted,
+        trail: &mut Trail<'a, 's, '_, T>,
+    ) -> Walked<()>
+        requires { IsReady T.tree T.is_whole T.custom self.now trail.old.cache }
+        ensures ready { IsReady T.tree T.is_whole T.custom self.now trail.new.cache }
+        ensures memory { IfErr result (λ h. h ≡ Memory) }
+    {
+        let Some(segments) = self.plan.kept_segments(number, wanted) else {
+            return Ok(());
+        };
+        let task = Task {
+            alloc: self.alloc,
+            plan: self.plan,
+            segments,
+            root: self.root,
+            limit: self.limit,
+        };
+        match task.kept_nodes(number, wanted, trail) {
+            Ok(_gathered) => Ok(()),
+            Err(Halt::Pattern) => Ok(()),
+            Err(Halt::Spent) => Ok(()),
+            Err(Halt::Memory) => Err(Halt::Memory),
+        }
+    }
+}

@@ -1,0 +1,173 @@
+//! Whether filters hold (RFC 9535, 2.3.5).
+ghost use Rattle.std.specs.Prelude.{◌≡◌, ◌++◌, IsTrue, IfOk, IfErr, OnOk, OnErr};
+ghost use Rattle.jsonpath_parser.specs.tree.View.{operator_view};
+ghost use Rattle.jsonpath_rust.specs.documents.Comparing.{compares};
+ghost use Rattle.jsonpath_rust.specs.documents.Functions.{as_truth};
+ghost use Rattle.jsonpath_rust.specs.documents.Meaning.{holds, some_holds, each_holds, tested, value_of};
+ghost use Rattle.jsonpath_rust.specs.documents.Patterns.{filter_patterns, filters_patterns, comparable_patterns, test_patterns};
+ghost use Rattle.jsonpath_rust.specs.documents.inner.Operands.{operand_tree, operand_is_whole};
+ghost use Rattle.jsonpath_rust.specs.selection.inner.Halting.{IsHalt, StandIn};
+ghost use Rattle.jsonpath_rust.specs.selection.inner.Keeping.{IsReady, document, kept_of, query_of};
+ghost use Rattle.jsonpath_rust.specs.selection.inner.PlanViews.{filter_view, filters_in, nodes_view, side_view};
+ghost use Rattle.jsonpath_rust.specs.selection.inner.Standing.{Stands, Returns};
+ghost use Rattle.jsonpath_rust.specs.selection.inner.Walking.{node_of};
+ghost use Rattle.jsonpath_rust.specs.declared.selection.sink.Wanted.TheVariants.{Any};
+
+use crate::documents::comparison::compares;
+use crate::documents::halt::Walked;
+use crate::documents::queryable::Queryable;
+use crate::documents::value::{Operand, scalar_of};
+use crate::selection::direct::is_there;
+use crate::selection::plan::{Filter, Nodes, Side};
+use crate::selection::singular::value_at;
+use crate::selection::sink::Wanted;
+use crate::selection::trail::Trail;
+use crate::selection::walk::Task;
+use jsonpath_parser::model::Operator;
+
+impl<'a: 's, 's, T: Queryable> Task<'a, 's, T> {
+    /// Whether a filter holds at a value, to which the way leads.
+    #[cycle(walk)]
+    pub fn filter_holds(
+        &self,
+        filter: &'s Filter,
+        at: &'a T,
+        trail: &mut Trail<'a, 's, '_, T>,
+    ) -> Walked<bool>
+        requires stands { Stands T.tree T.is_whole T.custom self.now at.now trail.old.way.steps.items trail.old.cache }
+        requires part { StandIn (query_of self.now) (filter_patterns (filter_view (kept_of self.now) filter.now)) }
+        ensures holds { IfOk result (λ b. b ≡ holds (filter_view (kept_of self.now) filter.now) (document T.tree T.custom self.now) (node_of T.tree trail.old.way.steps.items at.now)) }
+        ensures returns { OnOk result (Returns T.tree T.is_whole T.custom self.now trail.old trail.new) }
+        ensures ready { OnErr result (IsReady T.tree T.is_whole T.custom self.now trail.new.cache) }
+        ensures refused { IfErr result (IsHalt self.now.limit (query_of self.now) (document T.tree T.custom self.now)) }
+    {
+        trail.budget.spend(self.limit, 1)?;
+        match filter {
+            Filter::Or(parts) => self.some_holds(parts, at, trail),
+            Filter::And(parts) => self.each_holds(parts, at, trail),
+            Filter::Group { expr, not } => Ok(self.filter_holds(expr, at, trail)? != *not),
+            Filter::Exists { nodes, not } => Ok(self.exists(nodes, at, trail)? != *not),
+            Filter::Call { call, not } => Ok(self.called(call, at, trail)?.is_true() != *not),
+            Filter::Comparison(operator, left, right) => {
+                self.comparison_holds(*operator, (left, right), at, trail)
+            }
+            Filter::Kept(number) => self.kept_comparison(*number, trail),
+        }
+    }
+
+    /// Whether some part holds.
+    #[cycle(walk)]
+    fn some_holds(
+        &self,
+        parts: &'s [Filter],
+        at: &'a T,
+        trail: &mut Trail<'a, 's, '_, T>,
+    ) -> Walked<bool>
+        requires stands { Stands T.tree T.is_whole T.custom self.now at.now trail.old.way.steps.items trail.old.cache }
+        requires part { StandIn (query_of self.now) (filters_patterns (filters_in (kept_of self.now) parts.now)) }
+        ensures holds { IfOk result (λ b. b ≡ some_holds (filters_in (kept_of self.now) parts.now) (document T.tree T.custom self.now) (node_of T.tree trail.old.way.steps.items at.now)) }
+        ensures returns { OnOk result (Returns T.tree T.is_whole T.custom self.now trail.old trail.new) }
+        ensures ready { OnErr result (IsReady T.tree T.is_whole T.custom self.now trail.new.cache) }
+        ensures refused { IfErr result (IsHalt self.now.limit (query_of self.now) (document T.tree T.custom self.now)) }
+    {
+        for part in parts {
+            if self.filter_holds(part, at, trail)? {
+                return Ok(true);
+            }
+        }
+        Ok(false)
+    }
+
+    /// Whether every part holds.
+    #[cycle(walk)]
+    fn each_holds(
+        &self,
+        parts: &'s [Filter],
+        at: &'a T,
+        trail: &mut Trail<'a, 's, '_, T>,
+    ) -> Walked<bool>
+        requires stands { Stands T.tree T.is_whole T.custom self.now at.now trail.old.way.steps.items trail.old.cache }
+        requires part { StandIn (query_of self.now) (filters_patterns (filters_in (kept_of self.now) parts.now)) }
+        ensures holds { IfOk result (λ b. b ≡ each_holds (filters_in (kept_of self.now) parts.now) (document T.tree T.custom self.now) (node_of T.tree trail.old.way.steps.items at.now)) }
+        ensures returns { OnOk result (Returns T.tree T.is_whole T.custom self.now trail.old trail.new) }
+        ensures ready { OnErr result (IsReady T.tree T.is_whole T.custom self.now trail.new.cache) }
+        ensures refused { IfErr result (IsHalt self.now.limit (query_of self.now) (document T.tree T.custom self.now)) }
+    {
+        for part in parts {
+            if !self.filter_holds(part, at, trail)? {
+                return Ok(false);
+            }
+        }
+        Ok(true)
+    }
+
+    /// Whether there is a node (RFC 9535, 2.3.5.2.1). Names and indexes are looked up, and nothing is made for them.
+    #[cycle(walk)]
+    #[inline(always)]
+    fn exists(&self, nodes: &'s Nodes, at: &'a T, trail: &mut Trail<'a, 's, '_, T>) -> Walked<bool>
+        requires stands { Stands T.tree T.is_whole T.custom self.now at.now trail.old.way.steps.items trail.old.cache }
+        requires part { StandIn (query_of self.now) (test_patterns (nodes_view (kept_of self.now) nodes.now Any)) }
+        ensures holds { IfOk result (λ b. b ≡ as_truth (tested (nodes_view (kept_of self.now) nodes.now Any) (document T.tree T.custom self.now) (node_of T.tree trail.old.way.steps.items at.now))) }
+        ensures returns { OnOk result (Returns T.tree T.is_whole T.custom self.now trail.old trail.new) }
+        ensures ready { OnErr result (IsReady T.tree T.is_whole T.custom self.now trail.new.cache) }
+        ensures refused { IfErr result (IsHalt self.now.limit (query_of self.now) (document T.tree T.custom self.now)) }
+    {
+        if let Some(there) = is_there(nodes, at) {
+            return Ok(there);
+        }
+        let gathered = self.nodes(nodes, Wanted::Any, at, trail)?;
+        Ok(gathered.has_any(&trail.cache))
+    }
+
+    /// Whether two sides compare so.
+    #[cycle(walk)]
+    pub fn comparison_holds(
+        &self,
+        operator: Operator,
+        sides: (&'s Side, &'s Side),
+        at: &'a T,
+        trail: &mut Trail<'a, 's, '_, T>,
+    ) -> Walked<bool>
+        requires stands { Stands T.tree T.is_whole T.custom self.now at.now trail.old.way.steps.items trail.old.cache }
+        requires part { StandIn (query_of self.now) (comparable_patterns (side_view (kept_of self.now) sides.0.now) ++ comparable_patterns (side_view (kept_of self.now) sides.1.now)) }
+        ensures holds { IfOk result (λ b. b ≡ compares (operator_view operator)
+            (value_of (side_view (kept_of self.now) sides.entry.0.now) (document T.tree T.custom self.now) (node_of T.tree trail.old.way.steps.items at.now))
+            (value_of (side_view (kept_of self.now) sides.entry.1.now) (document T.tree T.custom self.now) (node_of T.tree trail.old.way.steps.items at.now))) }
+        ensures returns { OnOk result (Returns T.tree T.is_whole T.custom self.now trail.old trail.new) }
+        ensures ready { OnErr result (IsReady T.tree T.is_whole T.custom self.now trail.new.cache) }
+        ensures refused { IfErr result (IsHalt self.now.limit (query_of self.now) (document T.tree T.custom self.now)) }
+    {
+        if let Some(held) = self.lent_compare(operator, sides, at, &trail.cache) {
+            return Ok(held);
+        }
+        let left = self.side(sides.0, at, trail)?;
+        let right = self.side(sides.1, at, trail)?;
+        let cost = self.limit.comparison_cost(self.alloc, &left, &right)?;
+        trail.budget.spend(self.limit, cost)?;
+        Ok(compares(operator, &left.as_side(), &right.as_side()))
+    }
+
+    /// The value of a side of a comparison.
+    #[cycle(walk)]
+    fn side(
+        &self,
+        side: &'s Side,
+        at: &'a T,
+        trail: &mut Trail<'a, 's, '_, T>,
+    ) -> Walked<Operand<'a, 's, T>>
+        requires stands { Stands T.tree T.is_whole T.custom self.now at.now trail.old.way.steps.items trail.old.cache }
+        requires part { StandIn (query_of self.now) (comparable_patterns (side_view (kept_of self.now) side.now)) }
+        ensures value { IfOk result (λ o. operand_tree T.tree o ≡ value_of (side_view (kept_of self.now) side.now) (document T.tree T.custom self.now) (node_of T.tree trail.old.way.steps.items at.now)) }
+        ensures whole { IfOk result (λ o. IsTrue (operand_is_whole T.is_whole o)) }
+        ensures returns { OnOk result (Returns T.tree T.is_whole T.custom self.now trail.old trail.new) }
+        ensures ready { OnErr result (IsReady T.tree T.is_whole T.custom self.now trail.new.cache) }
+        ensures refused { IfErr result (IsHalt self.now.limit (query_of self.now) (document T.tree T.custom self.now)) }
+    {
+        match side {
+            Side::Literal(literal) => Ok(Operand::Plain(scalar_of(literal))),
+            Side::Lookup(steps) => Ok(Operand::lent(value_at(steps, at))),
+            Side::Kept(number) => Ok(self.kept_value(*number, &mut trail.cache)?),
+            Side::Call(call) => self.called(call, at, trail),
+        }
+    }
+}

@@ -1,0 +1,200 @@
+//! Functions and their arguments (RFC 9535, 2.4).
+ghost use Rattle.std.specs.Prelude.{◌≡◌, ◌∷◌, ◌++◌, Some, string_bytes, IsTrue, IfOk, IfErr, OnOk, OnErr};
+ghost use Rattle.jsonpath_base.specs.Tree.{truth};
+ghost use Rattle.jsonpath_rust.specs.documents.Functions.{is_matched, as_value};
+ghost use Rattle.jsonpath_rust.specs.documents.Meaning.{answer, argued, all_trees};
+ghost use Rattle.jsonpath_rust.specs.documents.Patterns.{call_patterns, argument_patterns, arguments_patterns};
+ghost use Rattle.jsonpath_rust.specs.documents.inner.Operands.{operand_tree, operand_is_whole, is_entire};
+ghost use Rattle.jsonpath_rust.specs.selection.inner.Arguing.{held, holding, IsHeld};
+ghost use Rattle.jsonpath_rust.specs.selection.inner.Halting.{IsHalt, StandIn};
+ghost use Rattle.jsonpath_rust.specs.selection.inner.Keeping.{IsReady, document, kept_of, query_of};
+ghost use Rattle.jsonpath_rust.specs.selection.inner.PlanViews.{argument_view, arguments_in, call_view};
+ghost use Rattle.jsonpath_rust.specs.selection.inner.Standing.{Stands, Returns};
+ghost use Rattle.jsonpath_rust.specs.selection.inner.Walking.{node_of};
+ghost use Rattle.jsonpath_rust.specs.declared.selection.sink.Wanted.TheVariants.{Only};
+
+use crate::documents::extent::Extent;
+use crate::documents::halt::Walked;
+use crate::documents::queryable::Queryable;
+use crate::documents::value::{Operand, Scalar, scalar_of};
+use crate::selection::argument::Argument;
+use crate::selection::patterns::Origin;
+use crate::selection::plan;
+use crate::selection::plan::Call;
+use crate::selection::sink::Wanted;
+use crate::selection::trail::Trail;
+use crate::selection::walk::Task;
+
+impl<'a: 's, 's, T: Queryable> Task<'a, 's, T> {
+    /// What a call answers at a value, to which the way leads.
+    #[cycle(walk)]
+    pub fn answer(
+        &self,
+        call: &'s Call,
+        at: &'a T,
+        trail: &mut Trail<'a, 's, '_, T>,
+    ) -> Walked<Operand<'a, 's, T>>
+        requires stands { Stands T.tree T.is_whole T.custom self.now at.now trail.old.way.steps.items trail.old.cache }
+        requires part { StandIn (query_of self.now) (call_patterns (call_view (kept_of self.now) call.now)) }
+        ensures value { IfOk result (λ o. operand_tree T.tree o ≡ answer (call_view (kept_of self.now) call.now) (document T.tree T.custom self.now) (node_of T.tree trail.old.way.steps.items at.now)) }
+        ensures whole { IfOk result (λ o. IsTrue (operand_is_whole T.is_whole o)) }
+        ensures returns { OnOk result (Returns T.tree T.is_whole T.custom self.now trail.old trail.new) }
+        ensures ready { OnErr result (IsReady T.tree T.is_whole T.custom self.now trail.new.cache) }
+        ensures refused { IfErr result (IsHalt self.now.limit (query_of self.now) (document T.tree T.custom self.now)) }
+    {
+        match call {
+            Call::Custom(name, args) => self.custom(name, args, at, trail),
+            Call::Length(arg) => {
+                let value = self.value(arg, at, trail)?;
+                let cost = self.limit.text_cost(&value);
+                trail.budget.spend(self.limit, cost)?;
+                value.length(self.alloc)
+            }
+            Call::Value(arg) => {
+                Ok(
+                    self.argument(arg, Wanted::Only, at, trail)?
+                        .only(&trail.cache),
+                )
+            }
+            Call::Count(arg) => {
+                Ok(
+                    self.argument(arg, Wanted::Count, at, trail)?
+                        .count(&trail.cache),
+                )
+            }
+            Call::Search(text, pattern) => {
+                self.match_or_search((text, pattern), Extent::Substring, at, trail)
+            }
+            Call::Match(text, pattern) => {
+                self.match_or_search((text, pattern), Extent::Entire, at, trail)
+            }
+        }
+    }
+
+    /// What `match` answers of an entire text, or `search` of its substrings: a text and a pattern (RFC 9535, 2.4.6 and
+    /// 2.4.7).
+    #[cycle(walk)]
+    fn match_or_search(
+        &self,
+        args: (&'s plan::Argument, &'s plan::Argument),
+        extent: Extent,
+        at: &'a T,
+        trail: &mut Trail<'a, 's, '_, T>,
+    ) -> Walked<Operand<'a, 's, T>>
+        requires stands { Stands T.tree T.is_whole T.custom self.now at.now trail.old.way.steps.items trail.old.cache }
+        requires part { StandIn (query_of self.now) ((is_entire extent, argument_view (kept_of self.now) args.1.now Only) ∷ (argument_patterns (argument_view (kept_of self.now) args.0.now Only) ++ argument_patterns (argument_view (kept_of self.now) args.1.now Only))) }
+        ensures value { IfOk result (λ o. operand_tree T.tree o ≡ Some (truth (is_matched (is_entire extent)
+            (as_value (argued (argument_view (kept_of self.now) args.entry.0.now Only) (document T.tree T.custom self.now) (node_of T.tree trail.old.way.steps.items at.now)))
+            (as_value (argued (argument_view (kept_of self.now) args.entry.1.now Only) (document T.tree T.custom self.now) (node_of T.tree trail.old.way.steps.items at.now)))))) }
+        ensures whole { IfOk result (λ o. IsTrue (operand_is_whole T.is_whole o)) }
+        ensures returns { OnOk result (Returns T.tree T.is_whole T.custom self.now trail.old trail.new) }
+        ensures ready { OnErr result (IsReady T.tree T.is_whole T.custom self.now trail.new.cache) }
+        ensures refused { IfErr result (IsHalt self.now.limit (query_of self.now) (document T.tree T.custom self.now)) }
+    {
+        let origin = origin_of(args.1);
+        let text = self.value(args.0, at, trail)?;
+        let pattern = self.value(args.1, at, trail)?;
+        let cost = self.limit.text_cost(&text);
+        let also = self.limit.text_cost(&pattern);
+        trail.budget.spend(self.limit, cost.saturating_add(also))?;
+        let found = trail
+            .finders
+            .is_matched(self.alloc, (&text, &pattern), extent, origin)?;
+        Ok(Operand::Plain(Scalar::Truth(found)))
+    }
+
+    /// What a custom function answers.
+    #[cycle(walk)]
+    fn custom(
+        &self,
+        name: &'s String,
+        args: &'s [plan::Argument],
+        at: &'a T,
+        trail: &mut Trail<'a, 's, '_, T>,
+    ) -> Walked<Operand<'a, 's, T>>
+        requires stands { Stands T.tree T.is_whole T.custom self.now at.now trail.old.way.steps.items trail.old.cache }
+        requires part { StandIn (query_of self.now) (arguments_patterns (arguments_in (kept_of self.now) args.now)) }
+        ensures value { IfOk result (λ o. operand_tree T.tree o ≡ Some (T.custom (string_bytes name.now) (all_trees (arguments_in (kept_of self.now) args.now) (document T.tree T.custom self.now) (node_of T.tree trail.old.way.steps.items at.now)))) }
+        ensures whole { IfOk result (λ o. IsTrue (operand_is_whole T.is_whole o)) }
+        ensures returns { OnOk result (Returns T.tree T.is_whole T.custom self.now trail.old trail.new) }
+        ensures ready { OnErr result (IsReady T.tree T.is_whole T.custom self.now trail.new.cache) }
+        ensures refused { IfErr result (IsHalt self.now.limit (query_of self.now) (document T.tree T.custom self.now)) }
+    {
+        let mut values = Vec::new(self.alloc);
+        for arg in args {
+            let argument = self.argument(arg, Wanted::Values, at, trail)?;
+            argument.push_to(self.alloc, &trail.cache, &mut values)?;
+        }
+        let cost = self.limit.custom_cost(self.alloc, &values)?;
+        trail.budget.spend(self.limit, cost)?;
+        Ok(Operand::Made(T::extension_custom(self.alloc, name, &values)?))
+    }
+
+    /// An argument as a value (RFC 9535, 2.4.2).
+    #[cycle(walk)]
+    fn value(
+        &self,
+        arg: &'s plan::Argument,
+        at: &'a T,
+        trail: &mut Trail<'a, 's, '_, T>,
+    ) -> Walked<Operand<'a, 's, T>>
+        requires stands { Stands T.tree T.is_whole T.custom self.now at.now trail.old.way.steps.items trail.old.cache }
+        requires part { StandIn (query_of self.now) (argument_patterns (argument_view (kept_of self.now) arg.now Only)) }
+        ensures value { IfOk result (λ o. operand_tree T.tree o ≡ as_value (argued (argument_view (kept_of self.now) arg.now Only) (document T.tree T.custom self.now) (node_of T.tree trail.old.way.steps.items at.now))) }
+        ensures whole { IfOk result (λ o. IsTrue (operand_is_whole T.is_whole o)) }
+        ensures returns { OnOk result (Returns T.tree T.is_whole T.custom self.now trail.old trail.new) }
+        ensures ready { OnErr result (IsReady T.tree T.is_whole T.custom self.now trail.new.cache) }
+        ensures refused { IfErr result (IsHalt self.now.limit (query_of self.now) (document T.tree T.custom self.now)) }
+    {
+        let argument = self.argument(arg, Wanted::Only, at, trail)?;
+        Ok(argument.value(&trail.cache))
+    }
+
+    /// An argument: a value, or what is wanted of the nodes of a query (RFC 9535, 2.4.1).
+    #[cycle(walk)]
+    fn argument(
+        &self,
+        arg: &'s plan::Argument,
+        wanted: Wanted,
+        at: &'a T,
+        trail: &mut Trail<'a, 's, '_, T>,
+    ) -> Walked<Argument<'a, 's, T>>
+        requires stands { Stands T.tree T.is_whole T.custom self.now at.now trail.old.way.steps.items trail.old.cache }
+        requires part { StandIn (query_of self.now) (argument_patterns (argument_view (kept_of self.now) arg.now wanted)) }
+        ensures held { IfOk result (λ a. held T.tree T.is_whole trail.new.cache a ≡ holding wanted (argued (argument_view (kept_of self.now) arg.now wanted) (document T.tree T.custom self.now) (node_of T.tree trail.old.way.steps.items at.now))) }
+        ensures within { IfOk result (IsHeld T.is_whole) }
+        ensures returns { OnOk result (Returns T.tree T.is_whole T.custom self.now trail.old trail.new) }
+        ensures ready { OnErr result (IsReady T.tree T.is_whole T.custom self.now trail.new.cache) }
+        ensures refused { IfErr result (IsHalt self.now.limit (query_of self.now) (document T.tree T.custom self.now)) }
+    {
+        match arg {
+            plan::Argument::Literal(literal) => {
+                Ok(Argument::Value(Operand::Plain(scalar_of(literal))))
+            }
+            plan::Argument::Pattern(text, _number) => {
+                Ok(Argument::Value(Operand::Plain(Scalar::Text(text))))
+            }
+            plan::Argument::Nodes(nodes) => {
+                let gathered = self.nodes(nodes, wanted, at, trail)?;
+                Ok(Argument::Nodes(gathered))
+            }
+            plan::Argument::Call(call) => {
+                let value = self.called(call, at, trail)?;
+                Ok(Argument::Value(value))
+            }
+            plan::Argument::Filter(filter) => {
+                let truth = self.filter_holds(filter, at, trail)?;
+                Ok(Argument::Value(Operand::Plain(Scalar::Truth(truth))))
+            }
+        }
+    }
+}
+
+/// Where the pattern that this argument gives comes from.
+#[inline(always)]
+fn origin_of(arg: &plan::Argument) -> Origin {
+    match arg {
+        plan::Argument::Pattern(_text, number) => Origin::Query(*number),
+        _ => Origin::Document,
+    }
+}

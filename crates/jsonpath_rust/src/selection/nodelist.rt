@@ -1,0 +1,87 @@
+//! The nodelist of a query (RFC 9535, 2.1.2): its nodes, or what of them is wanted.
+ghost use Rattle.std.specs.Prelude.{◌≡◌, map, All, IsTrue, IfOk, IfErr};
+ghost use Rattle.std.specs.List.{AllZip};
+ghost use Rattle.jsonpath_parser.specs.tree.View.{query_view};
+ghost use Rattle.jsonpath_base.specs.Steps.{location_view};
+ghost use Rattle.jsonpath_rust.specs.documents.Answer.{IsNodeAt, IsPathAt, IsValueAt, shown, paths_of};
+ghost use Rattle.jsonpath_rust.specs.documents.Document.{document_of};
+ghost use Rattle.jsonpath_rust.specs.documents.Meaning.{selected};
+ghost use Rattle.jsonpath_rust.specs.documents.Patterns.{IsStop};
+
+use crate::documents::queryable::Queryable;
+use crate::documents::{Queried, QueryPath, QueryRef};
+use crate::selection::give::give_nodes;
+use crate::selection::sink::Sink;
+use jsonpath_base::Step;
+use jsonpath_parser::model::JpQuery;
+use std::alloc::Global;
+
+/// The nodes that a query tree selects in a document, in order (RFC 9535, 2.1.2): what
+/// `js_path_process` answers of a tree that [`is_typed`], with no test of that. A tree that is not is asked in the same
+/// way: where it asks a query for a value, that is the value of its only node, and what is no query has no nodes. It
+/// refuses as `js_path_process` does of a tree that is typed.
+///
+/// [`is_typed`]: jsonpath_parser::is_typed
+pub fn selected_nodes<'a, T: Queryable>(
+    alloc: Global,
+    query: &JpQuery,
+    value: &'a T,
+) -> Queried<Vec<QueryRef<'a, T>>>
+    requires { IsTrue (T.is_whole value.now) }
+    ensures nodes { IfOk result (λ v. AllZip (IsNodeAt (document_of T.tree T.custom value.now))
+        (selected (query_view query.now) (document_of T.tree T.custom value.now)) (shown T.tree v.items)) }
+    ensures whole { IfOk result (λ v. All (λ r. IsTrue (T.is_whole r.val.now)) v.items) }
+    ensures refused { IfErr result (IsStop (query_view query.now) (document_of T.tree T.custom value.now)) }
+{
+    let mut sink = Sink::Nodes(Vec::new(alloc));
+    let _goes_on = give_nodes(alloc, query, value, &mut sink)?;
+    Ok(sink.into_nodes(alloc))
+}
+
+/// The values of the nodes that [`selected_nodes`] answers, in order. It refuses as that does, and makes no path.
+pub fn selected_values<'a, T: Queryable>(
+    alloc: Global,
+    query: &JpQuery,
+    value: &'a T,
+) -> Queried<Vec<&'a T>>
+    requires { IsTrue (T.is_whole value.now) }
+    ensures values { IfOk result (λ v. AllZip (IsValueAt (document_of T.tree T.custom value.now))
+        (selected (query_view query.now) (document_of T.tree T.custom value.now)) (map (λ x. T.tree x.now) v.items)) }
+    ensures whole { IfOk result (λ v. All (λ x. IsTrue (T.is_whole x.now)) v.items) }
+    ensures refused { IfErr result (IsStop (query_view query.now) (document_of T.tree T.custom value.now)) }
+{
+    let mut sink = Sink::Values(Vec::new(alloc));
+    let _goes_on = give_nodes(alloc, query, value, &mut sink)?;
+    Ok(sink.into_values(alloc))
+}
+
+/// The Normalized Paths of the nodes that [`selected_nodes`] answers, in order. It refuses as that does.
+pub fn selected_paths<T: Queryable>(
+    alloc: Global,
+    query: &JpQuery,
+    value: &T,
+) -> Queried<Vec<QueryPath>>
+    requires { IsTrue (T.is_whole value.now) }
+    ensures paths { IfOk result (λ v. AllZip (IsPathAt (document_of T.tree T.custom value.now))
+        (selected (query_view query.now) (document_of T.tree T.custom value.now)) (paths_of v.items)) }
+    ensures refused { IfErr result (IsStop (query_view query.now) (document_of T.tree T.custom value.now)) }
+{
+    let mut sink = Sink::Paths(Vec::new(alloc));
+    let _goes_on = give_nodes(alloc, query, value, &mut sink)?;
+    Ok(sink.into_paths(alloc))
+}
+
+/// The locations of the nodes that [`selected_nodes`] answers, in order. It refuses as that does.
+pub fn selected_locations<T: Queryable>(
+    alloc: Global,
+    query: &JpQuery,
+    value: &T,
+) -> Queried<Vec<Vec<Step>>>
+    requires { IsTrue (T.is_whole value.now) }
+    ensures locations { IfOk result (λ v. map (λ l. location_view l.items) v.items ≡ selected (query_view query.now) (document_of T.tree T.custom value.now)) }
+    ensures refused { IfErr result (IsStop (query_view query.now) (document_of T.tree T.custom value.now)) }
+{
+    let mut sink = Sink::Locations(Vec::new(alloc));
+    let _goes_on = give_nodes(alloc, query, value, &mut sink)?;
+    Ok(sink.into_locations(alloc))
+}

@@ -1,0 +1,178 @@
+//! A plan of a query: what is to be done at a node, found out once and not at each node. It says which queries inside filters
+//! are looked up and which are walked, which queries from the root are one, and which patterns are one.
+ghost use Rattle.jsonpath_rust.specs.selection.inner.PlanViews.{IsSettled, IsSettled-prop, IsRooted, IsRooted-prop};
+
+mod absolute;
+mod entries;
+mod keeping;
+mod make;
+mod patterns;
+mod steps;
+
+pub use self::make::plan_of;
+use crate::selection::sink::Wanted;
+use jsonpath_parser::model::{Literal, Operator, SingularQuerySegment};
+
+/// Lets a plan go.
+pub fn release(plan: Plan) {
+    drop(plan);
+}
+
+/// A plan of a query.
+#[derive(Drop)]
+pub struct Plan {
+    pub segments: Vec<Segment>,
+    /// What is kept, by number. An entry that stands in the filters of another has the smaller number.
+    pub kept: Vec<Entry>,
+    /// How many patterns have a number. Each is smaller than this.
+    pub pattern_count: usize,
+    ghost settled: { IsSettled kept.items } by { IsSettled-prop kept.items },
+    ghost rooted: { IsRooted kept.items } by { IsRooted-prop kept.items },
+}
+
+/// What is worked out once in a call, and then kept.
+#[derive(Drop)]
+pub struct Entry {
+    pub part: Rooted,
+    pub turn: Turn,
+}
+
+/// A part of the query without `@`.
+#[derive(Drop)]
+pub enum Rooted {
+    /// What is wanted of the nodes of a query from the root.
+    Nodes(Vec<Segment>, Wanted),
+    /// The value of the one node, if there is one, by these steps from the root.
+    Value(Vec<SingularQuerySegment>),
+    /// What a call answers.
+    Answer(Call),
+    /// Whether the sides compare so.
+    Comparison(Operator, Side, Side),
+}
+
+/// When an entry is worked out.
+#[derive(Clone, Copy)]
+pub enum Turn {
+    /// When it is first asked.
+    Asked,
+    /// Before the walk, so that never more than a few entries are on their way at once.
+    Early,
+}
+
+/// A segment, which replaces each node by nodes below it (RFC 9535, 2.5).
+#[derive(Drop)]
+#[cycle(plan)]
+pub enum Segment {
+    /// `..`: the segment at each node and at all nodes below it.
+    Descendant(Box<Segment>),
+    /// One selector.
+    Selector(Selector),
+    /// Several selectors, node by node and in their order.
+    Selectors(Vec<Selector>),
+}
+
+/// Where a segment goes from a node (2.3).
+#[derive(Drop)]
+#[cycle(plan)]
+pub enum Selector {
+    /// To the member of this name.
+    Name(String),
+    /// To all children.
+    Wildcard,
+    /// To the element of this index, counted from the end where it is negative.
+    Index(i64),
+    /// To the elements from a start to before an end, by a step.
+    Slice(Option<i64>, Option<i64>, Option<i64>),
+    /// To the children at which the filter holds.
+    Filter(Filter),
+}
+
+/// A logical expression (2.3.5).
+#[derive(Drop)]
+#[cycle(plan)]
+pub enum Filter {
+    /// Some part holds.
+    Or(Vec<Filter>),
+    /// Every part holds.
+    And(Vec<Filter>),
+    /// The filter holds, turned round where `not`.
+    Group { expr: Box<Filter>, not: bool },
+    /// There is a node, turned round where `not`.
+    Exists { nodes: Nodes, not: bool },
+    /// The call answers true, turned round where `not`.
+    Call { call: Called, not: bool },
+    /// The sides compare so.
+    Comparison(Operator, Side, Side),
+    /// The comparison that is kept under this number holds.
+    Kept(usize),
+}
+
+/// The nodes of a query inside a filter, by how they are found. The place where they stand tells what is wanted of them.
+#[derive(Drop)]
+#[cycle(plan)]
+pub enum Nodes {
+    /// By these steps from the current node.
+    Lookup(Vec<SingularQuerySegment>),
+    /// By a walk of these segments from the current node.
+    Walk(Vec<Segment>),
+    /// By the kept entry of this number.
+    Kept(usize),
+}
+
+/// A side of a comparison (2.3.5.1).
+#[derive(Drop)]
+#[cycle(plan)]
+pub enum Side {
+    /// A literal.
+    Literal(Literal),
+    /// The value of the one node, if there is one, by these steps from the current node.
+    Lookup(Vec<SingularQuerySegment>),
+    /// The value of the one node, if there is one, by the kept entry of this number.
+    Kept(usize),
+    /// What a call answers.
+    Call(Called),
+}
+
+/// A call, by what answers it.
+#[derive(Drop)]
+#[cycle(plan)]
+pub enum Called {
+    /// A call that is made at each node.
+    Here(Box<Call>),
+    /// The kept entry of this number.
+    Kept(usize),
+}
+
+/// A call of a function (2.4).
+#[derive(Drop)]
+#[cycle(plan)]
+pub enum Call {
+    /// A function of any name. All values of its arguments are wanted.
+    Custom(String, Vec<Argument>),
+    /// `length`
+    Length(Argument),
+    /// `value`
+    Value(Argument),
+    /// `count`
+    Count(Argument),
+    /// `search`
+    Search(Argument, Argument),
+    /// `match`
+    Match(Argument, Argument),
+}
+
+/// An argument of a call.
+#[derive(Drop)]
+#[cycle(plan)]
+pub enum Argument {
+    /// A literal.
+    Literal(Literal),
+    /// A text that is asked as a pattern. Equal ones that stand near one another have one number.
+    Pattern(String, usize),
+    /// What is wanted of nodes.
+    Nodes(Nodes),
+    /// What a call answers.
+    Call(Called),
+    /// Whether a filter holds.
+    Filter(Filter),
+}

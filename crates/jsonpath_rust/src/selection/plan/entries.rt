@@ -1,0 +1,82 @@
+//! What is kept under a number.
+ghost use Rattle.std.specs.Prelude.{◌≡◌, ◌<◌, [], length, map, IfSome, IfNone};
+ghost use Rattle.jsonpath_parser.specs.tree.Syntax as tree;
+ghost use Rattle.jsonpath_parser.specs.tree.View.{operator_view, step_view};
+ghost use Rattle.jsonpath_rust.specs.selection.inner.PlanViews.{kept_view, part_at, nodes, value, answered, compared, query_at, segments_in, steps_at, call_at, call_view, comparison_at, side_view};
+
+use super::keeping::is_same_wanted;
+use super::{Call, Plan, Rooted, Segment, Side};
+use crate::selection::sink::Wanted;
+use jsonpath_parser::model::{Operator, SingularQuerySegment};
+
+impl Plan {
+    /// The segments of the query from the root that is kept under this number, where this is wanted of its nodes.
+    #[inline(always)]
+    pub fn kept_segments(&self, number: usize, wanted: Wanted) -> Option<&[Segment]>
+        ensures part { IfSome result (λ gs. part_at (kept_view self.now.kept.items) number ≡ nodes wanted (segments_in (kept_view self.now.kept.items) gs.now)) }
+        ensures within { IfSome result (λ gs. number < length (kept_view self.now.kept.items)) }
+        ensures none { IfNone result (query_at (kept_view self.now.kept.items) wanted number ≡ tree.no_segments) }
+    {
+        let Some(entry) = self.kept.get(number) else {
+            return None;
+        };
+        match &entry.part {
+            Rooted::Nodes(segments, kept_for) => {
+                if is_same_wanted(wanted, *kept_for) {
+                    Some(segments)
+                } else {
+                    None
+                }
+            }
+            _ => None,
+        }
+    }
+
+    /// The steps from the root that are kept under this number.
+    #[inline(always)]
+    pub fn kept_steps(&self, number: usize) -> Option<&[SingularQuerySegment]>
+        ensures part { IfSome result (λ ss. part_at (kept_view self.now.kept.items) number ≡ value (map step_view ss.now)) }
+        ensures within { IfSome result (λ ss. number < length (kept_view self.now.kept.items)) }
+        ensures none { IfNone result (steps_at (kept_view self.now.kept.items) number ≡ []) }
+    {
+        let Some(entry) = self.kept.get(number) else {
+            return None;
+        };
+        match &entry.part {
+            Rooted::Value(steps) => Some(steps),
+            _ => None,
+        }
+    }
+
+    /// The call that is kept under this number.
+    #[inline(always)]
+    pub fn kept_call(&self, number: usize) -> Option<&Call>
+        ensures part { IfSome result (λ c. part_at (kept_view self.now.kept.items) number ≡ answered (call_view (kept_view self.now.kept.items) c.now)) }
+        ensures within { IfSome result (λ c. number < length (kept_view self.now.kept.items)) }
+        ensures none { IfNone result (call_at (kept_view self.now.kept.items) number ≡ tree.length_call (tree.literal_argument tree.null)) }
+    {
+        let Some(entry) = self.kept.get(number) else {
+            return None;
+        };
+        match &entry.part {
+            Rooted::Answer(call) => Some(call),
+            _ => None,
+        }
+    }
+
+    /// The comparison that is kept under this number.
+    #[inline(always)]
+    pub fn kept_comparison(&self, number: usize) -> Option<(Operator, &Side, &Side)>
+        ensures part { IfSome result (λ p. part_at (kept_view self.now.kept.items) number ≡ compared (tree.compare (operator_view p.0) (side_view (kept_view self.now.kept.items) p.1.now) (side_view (kept_view self.now.kept.items) p.2.now))) }
+        ensures within { IfSome result (λ p. number < length (kept_view self.now.kept.items)) }
+        ensures none { IfNone result (comparison_at (kept_view self.now.kept.items) number ≡ tree.compare tree.less (tree.literal tree.null) (tree.literal tree.null)) }
+    {
+        let Some(entry) = self.kept.get(number) else {
+            return None;
+        };
+        match &entry.part {
+            Rooted::Comparison(operator, left, right) => Some((*operator, left, right)),
+            _ => None,
+        }
+    }
+}

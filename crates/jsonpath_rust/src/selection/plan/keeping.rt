@@ -1,0 +1,180 @@
+//! Parts of the query without `@` that were met, and when each of them is worked out.
+ghost use Rattle.std.specs.Prelude.{◌≡◌, IfOk, IfErr, IfSome, IsTrue};
+ghost use Rattle.jsonpath_parser.specs.declared.errors.JsonPathError.TheVariants.{OutOfMemory};
+ghost use Rattle.jsonpath_rust.specs.selection.inner.PlanMaking.{IsBeside, IsKept, IsNumbered, IsNumberOf, source_of};
+ghost use Rattle.jsonpath_rust.specs.selection.inner.PlanViews.{is_same_wanted};
+
+use super::make::Maker;
+use super::{Entry, Rooted, Turn};
+use crate::selection::sink::Wanted;
+use jsonpath_parser::errors::Parsed;
+use jsonpath_parser::model::{Comparable, JpQuery, Operator, SingularQuery, TestFunction};
+use std::mem;
+
+/// What an entry is made of.
+#[derive(Clone, Copy)]
+pub enum Source<'q> {
+    /// A query from the root, and what is wanted of its nodes.
+    Query(&'q JpQuery, Wanted),
+    /// A side of a comparison.
+    Side(&'q SingularQuery),
+    /// A call.
+    Call(&'q TestFunction),
+    /// A comparison.
+    Comparison(Operator, &'q Comparable, &'q Comparable),
+}
+
+/// What an entry was made of, and how deep its working out may stand.
+#[derive(Clone, Copy)]
+pub struct Met<'q> {
+    pub source: Source<'q>,
+    /// How many queries from the root may be on their way at once when this one is first asked: it, where it is one, and
+    /// those that stand in it and are then first asked, one in the other. 0 where it is worked out before the walk, and where
+    /// it is a value.
+    pub run: usize,
+}
+
+/// No run is as long as this. An entry that had this run is worked out before the walk.
+const MOST_AT_ONCE: usize = 3;
+
+/// The run of a query from the root, where this is the greatest of the entries that stand in it.
+fn run_over(inner: usize) -> usize {
+    if inner < MOST_AT_ONCE - 1 {
+        inner + 1
+    } else {
+        0
+    }
+}
+
+/// When a query from the root of this run is worked out.
+fn turn_of(run: usize) -> Turn {
+    match run {
+        0 => Turn::Early,
+        _ => Turn::Asked,
+    }
+}
+
+impl<'q> Maker<'q> {
+    /// The number of an entry that is made of the same, which then stands at this place too.
+    pub fn found(&mut self, source: Source<'q>) -> Option<usize>
+        ensures number { IfSome result (IsNumberOf self.old.met.items source.entry) }
+        ensures beside { IsBeside self.old self.new }
+    {
+        let number = near_entry(&self.met, source)?;
+        self.run = self.run.max(self.met[number].run);
+        Some(number)
+    }
+
+    /// Begins a part: what is met from now on stands in it. The result is the greatest run that was met around it.
+    pub fn begin(&mut self) -> usize
+        ensures { IsBeside self.old self.new }
+    {
+        mem::replace(&mut self.run, 0)
+    }
+
+    /// Ends the part. The result is the greatest run that was met in it.
+    pub fn end(&mut self, around: usize) -> usize
+        ensures { IsBeside self.old self.new }
+    {
+        let inner = self.run;
+        self.run = around.max(inner);
+        inner
+    }
+
+    /// Makes the entry of a query from the root that was begun, and tells its number.
+    pub fn keep_query(&mut self, part: Rooted, source: Source<'q>, around: usize) -> Parsed<usize>
+        ensures kept { IfOk result (λ n. IsKept self.old self.new part source.entry n) }
+        ensures memory { IfErr result (λ e. e ≡ OutOfMemory) }
+    {
+        let run = run_over(self.run);
+        self.run = around.max(run);
+        self.keep(part, turn_of(run), Met { source, run })
+    }
+
+    /// The number of a part that is made of this: that of an entry that is made of the same, or of one more.
+    pub fn number(&mut self, part: Rooted, met: Met<'q>) -> Parsed<usize>
+        ensures numbered { IfOk result (λ n. IsNumbered self.old self.new part met.entry.source n) }
+        ensures memory { IfErr result (λ e. e ≡ OutOfMemory) }
+    {
+        match self.found(met.source) {
+            Some(number) => Ok(number),
+            None => self.keep(part, Turn::Asked, met),
+        }
+    }
+
+    /// Makes one entry more, and tells its number.
+    pub fn keep(&mut self, part: Rooted, turn: Turn, met: Met<'q>) -> Parsed<usize>
+        ensures kept { IfOk result (λ n. IsKept self.old self.new part met.entry.source n) }
+        ensures memory { IfErr result (λ e. e ≡ OutOfMemory) }
+    {
+        let number = self.met.len();
+        self.kept.push(Entry { part, turn })?;
+        self.met.push(met)?;
+        Ok(number)
+    }
+}
+
+/// How many entries are near.
+const NEAR: usize = 8;
+
+/// The number of an equal one among the last ones. They alone are looked at, so a query costs a few comparisons, however many
+/// there are.
+fn near_entry(met: &Vec<Met<'_>>, sought: Source<'_>) -> Option<usize>
+    ensures { IfSome result (IsNumberOf met.now.items sought.entry) }
+{
+    let count = met.len();
+    for number in count.saturating_sub(NEAR)..count {
+        if is_same(met[number].source, sought) {
+            return Some(number);
+        }
+    }
+    None
+}
+
+/// Whether the parts are the same, and the same is wanted of them.
+#[tactic(auto, using(jsonpath_parser::proofs::laws::tree::TreeEquality::query_same, jsonpath_parser::proofs::laws::tree::TreeEquality::singular_same, jsonpath_parser::proofs::laws::tree::TreeEquality::call_same, jsonpath_parser::proofs::laws::tree::TreeEquality::comparable_same))]
+fn is_same(left: Source<'_>, right: Source<'_>) -> bool
+    ensures { IsTrue result → source_of left.entry ≡ source_of right.entry }
+{
+    match (left, right) {
+        (Source::Query(one, wanted), Source::Query(other, sought)) => {
+            is_same_wanted(wanted, sought) && one == other
+        }
+        (Source::Side(one), Source::Side(other)) => one == other,
+        (Source::Call(one), Source::Call(other)) => one == other,
+        (Source::Comparison(one, left, right), Source::Comparison(other, first, second)) => {
+            is_same_operator(one, other) && left == first && right == second
+        }
+        _ => false,
+    }
+}
+
+/// Whether the same is wanted.
+#[inline(always)]
+pub fn is_same_wanted(left: Wanted, right: Wanted) -> bool
+    ensures same { IsTrue result → left ≡ right }
+    ensures is { result ≡ is_same_wanted left right }
+{
+    match (left, right) {
+        (Wanted::Any, Wanted::Any) => true,
+        (Wanted::Count, Wanted::Count) => true,
+        (Wanted::Only, Wanted::Only) => true,
+        (Wanted::Values, Wanted::Values) => true,
+        _ => false,
+    }
+}
+
+/// Whether the operators are the same.
+fn is_same_operator(left: Operator, right: Operator) -> bool
+    ensures { IsTrue result → left ≡ right }
+{
+    match (left, right) {
+        (Operator::Equal, Operator::Equal) => true,
+        (Operator::NotEqual, Operator::NotEqual) => true,
+        (Operator::Less, Operator::Less) => true,
+        (Operator::LessOrEqual, Operator::LessOrEqual) => true,
+        (Operator::Greater, Operator::Greater) => true,
+        (Operator::GreaterOrEqual, Operator::GreaterOrEqual) => true,
+        _ => false,
+    }
+}

@@ -1,0 +1,410 @@
+//! How a plan is made: by one pass over the query.
+ghost use Rattle.std.specs.Prelude.{◌≡◌, IfOk, IfErr, map};
+ghost use Rattle.jsonpath_parser.specs.declared.errors.JsonPathError.TheVariants.{OutOfMemory};
+ghost use Rattle.jsonpath_parser.specs.tree.Syntax as syntax;
+ghost use Rattle.jsonpath_parser.specs.tree.View as tree;
+ghost use Rattle.jsonpath_rust.specs.selection.inner.PlanViews as plan;
+ghost use Rattle.jsonpath_rust.specs.selection.inner.PlanMaking.{IsCompared, Made};
+ghost use Rattle.jsonpath_rust.specs.selection.inner.Planned.{plan_view};
+ghost use Rattle.jsonpath_rust.specs.declared.selection.plan.Rooted.TheVariants.{Comparison};
+ghost use Rattle.jsonpath_rust.specs.declared.selection.sink.Wanted.{Wanted};
+ghost use Rattle.jsonpath_rust.specs.declared.selection.sink.Wanted.TheVariants.{Only, Values};
+
+use super::absolute::{are_rooted_sides, is_rooted_call};
+use super::keeping::{Met, Source};
+use super::steps::{steps_again, steps_of};
+use super::{
+    Argument, Call, Called, Entry, Filter, Nodes, Plan, Rooted, Segment, Selector, Side, Turn,
+};
+use crate::documents::extent::Extent;
+use crate::selection::finders::Asked;
+use crate::selection::sink::Wanted;
+use jsonpath_parser::errors::Parsed;
+use jsonpath_parser::model as tree;
+use jsonpath_parser::model::{JpQuery, Operator, SingularQuery};
+use std::alloc::Global;
+
+/// The plan of a query. Linear in the query, but that each query from the root is compared with a few others.
+pub fn plan_of(alloc: Global, query: &JpQuery) -> Parsed<Plan>
+    ensures same { IfOk result (λ p. plan_view p ≡ tree.query_view query.now) }
+    ensures memory { IfErr result (λ e. e ≡ OutOfMemory) }
+{
+    let mut maker = Maker {
+        alloc,
+        kept: Vec::new(alloc),
+        met: Vec::new(alloc),
+        run: 0,
+        patterns: Vec::new(alloc),
+    };
+    let segments = maker.segments(&query.segments)?;
+    let pattern_count = maker.patterns.len();
+    Ok(Plan {
+        segments,
+        kept: maker.kept,
+        pattern_count,
+    })
+}
+
+/// Makes the parts of a plan.
+#[derive(Drop)]
+pub struct Maker<'q> {
+    pub alloc: Global,
+    /// The entries that are made.
+    pub kept: Vec<Entry>,
+    /// What each of them is made of.
+    pub met: Vec<Met<'q>>,
+    /// The greatest run of the entries that were met since the one at hand began.
+    pub run: usize,
+    /// The patterns that have a number.
+    pub patterns: Vec<Asked<'q>>,
+}
+
+impl<'q> Maker<'q> {
+    #[cycle(make)]
+    fn segments(&mut self, segments: &'q [tree::Segment]) -> Parsed<Vec<Segment>>
+        ensures made { IfOk result (λ v. Made self.old self.new (λ kept. map (plan.segment_view kept) v.items)
+            (map tree.segment_view segments.now)) }
+        ensures memory { IfErr result (λ e. e ≡ OutOfMemory) }
+    {
+        let mut parts = Vec::with_capacity(self.alloc, segments.len())?;
+        'segments: for segment in segments {
+            parts.push(self.segment(segment)?)?;
+        }
+        Ok(parts)
+    }
+
+    #[cycle(make)]
+    fn segment(&mut self, segment: &'q tree::Segment) -> Parsed<Segment>
+        ensures made { IfOk result (λ g. Made self.old self.new (λ kept. plan.segment_view kept g)
+            (tree.segment_view segment.now)) }
+        ensures memory { IfErr result (λ e. e ≡ OutOfMemory) }
+    {
+        match segment {
+            tree::Segment::Descendant(inner) => {
+                let inner = self.segment(inner)?;
+                Ok(Segment::Descendant(Box::new(self.alloc, inner)?))
+            }
+            tree::Segment::Selector(selector) => Ok(Segment::Selector(self.selector(selector)?)),
+            tree::Segment::Selectors(several) => Ok(Segment::Selectors(self.selectors(several)?)),
+        }
+    }
+
+    #[cycle(make)]
+    fn selectors(&mut self, selectors: &'q [tree::Selector]) -> Parsed<Vec<Selector>>
+        ensures made { IfOk result (λ v. Made self.old self.new (λ kept. map (plan.selector_view kept) v.items)
+            (map tree.selector_view selectors.now)) }
+        ensures memory { IfErr result (λ e. e ≡ OutOfMemory) }
+    {
+        let mut parts = Vec::with_capacity(self.alloc, selectors.len())?;
+        'selectors: for selector in selectors {
+            parts.push(self.selector(selector)?)?;
+        }
+        Ok(parts)
+    }
+
+    #[cycle(make)]
+    fn selector(&mut self, selector: &'q tree::Selector) -> Parsed<Selector>
+        ensures made { IfOk result (λ s. Made self.old self.new (λ kept. plan.selector_view kept s)
+            (tree.selector_view selector.now)) }
+        ensures memory { IfErr result (λ e. e ≡ OutOfMemory) }
+    {
+        match selector {
+            tree::Selector::Name(name) => Ok(Selector::Name(String::from_str(self.alloc, name)?)),
+            tree::Selector::Wildcard => Ok(Selector::Wildcard),
+            tree::Selector::Index(index) => Ok(Selector::Index(*index)),
+            tree::Selector::Slice(start, end, step) => Ok(Selector::Slice(*start, *end, *step)),
+            tree::Selector::Filter(filter) => Ok(Selector::Filter(self.filter(filter)?)),
+        }
+    }
+
+    #[cycle(make)]
+    fn filters(&mut self, filters: &'q [tree::Filter]) -> Parsed<Vec<Filter>>
+        ensures made { IfOk result (λ v. Made self.old self.new (λ kept. map (plan.filter_view kept) v.items)
+            (map tree.filter_view filters.now)) }
+        ensures memory { IfErr result (λ e. e ≡ OutOfMemory) }
+    {
+        let mut parts = Vec::with_capacity(self.alloc, filters.len())?;
+        'filters: for filter in filters {
+            parts.push(self.filter(filter)?)?;
+        }
+        Ok(parts)
+    }
+
+    #[cycle(make)]
+    fn filter(&mut self, filter: &'q tree::Filter) -> Parsed<Filter>
+        ensures made { IfOk result (λ f. Made self.old self.new (λ kept. plan.filter_view kept f)
+            (tree.filter_view filter.now)) }
+        ensures memory { IfErr result (λ e. e ≡ OutOfMemory) }
+    {
+        match filter {
+            tree::Filter::Or(parts) => Ok(Filter::Or(self.filters(parts)?)),
+            tree::Filter::And(parts) => Ok(Filter::And(self.filters(parts)?)),
+            tree::Filter::Atom(atom) => self.atom(atom),
+        }
+    }
+
+    #[cycle(make)]
+    fn atom(&mut self, atom: &'q tree::FilterAtom) -> Parsed<Filter>
+        ensures made { IfOk result (λ f. Made self.old self.new (λ kept. plan.filter_view kept f)
+            (syntax.atom (tree.atom_view atom.now))) }
+        ensures memory { IfErr result (λ e. e ≡ OutOfMemory) }
+    {
+        match atom {
+            tree::FilterAtom::Filter { expr, not } => {
+                let inner = self.filter(expr)?;
+                Ok(Filter::Group {
+                    expr: Box::new(self.alloc, inner)?,
+                    not: *not,
+                })
+            }
+            tree::FilterAtom::Test { expr, not } => self.test(expr, *not),
+            tree::FilterAtom::Comparison(comparison) => self.comparison(comparison),
+        }
+    }
+
+    /// A test, turned round where `not`.
+    #[cycle(make)]
+    fn test(&mut self, test: &'q tree::Test, not: bool) -> Parsed<Filter>
+        ensures made { IfOk result (λ f. Made self.old self.new (λ kept. plan.filter_view kept f)
+            (syntax.atom (syntax.Atom.test not (tree.test_view test.now)))) }
+        ensures memory { IfErr result (λ e. e ≡ OutOfMemory) }
+    {
+        match test {
+            tree::Test::RelQuery(segments) => {
+                let nodes = self.relative(segments)?;
+                Ok(Filter::Exists { nodes, not })
+            }
+            tree::Test::AbsQuery(query) => {
+                let nodes = Nodes::Kept(self.absolute(query, Wanted::Any)?);
+                Ok(Filter::Exists { nodes, not })
+            }
+            tree::Test::Function(function) => {
+                let call = self.called(function)?;
+                Ok(Filter::Call { call, not })
+            }
+        }
+    }
+
+    #[cycle(make)]
+    fn comparison(&mut self, comparison: &'q tree::Comparison) -> Parsed<Filter>
+        ensures made { IfOk result (λ f. Made self.old self.new (λ kept. plan.filter_view kept f)
+            (syntax.atom (syntax.comparison (tree.comparison_view comparison.now)))) }
+        ensures memory { IfErr result (λ e. e ≡ OutOfMemory) }
+    {
+        let around = self.begin();
+        match comparison {
+            tree::Comparison::Eq(left, right) => {
+                let source = Source::Comparison(Operator::Equal, left, right);
+                let sides = (self.side(left)?, self.side(right)?);
+                self.compare(source, Operator::Equal, sides, around)
+            }
+            tree::Comparison::Ne(left, right) => {
+                let source = Source::Comparison(Operator::NotEqual, left, right);
+                let sides = (self.side(left)?, self.side(right)?);
+                self.compare(source, Operator::NotEqual, sides, around)
+            }
+            tree::Comparison::Gt(left, right) => {
+                let source = Source::Comparison(Operator::Greater, left, right);
+                let sides = (self.side(left)?, self.side(right)?);
+                self.compare(source, Operator::Greater, sides, around)
+            }
+            tree::Comparison::Gte(left, right) => {
+                let source = Source::Comparison(Operator::GreaterOrEqual, left, right);
+                let sides = (self.side(left)?, self.side(right)?);
+                self.compare(source, Operator::GreaterOrEqual, sides, around)
+            }
+            tree::Comparison::Lt(left, right) => {
+                let source = Source::Comparison(Operator::Less, left, right);
+                let sides = (self.side(left)?, self.side(right)?);
+                self.compare(source, Operator::Less, sides, around)
+            }
+            tree::Comparison::Lte(left, right) => {
+                let source = Source::Comparison(Operator::LessOrEqual, left, right);
+                let sides = (self.side(left)?, self.side(right)?);
+                self.compare(source, Operator::LessOrEqual, sides, around)
+            }
+        }
+    }
+
+    /// A comparison that was begun: the number of its entry, where it has no `@`.
+    fn compare(
+        &mut self,
+        source: Source<'q>,
+        operator: Operator,
+        sides: (Side, Side),
+        around: usize,
+    ) -> Parsed<Filter>
+        ensures made { IfOk result (λ f. IsCompared self.old self.new (Comparison operator sides.0 sides.1) source.entry f) }
+        ensures memory { IfErr result (λ e. e ≡ OutOfMemory) }
+    {
+        let run = self.end(around);
+        let (left, right) = sides;
+        if are_rooted_sides(&left, &right) {
+            let part = Rooted::Comparison(operator, left, right);
+            let number = self.number(part, Met { source, run })?;
+            return Ok(Filter::Kept(number));
+        }
+        Ok(Filter::Comparison(operator, left, right))
+    }
+
+    #[cycle(make)]
+    fn side(&mut self, side: &'q tree::Comparable) -> Parsed<Side>
+        ensures made { IfOk result (λ s. Made self.old self.new (λ kept. plan.side_view kept s)
+            (tree.comparable_view side.now)) }
+        ensures memory { IfErr result (λ e. e ≡ OutOfMemory) }
+    {
+        match side {
+            tree::Comparable::Literal(literal) => Ok(Side::Literal(literal.try_clone(self.alloc)?)),
+            tree::Comparable::SingularQuery(query) => self.singular(query),
+            tree::Comparable::Function(function) => Ok(Side::Call(self.called(function)?)),
+        }
+    }
+
+    /// A query of at most one node, as a side.
+    fn singular(&mut self, query: &'q SingularQuery) -> Parsed<Side>
+        ensures made { IfOk result (λ s. Made self.old self.new (λ kept. plan.side_view kept s)
+            (syntax.singular (tree.singular_view query.now))) }
+        ensures memory { IfErr result (λ e. e ≡ OutOfMemory) }
+    {
+        match query {
+            SingularQuery::Current(steps) => Ok(Side::Lookup(steps_again(self.alloc, steps)?)),
+            SingularQuery::Root(steps) => {
+                let source = Source::Side(query);
+                if let Some(number) = self.found(source) {
+                    return Ok(Side::Kept(number));
+                }
+                let part = Rooted::Value(steps_again(self.alloc, steps)?);
+                Ok(Side::Kept(self.keep(part, Turn::Asked, Met { source, run: 0 })?))
+            }
+        }
+    }
+
+    /// A query from the current node.
+    #[cycle(make)]
+    fn relative(&mut self, segments: &'q [tree::Segment]) -> Parsed<Nodes>
+        ensures made { (wanted : Wanted) → IfOk result (λ n. Made self.old self.new (λ kept. plan.nodes_view kept n wanted)
+            (syntax.relative (tree.segments_of (map tree.segment_view segments.now)))) }
+        ensures memory { IfErr result (λ e. e ≡ OutOfMemory) }
+    {
+        match steps_of(self.alloc, segments)? {
+            Some(steps) => Ok(Nodes::Lookup(steps)),
+            None => Ok(Nodes::Walk(self.segments(segments)?)),
+        }
+    }
+
+    /// The number of the entry of a query from the root.
+    #[cycle(make)]
+    fn absolute(&mut self, query: &'q JpQuery, wanted: Wanted) -> Parsed<usize>
+        ensures made { IfOk result (λ n. Made self.old self.new (λ kept. plan.query_at kept wanted n)
+            (tree.query_view query.now)) }
+        ensures memory { IfErr result (λ e. e ≡ OutOfMemory) }
+    {
+        let source = Source::Query(query, wanted);
+        if let Some(number) = self.found(source) {
+            return Ok(number);
+        }
+        let around = self.begin();
+        let segments = self.segments(&query.segments)?;
+        self.keep_query(Rooted::Nodes(segments, wanted), source, around)
+    }
+
+    /// A call: the number of its entry, where it has no `@`.
+    #[cycle(make)]
+    fn called(&mut self, call: &'q tree::TestFunction) -> Parsed<Called>
+        ensures made { IfOk result (λ c. Made self.old self.new (λ kept. plan.called_view kept c) (tree.call_view call.now)) }
+        ensures memory { IfErr result (λ e. e ≡ OutOfMemory) }
+    {
+        let around = self.begin();
+        let made = self.call(call)?;
+        let run = self.end(around);
+        if is_rooted_call(&made) {
+            let source = Source::Call(call);
+            let number = self.number(Rooted::Answer(made), Met { source, run })?;
+            return Ok(Called::Kept(number));
+        }
+        Ok(Called::Here(Box::new(self.alloc, made)?))
+    }
+
+    #[cycle(make)]
+    fn call(&mut self, call: &'q tree::TestFunction) -> Parsed<Call>
+        ensures made { IfOk result (λ c. Made self.old self.new (λ kept. plan.call_view kept c) (tree.call_view call.now)) }
+        ensures memory { IfErr result (λ e. e ≡ OutOfMemory) }
+    {
+        match call {
+            tree::TestFunction::Custom(name, args) => {
+                let name = String::from_str(self.alloc, name)?;
+                Ok(Call::Custom(name, self.arguments(args)?))
+            }
+            tree::TestFunction::Length(arg) => Ok(Call::Length(self.argument(arg, Wanted::Only)?)),
+            tree::TestFunction::Value(arg) => Ok(Call::Value(self.argument(arg, Wanted::Only)?)),
+            tree::TestFunction::Count(arg) => Ok(Call::Count(self.argument(arg, Wanted::Count)?)),
+            tree::TestFunction::Search(text, pattern) => {
+                let text = self.argument(text, Wanted::Only)?;
+                let pattern = self.pattern(pattern, Extent::Substring)?;
+                Ok(Call::Search(text, pattern))
+            }
+            tree::TestFunction::Match(text, pattern) => {
+                let text = self.argument(text, Wanted::Only)?;
+                let pattern = self.pattern(pattern, Extent::Entire)?;
+                Ok(Call::Match(text, pattern))
+            }
+        }
+    }
+
+    /// The arguments of a custom function.
+    #[cycle(make)]
+    fn arguments(&mut self, arguments: &'q [tree::FnArg]) -> Parsed<Vec<Argument>>
+        ensures made { IfOk result (λ v. Made self.old self.new (λ kept. map (λ a. plan.argument_view kept a Values) v.items)
+            (map tree.argument_view arguments.now)) }
+        ensures memory { IfErr result (λ e. e ≡ OutOfMemory) }
+    {
+        let mut parts = Vec::with_capacity(self.alloc, arguments.len())?;
+        'arguments: for argument in arguments {
+            parts.push(self.argument(argument, Wanted::Values)?)?;
+        }
+        Ok(parts)
+    }
+
+    /// The second argument of `match` or `search`.
+    #[cycle(make)]
+    fn pattern(&mut self, argument: &'q tree::FnArg, extent: Extent) -> Parsed<Argument>
+        ensures made { IfOk result (λ a. Made self.old self.new (λ kept. plan.argument_view kept a Only)
+            (tree.argument_view argument.now)) }
+        ensures memory { IfErr result (λ e. e ≡ OutOfMemory) }
+    {
+        match argument {
+            tree::FnArg::Literal(literal) => self.literal_pattern(literal, extent),
+            _ => self.argument(argument, Wanted::Only),
+        }
+    }
+
+    #[cycle(make)]
+    fn argument(&mut self, argument: &'q tree::FnArg, wanted: Wanted) -> Parsed<Argument>
+        ensures made { IfOk result (λ a. Made self.old self.new (λ kept. plan.argument_view kept a wanted)
+            (tree.argument_view argument.now)) }
+        ensures memory { IfErr result (λ e. e ≡ OutOfMemory) }
+    {
+        match argument {
+            tree::FnArg::Literal(literal) => Ok(Argument::Literal(literal.try_clone(self.alloc)?)),
+            tree::FnArg::Filter(filter) => Ok(Argument::Filter(self.filter(filter)?)),
+            tree::FnArg::Test(test) => self.test_argument(test, wanted),
+        }
+    }
+
+    /// A query or a call, as an argument.
+    #[cycle(make)]
+    fn test_argument(&mut self, test: &'q tree::Test, wanted: Wanted) -> Parsed<Argument>
+        ensures made { IfOk result (λ a. Made self.old self.new (λ kept. plan.argument_view kept a wanted)
+            (syntax.test_argument (tree.test_view test.now))) }
+        ensures memory { IfErr result (λ e. e ≡ OutOfMemory) }
+    {
+        match test {
+            tree::Test::RelQuery(segments) => Ok(Argument::Nodes(self.relative(segments)?)),
+            tree::Test::AbsQuery(query) => {
+                let number = self.absolute(query, wanted)?;
+                Ok(Argument::Nodes(Nodes::Kept(number)))
+            }
+            tree::Test::Function(function) => Ok(Argument::Call(self.called(function)?)),
+        }
+    }
+}

@@ -1,0 +1,75 @@
+//! Segments of one name or one index each, and steps.
+ghost use Rattle.std.specs.Prelude.{◌≡◌, IfOk, IfErr, IfSome, map};
+ghost use Rattle.jsonpath_parser.specs.tree.View.{segment_view, step_view};
+ghost use Rattle.jsonpath_parser.specs.declared.errors.JsonPathError.TheVariants.{OutOfMemory};
+ghost use Rattle.jsonpath_rust.specs.selection.inner.PlanViews as plan;
+
+use jsonpath_parser::errors::Parsed;
+use jsonpath_parser::model as tree;
+use jsonpath_parser::model::SingularQuerySegment;
+use std::alloc::Global;
+
+/// The steps of these segments, where each is one name or one index.
+pub fn steps_of(
+    alloc: Global,
+    segments: &[tree::Segment],
+) -> Parsed<Option<Vec<SingularQuerySegment>>>
+    ensures same { IfOk result (λ o. IfSome o (λ v. map (λ s. plan.step_segment (step_view s)) v.items ≡ map segment_view segments.now)) }
+    ensures memory { IfErr result (λ e. e ≡ OutOfMemory) }
+{
+    if !are_steps(segments) {
+        return Ok(None);
+    }
+    let mut steps = Vec::with_capacity(alloc, segments.len())?;
+    'segments: for segment in segments {
+        match step_of(alloc, segment)? {
+            Some(step) => steps.push(step)?,
+            None => return Ok(None),
+        }
+    }
+    Ok(Some(steps))
+}
+
+/// Whether each segment is one name or one index.
+fn are_steps(segments: &[tree::Segment]) -> bool {
+    for segment in segments {
+        match segment {
+            tree::Segment::Selector(tree::Selector::Name(_)) => {}
+            tree::Segment::Selector(tree::Selector::Index(_)) => {}
+            _ => return false,
+        }
+    }
+    true
+}
+
+/// The step of a segment, where it is one name or one index.
+fn step_of(alloc: Global, segment: &tree::Segment) -> Parsed<Option<SingularQuerySegment>>
+    ensures same { IfOk result (λ o. IfSome o (λ s. plan.step_segment (step_view s) ≡ segment_view segment.now)) }
+    ensures memory { IfErr result (λ e. e ≡ OutOfMemory) }
+{
+    match segment {
+        tree::Segment::Selector(tree::Selector::Name(name)) => {
+            let name = String::from_str(alloc, name)?;
+            Ok(Some(SingularQuerySegment::Name(name)))
+        }
+        tree::Segment::Selector(tree::Selector::Index(index)) => {
+            Ok(Some(SingularQuerySegment::Index(*index)))
+        }
+        _ => Ok(None),
+    }
+}
+
+/// The same steps.
+pub fn steps_again(
+    alloc: Global,
+    steps: &[SingularQuerySegment],
+) -> Parsed<Vec<SingularQuerySegment>>
+    ensures same { IfOk result (λ v. map step_view v.items ≡ map step_view steps.now) }
+    ensures memory { IfErr result (λ e. e ≡ OutOfMemory) }
+{
+    let mut copies = Vec::with_capacity(alloc, steps.len())?;
+    'steps: for step in steps {
+        copies.push(step.try_clone(alloc)?)?;
+    }
+    Ok(copies)
+}

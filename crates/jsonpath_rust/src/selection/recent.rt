@@ -1,0 +1,89 @@
+//! Patterns that come from the document and are kept built with no finder, as long as they are among those asked last.
+ghost use Rattle.std.specs.Prelude.{◌≡◌, IfOk, IfErr};
+ghost use Rattle.jsonpath_base.specs.Pattern.{pattern_sought, found, IsPatternRefusal};
+ghost use Rattle.jsonpath_rust.specs.documents.inner.Operands.{is_entire};
+
+use crate::selection::finders::Asked;
+use jsonpath_base::pattern::{Pattern, found};
+use jsonpath_parser::errors::Parsed;
+use std::alloc::{AllocError, Global};
+
+/// A pattern that has no place, and how often it was asked.
+#[derive(Drop)]
+pub struct Unplaced {
+    pub pattern: Box<Pattern>,
+    pub asks: usize,
+}
+
+impl Unplaced {
+    /// This pattern, not asked yet. It refuses as `Pattern::new` does.
+    pub fn new(alloc: Global, asked: Asked<'_>) -> Parsed<Self>
+        ensures { IfErr result (IsPatternRefusal (pattern_sought (is_entire asked.entry.extent) asked.entry.pattern.now)) }
+    {
+        let pattern = asked.built(alloc)?;
+        Ok(Unplaced { pattern, asks: 0 })
+    }
+
+    /// Whether it is this pattern.
+    pub fn is_of(&self, asked: Asked<'_>) -> bool {
+        self.pattern.is_of(asked.pattern, asked.extent.is_entire())
+    }
+
+    /// What `match` or `search` answers for a text and this pattern, which is read anew where it is another.
+    pub fn is_found(&self, alloc: Global, text: &str, asked: Asked<'_>) -> Parsed<bool>
+        ensures value { IfOk result (λ b. b ≡ found (is_entire asked.entry.extent) asked.entry.pattern.now text.now) }
+        ensures refused { IfErr result (IsPatternRefusal (pattern_sought (is_entire asked.entry.extent) asked.entry.pattern.now)) }
+    {
+        let entire = asked.extent.is_entire();
+        if self.pattern.is_of(asked.pattern, entire) {
+            return Ok(self.pattern.is_found(alloc, text)?);
+        }
+        found(alloc, text, asked.pattern, entire)
+    }
+}
+
+/// The patterns that were asked last, the one asked longest ago first.
+#[derive(Drop)]
+pub struct Recent {
+    patterns: Vec<Unplaced>,
+}
+
+/// How many patterns are kept.
+const MOST: usize = 8;
+
+impl Recent {
+    /// None yet.
+    pub fn new(alloc: Global) -> Self {
+        Recent {
+            patterns: Vec::new(alloc),
+        }
+    }
+
+    /// Takes this pattern out, if it is kept.
+    pub fn take(&mut self, asked: Asked<'_>) -> Option<Unplaced> {
+        let index = self.index_of(asked)?;
+        if index < self.patterns.len() {
+            return Some(self.patterns.remove(index));
+        }
+        None
+    }
+
+    /// The index of this pattern, if it is kept.
+    fn index_of(&self, asked: Asked<'_>) -> Option<usize> {
+        for (index, unplaced) in self.patterns.iter().enumerate() {
+            if unplaced.is_of(asked) {
+                return Some(index);
+            }
+        }
+        None
+    }
+
+    /// Keeps a pattern that was just asked. Where there are too many, the one asked longest ago leaves.
+    pub fn keep(&mut self, mut unplaced: Unplaced) -> Result<(), AllocError> {
+        if self.patterns.len() >= MOST {
+            drop(self.patterns.remove(0));
+        }
+        unplaced.asks = unplaced.asks.saturating_add(1);
+        Ok(self.patterns.push(unplaced)?)
+    }
+}

@@ -1,0 +1,157 @@
+//! Values of the root that are kept: each is worked out when it is first asked.
+ghost use Rattle.std.specs.Prelude.{◌≡◌, IsTrue, IfOk, IfErr, IfSome, OnOk, OnErr};
+ghost use Rattle.jsonpath_rust.specs.documents.Meaning.{answer, comparison_holds, value_at};
+ghost use Rattle.jsonpath_rust.specs.documents.Node.{Node};
+ghost use Rattle.jsonpath_rust.specs.documents.Patterns.{call_patterns, comparison_patterns};
+ghost use Rattle.jsonpath_rust.specs.declared.documents.halt.Halt.TheVariants.{Memory};
+ghost use Rattle.jsonpath_rust.specs.documents.inner.Operands.{operand_tree, operand_is_whole};
+ghost use Rattle.jsonpath_rust.specs.selection.inner.Halting.{IsHalt, StandIn};
+ghost use Rattle.jsonpath_rust.specs.selection.inner.Keeping.{IsReady, document, kept_of, query_of, value_by};
+ghost use Rattle.jsonpath_rust.specs.selection.inner.PlanViews.{call_at, called_view, comparison_at, part_at, steps_at};
+ghost use Rattle.jsonpath_rust.specs.selection.inner.Standing.{Stands, Returns};
+ghost use Rattle.jsonpath_rust.specs.selection.inner.Walking.{node_of};
+
+use crate::documents::halt::Walked;
+use crate::documents::queryable::Queryable;
+use crate::documents::value::{Operand, Scalar};
+use crate::selection::cache::{Cache, Given};
+use crate::selection::plan::Called;
+use crate::selection::singular::value_at;
+use crate::selection::trail::Trail;
+use crate::selection::walk::Task;
+use crate::selection::way::Way;
+use std::alloc::Global;
+use std::mem;
+
+/// The same value: a copy, where a custom function made it.
+fn again<'a, 's, T: Queryable>(
+    alloc: Global,
+    value: &Operand<'a, 's, T>,
+) -> Walked<Operand<'a, 's, T>>
+    requires { IsTrue (operand_is_whole T.is_whole value.now) }
+    ensures value { IfOk result (λ o. operand_tree T.tree o ≡ operand_tree T.tree value.now) }
+    ensures whole { IfOk result (λ o. IsTrue (operand_is_whole T.is_whole o)) }
+    ensures memory { IfErr result (λ h. h ≡ Memory) }
+{
+    match value {
+        Operand::Absent => Ok(Operand::Absent),
+        Operand::Lent(value) => Ok(Operand::Lent(*value)),
+        Operand::Made(value) => Ok(Operand::Made(value.try_clone(alloc)?)),
+        Operand::Plain(scalar) => Ok(Operand::Plain(*scalar)),
+    }
+}
+
+impl<'a: 's, 's, T: Queryable> Task<'a, 's, T> {
+    /// The value that is kept under this number, if it is worked out.
+    fn kept(&self, number: usize, cache: &Cache<'a, 's, T>) -> Walked<Option<Operand<'a, 's, T>>>
+        requires ready { IsReady T.tree T.is_whole T.custom self.now cache.now }
+        ensures value { IfOk result (λ o. IfSome o (λ v. operand_tree T.tree v ≡ value_by (part_at (kept_of self.now) number) (document T.tree T.custom self.now))) }
+        ensures whole { IfOk result (λ o. IfSome o (λ v. IsTrue (operand_is_whole T.is_whole v))) }
+        ensures memory { IfErr result (λ h. h ≡ Memory) }
+    {
+        match cache.get(number) {
+            Some(Given::Value(value)) => Ok(Some(again(self.alloc, value)?)),
+            _ => Ok(None),
+        }
+    }
+
+    /// The value that the steps lead to that are kept under this number.
+    pub fn kept_value(
+        &self,
+        number: usize,
+        cache: &mut Cache<'a, 's, T>,
+    ) -> Walked<Operand<'a, 's, T>>
+        requires ready { IsReady T.tree T.is_whole T.custom self.now cache.old }
+        ensures value { IfOk result (λ o. operand_tree T.tree o ≡ value_at (steps_at (kept_of self.now) number) (T.tree self.now.root.now)) }
+        ensures whole { IfOk result (λ o. IsTrue (operand_is_whole T.is_whole o)) }
+        ensures ready { IsReady T.tree T.is_whole T.custom self.now cache.new }
+        ensures memory { IfErr result (λ h. h ≡ Memory) }
+    {
+        let Some(steps) = self.plan.kept_steps(number) else {
+            return Ok(Operand::Lent(self.root));
+        };
+        if let Some(value) = self.kept(number, cache)? {
+            return Ok(value);
+        }
+        let value = value_at(steps, self.root);
+        cache.keep(number, Given::Value(Operand::lent(value)));
+        Ok(Operand::lent(value))
+    }
+
+    /// What a call answers at a value, to which the way leads.
+    #[cycle(walk)]
+    pub fn called(
+        &self,
+        call: &'s Called,
+        at: &'a T,
+        trail: &mut Trail<'a, 's, '_, T>,
+    ) -> Walked<Operand<'a, 's, T>>
+        requires stands { Stands T.tree T.is_whole T.custom self.now at.now trail.old.way.steps.items trail.old.cache }
+        requires part { StandIn (query_of self.now) (call_patterns (called_view (kept_of self.now) call.now)) }
+        ensures value { IfOk result (λ o. operand_tree T.tree o ≡ answer (called_view (kept_of self.now) call.now) (document T.tree T.custom self.now) (node_of T.tree trail.old.way.steps.items at.now)) }
+        ensures whole { IfOk result (λ o. IsTrue (operand_is_whole T.is_whole o)) }
+        ensures returns { OnOk result (Returns T.tree T.is_whole T.custom self.now trail.old trail.new) }
+        ensures ready { OnErr result (IsReady T.tree T.is_whole T.custom self.now trail.new.cache) }
+        ensures refused { IfErr result (IsHalt self.now.limit (query_of self.now) (document T.tree T.custom self.now)) }
+    {
+        match call {
+            Called::Here(call) => self.answer(call, at, trail),
+            Called::Kept(number) => self.kept_answer(*number, trail),
+        }
+    }
+
+    /// What the call answers that is kept under this number.
+    #[cycle(walk)]
+    fn kept_answer(
+        &self,
+        number: usize,
+        trail: &mut Trail<'a, 's, '_, T>,
+    ) -> Walked<Operand<'a, 's, T>>
+        requires part { StandIn (query_of self.now) (call_patterns (call_at (kept_of self.now) number)) }
+        requires ready { IsReady T.tree T.is_whole T.custom self.now trail.old.cache }
+        ensures value { (n : Node) → IfOk result (λ o. operand_tree T.tree o ≡ answer (call_at (kept_of self.now) number) (document T.tree T.custom self.now) n) }
+        ensures whole { IfOk result (λ o. IsTrue (operand_is_whole T.is_whole o)) }
+        ensures returns { OnOk result (Returns T.tree T.is_whole T.custom self.now trail.old trail.new) }
+        ensures ready { OnErr result (IsReady T.tree T.is_whole T.custom self.now trail.new.cache) }
+        ensures refused { IfErr result (IsHalt self.now.limit (query_of self.now) (document T.tree T.custom self.now)) }
+    {
+        let Some(call) = self.plan.kept_call(number) else {
+            return Ok(Operand::Absent);
+        };
+        if let Some(value) = self.kept(number, &trail.cache)? {
+            return Ok(value);
+        }
+        let root = Way::new(self.alloc);
+        let here = mem::replace(&mut trail.way, root);
+        let given = self.answer(call, self.root, trail)?;
+        trail.way = here;
+        let first = again(self.alloc, &given)?;
+        trail.cache.keep(number, Given::Value(given));
+        Ok(first)
+    }
+
+    /// Whether the comparison holds that is kept under this number.
+    #[cycle(walk)]
+    pub fn kept_comparison(&self, number: usize, trail: &mut Trail<'a, 's, '_, T>) -> Walked<bool>
+        requires part { StandIn (query_of self.now) (comparison_patterns (comparison_at (kept_of self.now) number)) }
+        requires ready { IsReady T.tree T.is_whole T.custom self.now trail.old.cache }
+        ensures holds { (n : Node) → IfOk result (λ b. b ≡ comparison_holds (comparison_at (kept_of self.now) number) (document T.tree T.custom self.now) n) }
+        ensures returns { OnOk result (Returns T.tree T.is_whole T.custom self.now trail.old trail.new) }
+        ensures ready { OnErr result (IsReady T.tree T.is_whole T.custom self.now trail.new.cache) }
+        ensures refused { IfErr result (IsHalt self.now.limit (query_of self.now) (document T.tree T.custom self.now)) }
+    {
+        let Some((operator, left, right)) = self.plan.kept_comparison(number) else {
+            return Ok(false);
+        };
+        if let Some(value) = self.kept(number, &trail.cache)? {
+            return Ok(value.is_true());
+        }
+        let root = Way::new(self.alloc);
+        let here = mem::replace(&mut trail.way, root);
+        let held = self.comparison_holds(operator, (left, right), self.root, trail)?;
+        trail.way = here;
+        let truth = Operand::Plain(Scalar::Truth(held));
+        trail.cache.keep(number, Given::Value(truth));
+        Ok(held)
+    }
+}

@@ -1,0 +1,301 @@
+//! A prepared query that is asked of one document after another.
+ghost use Rattle.std.specs.Prelude.{◌≡◌, ◌↔◌, [], map, All, IsTrue, IsFalse, IfOk, IfErr, IfSome, IfNone, string_bytes};
+ghost use Rattle.std.specs.List.{AllZip};
+ghost use Rattle.jsonpath_parser.specs.tree.View.{query_view};
+ghost use Rattle.jsonpath_rust.specs.documents.Answer.{IsNodeAt, IsPathAt, IsValueAt, shown, paths_of};
+ghost use Rattle.jsonpath_rust.specs.documents.Document.{document_of};
+ghost use Rattle.jsonpath_rust.specs.documents.Meaning.{selected, nodelist};
+ghost use Rattle.jsonpath_rust.specs.documents.Patterns.{IsStop};
+ghost use Rattle.jsonpath_rust.specs.selection.Prepared.{prepared_view, runner_view, IsFirstNode};
+ghost use Rattle.jsonpath_rust.specs.selection.inner.Halting.{IsHalt};
+ghost use Rattle.jsonpath_rust.specs.selection.inner.Sinks.{Took, seen};
+
+use crate::documents::halt::{Halt, Walked};
+use crate::documents::queryable::Queryable;
+use crate::documents::{Queried, QueryPath, QueryRef};
+use crate::selection::budget::Budget;
+use crate::selection::finders::Standing;
+use crate::selection::give::give_requested;
+use crate::selection::prepared::Prepared;
+use crate::selection::sink::Sink;
+use jsonpath_parser::model::JpQuery;
+use std::alloc::Global;
+use std::mem;
+
+/// What asks a [`Prepared`] query of one document after another. Beside what `Prepared` keeps, what searches for its patterns
+/// stays from one call to the next, so that only the first call makes it.
+///
+/// Each call answers and refuses as that of `Prepared` does. The calls with a limit are for queries of strangers: they take a
+/// number of units of work, and answer None where that is not enough. A unit is spent for each child that a `*`, a slice, a
+/// filter or `..` looks at, for each selector of several in one segment, for each filter, and parts of one, that is evaluated,
+/// for each value in the smaller side of a comparison, for each byte of a text or a pattern of the document that `length`,
+/// `match` or `search` reads, and for the product of the sizes of the arguments of any other function. Names and indexes cost
+/// nothing by themselves. So the time of a unit grows with the length of the query alone.
+#[derive(Drop)]
+pub struct Runner<'p> {
+    prepared: &'p Prepared,
+    standing: Standing<'p>,
+}
+
+impl<'p> Runner<'p> {
+    /// Of this query. Nothing is allocated yet.
+    pub fn new(alloc: Global, prepared: &'p Prepared) -> Self
+        ensures { runner_view result ≡ prepared_view prepared.now }
+    {
+        Runner {
+            prepared,
+            standing: prepared.standing(alloc),
+        }
+    }
+
+    /// The query.
+    pub fn query(&self) -> &JpQuery
+        ensures { query_view result.now ≡ runner_view self.now }
+    {
+        self.prepared.query()
+    }
+
+    /// The nodes that the query selects in a document, in order, as [`Prepared::nodes`] answers them.
+    pub fn nodes<'a, T: Queryable>(
+        &mut self,
+        alloc: Global,
+        value: &'a T,
+    ) -> Queried<Vec<QueryRef<'a, T>>>
+        requires { IsTrue (T.is_whole value.now) }
+        ensures nodes { IfOk result (λ v. AllZip (IsNodeAt (document_of T.tree T.custom value.now))
+            (selected (runner_view self.old) (document_of T.tree T.custom value.now)) (shown T.tree v.items)) }
+        ensures whole { IfOk result (λ v. All (λ r. IsTrue (T.is_whole r.val.now)) v.items) }
+        ensures same { runner_view self.new ≡ runner_view self.old }
+        ensures refused { IfErr result (IsStop (runner_view self.old) (document_of T.tree T.custom value.now)) }
+    {
+        let mut sink = Sink::Nodes(Vec::new(alloc));
+        let _goes_on = self.give_all(alloc, value, &mut sink)?;
+        Ok(sink.into_nodes(alloc))
+    }
+
+    /// The values of these nodes, in order. No path is made.
+    pub fn values<'a, T: Queryable>(&mut self, alloc: Global, value: &'a T) -> Queried<Vec<&'a T>>
+        requires { IsTrue (T.is_whole value.now) }
+        ensures values { IfOk result (λ v. AllZip (IsValueAt (document_of T.tree T.custom value.now))
+            (selected (runner_view self.old) (document_of T.tree T.custom value.now)) (map (λ x. T.tree x.now) v.items)) }
+        ensures whole { IfOk result (λ v. All (λ x. IsTrue (T.is_whole x.now)) v.items) }
+        ensures same { runner_view self.new ≡ runner_view self.old }
+        ensures refused { IfErr result (IsStop (runner_view self.old) (document_of T.tree T.custom value.now)) }
+    {
+        let mut sink = Sink::Values(Vec::new(alloc));
+        let _goes_on = self.give_all(alloc, value, &mut sink)?;
+        Ok(sink.into_values(alloc))
+    }
+
+    /// The Normalized Paths of these nodes (RFC 9535, 2.7), in order.
+    pub fn paths<T: Queryable>(&mut self, alloc: Global, value: &T) -> Queried<Vec<QueryPath>>
+        requires { IsTrue (T.is_whole value.now) }
+        ensures paths { IfOk result (λ v. AllZip (IsPathAt (document_of T.tree T.custom value.now))
+            (selected (runner_view self.old) (document_of T.tree T.custom value.now)) (paths_of v.items)) }
+        ensures same { runner_view self.new ≡ runner_view self.old }
+        ensures refused { IfErr result (IsStop (runner_view self.old) (document_of T.tree T.custom value.now)) }
+    {
+        let mut sink = Sink::Paths(Vec::new(alloc));
+        let _goes_on = self.give_all(alloc, value, &mut sink)?;
+        Ok(sink.into_paths(alloc))
+    }
+
+    /// The first of these nodes, or None where the query selects none. The document is walked no further than to that node.
+    pub fn first<'a, T: Queryable>(
+        &mut self,
+        alloc: Global,
+        value: &'a T,
+    ) -> Queried<Option<QueryRef<'a, T>>>
+        requires { IsTrue (T.is_whole value.now) }
+        ensures first { IfOk result (λ o. IfSome o (λ r. IsFirstNode (runner_view self.old) (document_of T.tree T.custom value.now) (string_bytes r.path, T.tree r.val.now))) }
+        ensures none { IfOk result (λ o. IfNone o (selected (runner_view self.old) (document_of T.tree T.custom value.now) ≡ [])) }
+        ensures whole { IfOk result (λ o. IfSome o (λ r. IsTrue (T.is_whole r.val.now))) }
+        ensures same { runner_view self.new ≡ runner_view self.old }
+        ensures refused { IfErr result (IsStop (runner_view self.old) (document_of T.tree T.custom value.now)) }
+    {
+        let mut sink = Sink::First(None);
+        let _goes_on = self.give_all(alloc, value, &mut sink)?;
+        Ok(sink.into_first())
+    }
+
+    /// Whether the query selects a node. The document is walked no further than to the first, and no path is made.
+    pub fn has_node<T: Queryable>(&mut self, alloc: Global, value: &T) -> Queried<bool>
+        requires { IsTrue (T.is_whole value.now) }
+        ensures none { IfOk result (λ b. IsFalse b ↔ (selected (runner_view self.old) (document_of T.tree T.custom value.now) ≡ [])) }
+        ensures same { runner_view self.new ≡ runner_view self.old }
+        ensures refused { IfErr result (IsStop (runner_view self.old) (document_of T.tree T.custom value.now)) }
+    {
+        let mut sink = Sink::Any(false);
+        let _goes_on = self.give_all(alloc, value, &mut sink)?;
+        Ok(sink.has_any())
+    }
+
+    /// The same as [`Runner::nodes`], or None where so many units of work are not enough.
+    pub fn nodes_limited<'a, T: Queryable>(
+        &mut self,
+        alloc: Global,
+        units: usize,
+        value: &'a T,
+    ) -> Queried<Option<Vec<QueryRef<'a, T>>>>
+        requires { IsTrue (T.is_whole value.now) }
+        ensures nodes { IfOk result (λ u. IfSome u (λ v. AllZip (IsNodeAt (document_of T.tree T.custom value.now))
+            (selected (runner_view self.old) (document_of T.tree T.custom value.now)) (shown T.tree v.items))) }
+        ensures whole { IfOk result (λ u. IfSome u (λ v. All (λ r. IsTrue (T.is_whole r.val.now)) v.items)) }
+        ensures same { runner_view self.new ≡ runner_view self.old }
+        ensures refused { IfErr result (IsStop (runner_view self.old) (document_of T.tree T.custom value.now)) }
+    {
+        let mut sink = Sink::Nodes(Vec::new(alloc));
+        match self.give_limited(alloc, units, value, &mut sink)? {
+            Some(_goes_on) => Ok(Some(sink.into_nodes(alloc))),
+            None => Ok(None),
+        }
+    }
+
+    /// The same as [`Runner::values`], or None where so many units of work are not enough.
+    pub fn values_limited<'a, T: Queryable>(
+        &mut self,
+        alloc: Global,
+        units: usize,
+        value: &'a T,
+    ) -> Queried<Option<Vec<&'a T>>>
+        requires { IsTrue (T.is_whole value.now) }
+        ensures values { IfOk result (λ u. IfSome u (λ v. AllZip (IsValueAt (document_of T.tree T.custom value.now))
+            (selected (runner_view self.old) (document_of T.tree T.custom value.now)) (map (λ x. T.tree x.now) v.items))) }
+        ensures whole { IfOk result (λ u. IfSome u (λ v. All (λ x. IsTrue (T.is_whole x.now)) v.items)) }
+        ensures same { runner_view self.new ≡ runner_view self.old }
+        ensures refused { IfErr result (IsStop (runner_view self.old) (document_of T.tree T.custom value.now)) }
+    {
+        let mut sink = Sink::Values(Vec::new(alloc));
+        match self.give_limited(alloc, units, value, &mut sink)? {
+            Some(_goes_on) => Ok(Some(sink.into_values(alloc))),
+            None => Ok(None),
+        }
+    }
+
+    /// The same as [`Runner::paths`], or None where so many units of work are not enough.
+    pub fn paths_limited<T: Queryable>(
+        &mut self,
+        alloc: Global,
+        units: usize,
+        value: &T,
+    ) -> Queried<Option<Vec<QueryPath>>>
+        requires { IsTrue (T.is_whole value.now) }
+        ensures paths { IfOk result (λ u. IfSome u (λ v. AllZip (IsPathAt (document_of T.tree T.custom value.now))
+            (selected (runner_view self.old) (document_of T.tree T.custom value.now)) (paths_of v.items))) }
+        ensures same { runner_view self.new ≡ runner_view self.old }
+        ensures refused { IfErr result (IsStop (runner_view self.old) (document_of T.tree T.custom value.now)) }
+    {
+        let mut sink = Sink::Paths(Vec::new(alloc));
+        match self.give_limited(alloc, units, value, &mut sink)? {
+            Some(_goes_on) => Ok(Some(sink.into_paths(alloc))),
+            None => Ok(None),
+        }
+    }
+
+    /// The same as [`Runner::first`], or None where so many units of work are not enough.
+    pub fn first_limited<'a, T: Queryable>(
+        &mut self,
+        alloc: Global,
+        units: usize,
+        value: &'a T,
+    ) -> Queried<Option<Option<QueryRef<'a, T>>>>
+        requires { IsTrue (T.is_whole value.now) }
+        ensures first { IfOk result (λ u. IfSome u (λ o. IfSome o (λ r. IsFirstNode (runner_view self.old) (document_of T.tree T.custom value.now) (string_bytes r.path, T.tree r.val.now)))) }
+        ensures none { IfOk result (λ u. IfSome u (λ o. IfNone o (selected (runner_view self.old) (document_of T.tree T.custom value.now) ≡ []))) }
+        ensures whole { IfOk result (λ u. IfSome u (λ o. IfSome o (λ r. IsTrue (T.is_whole r.val.now)))) }
+        ensures same { runner_view self.new ≡ runner_view self.old }
+        ensures refused { IfErr result (IsStop (runner_view self.old) (document_of T.tree T.custom value.now)) }
+    {
+        let mut sink = Sink::First(None);
+        match self.give_limited(alloc, units, value, &mut sink)? {
+            Some(_goes_on) => Ok(Some(sink.into_first())),
+            None => Ok(None),
+        }
+    }
+
+    /// The same as [`Runner::has_node`], or None where so many units of work are not enough.
+    pub fn has_node_limited<T: Queryable>(
+        &mut self,
+        alloc: Global,
+        units: usize,
+        value: &T,
+    ) -> Queried<Option<bool>>
+        requires { IsTrue (T.is_whole value.now) }
+        ensures none { IfOk result (λ u. IfSome u (λ b. IsFalse b ↔ (selected (runner_view self.old) (document_of T.tree T.custom value.now) ≡ []))) }
+        ensures same { runner_view self.new ≡ runner_view self.old }
+        ensures refused { IfErr result (IsStop (runner_view self.old) (document_of T.tree T.custom value.now)) }
+    {
+        let mut sink = Sink::Any(false);
+        match self.give_limited(alloc, units, value, &mut sink)? {
+            Some(_goes_on) => Ok(Some(sink.has_any())),
+            None => Ok(None),
+        }
+    }
+
+    /// Gives the nodes to the sink, for any amount of work. The result says whether to go on.
+    fn give_all<'a, T: Queryable>(
+        &mut self,
+        alloc: Global,
+        value: &'a T,
+        sink: &mut Sink<'a, T>,
+    ) -> Queried<bool>
+        requires { IsTrue (T.is_whole value.now) }
+        ensures gave { IfOk result (λ b. Took (seen T.tree T.is_whole sink.old) (nodelist (runner_view self.old) (document_of T.tree T.custom value.now))
+            (seen T.tree T.is_whole sink.new) b) }
+        ensures same { runner_view self.new ≡ runner_view self.old }
+        ensures refused { IfErr result (IsStop (runner_view self.old) (document_of T.tree T.custom value.now)) }
+    {
+        match self.give(alloc, Budget::unlimited(), value, sink) {
+            Ok(goes_on) => Ok(goes_on),
+            Err(halt) => Err(halt.told(alloc)),
+        }
+    }
+
+    /// Gives the nodes to the sink, for so many units of work; None where these are not enough.
+    fn give_limited<'a, T: Queryable>(
+        &mut self,
+        alloc: Global,
+        units: usize,
+        value: &'a T,
+        sink: &mut Sink<'a, T>,
+    ) -> Queried<Option<bool>>
+        requires { IsTrue (T.is_whole value.now) }
+        ensures gave { IfOk result (λ o. IfSome o (λ b. Took (seen T.tree T.is_whole sink.old) (nodelist (runner_view self.old) (document_of T.tree T.custom value.now))
+            (seen T.tree T.is_whole sink.new) b)) }
+        ensures same { runner_view self.new ≡ runner_view self.old }
+        ensures refused { IfErr result (IsStop (runner_view self.old) (document_of T.tree T.custom value.now)) }
+    {
+        match self.give(alloc, Budget::of(units), value, sink) {
+            Ok(goes_on) => Ok(Some(goes_on)),
+            Err(Halt::Spent) => Ok(None),
+            Err(Halt::Memory) => Err(Halt::Memory.told(alloc)),
+            Err(Halt::Pattern) => Err(Halt::Pattern.told(alloc)),
+        }
+    }
+
+    /// Gives the nodes to the sink. What asks the patterns is lent to the walk, and comes back.
+    fn give<'a, T: Queryable>(
+        &mut self,
+        alloc: Global,
+        budget: Budget,
+        value: &'a T,
+        sink: &mut Sink<'a, T>,
+    ) -> Walked<bool>
+        requires { IsTrue (T.is_whole value.now) }
+        ensures gave { IfOk result (λ b. Took (seen T.tree T.is_whole sink.old) (nodelist (runner_view self.old) (document_of T.tree T.custom value.now))
+            (seen T.tree T.is_whole sink.new) b) }
+        ensures same { runner_view self.new ≡ runner_view self.old }
+        ensures refused { IfErr result (IsHalt budget.limit (runner_view self.old) (document_of T.tree T.custom value.now)) }
+    {
+        let prepared = self.prepared;
+        let standing = mem::replace(&mut self.standing, prepared.standing(alloc));
+        let (given, standing) = give_requested(
+            alloc,
+            prepared.request(standing, budget),
+            value,
+            sink,
+        );
+        self.standing = standing;
+        given
+    }
+}

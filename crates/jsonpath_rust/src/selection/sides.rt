@@ -1,0 +1,110 @@
+//! The sides of a comparison, where none takes a walk or memory: they are lent, and nothing is made for them.
+ghost use Rattle.std.specs.Prelude.{◌≡◌, IsTrue, IfSome};
+ghost use Rattle.jsonpath_parser.specs.tree.View.{operator_view};
+ghost use Rattle.jsonpath_rust.specs.documents.Comparing.{compares};
+ghost use Rattle.jsonpath_rust.specs.documents.Meaning.{answer, value_of};
+ghost use Rattle.jsonpath_rust.specs.documents.Node.{Node};
+ghost use Rattle.jsonpath_rust.specs.documents.inner.Operands.{side_tree, side_is_whole};
+ghost use Rattle.jsonpath_rust.specs.selection.inner.Keeping.{IsReady, document, kept_of, value_by};
+ghost use Rattle.jsonpath_rust.specs.selection.inner.PlanViews.{called_view, part_at, side_view};
+
+use crate::documents::comparison::{Side, compares};
+use crate::documents::queryable::Queryable;
+use crate::documents::value::scalar_of;
+use crate::selection::budget::Limit;
+use crate::selection::cache::{Cache, Given};
+use crate::selection::direct::direct_answer;
+use crate::selection::plan;
+use crate::selection::plan::Called;
+use crate::selection::singular::value_at;
+use crate::selection::walk::Task;
+use jsonpath_parser::model::Operator;
+
+impl<'a: 's, 's, T: Queryable> Task<'a, 's, T> {
+    /// Whether two sides compare so at a value; None where one of them takes a walk or memory, or is not worked out yet, and
+    /// where the work is limited.
+    #[inline(always)]
+    pub fn lent_compare(
+        &self,
+        operator: Operator,
+        sides: (&'s plan::Side, &'s plan::Side),
+        at: &'a T,
+        cache: &Cache<'a, 's, T>,
+    ) -> Option<bool>
+        requires ready { IsReady T.tree T.is_whole T.custom self.now cache.now }
+        requires whole { IsTrue (T.is_whole at.now) }
+        ensures { (n : Node) → n.tree ≡ T.tree at.now → IfSome result (λ b. b ≡ compares (operator_view operator)
+            (value_of (side_view (kept_of self.now) sides.entry.0.now) (document T.tree T.custom self.now) n)
+            (value_of (side_view (kept_of self.now) sides.entry.1.now) (document T.tree T.custom self.now) n)) }
+    {
+        if let Limit::Limited = self.limit {
+            return None;
+        }
+        let left = self.lent_side(sides.0, at, cache)?;
+        let right = self.lent_side(sides.1, at, cache)?;
+        Some(compares(operator, &left, &right))
+    }
+
+    /// What stands at a side; None where that takes a walk or memory, or is not worked out yet.
+    #[inline(always)]
+    fn lent_side<'k>(
+        &self,
+        side: &'s plan::Side,
+        at: &'k T,
+        cache: &'k Cache<'a, 's, T>,
+    ) -> Option<Side<'k, 's, T>>
+        requires ready { IsReady T.tree T.is_whole T.custom self.now cache.now }
+        requires whole { IsTrue (T.is_whole at.now) }
+        ensures value { (n : Node) → n.tree ≡ T.tree at.now → IfSome result (λ s. side_tree T.tree s ≡ value_of (side_view (kept_of self.now) side.now) (document T.tree T.custom self.now) n) }
+        ensures whole { IfSome result (λ s. IsTrue (side_is_whole T.is_whole s)) }
+    {
+        match side {
+            plan::Side::Literal(literal) => Some(Side::Plain(scalar_of(literal))),
+            plan::Side::Lookup(steps) => Some(Side::lent(value_at(steps, at))),
+            plan::Side::Kept(number) => match self.plan.kept_steps(*number) {
+                Some(_steps) => self.lent_value(*number, cache),
+                None => None,
+            },
+            plan::Side::Call(call) => self.lent_answer(call, at, cache),
+        }
+    }
+
+    /// What a call answers; None where that takes a walk or memory, and where it is an entry that is not worked out yet.
+    #[inline(always)]
+    fn lent_answer<'k>(
+        &self,
+        call: &'s Called,
+        at: &'k T,
+        cache: &'k Cache<'a, 's, T>,
+    ) -> Option<Side<'k, 's, T>>
+        requires ready { IsReady T.tree T.is_whole T.custom self.now cache.now }
+        requires whole { IsTrue (T.is_whole at.now) }
+        ensures value { (n : Node) → n.tree ≡ T.tree at.now → IfSome result (λ s. side_tree T.tree s ≡ answer (called_view (kept_of self.now) call.now) (document T.tree T.custom self.now) n) }
+        ensures whole { IfSome result (λ s. IsTrue (side_is_whole T.is_whole s)) }
+    {
+        match call {
+            Called::Here(call) => direct_answer(call, at),
+            Called::Kept(number) => match self.plan.kept_call(*number) {
+                Some(_call) => self.lent_value(*number, cache),
+                None => None,
+            },
+        }
+    }
+
+    /// The value that is kept under this number; None where it is not worked out yet.
+    #[inline(always)]
+    pub fn lent_value<'k>(
+        &self,
+        number: usize,
+        cache: &'k Cache<'a, 's, T>,
+    ) -> Option<Side<'k, 's, T>>
+        requires ready { IsReady T.tree T.is_whole T.custom self.now cache.now }
+        ensures value { IfSome result (λ s. side_tree T.tree s ≡ value_by (part_at (kept_of self.now) number) (document T.tree T.custom self.now)) }
+        ensures whole { IfSome result (λ s. IsTrue (side_is_whole T.is_whole s)) }
+    {
+        match cache.get(number) {
+            Some(Given::Value(value)) => Some(value.as_side()),
+            _ => None,
+        }
+    }
+}

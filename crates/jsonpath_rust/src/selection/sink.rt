@@ -1,0 +1,299 @@
+//! What is done with the nodes that a walk meets.
+ghost use Rattle.std.specs.Prelude.{◌≡◌, suc, min, ◌∷◌, [], map, option_map, IsTrue, false, IfOk, IfErr, OnOk, string_bytes};
+ghost use Rattle.jsonpath_base.specs.Steps.{location_view};
+ghost use Rattle.jsonpath_rust.specs.declared.documents.halt.Halt.TheVariants.{Memory};
+ghost use Rattle.jsonpath_rust.specs.documents.Answer.{shown, paths_of};
+ghost use Rattle.jsonpath_rust.specs.documents.Node.{Node, root_node};
+ghost use Rattle.jsonpath_rust.specs.selection.inner.Sinks.{Took, seen, seen_only, seen_first, start, add, any_in, count_in, only_in, first_in, nodes_in, nodes_whole, values_in, values_whole, paths_in, locations_in};
+ghost use Rattle.jsonpath_rust.specs.selection.inner.Walking.{node_of};
+
+use crate::documents::halt::Walked;
+use crate::documents::queryable::Queryable;
+use crate::documents::value::GREATEST_COUNT;
+use crate::documents::{QueryPath, QueryRef};
+use crate::selection::way::Way;
+use jsonpath_base::Step;
+use std::alloc::Global;
+
+/// The only node of a list, if it has one alone.
+#[derive(Clone, Copy)]
+pub enum Only<'a, T> {
+    Nothing,
+    One(&'a T),
+    Several,
+}
+
+/// What is wanted of the nodes of a query inside a filter.
+#[derive(Clone, Copy, Debug)]
+pub enum Wanted {
+    /// Whether there is one.
+    Any,
+    /// How many there are.
+    Count,
+    /// The value of the only one.
+    Only,
+    /// All their values.
+    Values,
+}
+
+/// Takes the nodes of a walk in their order.
+#[derive(Drop)]
+pub enum Sink<'a, T> {
+    /// Keeps each node's value and Normalized Path.
+    Nodes(Vec<QueryRef<'a, T>>),
+    /// Keeps each node's Normalized Path.
+    Paths(Vec<QueryPath>),
+    /// Keeps each node's value, and makes no path.
+    Values(Vec<&'a T>),
+    /// Keeps each node's location, with names of its own.
+    Locations(Vec<Vec<Step>>),
+    /// Whether a node came. It stops at the first.
+    Any(bool),
+    /// How many nodes came, up to [`GREATEST_COUNT`].
+    Count(usize),
+    /// The only node. It stops at the second.
+    Only(Only<'a, T>),
+    /// The first node's value and Normalized Path. It stops there.
+    First(Option<QueryRef<'a, T>>),
+}
+
+impl<'a, T: Queryable> Sink<'a, T> {
+    /// A sink for what is wanted, with no node yet.
+    #[inline(always)]
+    pub fn start(alloc: Global, wanted: Wanted) -> Self
+        ensures { seen T.tree T.is_whole result ≡ start wanted }
+    {
+        match wanted {
+            Wanted::Any => Sink::Any(false),
+            Wanted::Count => Sink::Count(0),
+            Wanted::Only => Sink::Only(Only::Nothing),
+            Wanted::Values => Sink::Values(Vec::new(alloc)),
+        }
+    }
+
+    /// A sink for what is wanted, that was given one node, of this value.
+    pub fn of_one(alloc: Global, wanted: Wanted, value: &'a T) -> Walked<Self>
+        requires { IsTrue (T.is_whole value.now) }
+        ensures given { IfOk result (λ s. seen T.tree T.is_whole s ≡ add (start wanted) (root_node (T.tree value.now))) }
+        ensures memory { IfErr result (λ h. h ≡ Memory) }
+    {
+        match wanted {
+            Wanted::Any => Ok(Sink::Any(true)),
+            Wanted::Count => Ok(Sink::Count(1)),
+            Wanted::Only => Ok(Sink::Only(Only::One(value))),
+            Wanted::Values => {
+                let mut values = Vec::new(alloc);
+                values.push(value)?;
+                Ok(Sink::Values(values))
+            }
+        }
+    }
+
+    /// Takes the value that this way leads to. The result says whether the walk goes on.
+    #[inline(always)]
+    pub fn take(&mut self, alloc: Global, value: &'a T, way: &mut Way<'_>) -> Walked<bool>
+        requires { IsTrue (T.is_whole value.now) }
+        ensures gave { IfOk result (λ b. Took (seen T.tree T.is_whole self.old) (node_of T.tree way.old.steps.items value.now ∷ []) (seen T.tree T.is_whole self.new) b) }
+        ensures same { way.new.steps.items ≡ way.old.steps.items }
+        ensures memory { IfErr result (λ h. h ≡ Memory) }
+    {
+        match self {
+            Sink::Nodes(nodes) => {
+                let path = way.path(alloc)?;
+                nodes.push(QueryRef { val: value, path })?;
+                Ok(true)
+            }
+            Sink::Paths(paths) => {
+                let path = way.path(alloc)?;
+                paths.push(path)?;
+                Ok(true)
+            }
+            Sink::Values(values) => {
+                values.push(value)?;
+                Ok(true)
+            }
+            Sink::Locations(locations) => {
+                let location = way.location(alloc)?;
+                locations.push(location)?;
+                Ok(true)
+            }
+            Sink::Any(any) => {
+                *any = true;
+                Ok(false)
+            }
+            Sink::Count(count) => {
+                *count = one_more(*count);
+                Ok(true)
+            }
+            Sink::Only(only) => Ok(take_only(only, value)),
+            Sink::First(first) => {
+                take_first(first, alloc, value, way)?;
+                Ok(false)
+            }
+        }
+    }
+
+    /// Whether an `Any` was given a node.
+    #[inline(always)]
+    pub fn has_any(&self) -> bool
+        ensures { result ≡ any_in (seen T.tree T.is_whole self.now) }
+    {
+        match self {
+            Sink::Any(any) => *any,
+            _ => false,
+        }
+    }
+
+    /// How many nodes a `Count` was given.
+    #[inline(always)]
+    pub fn counted(&self) -> usize
+        ensures { result ≡ count_in (seen T.tree T.is_whole self.now) }
+    {
+        match self {
+            Sink::Count(count) => *count,
+            _ => 0,
+        }
+    }
+
+    /// The value of the only node that an `Only` was given.
+    #[inline(always)]
+    pub fn only(&self) -> Option<&'a T>
+        ensures { option_map (λ v. (T.is_whole v.now, T.tree v.now)) result ≡ only_in (seen T.tree T.is_whole self.now) }
+    {
+        match self {
+            Sink::Only(Only::One(value)) => Some(*value),
+            _ => None,
+        }
+    }
+
+    /// The nodes that a `Nodes` was given.
+    pub fn into_nodes(self, alloc: Global) -> Vec<QueryRef<'a, T>>
+        ensures nodes { shown T.tree result.items ≡ nodes_in (seen T.tree T.is_whole self.entry) }
+        ensures whole { map (λ r. T.is_whole r.val.now) result.items ≡ nodes_whole (seen T.tree T.is_whole self.entry) }
+    {
+        match self {
+            Sink::Nodes(nodes) => nodes,
+            Sink::Paths(_paths) => Vec::new(alloc),
+            Sink::Values(_values) => Vec::new(alloc),
+            Sink::Locations(_locations) => Vec::new(alloc),
+            Sink::Any(_any) => Vec::new(alloc),
+            Sink::Count(_count) => Vec::new(alloc),
+            Sink::Only(_only) => Vec::new(alloc),
+            Sink::First(_first) => Vec::new(alloc),
+        }
+    }
+
+    /// The paths that a `Paths` was given.
+    pub fn into_paths(self, alloc: Global) -> Vec<QueryPath>
+        ensures { paths_of result.items ≡ paths_in (seen T.tree T.is_whole self.entry) }
+    {
+        match self {
+            Sink::Nodes(_nodes) => Vec::new(alloc),
+            Sink::Paths(paths) => paths,
+            Sink::Values(_values) => Vec::new(alloc),
+            Sink::Locations(_locations) => Vec::new(alloc),
+            Sink::Any(_any) => Vec::new(alloc),
+            Sink::Count(_count) => Vec::new(alloc),
+            Sink::Only(_only) => Vec::new(alloc),
+            Sink::First(_first) => Vec::new(alloc),
+        }
+    }
+
+    /// The locations that a `Locations` was given.
+    pub fn into_locations(self, alloc: Global) -> Vec<Vec<Step>>
+        ensures { map (λ l. location_view l.items) result.items ≡ locations_in (seen T.tree T.is_whole self.entry) }
+    {
+        match self {
+            Sink::Nodes(_nodes) => Vec::new(alloc),
+            Sink::Paths(_paths) => Vec::new(alloc),
+            Sink::Values(_values) => Vec::new(alloc),
+            Sink::Locations(locations) => locations,
+            Sink::Any(_any) => Vec::new(alloc),
+            Sink::Count(_count) => Vec::new(alloc),
+            Sink::Only(_only) => Vec::new(alloc),
+            Sink::First(_first) => Vec::new(alloc),
+        }
+    }
+
+    /// The values that a `Values` was given.
+    pub fn into_values(self, alloc: Global) -> Vec<&'a T>
+        ensures values { map (λ v. T.tree v.now) result.items ≡ values_in (seen T.tree T.is_whole self.entry) }
+        ensures whole { map (λ v. T.is_whole v.now) result.items ≡ values_whole (seen T.tree T.is_whole self.entry) }
+    {
+        match self {
+            Sink::Nodes(_nodes) => Vec::new(alloc),
+            Sink::Paths(_paths) => Vec::new(alloc),
+            Sink::Values(values) => values,
+            Sink::Locations(_locations) => Vec::new(alloc),
+            Sink::Any(_any) => Vec::new(alloc),
+            Sink::Count(_count) => Vec::new(alloc),
+            Sink::Only(_only) => Vec::new(alloc),
+            Sink::First(_first) => Vec::new(alloc),
+        }
+    }
+
+    /// The node that a `First` was given.
+    pub fn into_first(self) -> Option<QueryRef<'a, T>>
+        ensures { option_map (λ r. (T.is_whole r.val.now, (string_bytes r.path, T.tree r.val.now))) result ≡ first_in (seen T.tree T.is_whole self.entry) }
+    {
+        match self {
+            Sink::Nodes(_nodes) => None,
+            Sink::Paths(_paths) => None,
+            Sink::Values(_values) => None,
+            Sink::Locations(_locations) => None,
+            Sink::Any(_any) => None,
+            Sink::Count(_count) => None,
+            Sink::Only(_only) => None,
+            Sink::First(first) => first,
+        }
+    }
+}
+
+/// The count and one, up to [`GREATEST_COUNT`].
+#[inline(always)]
+fn one_more(count: usize) -> usize
+    ensures { result ≡ min (suc count) GREATEST_COUNT }
+{
+    if count < GREATEST_COUNT {
+        count + 1
+    } else {
+        GREATEST_COUNT
+    }
+}
+
+/// Takes a node; it goes on if that is the first.
+#[inline(always)]
+fn take_only<'a, T: Queryable>(only: &mut Only<'a, T>, value: &'a T) -> bool
+    requires { IsTrue (T.is_whole value.now) }
+    ensures { (n : Node) → n.tree ≡ T.tree value.now → Took (seen_only T.tree T.is_whole only.old) (n ∷ []) (seen_only T.tree T.is_whole only.new) result }
+{
+    match only {
+        Only::Nothing => {
+            *only = Only::One(value);
+            true
+        }
+        _ => {
+            *only = Only::Several;
+            false
+        }
+    }
+}
+
+/// Takes a node, if that is the first.
+fn take_first<'a, T: Queryable>(
+    first: &mut Option<QueryRef<'a, T>>,
+    alloc: Global,
+    value: &'a T,
+    way: &mut Way<'_>,
+) -> Walked<()>
+    requires { IsTrue (T.is_whole value.now) }
+    ensures gave { OnOk result (Took (seen_first T.tree T.is_whole first.old) (node_of T.tree way.old.steps.items value.now ∷ []) (seen_first T.tree T.is_whole first.new) false) }
+    ensures same { way.new.steps.items ≡ way.old.steps.items }
+    ensures memory { IfErr result (λ h. h ≡ Memory) }
+{
+    if first.is_none() {
+        let path = way.path(alloc)?;
+        *first = Some(QueryRef { val: value, path });
+    }
+    Ok(())
+}

@@ -1,0 +1,105 @@
+//! Queries inside filters, from a value on and from the root.
+ghost use Rattle.std.specs.Prelude.{◌≡◌, IfOk, IfErr, OnOk, OnErr};
+ghost use Rattle.jsonpath_rust.specs.documents.Meaning.{nodelist, tested};
+ghost use Rattle.jsonpath_rust.specs.documents.Patterns.{segments_patterns, test_patterns};
+ghost use Rattle.jsonpath_rust.specs.selection.inner.Arguing as held;
+ghost use Rattle.jsonpath_rust.specs.selection.inner.Arguing.{holding};
+ghost use Rattle.jsonpath_rust.specs.selection.inner.Halting.{IsHalt, StandIn};
+ghost use Rattle.jsonpath_rust.specs.selection.inner.Keeping.{IsReady, document, gathered, kept_of, query_of};
+ghost use Rattle.jsonpath_rust.specs.selection.inner.PlanViews.{nodes_view, query_at, segments_in};
+ghost use Rattle.jsonpath_rust.specs.selection.inner.Sinks.{seen, start, give};
+ghost use Rattle.jsonpath_rust.specs.selection.inner.Standing.{Stands, Returns};
+ghost use Rattle.jsonpath_rust.specs.selection.inner.Walking.{node_of, through};
+
+use crate::documents::halt::Walked;
+use crate::documents::queryable::Queryable;
+use crate::selection::cache::{Gathered, Given};
+use crate::selection::lookup::short_cut;
+use crate::selection::plan::{Nodes, Segment};
+use crate::selection::singular::looked_up;
+use crate::selection::sink::{Sink, Wanted};
+use crate::selection::trail::Trail;
+use crate::selection::walk::Task;
+use crate::selection::way::Way;
+use std::mem;
+
+impl<'a: 's, 's, T: Queryable> Task<'a, 's, T> {
+    /// What the nodes of a query inside a filter give of what is wanted.
+    #[cycle(walk)]
+    pub fn nodes(
+        &self,
+        nodes: &'s Nodes,
+        wanted: Wanted,
+        at: &'a T,
+        trail: &mut Trail<'a, 's, '_, T>,
+    ) -> Walked<Gathered<'a, T>>
+        requires stands { Stands T.tree T.is_whole T.custom self.now at.now trail.old.way.steps.items trail.old.cache }
+        requires part { StandIn (query_of self.now) (test_patterns (nodes_view (kept_of self.now) nodes.now wanted)) }
+        ensures held { IfOk result (λ g. held.nodes (gathered T.tree T.is_whole trail.new.cache g) ≡ holding wanted (tested (nodes_view (kept_of self.now) nodes.now wanted) (document T.tree T.custom self.now) (node_of T.tree trail.old.way.steps.items at.now))) }
+        ensures returns { OnOk result (Returns T.tree T.is_whole T.custom self.now trail.old trail.new) }
+        ensures ready { OnErr result (IsReady T.tree T.is_whole T.custom self.now trail.new.cache) }
+        ensures refused { IfErr result (IsHalt self.now.limit (query_of self.now) (document T.tree T.custom self.now)) }
+    {
+        match nodes {
+            Nodes::Lookup(steps) => { Ok(Gathered::Own(looked_up(self.alloc, steps, wanted, at)?)) }
+            Nodes::Walk(segments) => {
+                Ok(Gathered::Own(self.gather(segments, wanted, at, trail)?))
+            }
+            Nodes::Kept(number) => self.kept_nodes(*number, wanted, trail),
+        }
+    }
+
+    /// What the nodes of these segments, from a value on, give to a sink.
+    #[cycle(walk)]
+    fn gather(
+        &self,
+        segments: &'s [Segment],
+        wanted: Wanted,
+        at: &'a T,
+        trail: &mut Trail<'a, 's, '_, T>,
+    ) -> Walked<Sink<'a, T>>
+        requires stands { Stands T.tree T.is_whole T.custom self.now at.now trail.old.way.steps.items trail.old.cache }
+        requires part { StandIn (query_of self.now) (segments_patterns (segments_in (kept_of self.now) segments.now)) }
+        ensures given { IfOk result (λ s. seen T.tree T.is_whole s ≡ give (start wanted) (through (segments_in (kept_of self.now) segments.now) (document T.tree T.custom self.now) (node_of T.tree trail.old.way.steps.items at.now))) }
+        ensures returns { OnOk result (Returns T.tree T.is_whole T.custom self.now trail.old trail.new) }
+        ensures ready { OnErr result (IsReady T.tree T.is_whole T.custom self.now trail.new.cache) }
+        ensures refused { IfErr result (IsHalt self.now.limit (query_of self.now) (document T.tree T.custom self.now)) }
+    {
+        if let Some(sink) = short_cut(self.alloc, segments, wanted, at)? {
+            return Ok(sink);
+        }
+        let mut sink = Sink::start(self.alloc, wanted);
+        let _goes_on = self.walk(segments, at, trail, &mut sink)?;
+        Ok(sink)
+    }
+
+    /// What the nodes of the query from the root that is kept under this number give of what is wanted. They are found when
+    /// that is first asked, and kept.
+    #[cycle(walk)]
+    pub fn kept_nodes(
+        &self,
+        number: usize,
+        wanted: Wanted,
+        trail: &mut Trail<'a, 's, '_, T>,
+    ) -> Walked<Gathered<'a, T>>
+        requires part { StandIn (query_of self.now) (segments_patterns (query_at (kept_of self.now) wanted number)) }
+        requires ready { IsReady T.tree T.is_whole T.custom self.now trail.old.cache }
+        ensures given { IfOk result (λ g. gathered T.tree T.is_whole trail.new.cache g ≡ give (start wanted) (nodelist (query_at (kept_of self.now) wanted number) (document T.tree T.custom self.now))) }
+        ensures returns { OnOk result (Returns T.tree T.is_whole T.custom self.now trail.old trail.new) }
+        ensures ready { OnErr result (IsReady T.tree T.is_whole T.custom self.now trail.new.cache) }
+        ensures refused { IfErr result (IsHalt self.now.limit (query_of self.now) (document T.tree T.custom self.now)) }
+    {
+        let Some(segments) = self.plan.kept_segments(number, wanted) else {
+            return Ok(Gathered::Own(Sink::of_one(self.alloc, wanted, self.root)?));
+        };
+        if trail.cache.get(number).is_some() {
+            return Ok(Gathered::Kept(number));
+        }
+        let root = Way::new(self.alloc);
+        let here = mem::replace(&mut trail.way, root);
+        let nodes = self.gather(segments, wanted, self.root, trail)?;
+        trail.way = here;
+        trail.cache.keep(number, Given::Nodes(nodes));
+        Ok(Gathered::Kept(number))
+    }
+}

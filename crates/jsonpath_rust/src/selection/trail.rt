@@ -1,0 +1,14 @@
+//! What a walk carries along.
+use crate::selection::budget::Budget;
+use crate::selection::cache::Cache;
+use crate::selection::finders::Finders;
+use crate::selection::way::Way;
+
+/// The way to the value at hand, what the call keeps, what asks its patterns, and the work that is left.
+#[derive(Drop)]
+pub struct Trail<'a, 's, 'p, T> {
+    pub way: Way<'s>,
+    pub cache: Cache<'a, 's, T>,
+    pub finders: Finders<'s, 'p>,
+    pub budget: Budget,
+}

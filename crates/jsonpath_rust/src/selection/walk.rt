@@ -1,0 +1,202 @@
+//! The evaluator: a walk that meets the nodes of a query depth-first, in the order of its nodelist (RFC 9535, 2.1.2).
+//!
+//! The way to the value at hand stands on a stack of borrowed steps, so nothing is kept for a node that is only passed.
+//! Every method of the cycle asks for a value at hand (`Stands`), and comes back with the way as it was and what is kept
+//! still right (`Returns`). Where it halts, what is kept is right too.
+ghost use Rattle.std.specs.Prelude.{◌≡◌, [], ◌∷◌, ◌++◌, map, IfOk, IfErr, OnOk, OnErr};
+ghost use Rattle.std.specs.List.{flat_map};
+ghost use Rattle.jsonpath_rust.specs.documents.Node.{below, children};
+ghost use Rattle.jsonpath_rust.specs.documents.Meaning.{picks, all_pick, replaced, sliced};
+ghost use Rattle.jsonpath_rust.specs.documents.Patterns.{segments_patterns, segment_patterns, selectors_patterns, selector_patterns};
+ghost use Rattle.jsonpath_rust.specs.selection.inner.Halting.{IsHalt, StandIn};
+ghost use Rattle.jsonpath_rust.specs.selection.inner.PlanViews.{segments_in, segment_view, selectors_in, selector_view};
+ghost use Rattle.jsonpath_rust.specs.selection.inner.Sinks.{Took, seen};
+ghost use Rattle.jsonpath_rust.specs.selection.inner.Keeping.{IsReady, document, kept_of, query_of};
+ghost use Rattle.jsonpath_rust.specs.selection.inner.Standing.{Stands, Returns};
+ghost use Rattle.jsonpath_rust.specs.selection.inner.Walking.{through, node_of, step_of, acted};
+
+use crate::documents::halt::Walked;
+use crate::documents::queryable::Queryable;
+use crate::documents::queryable::children::element;
+use crate::selection::action::Action;
+use crate::selection::budget::Limit;
+use crate::selection::children::Child;
+use crate::selection::plan::{Plan, Segment, Selector};
+use crate::selection::sink::Sink;
+use crate::selection::trail::Trail;
+use crate::selection::way::StepRef;
+use jsonpath_base::slice::slice_places;
+use std::alloc::Global;
+
+/// What is asked: a query by its plan, of a document, and whether the work for it is limited.
+#[derive(Drop)]
+pub struct Task<'a, 's, T> {
+    pub alloc: Global,
+    pub plan: &'s Plan,
+    /// The segments that are asked: those of the plan, or of an entry of it.
+    pub segments: &'s [Segment],
+    pub root: &'a T,
+    pub limit: Limit,
+}
+
+impl<'a: 's, 's, T: Queryable> Task<'a, 's, T> {
+    /// Gives to the sink what the segments select from a value on, to which the way leads. The result says whether to
+    /// go on.
+    #[cycle(walk)]
+    pub fn walk(
+        &self,
+        segments: &'s [Segment],
+        at: &'a T,
+        trail: &mut Trail<'a, 's, '_, T>,
+        sink: &mut Sink<'a, T>,
+    ) -> Walked<bool>
+        requires stands { Stands T.tree T.is_whole T.custom self.now at.now trail.old.way.steps.items trail.old.cache }
+        requires part { StandIn (query_of self.now) (segments_patterns (segments_in (kept_of self.now) segments.now)) }
+        ensures gave { IfOk result (λ b. Took (seen T.tree T.is_whole sink.old)
+            (through (segments_in (kept_of self.now) segments.now) (document T.tree T.custom self.now) (node_of T.tree trail.old.way.steps.items at.now))
+            (seen T.tree T.is_whole sink.new) b) }
+        ensures returns { OnOk result (Returns T.tree T.is_whole T.custom self.now trail.old trail.new) }
+        ensures ready { OnErr result (IsReady T.tree T.is_whole T.custom self.now trail.new.cache) }
+        ensures refused { IfErr result (IsHalt self.now.limit (query_of self.now) (document T.tree T.custom self.now)) }
+    {
+        match segments.split_first() {
+            None => sink.take(self.alloc, at, &mut trail.way),
+            Some((first, rest)) => self.pass(first, rest, at, trail, sink),
+        }
+    }
+
+    /// The first segment here, and the rest from each node that it makes of this one.
+    #[cycle(walk)]
+    #[inline(always)]
+    pub fn pass(
+        &self,
+        first: &'s Segment,
+        rest: &'s [Segment],
+        at: &'a T,
+        trail: &mut Trail<'a, 's, '_, T>,
+        sink: &mut Sink<'a, T>,
+    ) -> Walked<bool>
+        requires stands { Stands T.tree T.is_whole T.custom self.now at.now trail.old.way.steps.items trail.old.cache }
+        requires part { StandIn (query_of self.now) (segment_patterns (segment_view (kept_of self.now) first.now) ++ segments_patterns (segments_in (kept_of self.now) rest.now)) }
+        ensures gave { IfOk result (λ b. Took (seen T.tree T.is_whole sink.old)
+            (flat_map (through (segments_in (kept_of self.now) rest.now) (document T.tree T.custom self.now))
+            (replaced (segment_view (kept_of self.now) first.now) (document T.tree T.custom self.now) (node_of T.tree trail.old.way.steps.items at.now)))
+            (seen T.tree T.is_whole sink.new) b) }
+        ensures returns { OnOk result (Returns T.tree T.is_whole T.custom self.now trail.old trail.new) }
+        ensures ready { OnErr result (IsReady T.tree T.is_whole T.custom self.now trail.new.cache) }
+        ensures refused { IfErr result (IsHalt self.now.limit (query_of self.now) (document T.tree T.custom self.now)) }
+    {
+        match first {
+            Segment::Selector(selector) => self.pick(selector, rest, at, trail, sink),
+            Segment::Selectors(selectors) => self.pick_each(selectors, rest, at, trail, sink),
+            Segment::Descendant(inner) => self.act(Action::Below(inner), rest, at, trail, sink),
+        }
+    }
+
+    /// The rest from each child that the selectors pick here, one selector after the other.
+    #[cycle(walk)]
+    fn pick_each(
+        &self,
+        selectors: &'s [Selector],
+        rest: &'s [Segment],
+        at: &'a T,
+        trail: &mut Trail<'a, 's, '_, T>,
+        sink: &mut Sink<'a, T>,
+    ) -> Walked<bool>
+        requires stands { Stands T.tree T.is_whole T.custom self.now at.now trail.old.way.steps.items trail.old.cache }
+        requires part { StandIn (query_of self.now) (selectors_patterns (selectors_in (kept_of self.now) selectors.now) ++ segments_patterns (segments_in (kept_of self.now) rest.now)) }
+        ensures gave { IfOk result (λ b. Took (seen T.tree T.is_whole sink.old)
+            (flat_map (through (segments_in (kept_of self.now) rest.now) (document T.tree T.custom self.now))
+            (all_pick (selectors_in (kept_of self.now) selectors.now) (document T.tree T.custom self.now) (node_of T.tree trail.old.way.steps.items at.now)))
+            (seen T.tree T.is_whole sink.new) b) }
+        ensures returns { OnOk result (Returns T.tree T.is_whole T.custom self.now trail.old trail.new) }
+        ensures ready { OnErr result (IsReady T.tree T.is_whole T.custom self.now trail.new.cache) }
+        ensures refused { IfErr result (IsHalt self.now.limit (query_of self.now) (document T.tree T.custom self.now)) }
+    {
+        trail.budget.spend(self.limit, selectors.len())?;
+        for selector in selectors {
+            if !self.pick(selector, rest, at, trail, sink)? {
+                return Ok(false);
+            }
+        }
+        Ok(true)
+    }
+
+    /// The rest from each child that the selector picks here.
+    #[cycle(walk)]
+    #[inline(always)]
+    fn pick(
+        &self,
+        selector: &'s Selector,
+        rest: &'s [Segment],
+        at: &'a T,
+        trail: &mut Trail<'a, 's, '_, T>,
+        sink: &mut Sink<'a, T>,
+    ) -> Walked<bool>
+        requires stands { Stands T.tree T.is_whole T.custom self.now at.now trail.old.way.steps.items trail.old.cache }
+        requires part { StandIn (query_of self.now) (selector_patterns (selector_view (kept_of self.now) selector.now) ++ segments_patterns (segments_in (kept_of self.now) rest.now)) }
+        ensures gave { IfOk result (λ b. Took (seen T.tree T.is_whole sink.old)
+            (flat_map (through (segments_in (kept_of self.now) rest.now) (document T.tree T.custom self.now))
+            (picks (selector_view (kept_of self.now) selector.now) (document T.tree T.custom self.now) (node_of T.tree trail.old.way.steps.items at.now)))
+            (seen T.tree T.is_whole sink.new) b) }
+        ensures returns { OnOk result (Returns T.tree T.is_whole T.custom self.now trail.old trail.new) }
+        ensures ready { OnErr result (IsReady T.tree T.is_whole T.custom self.now trail.new.cache) }
+        ensures refused { IfErr result (IsHalt self.now.limit (query_of self.now) (document T.tree T.custom self.now)) }
+    {
+        match selector {
+            Selector::Name(name) => match at.get(name) {
+                Some(value) => {
+                    let step = StepRef::Name(name);
+                    self.at_child(Action::All, rest, Child { step, value }, trail, sink)
+                }
+                None => Ok(true),
+            },
+            Selector::Wildcard => self.each_child(Action::All, rest, at, trail, sink),
+            Selector::Index(index) => match element(at, *index) {
+                Some((position, value)) => {
+                    let step = StepRef::Index(position);
+                    self.at_child(Action::All, rest, Child { step, value }, trail, sink)
+                }
+                None => Ok(true),
+            },
+            Selector::Slice(start, end, step) => {
+                self.pick_slice((*start, *end, *step), rest, at, trail, sink)
+            }
+            Selector::Filter(filter) => self.each_child(Action::If(filter), rest, at, trail, sink),
+        }
+    }
+
+    /// The rest from each element that a slice of this start, end and step picks, in its order (RFC 9535, 2.3.4).
+    #[cycle(walk)]
+    fn pick_slice(
+        &self,
+        slice: (Option<i64>, Option<i64>, Option<i64>),
+        rest: &'s [Segment],
+        at: &'a T,
+        trail: &mut Trail<'a, 's, '_, T>,
+        sink: &mut Sink<'a, T>,
+    ) -> Walked<bool>
+        requires stands { Stands T.tree T.is_whole T.custom self.now at.now trail.old.way.steps.items trail.old.cache }
+        requires part { StandIn (query_of self.now) (segments_patterns (segments_in (kept_of self.now) rest.now)) }
+        ensures gave { IfOk result (λ b. Took (seen T.tree T.is_whole sink.old)
+            (flat_map (through (segments_in (kept_of self.now) rest.now) (document T.tree T.custom self.now))
+            (sliced slice.0 slice.1 slice.2 (node_of T.tree trail.old.way.steps.items at.now)))
+            (seen T.tree T.is_whole sink.new) b) }
+        ensures returns { OnOk result (Returns T.tree T.is_whole T.custom self.now trail.old trail.new) }
+        ensures ready { OnErr result (IsReady T.tree T.is_whole T.custom self.now trail.new.cache) }
+        ensures refused { IfErr result (IsHalt self.now.limit (query_of self.now) (document T.tree T.custom self.now)) }
+    {
+        let Some(items) = at.as_array() else {
+            return Ok(true);
+        };
+        for position in slice_places(slice.0, slice.1, slice.2, items.len()) {
+            trail.budget.spend(self.limit, 1)?;
+            let step = StepRef::Index(position);
+            let value = &items[position];
+            if !self.at_child(Action::All, rest, Child { step, value }, trail, sink)? {
+                return Ok(false);
+            }
+        }
+        Ok(true)
+    }
+}

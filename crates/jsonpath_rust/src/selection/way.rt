@@ -1,0 +1,161 @@
+//! The way from the root to the value at hand, and what is spelled of its Normalized Path (RFC 9535, 2.7).
+ghost use Rattle.std.specs.Prelude.{◌≡◌, List, [], ◌∷◌, ◌++◌, length, map, IfOk, IfErr, OnOk, OnErr, string_bytes};
+ghost use Rattle.jsonpath_parser.specs.Normal.{normal, step_text};
+ghost use Rattle.jsonpath_base.specs.Steps.{step_view, location_view};
+ghost use Rattle.jsonpath_rust.specs.declared.documents.halt.Halt.TheVariants.{Memory};
+ghost use Rattle.jsonpath_rust.specs.selection.inner.Walking.{step_of};
+ghost use Rattle.jsonpath_rust.specs.selection.inner.Way.{spelled, IsSpelled};
+ghost use Rattle.jsonpath_rust.specs.declared.selection.way.StepRef.{StepRef};
+
+use crate::documents::QueryPath;
+use crate::documents::halt::Walked;
+use jsonpath_base::step::{Step, add_index, add_name};
+use std::alloc::Global;
+
+/// One step down, lent by the query or by the document.
+#[derive(Clone, Copy, Debug)]
+pub enum StepRef<'s> {
+    /// To the member of this name.
+    Name(&'s str),
+    /// To this element, counted from 0.
+    Index(usize),
+}
+
+/// The steps from the root to the value at hand. A step is spelled when a node at its end or below is answered, and then
+/// no more while it stands here.
+#[derive(Drop)]
+pub struct Way<'s> {
+    pub steps: Vec<StepRef<'s>>,
+    /// The first steps, as a Normalized Path writes them.
+    pub text: String,
+    /// Where in the text each of them begins.
+    pub starts: Vec<usize>,
+    ghost spelled: { IsSpelled steps.items starts.items (string_bytes text) },
+}
+
+impl<'s> Way<'s> {
+    /// At the root.
+    pub fn new(alloc: Global) -> Self
+        ensures { result.steps.items ≡ [] }
+    {
+        Way {
+            steps: Vec::new(alloc),
+            text: String::new(alloc),
+            starts: Vec::new(alloc),
+        }
+    }
+
+    /// A step further.
+    #[inline(always)]
+    pub fn push(&mut self, step: StepRef<'s>) -> Walked<()>
+        ensures steps { OnOk result (self.new.steps.items ≡ self.old.steps.items ++ step.entry ∷ []) }
+        ensures memory { IfErr result (λ h. h ≡ Memory) }
+    {
+        self.steps.push(step)?;
+        Ok(())
+    }
+
+    /// A step back.
+    #[inline(always)]
+    pub fn pop(&mut self)
+        ensures { (steps : List StepRef) (step : StepRef) → self.old.steps.items ≡ steps ++ step ∷ [] → self.new.steps.items ≡ steps }
+    {
+        let _ = self.steps.pop();
+        if self.steps.len() < self.starts.len() {
+            if let Some(start) = self.starts.pop() {
+                self.text.truncate(start);
+            }
+        }
+    }
+
+    /// The Normalized Path.
+    pub fn path(&mut self, alloc: Global) -> Walked<QueryPath>
+        ensures value { IfOk result (λ path. string_bytes path ≡ normal (map step_of self.old.steps.items)) }
+        ensures same { self.new.steps.items ≡ self.old.steps.items }
+        ensures memory { IfErr result (λ h. h ≡ Memory) }
+    {
+        spell(alloc, &self.steps, &mut self.text, &mut self.starts)?;
+        let mut path = String::with_capacity(alloc, self.text.len().saturating_add(1))?;
+        path.push('$')?;
+        path.push_str(&self.text)?;
+        Ok(path)
+    }
+
+    /// The location, with names of its own.
+    pub fn location(&self, alloc: Global) -> Walked<Vec<Step>>
+        ensures value { IfOk result (λ steps. location_view steps.items ≡ map step_of self.now.steps.items) }
+        ensures memory { IfErr result (λ h. h ≡ Memory) }
+    {
+        let mut steps = Vec::with_capacity(alloc, self.steps.len())?;
+        for step in &self.steps {
+            steps.push(owned(alloc, *step)?)?;
+        }
+        Ok(steps)
+    }
+}
+
+/// The step, with a name of its own.
+fn owned(alloc: Global, step: StepRef<'_>) -> Walked<Step>
+    ensures value { IfOk result (λ s. step_view s ≡ step_of step.entry) }
+    ensures memory { IfErr result (λ h. h ≡ Memory) }
+{
+    match step {
+        StepRef::Name(name) => Ok(Step::Name(String::from_str(alloc, name)?)),
+        StepRef::Index(index) => Ok(Step::Index(index)),
+    }
+}
+
+/// Spells the steps that are not spelled yet.
+fn spell(
+    alloc: Global,
+    steps: &Vec<StepRef<'_>>,
+    text: &mut String,
+    starts: &mut Vec<usize>,
+) -> Walked<()>
+    requires { IsSpelled steps.now.items starts.old.items (string_bytes text.old) }
+    ensures right { IsSpelled steps.now.items starts.new.items (string_bytes text.new) }
+    ensures all { OnOk result (string_bytes text.new ≡ spelled steps.now.items) }
+    ensures memory { IfErr result (λ h. h ≡ Memory) }
+{
+    while starts.len() < steps.len() {
+        let step = steps[starts.len()];
+        spell_next(alloc, step, text, starts)?;
+    }
+    Ok(())
+}
+
+/// Spells a step behind those that are spelled. Where memory is refused, all stays as it was.
+fn spell_next(
+    alloc: Global,
+    step: StepRef<'_>,
+    text: &mut String,
+    starts: &mut Vec<usize>,
+) -> Walked<()>
+    ensures text { OnOk result (string_bytes text.new ≡ string_bytes text.old ++ step_text (step_of step.entry)) }
+    ensures starts { OnOk result (starts.new.items ≡ starts.old.items ++ length (string_bytes text.old) ∷ []) }
+    ensures same_text { OnErr result (string_bytes text.new ≡ string_bytes text.old) }
+    ensures same_starts { OnErr result (starts.new.items ≡ starts.old.items) }
+    ensures memory { IfErr result (λ h. h ≡ Memory) }
+{
+    starts.push(text.len())?;
+    match add_step(alloc, text, step) {
+        Ok(()) => Ok(()),
+        Err(error) => {
+            let _ = starts.pop();
+            Err(error)
+        }
+    }
+}
+
+/// Follows a text by a step. Where memory is refused, the text stays as it was.
+#[inline(always)]
+fn add_step(alloc: Global, text: &mut String, step: StepRef<'_>) -> Walked<()>
+    ensures value { OnOk result (string_bytes text.new ≡ string_bytes text.old ++ step_text (step_of step.entry)) }
+    ensures same { OnErr result (string_bytes text.new ≡ string_bytes text.old) }
+    ensures memory { IfErr result (λ h. h ≡ Memory) }
+{
+    match step {
+        StepRef::Name(name) => Ok(add_name(alloc, text, name)?),
+        StepRef::Index(index) => Ok(add_index(alloc, text, index)?),
+    }
+}

@@ -1,0 +1,9 @@
+//! States, and what each part of a query answers on any of them: an evaluator by itself, which takes nothing of the walk.
+mod evaluate;
+mod process;
+mod processed;
+pub mod selector;
+pub mod state;
+
+pub use crate::states::process::{Query, apply};
+pub use crate::states::processed::{processed_nodes, processed_values};

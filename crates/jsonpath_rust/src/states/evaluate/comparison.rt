@@ -1,0 +1,102 @@
+//! How the data of two states compares.
+ghost use Rattle.std.specs.Prelude.{◌≡◌, Some, All, map, IsTrue};
+ghost use Rattle.jsonpath_parser.specs.tree.View.{operator_view};
+ghost use Rattle.jsonpath_rust.specs.states.Process.{plain, lists_same, lists_places, values_same, contents_equal, is_content_below, contents_compare};
+ghost use Rattle.jsonpath_rust.specs.states.State.{places_of, content_of, PointersAreWhole, DataIsWhole};
+
+use crate::documents::comparison::{Side, is_below};
+use crate::documents::queryable::Queryable;
+use crate::states::evaluate::value::plain_value;
+use crate::states::state::{Data, Pointer, are_same};
+use jsonpath_parser::model::Operator;
+
+/// Whether the comparison holds.
+pub fn compares<'a, T: Queryable>(
+    operator: Operator,
+    left: &Data<'a, T>,
+    right: &Data<'a, T>,
+) -> bool
+    requires left { DataIsWhole T.is_whole left.now }
+    requires right { DataIsWhole T.is_whole right.now }
+    ensures { result ≡ contents_compare (operator_view operator) (content_of T.tree left.now) (content_of T.tree right.now) }
+{
+    match operator {
+        Operator::Equal => are_equal(left, right),
+        Operator::NotEqual => !are_equal(left, right),
+        Operator::Less => is_less(left, right),
+        Operator::LessOrEqual => is_less(left, right) || are_equal(left, right),
+        Operator::Greater => is_less(right, left),
+        Operator::GreaterOrEqual => is_less(right, left) || are_equal(left, right),
+    }
+}
+
+fn are_equal<'a, T: Queryable>(left: &Data<'a, T>, right: &Data<'a, T>) -> bool
+    requires left { DataIsWhole T.is_whole left.now }
+    requires right { DataIsWhole T.is_whole right.now }
+    ensures { result ≡ contents_equal (content_of T.tree left.now) (content_of T.tree right.now) }
+{
+    match right {
+        Data::Refs(others) => match left {
+            Data::Refs(all) => are_same(all, others),
+            Data::Ref(from) => are_elements(from.inner, others),
+            _ => false,
+        },
+        Data::Nothing => match left {
+            Data::Nothing => true,
+            _ => false,
+        },
+        Data::Ref(other) => is_same_value(left, other.inner),
+        Data::Value(other) => is_same_value(left, other),
+    }
+}
+
+/// Whether it is or points to a value that is the same as this one.
+fn is_same_value<'a, T: Queryable>(given: &Data<'a, T>, other: &T) -> bool
+    requires left { DataIsWhole T.is_whole given.now }
+    requires right { IsTrue (T.is_whole other.now) }
+    ensures { result ≡ values_same (plain (content_of T.tree given.now)) (Some (T.tree other.now)) }
+{
+    match plain_value(given) {
+        Some(own) => own.equal(other),
+        None => false,
+    }
+}
+
+/// Whether the value is a list of the values of these pointers.
+fn are_elements<'a, T: Queryable>(list: &T, nodes: &[Pointer<'a, T>]) -> bool
+    requires left { IsTrue (T.is_whole list.now) }
+    requires right { PointersAreWhole T.is_whole nodes.now }
+    ensures { result ≡ lists_places (T.tree list.now) (places_of T.tree nodes.now) }
+{
+    match list.as_array() {
+        Some(items) => are_same_values(items, nodes),
+        None => false,
+    }
+}
+
+fn are_same_values<'a, T: Queryable>(items: &[T], nodes: &[Pointer<'a, T>]) -> bool
+    requires left { All (λ x. IsTrue (T.is_whole x)) items.now }
+    requires right { PointersAreWhole T.is_whole nodes.now }
+    ensures { result ≡ lists_same (map T.tree items.now) (map (λ p. T.tree p.inner.now) nodes.now) }
+{
+    if items.len() != nodes.len() {
+        return false;
+    }
+    for (i, item) in items.iter().enumerate() {
+        if !item.equal(nodes[i].inner) {
+            return false;
+        }
+    }
+    true
+}
+
+/// Whether both are or point to numbers or both to texts, and the left is less.
+fn is_less<'a, T: Queryable>(left: &Data<'a, T>, right: &Data<'a, T>) -> bool
+    requires left { DataIsWhole T.is_whole left.now }
+    requires right { DataIsWhole T.is_whole right.now }
+    ensures { result ≡ is_content_below (content_of T.tree left.now) (content_of T.tree right.now) }
+{
+    let left = Side::lent(plain_value(left));
+    let right = Side::lent(plain_value(right));
+    is_below(&left, &right)
+}

@@ -1,0 +1,158 @@
+//! What functions make of the data of their arguments (RFC 9535, 2.4.4 to 2.4.8).
+ghost use Rattle.std.specs.Prelude.{◌≡◌, ◌++◌, Some, option_map, string_bytes, IsTrue, IfOk, IfErr, IfSome, OnOk};
+ghost use Rattle.jsonpath_base.specs.Tree.{truth};
+ghost use Rattle.jsonpath_rust.specs.documents.Functions as functions;
+ghost use Rattle.jsonpath_rust.specs.documents.Patterns.{IsPattern};
+ghost use Rattle.jsonpath_rust.specs.states.Process.{plain, optional, length_content, count_content, value_content, content_trees};
+ghost use Rattle.jsonpath_rust.specs.states.State.{value, content_of, DataIsWhole};
+ghost use Rattle.jsonpath_rust.specs.documents.inner.Operands.{arg_trees, AreWhole, is_entire};
+ghost use Rattle.jsonpath_rust.specs.declared.documents.halt.Halt.TheVariants.{Memory};
+
+use crate::documents::extent::Extent;
+use crate::documents::halt::Walked;
+use crate::documents::queryable::{Arg, Queryable};
+use crate::documents::value::length_of;
+use crate::states::evaluate::value::{count_data, plain_value, truth_data};
+use crate::states::state::Data;
+use jsonpath_base::found;
+use std::alloc::Global;
+
+/// What `length` answers.
+pub fn length_data<'a, T: Queryable>(alloc: Global, given: Data<'a, T>) -> Walked<Data<'a, T>>
+    requires { DataIsWhole T.is_whole given }
+    ensures value { IfOk result (λ d. content_of T.tree d ≡ length_content (content_of T.tree given.entry)) }
+    ensures whole { IfOk result (λ d. DataIsWhole T.is_whole d) }
+    ensures memory { IfErr result (λ h. h ≡ Memory) }
+{
+    match given {
+        Data::Ref(from) => value_length(alloc, from.inner),
+        Data::Refs(all) => count_data(alloc, all.len()),
+        Data::Value(own) => value_length(alloc, &own),
+        Data::Nothing => Ok(Data::Nothing),
+    }
+}
+
+/// The length of a value; nothing where it has none.
+fn value_length<'a, T: Queryable>(alloc: Global, of: &T) -> Walked<Data<'a, T>>
+    requires { IsTrue (T.is_whole of.now) }
+    ensures value { IfOk result (λ d. content_of T.tree d ≡ optional (functions.length_of (Some (T.tree of.now)))) }
+    ensures whole { IfOk result (λ d. DataIsWhole T.is_whole d) }
+    ensures memory { IfErr result (λ h. h ≡ Memory) }
+{
+    match length_of(alloc, of)? {
+        Some(length) => count_data(alloc, length),
+        None => Ok(Data::Nothing),
+    }
+}
+
+/// What `count` answers.
+pub fn node_count<'a, T: Queryable>(alloc: Global, given: Data<'a, T>) -> Walked<Data<'a, T>>
+    ensures value { IfOk result (λ d. content_of T.tree d ≡ count_content (content_of T.tree given.entry)) }
+    ensures whole { IfOk result (λ d. DataIsWhole T.is_whole d) }
+    ensures memory { IfErr result (λ h. h ≡ Memory) }
+{
+    match given {
+        Data::Ref(_from) => count_data(alloc, 1),
+        Data::Refs(all) => count_data(alloc, all.len()),
+        Data::Value(_own) => count_data(alloc, 1),
+        Data::Nothing => count_data(alloc, 0),
+    }
+}
+
+/// What `value` answers.
+pub fn only_value<'a, T: Queryable>(given: Data<'a, T>) -> Data<'a, T>
+    requires { DataIsWhole T.is_whole given }
+    ensures value { content_of T.tree result ≡ value_content (content_of T.tree given.entry) }
+    ensures whole { DataIsWhole T.is_whole result }
+{
+    match given {
+        Data::Ref(from) => Data::Ref(from),
+        Data::Refs(mut all) => {
+            if all.len() == 1 {
+                match all.pop() {
+                    Some(from) => Data::Ref(from),
+                    None => Data::Nothing,
+                }
+            } else {
+                Data::Nothing
+            }
+        }
+        Data::Value(own) => Data::Value(own),
+        Data::Nothing => Data::Nothing,
+    }
+}
+
+/// What `match` answers of the entire text, or `search` of its substrings.
+pub fn found_data<'a, T: Queryable>(
+    alloc: Global,
+    text: &Data<'a, T>,
+    pattern: &Data<'a, T>,
+    extent: Extent,
+) -> Walked<Data<'a, T>>
+    requires text { DataIsWhole T.is_whole text.now }
+    requires pattern { DataIsWhole T.is_whole pattern.now }
+    ensures value { IfOk result (λ d. content_of T.tree d ≡ value (truth (functions.is_matched (is_entire extent) (plain (content_of T.tree text.now)) (plain (content_of T.tree pattern.now))))) }
+    ensures whole { IfOk result (λ d. DataIsWhole T.is_whole d) }
+    ensures refused { IfErr result (λ h. (h ≡ Memory → ⊥) → IsPattern (is_entire extent) (plain (content_of T.tree pattern.now))) }
+{
+    let found = is_matched(alloc, plain_value(text), plain_value(pattern), extent)?;
+    truth_data(alloc, found)
+}
+
+fn is_matched<T: Queryable>(
+    alloc: Global,
+    text: Option<&T>,
+    pattern: Option<&T>,
+    extent: Extent,
+) -> Walked<bool>
+    requires text { IfSome text (λ v. IsTrue (T.is_whole v.now)) }
+    requires pattern { IfSome pattern (λ v. IsTrue (T.is_whole v.now)) }
+    ensures value { IfOk result (λ b. b ≡ functions.is_matched (is_entire extent) (option_map (λ v. T.tree v.now) text.entry) (option_map (λ v. T.tree v.now) pattern.entry)) }
+    ensures refused { IfErr result (λ h. (h ≡ Memory → ⊥) → IsPattern (is_entire extent) (option_map (λ v. T.tree v.now) pattern.entry)) }
+{
+    match (text, pattern) {
+        (Some(text), Some(pattern)) => match (text.as_str(), pattern.as_str()) {
+            (Some(text), Some(pattern)) => Ok(found(alloc, text, pattern, extent.is_entire())?),
+            _ => Ok(false),
+        },
+        _ => Ok(false),
+    }
+}
+
+/// What a custom function answers.
+pub fn custom_data<'a, T: Queryable>(
+    alloc: Global,
+    name: &String,
+    args: &[Arg<'a, T>],
+) -> Walked<Data<'a, T>>
+    requires { AreWhole T.is_whole args.now }
+    ensures value { IfOk result (λ d. content_of T.tree d ≡ value (T.custom (string_bytes name.now) (arg_trees T.tree args.now))) }
+    ensures whole { IfOk result (λ d. DataIsWhole T.is_whole d) }
+    ensures memory { IfErr result (λ h. h ≡ Memory) }
+{
+    Ok(Data::Value(T::extension_custom(alloc, name, args)?))
+}
+
+/// Follows the arguments of a custom function by what an answer stands for: its value, or the values of its nodes.
+pub fn push_values<'a, T: Queryable>(
+    values: &mut Vec<Arg<'a, T>>,
+    answer: Data<'a, T>,
+) -> Walked<()>
+    requires own { DataIsWhole T.is_whole answer }
+    requires others { AreWhole T.is_whole values.old.items }
+    ensures value { OnOk result (arg_trees T.tree values.new.items ≡ arg_trees T.tree values.old.items ++ content_trees (content_of T.tree answer.entry)) }
+    ensures whole { OnOk result (AreWhole T.is_whole values.new.items) }
+    ensures memory { IfErr result (λ h. h ≡ Memory) }
+{
+    match answer {
+        Data::Ref(from) => Ok(values.push(Arg::Borrowed(from.inner))?),
+        Data::Refs(all) => {
+            for from in &all {
+                values.push(Arg::Borrowed(from.inner))?;
+            }
+            Ok(())
+        }
+        Data::Value(own) => Ok(values.push(Arg::Owned(own))?),
+        Data::Nothing => Ok(()),
+    }
+}

@@ -1,0 +1,56 @@
+//! Data of one value: truths, counts, literals, and the value that data is or points to.
+ghost use Rattle.std.specs.Prelude.{◌≡◌, option_map, IsTrue, IfOk, IfErr, IfSome};
+ghost use Rattle.jsonpath_parser.specs.tree.View.{literal_view};
+ghost use Rattle.jsonpath_base.specs.Tree.{truth};
+ghost use Rattle.jsonpath_rust.specs.documents.Functions.{count_value};
+ghost use Rattle.jsonpath_rust.specs.documents.Meaning.{literal_tree};
+ghost use Rattle.jsonpath_rust.specs.states.Process.{plain};
+ghost use Rattle.jsonpath_rust.specs.states.State.{value, content_of, DataIsWhole};
+ghost use Rattle.jsonpath_rust.specs.declared.documents.halt.Halt.TheVariants.{Memory};
+
+use crate::documents::halt::Walked;
+use crate::documents::queryable::Queryable;
+use crate::documents::value::{count_scalar, made, scalar_of};
+use crate::states::state::Data;
+use jsonpath_parser::model::Literal;
+use std::alloc::Global;
+
+/// A truth.
+pub fn truth_data<'a, T: Queryable>(alloc: Global, b: bool) -> Walked<Data<'a, T>>
+    ensures value { IfOk result (λ d. content_of T.tree d ≡ value (truth b)) }
+    ensures whole { IfOk result (λ d. DataIsWhole T.is_whole d) }
+    ensures memory { IfErr result (λ h. h ≡ Memory) }
+{
+    Ok(Data::Value(T::from_bool(alloc, b)?))
+}
+
+/// A count.
+pub fn count_data<'a, T: Queryable>(alloc: Global, count: usize) -> Walked<Data<'a, T>>
+    ensures value { IfOk result (λ d. content_of T.tree d ≡ value (count_value count)) }
+    ensures whole { IfOk result (λ d. DataIsWhole T.is_whole d) }
+    ensures memory { IfErr result (λ h. h ≡ Memory) }
+{
+    Ok(Data::Value(made(alloc, count_scalar(count))?))
+}
+
+/// A literal.
+pub fn literal_data<'a, T: Queryable>(alloc: Global, literal: &Literal) -> Walked<Data<'a, T>>
+    ensures value { IfOk result (λ d. content_of T.tree d ≡ value (literal_tree (literal_view literal.now))) }
+    ensures whole { IfOk result (λ d. DataIsWhole T.is_whole d) }
+    ensures memory { IfErr result (λ h. h ≡ Memory) }
+{
+    Ok(Data::Value(made(alloc, scalar_of(literal))?))
+}
+
+/// The value that it is or points to.
+pub fn plain_value<'d, 'a, T: Queryable>(given: &'d Data<'a, T>) -> Option<&'d T>
+    requires { DataIsWhole T.is_whole given.now }
+    ensures value { option_map (λ v. T.tree v.now) result ≡ plain (content_of T.tree given.now) }
+    ensures whole { IfSome result (λ v. IsTrue (T.is_whole v.now)) }
+{
+    match given {
+        Data::Ref(from) => Some(from.inner),
+        Data::Value(own) => Some(own),
+        _ => None,
+    }
+}

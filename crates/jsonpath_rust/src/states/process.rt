@@ -1,0 +1,354 @@
+//! What can be asked of a state: each part of a query.
+ghost use Rattle.std.specs.Prelude.{◌≡◌, [], List, Bool, map, IsTrue, IfOk, IfErr};
+ghost use Rattle.jsonpath_parser.specs.tree.Syntax.{Argument};
+ghost use Rattle.jsonpath_parser.specs.tree.View.{segment_view, selector_view, filter_view, atom_view, comparison_view, comparable_view, test_view, call_view, argument_view, query_view, singular_view, step_view, literal_view, segments_view};
+ghost use Rattle.jsonpath_base.specs.Tree.{truth};
+ghost use Rattle.jsonpath_rust.specs.states.Asking.{IsProcessStop};
+ghost use Rattle.jsonpath_rust.specs.documents.Document.{Document, document_of};
+ghost use Rattle.jsonpath_rust.specs.documents.Meaning.{literal_tree};
+ghost use Rattle.jsonpath_rust.specs.states.Process.{segments_content, segment_content, selector_content, filter_content, atom_content, comparison_holds_at, comparable_content, test_content, call_content, argument_content, steps_content, step_content, singular_content};
+ghost use Rattle.jsonpath_rust.specs.documents.Patterns.{segments_patterns, segment_patterns, selector_patterns, filter_patterns, atom_patterns, comparison_patterns, comparable_patterns, test_patterns, call_patterns, argument_patterns};
+ghost use Rattle.jsonpath_rust.specs.states.State.{Content, value, content_of, DataIsWhole};
+ghost use Rattle.jsonpath_rust.specs.declared.documents.halt.Halt.TheVariants.{Memory};
+ghost use Rattle.jsonpath_rust.specs.states.inner.Evaluating.{HaltsAt, HaltsBelow};
+
+use crate::documents::Queried;
+use crate::documents::halt::Walked;
+use crate::documents::queryable::Queryable;
+use crate::states::evaluate::filters::{
+    argument_data, atom_data, call_data, comparable_data, comparison_data, test_data,
+};
+use crate::states::evaluate::segments::{
+    Part, each_place, segment_data, segments_data, selector_data,
+};
+use crate::states::evaluate::singular::{singular_data, step_data, steps_data};
+use crate::states::evaluate::value::literal_data;
+use crate::states::state::{Data, State};
+use jsonpath_parser::model::{
+    Comparable, Comparison, Filter, FilterAtom, FnArg, JpQuery, Literal, Segment, Selector,
+    SingularQuery, SingularQuerySegment, Test, TestFunction,
+};
+use std::alloc::Global;
+
+/// What can be asked of a state: a query, and each part of one. It answers on every state, hand-made ones included, and on
+/// trees that the typing of RFC 9535, 2.4.3 refuses.
+pub trait Query {
+    /// What it answers, of a document and what a state holds.
+    ghost answers: { Self → Document → Content → Content };
+
+    /// The patterns that stand in it: the second argument of each call of `match`, with true, and of `search`, with false.
+    ghost patterns: { Self → List (Bool × Argument) };
+
+    /// The answer, in the same document.
+    ///
+    /// # Errors
+    ///
+    /// - `InvalidJsonPath` where `regex` refuses a pattern for its size: one that stands in the query, and that has, at the
+    ///   state or at a value in the document or in the state's nodes, a text that `regex` reads.
+    /// - `OutOfMemory` where memory ran out.
+    fn process<'a, T: Queryable>(&self, alloc: Global, state: State<'a, T>) -> Queried<State<'a, T>>
+        requires root { IsTrue (T.is_whole state.root.now) }
+        requires whole { DataIsWhole T.is_whole state.content }
+        ensures content { IfOk result (λ s. content_of T.tree s.content ≡ answers self.now (document_of T.tree T.custom state.entry.root.now) (content_of T.tree state.entry.content)) }
+        ensures root { IfOk result (λ s. s.root.now ≡ state.entry.root.now) }
+        ensures whole { IfOk result (λ s. DataIsWhole T.is_whole s.content) }
+        ensures refused { IfErr result (IsProcessStop (patterns self.now) (document_of T.tree T.custom state.entry.root.now) (content_of T.tree state.entry.content)) };
+}
+
+/// The state of what was answered, or what a caller is told.
+fn answered<'a, T: Queryable>(
+    alloc: Global,
+    answer: Walked<Data<'a, T>>,
+    root: &'a T,
+) -> Queried<State<'a, T>>
+    ensures content { (c : Content) → IfOk answer.entry (λ d. content_of T.tree d ≡ c) → IfOk result (λ s. content_of T.tree s.content ≡ c) }
+    ensures root { IfOk result (λ s. s.root.now ≡ root.now) }
+    ensures whole { IfOk answer.entry (λ d. DataIsWhole T.is_whole d) → IfOk result (λ s. DataIsWhole T.is_whole s.content) }
+    ensures below { (ps : List (Bool × Argument)) → (d : Document) → (c : Content) → IfErr answer.entry (HaltsBelow ps d c) → IfErr result (IsProcessStop ps d c) }
+    ensures refused { (ps : List (Bool × Argument)) → (d : Document) → (c : Content) → IfErr answer.entry (HaltsAt ps d c) → IfErr result (IsProcessStop ps d c) }
+    ensures memory { (ps : List (Bool × Argument)) → (d : Document) → (c : Content) → IfErr answer.entry (λ h. h ≡ Memory) → IfErr result (IsProcessStop ps d c) }
+{
+    match answer {
+        Ok(content) => Ok(State { content, root }),
+        Err(halt) => Err(halt.told(alloc)),
+    }
+}
+
+/// Its segments, each on the answer before.
+impl Query for JpQuery {
+    ghost answers = { λ q. segments_content (query_view q) };
+
+    ghost patterns = { λ q. segments_patterns (query_view q) };
+
+    fn process<'a, T: Queryable>(
+        &self,
+        alloc: Global,
+        state: State<'a, T>,
+    ) -> Queried<State<'a, T>> {
+        let State { content, root } = state;
+        answered(
+            alloc,
+            segments_data(alloc, &self.segments, content, root),
+            root,
+        )
+    }
+}
+
+/// Each on the answer before.
+impl Query for Vec<Segment> {
+    ghost answers = { λ q. segments_content (segments_view q) };
+
+    ghost patterns = { λ q. segments_patterns (segments_view q) };
+
+    fn process<'a, T: Queryable>(
+        &self,
+        alloc: Global,
+        state: State<'a, T>,
+    ) -> Queried<State<'a, T>> {
+        let State { content, root } = state;
+        answered(alloc, segments_data(alloc, self, content, root), root)
+    }
+}
+
+/// Its selector; its selectors node by node; or, of a descendant segment, the inner one on the lists and objects there and below.
+impl Query for Segment {
+    ghost answers = { λ q. segment_content (segment_view q) };
+
+    ghost patterns = { λ q. segment_patterns (segment_view q) };
+
+    fn process<'a, T: Queryable>(
+        &self,
+        alloc: Global,
+        state: State<'a, T>,
+    ) -> Queried<State<'a, T>> {
+        let State { content, root } = state;
+        answered(alloc, segment_data(alloc, self, content, root), root)
+    }
+}
+
+/// What it picks at each node.
+impl Query for Selector {
+    ghost answers = { λ q. selector_content (selector_view q) };
+
+    ghost patterns = { λ q. selector_patterns (selector_view q) };
+
+    fn process<'a, T: Queryable>(
+        &self,
+        alloc: Global,
+        state: State<'a, T>,
+    ) -> Queried<State<'a, T>> {
+        let State { content, root } = state;
+        answered(alloc, selector_data(alloc, self, content, root), root)
+    }
+}
+
+/// The children of each node at which it holds.
+impl Query for Filter {
+    ghost answers = { λ q. filter_content (filter_view q) };
+
+    ghost patterns = { λ q. filter_patterns (filter_view q) };
+
+    fn process<'a, T: Queryable>(
+        &self,
+        alloc: Global,
+        state: State<'a, T>,
+    ) -> Queried<State<'a, T>> {
+        let State { content, root } = state;
+        answered(
+            alloc,
+            each_place(alloc, Part::Kept(self), content, root),
+            root,
+        )
+    }
+}
+
+/// Its truth; of a call that answers a truth, what the call answers.
+impl Query for FilterAtom {
+    ghost answers = { λ q. atom_content (atom_view q) };
+
+    ghost patterns = { λ q. atom_patterns (atom_view q) };
+
+    fn process<'a, T: Queryable>(
+        &self,
+        alloc: Global,
+        state: State<'a, T>,
+    ) -> Queried<State<'a, T>> {
+        let State { content, root } = state;
+        answered(alloc, atom_data(alloc, self, &content, root), root)
+    }
+}
+
+/// Its truth.
+impl Query for Comparison {
+    ghost answers = { λ q d c. value (truth (comparison_holds_at (comparison_view q) d c)) };
+
+    ghost patterns = { λ q. comparison_patterns (comparison_view q) };
+
+    fn process<'a, T: Queryable>(
+        &self,
+        alloc: Global,
+        state: State<'a, T>,
+    ) -> Queried<State<'a, T>> {
+        let State { content, root } = state;
+        answered(alloc, comparison_data(alloc, self, &content, root), root)
+    }
+}
+
+/// The literal, what the function answers, or the singular query.
+impl Query for Comparable {
+    ghost answers = { λ q. comparable_content (comparable_view q) };
+
+    ghost patterns = { λ q. comparable_patterns (comparable_view q) };
+
+    fn process<'a, T: Queryable>(
+        &self,
+        alloc: Global,
+        state: State<'a, T>,
+    ) -> Queried<State<'a, T>> {
+        let State { content, root } = state;
+        answered(alloc, comparable_data(alloc, self, &content, root), root)
+    }
+}
+
+/// Its steps, on the state or on the root.
+impl Query for SingularQuery {
+    ghost answers = { λ q. singular_content (singular_view q) };
+
+    ghost patterns = { λ q. [] };
+
+    fn process<'a, T: Queryable>(
+        &self,
+        alloc: Global,
+        state: State<'a, T>,
+    ) -> Queried<State<'a, T>> {
+        let State { content, root } = state;
+        let answer = singular_data(alloc, self, &content, root)?;
+        Ok(State {
+            content: answer,
+            root,
+        })
+    }
+}
+
+/// The member or the element of each node.
+impl Query for SingularQuerySegment {
+    ghost answers = { λ q d. step_content (step_view q) };
+
+    ghost patterns = { λ q. [] };
+
+    fn process<'a, T: Queryable>(
+        &self,
+        alloc: Global,
+        state: State<'a, T>,
+    ) -> Queried<State<'a, T>> {
+        let State { content, root } = state;
+        let answer = step_data(alloc, self, content)?;
+        Ok(State {
+            content: answer,
+            root,
+        })
+    }
+}
+
+/// Each on the answer before.
+impl Query for Vec<SingularQuerySegment> {
+    ghost answers = { λ q d. steps_content (map step_view q.items) };
+
+    ghost patterns = { λ q. [] };
+
+    fn process<'a, T: Queryable>(
+        &self,
+        alloc: Global,
+        state: State<'a, T>,
+    ) -> Queried<State<'a, T>> {
+        let State { content, root } = state;
+        let answer = steps_data(alloc, self, content)?;
+        Ok(State {
+            content: answer,
+            root,
+        })
+    }
+}
+
+/// The literal, on every state.
+impl Query for Literal {
+    ghost answers = { λ q d c. value (literal_tree (literal_view q)) };
+
+    ghost patterns = { λ q. [] };
+
+    fn process<'a, T: Queryable>(
+        &self,
+        alloc: Global,
+        state: State<'a, T>,
+    ) -> Queried<State<'a, T>> {
+        let State {
+            content: _content,
+            root,
+        } = state;
+        answered(alloc, literal_data(alloc, self), root)
+    }
+}
+
+/// The segments on the state, the query on the root, or the function.
+impl Query for Test {
+    ghost answers = { λ q. test_content (test_view q) };
+
+    ghost patterns = { λ q. test_patterns (test_view q) };
+
+    fn process<'a, T: Queryable>(
+        &self,
+        alloc: Global,
+        state: State<'a, T>,
+    ) -> Queried<State<'a, T>> {
+        let State { content, root } = state;
+        answered(alloc, test_data(alloc, self, &content, root), root)
+    }
+}
+
+/// What the function answers of its arguments at the state.
+impl Query for TestFunction {
+    ghost answers = { λ q. call_content (call_view q) };
+
+    ghost patterns = { λ q. call_patterns (call_view q) };
+
+    fn process<'a, T: Queryable>(
+        &self,
+        alloc: Global,
+        state: State<'a, T>,
+    ) -> Queried<State<'a, T>> {
+        let State { content, root } = state;
+        answered(alloc, call_data(alloc, self, &content, root), root)
+    }
+}
+
+/// The literal, the test, or the truth of the filter at the state.
+impl Query for FnArg {
+    ghost answers = { λ q. argument_content (argument_view q) };
+
+    ghost patterns = { λ q. argument_patterns (argument_view q) };
+
+    fn process<'a, T: Queryable>(
+        &self,
+        alloc: Global,
+        state: State<'a, T>,
+    ) -> Queried<State<'a, T>> {
+        let State { content, root } = state;
+        answered(alloc, argument_data(alloc, self, &content, root), root)
+    }
+}
+
+/// What the function answers, as [`Query::process`] of it.
+pub fn apply<'a, T: Queryable>(
+    alloc: Global,
+    function: &TestFunction,
+    state: State<'a, T>,
+) -> Queried<State<'a, T>>
+    requires root { IsTrue (T.is_whole state.root.now) }
+    requires whole { DataIsWhole T.is_whole state.content }
+    ensures content { IfOk result (λ s. content_of T.tree s.content ≡ call_content (call_view function.now) (document_of T.tree T.custom state.entry.root.now) (content_of T.tree state.entry.content)) }
+    ensures root { IfOk result (λ s. s.root.now ≡ state.entry.root.now) }
+    ensures whole { IfOk result (λ s. DataIsWhole T.is_whole s.content) }
+    ensures refused { IfErr result (IsProcessStop (call_patterns (call_view function.now)) (document_of T.tree T.custom state.entry.root.now) (content_of T.tree state.entry.content)) }
+{
+    function.process(alloc, state)
+}

@@ -1,0 +1,79 @@
+//! The nodes that [`Query::process`] answers from the root, as a caller of `js_path_process` wants them.
+ghost use Rattle.std.specs.Prelude.{◌≡◌, map, All, IsTrue, IfOk, IfErr};
+ghost use Rattle.jsonpath_parser.specs.tree.View.{query_view};
+ghost use Rattle.jsonpath_rust.specs.documents.Answer.{shown};
+ghost use Rattle.jsonpath_rust.specs.states.Processed.{processed};
+ghost use Rattle.jsonpath_rust.specs.documents.Document.{document_of};
+ghost use Rattle.jsonpath_rust.specs.states.Asking.{IsProcessStop};
+ghost use Rattle.jsonpath_rust.specs.documents.Patterns.{segments_patterns};
+ghost use Rattle.jsonpath_rust.specs.states.Process.{segments_content};
+ghost use Rattle.jsonpath_rust.specs.states.State.{places, places_of, root_content, PointersAreWhole};
+
+use crate::documents::queryable::Queryable;
+use crate::documents::{Queried, QueryRef};
+use crate::states::process::Query;
+use crate::states::state::{Data, Pointer, State};
+use jsonpath_parser::model::JpQuery;
+use std::alloc::Global;
+
+/// The nodes, with their values and the texts of their paths. It refuses as [`Query::process`] does.
+pub fn processed_nodes<'a, T: Queryable>(
+    alloc: Global,
+    query: &JpQuery,
+    root: &'a T,
+) -> Queried<Vec<QueryRef<'a, T>>>
+    requires { IsTrue (T.is_whole root.now) }
+    ensures nodes { IfOk result (λ v. shown T.tree v.items ≡ processed (query_view query.now) (document_of T.tree T.custom root.now)) }
+    ensures whole { IfOk result (λ v. All (λ r. IsTrue (T.is_whole r.val.now)) v.items) }
+    ensures refused { IfErr result (IsProcessStop (segments_patterns (query_view query.now)) (document_of T.tree T.custom root.now) (root_content (document_of T.tree T.custom root.now))) }
+{
+    let pointers = pointers_from_root(alloc, query, root)?;
+    let mut nodes = Vec::new(alloc);
+    for pointer in pointers {
+        nodes.push(QueryRef::from(pointer))?;
+    }
+    Ok(nodes)
+}
+
+/// Their values. It refuses as [`Query::process`] does.
+pub fn processed_values<'a, T: Queryable>(
+    alloc: Global,
+    query: &JpQuery,
+    root: &'a T,
+) -> Queried<Vec<&'a T>>
+    requires { IsTrue (T.is_whole root.now) }
+    ensures values { IfOk result (λ v. map (λ x. T.tree x.now) v.items ≡ map (λ n. n.1) (processed (query_view query.now) (document_of T.tree T.custom root.now))) }
+    ensures whole { IfOk result (λ v. All (λ x. IsTrue (T.is_whole x.now)) v.items) }
+    ensures refused { IfErr result (IsProcessStop (segments_patterns (query_view query.now)) (document_of T.tree T.custom root.now) (root_content (document_of T.tree T.custom root.now))) }
+{
+    let pointers = pointers_from_root(alloc, query, root)?;
+    let mut values = Vec::new(alloc);
+    for pointer in &pointers {
+        values.push(pointer.inner)?;
+    }
+    Ok(values)
+}
+
+/// The nodes, as they stand in the state that is answered.
+fn pointers_from_root<'a, T: Queryable>(
+    alloc: Global,
+    query: &JpQuery,
+    root: &'a T,
+) -> Queried<Vec<Pointer<'a, T>>>
+    requires { IsTrue (T.is_whole root.now) }
+    ensures places { IfOk result (λ v. places_of T.tree v.items ≡ places (segments_content (query_view query.now) (document_of T.tree T.custom root.now) (root_content (document_of T.tree T.custom root.now)))) }
+    ensures whole { IfOk result (λ v. PointersAreWhole T.is_whole v.items) }
+    ensures refused { IfErr result (IsProcessStop (segments_patterns (query_view query.now)) (document_of T.tree T.custom root.now) (root_content (document_of T.tree T.custom root.now))) }
+{
+    let state = query.process(alloc, State::root(alloc, root)?)?;
+    match state.content {
+        Data::Ref(pointer) => {
+            let mut all = Vec::new(alloc);
+            all.push(pointer)?;
+            Ok(all)
+        }
+        Data::Refs(all) => Ok(all),
+        Data::Value(_value) => Ok(Vec::new(alloc)),
+        Data::Nothing => Ok(Vec::new(alloc)),
+    }
+}

@@ -1,0 +1,40 @@
+//! What one name or one index finds from a pointer (RFC 9535, 2.3.1 and 2.3.3).
+ghost use Rattle.std.specs.Prelude.{◌≡◌, IsTrue, IfOk, IfErr};
+ghost use Rattle.jsonpath_parser.specs.declared.errors.JsonPathError.TheVariants.{OutOfMemory};
+ghost use Rattle.jsonpath_rust.specs.states.State.{named_from, indexed_from, place_of, content_of, DataIsWhole};
+
+use crate::documents::Queried;
+use crate::documents::queryable::Queryable;
+use crate::states::evaluate::found::{element_from, named};
+use crate::states::state::{Data, Pointer};
+use std::alloc::Global;
+
+/// The member of that name, under the pointer's path and one step more; nothing where there is none. It refuses by
+/// `OutOfMemory` alone.
+pub fn process_key<'a, T: Queryable>(
+    alloc: Global,
+    pointer: Pointer<'a, T>,
+    key: &str,
+) -> Queried<Data<'a, T>>
+    requires { IsTrue (T.is_whole pointer.inner.now) }
+    ensures value { IfOk result (λ d. content_of T.tree d ≡ named_from key.now (place_of T.tree pointer.entry)) }
+    ensures whole { IfOk result (λ d. DataIsWhole T.is_whole d) }
+    ensures memory { IfErr result (λ e. e ≡ OutOfMemory) }
+{
+    named(alloc, &pointer, key)
+}
+
+/// The element that the index means, from the end where it is negative, under the pointer's path and one step more;
+/// nothing where there is none. It refuses by `OutOfMemory` alone.
+pub fn process_index<'a, T: Queryable>(
+    alloc: Global,
+    pointer: Pointer<'a, T>,
+    idx: &i64,
+) -> Queried<Data<'a, T>>
+    requires { IsTrue (T.is_whole pointer.inner.now) }
+    ensures value { IfOk result (λ d. content_of T.tree d ≡ indexed_from idx.now (place_of T.tree pointer.entry)) }
+    ensures whole { IfOk result (λ d. DataIsWhole T.is_whole d) }
+    ensures memory { IfErr result (λ e. e ≡ OutOfMemory) }
+{
+    element_from(alloc, &pointer, *idx)
+}

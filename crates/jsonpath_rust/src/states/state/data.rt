@@ -1,0 +1,269 @@
+//! What a state holds.
+ghost use Rattle.std.specs.Prelude.{◌≡◌, ◌⊎◌, ◌++◌, map, Ok, Err, IsTrue, IfOk, IfErr, OnOk, option_map};
+ghost use Rattle.std.specs.List.{AllByRecursion};
+ghost use Rattle.jsonpath_parser.specs.declared.errors.JsonPathError.TheVariants.{OutOfMemory};
+ghost use Rattle.jsonpath_rust.specs.states.State.{Content, ref, refs, nothing, place_of, places_of, content_of, pointers, PointersAreWhole, DataIsWhole, ok_refs, ok_value, contents_same, places_same, reduced, Made, GivesWhole, SomeHas};
+
+use crate::documents::Queried;
+use crate::documents::queryable::Queryable;
+use crate::states::state::pointer::Pointer;
+use std::alloc::Global;
+use std::fmt::{self, Debug, Display, Formatter, Write};
+
+/// What a state holds.
+#[derive(Debug, Drop)]
+pub enum Data<'a, T> {
+    /// One node.
+    Ref(Pointer<'a, T>),
+    /// Nodes, in order, perhaps none.
+    Refs(Vec<Pointer<'a, T>>),
+    /// A value of its own, as a literal or a function answers.
+    Value(T),
+    Nothing,
+}
+
+impl<'a, T: Queryable> Data<'a, T> {
+    /// One node.
+    pub fn new_ref(pointer: Pointer<'a, T>) -> Self
+        ensures content { content_of T.tree result ≡ ref (place_of T.tree pointer.entry) }
+        ensures whole { IsTrue (T.is_whole pointer.entry.inner.now) → DataIsWhole T.is_whole result }
+    {
+        Data::Ref(pointer)
+    }
+
+    /// Nodes, in this order.
+    pub fn new_refs(pointers: Vec<Pointer<'a, T>>) -> Self
+        ensures content { content_of T.tree result ≡ refs (places_of T.tree pointers.entry.items) }
+        ensures whole { PointersAreWhole T.is_whole pointers.entry.items → DataIsWhole T.is_whole result }
+    {
+        Data::Refs(pointers)
+    }
+
+    /// The nodes of both, this one's first, where both have nodes; the one that has nodes, where the other is nothing; and
+    /// else nothing. It refuses by `OutOfMemory` alone.
+    pub fn reduce(self, alloc: Global, other: Data<'a, T>) -> Queried<Data<'a, T>>
+        ensures value { IfOk result (λ d. content_of T.tree d ≡ reduced (content_of T.tree self.entry) (content_of T.tree other.entry)) }
+        ensures whole { DataIsWhole T.is_whole self.entry → DataIsWhole T.is_whole other.entry → IfOk result (λ d. DataIsWhole T.is_whole d) }
+        ensures memory { IfErr result (λ e. e ≡ OutOfMemory) }
+    {
+        match self {
+            Data::Ref(p) => match other {
+                Data::Ref(q) => {
+                    let mut all = Vec::new(alloc);
+                    all.push(p)?;
+                    all.push(q)?;
+                    Ok(Data::Refs(all))
+                }
+                Data::Refs(mut qs) => {
+                    let mut all = Vec::new(alloc);
+                    all.push(p)?;
+                    all.append(&mut qs)?;
+                    Ok(Data::Refs(all))
+                }
+                Data::Value(_value) => Ok(Data::Nothing),
+                Data::Nothing => Ok(Data::Ref(p)),
+            },
+            Data::Refs(mut ps) => match other {
+                Data::Ref(q) => {
+                    ps.push(q)?;
+                    Ok(Data::Refs(ps))
+                }
+                Data::Refs(mut qs) => {
+                    ps.append(&mut qs)?;
+                    Ok(Data::Refs(ps))
+                }
+                Data::Value(_value) => Ok(Data::Nothing),
+                Data::Nothing => Ok(Data::Refs(ps)),
+            },
+            Data::Value(_value) => Ok(Data::Nothing),
+            Data::Nothing => match other {
+                Data::Ref(q) => Ok(Data::Ref(q)),
+                Data::Refs(qs) => Ok(Data::Refs(qs)),
+                Data::Value(_value) => Ok(Data::Nothing),
+                Data::Nothing => Ok(Data::Nothing),
+            },
+        }
+    }
+
+    /// The nodes as a list, where it is a node or nodes. It refuses by `OutOfMemory` alone.
+    pub fn ok_ref(self, alloc: Global) -> Queried<Option<Vec<Pointer<'a, T>>>>
+        ensures value { IfOk result (λ o. option_map (λ v. v.items) o ≡ ok_refs self.entry) }
+        ensures memory { IfErr result (λ e. e ≡ OutOfMemory) }
+    {
+        match self {
+            Data::Ref(p) => {
+                let mut all = Vec::new(alloc);
+                all.push(p)?;
+                Ok(Some(all))
+            }
+            Data::Refs(ps) => Ok(Some(ps)),
+            Data::Value(_value) => Ok(None),
+            Data::Nothing => Ok(None),
+        }
+    }
+
+    /// The value of its own, where it has one. It takes no memory.
+    pub fn ok_val(self) -> Option<T>
+        ensures { result ≡ ok_value self.entry }
+    {
+        match self {
+            Data::Ref(_p) => None,
+            Data::Refs(_ps) => None,
+            Data::Value(value) => Some(value),
+            Data::Nothing => None,
+        }
+    }
+
+    /// What the closure answers at the node; of several nodes, the nodes of what it answers at each, in order; and else
+    /// nothing. A refusal of the closure is answered as it is; its own are `OutOfMemory` alone.
+    pub fn flat_map<F: Fn(Pointer<'a, T>) -> Queried<Data<'a, T>> + Drop>(
+        self,
+        alloc: Global,
+        f: F,
+    ) -> Queried<Data<'a, T>>
+        requires { AllByRecursion (F.pre f) (pointers self) }
+        ensures made { IfOk result (λ d. Made (λ p r. F.post f p (Ok r)) self.entry d) }
+
+        // What is made of whole values is whole, where what the closure makes of them is.
+        ensures whole { GivesWhole T.is_whole (λ p r. F.post f p (Ok r)) → DataIsWhole T.is_whole self.entry → IfOk result (λ d. DataIsWhole T.is_whole d) }
+        ensures refused { IfErr result (λ e. (e ≡ OutOfMemory) ⊎ SomeHas (λ p. F.post f p (Err e)) (pointers self.entry)) }
+    {
+        match self {
+            Data::Ref(p) => f(p),
+            Data::Refs(ps) => {
+                let mut all = Vec::new(alloc);
+                for p in ps {
+                    let found = f(p)?;
+                    push_nodes(&mut all, found)?;
+                }
+                Ok(Data::Refs(all))
+            }
+            Data::Value(_value) => Ok(Data::Nothing),
+            Data::Nothing => Ok(Data::Nothing),
+        }
+    }
+
+    /// Whether they are of one kind, with values that are the same ([`Queryable::equal`]) and paths of the same text, in the
+    /// same order. It takes no memory of its own.
+    pub fn equal(&self, other: &Self) -> bool
+        requires left { DataIsWhole T.is_whole self.now }
+        requires right { DataIsWhole T.is_whole other.now }
+        ensures { result ≡ contents_same (content_of T.tree self.now) (content_of T.tree other.now) }
+    {
+        match self {
+            Data::Ref(p) => match other {
+                Data::Ref(q) => p.equal(q),
+                _ => false,
+            },
+            Data::Refs(ps) => match other {
+                Data::Refs(qs) => are_same(ps, qs),
+                _ => false,
+            },
+            Data::Value(value) => match other {
+                Data::Value(of_other) => value.equal(of_other),
+                _ => false,
+            },
+            Data::Nothing => match other {
+                Data::Nothing => true,
+                _ => false,
+            },
+        }
+    }
+
+    /// The same nodes, borrowed once more, with copies of their paths, or a copy of the value. It refuses by `OutOfMemory`
+    /// alone.
+    pub fn try_clone(&self, alloc: Global) -> Queried<Self>
+        ensures value { DataIsWhole T.is_whole self.now → IfOk result (λ d. content_of T.tree d ≡ content_of T.tree self.now) }
+        ensures whole { DataIsWhole T.is_whole self.now → IfOk result (λ d. DataIsWhole T.is_whole d) }
+        ensures memory { IfErr result (λ e. e ≡ OutOfMemory) }
+    {
+        match self {
+            Data::Ref(p) => Ok(Data::Ref(p.try_clone(alloc)?)),
+            Data::Refs(ps) => Ok(Data::Refs(copied(alloc, ps)?)),
+            Data::Value(value) => Ok(Data::Value(value.try_clone(alloc)?)),
+            Data::Nothing => Ok(Data::Nothing),
+        }
+    }
+}
+
+/// Nothing.
+impl<'a, T: Queryable> Default for Data<'a, T> {
+    fn default() -> Self
+        ensures { content_of T.tree result ≡ nothing }
+    {
+        Data::Nothing
+    }
+}
+
+/// `&` and the node; the nodes, joined by `; `; the `Debug` text of the value; or `Nothing`.
+impl<'a, T: Debug> Display for Data<'a, T> {
+    fn fmt<W: Write>(&self, f: &mut Formatter<W>) -> fmt::Result {
+        match self {
+            Data::Ref(pointer) => write!(f, "&{pointer}"),
+            Data::Refs(pointers) => write_joined(f, pointers),
+            Data::Value(value) => write!(f, "{value:?}"),
+            Data::Nothing => f.write_str("Nothing"),
+        }
+    }
+}
+
+fn write_joined<'a, T: Debug, W: Write>(
+    f: &mut Formatter<W>,
+    pointers: &[Pointer<'a, T>],
+) -> fmt::Result {
+    let mut between = "";
+    for pointer in pointers {
+        write!(f, "{between}{pointer}")?;
+        between = "; ";
+    }
+    Ok(())
+}
+
+/// Follows the nodes by those of an answer.
+pub(crate) fn push_nodes<'a, T: Queryable>(
+    all: &mut Vec<Pointer<'a, T>>,
+    found: Data<'a, T>,
+) -> Queried<()>
+    ensures ok { OnOk result (all.new.items ≡ all.old.items ++ pointers found.entry) }
+    ensures err { IfErr result (λ e. e ≡ OutOfMemory) }
+{
+    match found {
+        Data::Ref(p) => Ok(all.push(p)?),
+        Data::Refs(mut ps) => Ok(all.append(&mut ps)?),
+        Data::Value(_value) => Ok(()),
+        Data::Nothing => Ok(()),
+    }
+}
+
+/// Copies of the pointers.
+fn copied<'a, T: Queryable>(
+    alloc: Global,
+    pointers: &[Pointer<'a, T>],
+) -> Queried<Vec<Pointer<'a, T>>>
+    ensures value { IfOk result (λ v. places_of T.tree v.items ≡ places_of T.tree pointers.now) }
+    ensures whole { PointersAreWhole T.is_whole pointers.now → IfOk result (λ v. PointersAreWhole T.is_whole v.items) }
+    ensures memory { IfErr result (λ e. e ≡ OutOfMemory) }
+{
+    let mut all = Vec::new(alloc);
+    for pointer in pointers {
+        all.push(pointer.try_clone(alloc)?)?;
+    }
+    Ok(all)
+}
+
+/// Whether they are equal, one by one.
+pub(crate) fn are_same<'a, T: Queryable>(left: &[Pointer<'a, T>], right: &[Pointer<'a, T>]) -> bool
+    requires left { PointersAreWhole T.is_whole left.now }
+    requires right { PointersAreWhole T.is_whole right.now }
+    ensures { result ≡ places_same (places_of T.tree left.now) (places_of T.tree right.now) }
+{
+    if left.len() != right.len() {
+        return false;
+    }
+    for (i, pointer) in left.iter().enumerate() {
+        if !pointer.equal(&right[i]) {
+            return false;
+        }
+    }
+    true
+}

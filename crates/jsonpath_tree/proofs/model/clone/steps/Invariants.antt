@@ -1,6 +1,0 @@
-use Rattle.std.proofs.Common.{◌≡◌, map, take}
-use Rattle.jsonpath_tree.specs.View.{step_view}
-use Rattle.jsonpath_tree.proofs.model.clone.steps.Given as goal
-
-abbrev pub invariant-steps : goal.invariant-steps
-invariant-steps l = map step_view l.copies.items ≡ map step_view (take l.step-index l.steps)

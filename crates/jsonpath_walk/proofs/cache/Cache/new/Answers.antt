@@ -1,6 +1,0 @@
-use Rattle.std.proofs.Common.{sym, ◌∙◌}
-use Rattle.jsonpath_walk.proofs.Kept.{keeps_none}
-use Rattle.jsonpath_walk.proofs.cache.Cache.new.Goals as goal
-
-pub returns : goal.returns
-returns g c = λ kept doc e. keeps_none g.T.Queryable.tree g.T.Queryable.is_whole kept doc _ (c.in_ok-slots.ensures.count ∙ sym e) c.in_ok-slots.ensures.empty

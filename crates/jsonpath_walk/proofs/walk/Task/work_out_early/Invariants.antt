@@ -1,5 +1,0 @@
-use Rattle.jsonpath_walk.specs.inner.Keeping.{IsReady}
-use Rattle.jsonpath_walk.proofs.walk.Task.work_out_early.Given as goal
-
-abbrev pub invariant-loop-number : goal.invariant-loop-number
-invariant-loop-number g l = IsReady g.T.Queryable.tree g.T.Queryable.is_whole g.T.Queryable.custom l.self l.trail.cache

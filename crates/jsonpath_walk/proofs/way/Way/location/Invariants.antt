@@ -1,8 +1,0 @@
-use Rattle.std.proofs.Common.{◌≡◌, map, take}
-use Rattle.jsonpath_base.specs.Steps.{location_view}
-use Rattle.jsonpath_walk.specs.inner.Walking.{step_of}
-use Rattle.jsonpath_walk.proofs.way.Way.location.Given as goal
-
--- the first steps stand there
-abbrev pub invariant-loop-step : goal.invariant-loop-step
-invariant-loop-step l = location_view l.steps.items ≡ map step_of (take l.step-index l.step-items)
