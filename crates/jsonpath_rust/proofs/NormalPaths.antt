@@ -1,5 +1,5 @@
 -- A Normalized Path selects the node at its location.
-use Rattle.std.proofs.Common.{◌≡◌, ℕ, List, [], ◌∷◌, map, Option, Some, None, option_to_list, Result, Ok, Err, IfOk, IfErr, MatchResult, refl, sym, ap, ◌∙◌, subst}
+use Rattle.std.proofs.Common.{◌≡◌, ℕ, List, [], ◌∷◌, map, Option, Some, None, option_to_list, Result, Ok, Err, IfOk, IfErr, IfSome, MatchResult, refl, sym, ap, ◌∙◌, subst}
 use Rattle.std.specs.List.{AllZip}
 use Rattle.jsonpath_parser.specs.Location.{name, index, Location}
 use Rattle.jsonpath_parser.specs.Normal.{IsNormal}
@@ -43,3 +43,10 @@ pub normal_answered : {X : Type 0} (show : X → List (List ℕ × Tree)) (l : L
     → IfOk r (λ v. AllZip (IsNodeAt doc) (selected q doc) (show v)) → IfErr r (IsStop q doc) → MatchResult r (λ v. show v ≡ node_there doc l path) (λ e. e ≡ OutOfMemory)
 normal_answered show l doc q path (Ok v) is same nodes refused = only_node l doc q path (show v) is same nodes
 normal_answered show l doc q path (Err e) is same nodes refused = stop_is_memory q doc e (ap segments_patterns same ∙ steps_patterns l) refused
+
+-- the same, of a call with a limit
+pub normal_limited : {X : Type 0} (show : X → List (List ℕ × Tree)) (l : Location) (doc : Document) (q : Query) (path : List ℕ) (r : Result (Option X) JsonPathError) → IsNormal l path → q ≡ steps_query l
+    → IfOk r (λ o. IfSome o (λ v. AllZip (IsNodeAt doc) (selected q doc) (show v))) → IfErr r (IsStop q doc) → MatchResult r (λ o. IfSome o (λ v. show v ≡ node_there doc l path)) (λ e. e ≡ OutOfMemory)
+normal_limited show l doc q path (Ok None) is same nodes refused = tt
+normal_limited show l doc q path (Ok (Some v)) is same nodes refused = only_node l doc q path (show v) is same nodes
+normal_limited show l doc q path (Err e) is same nodes refused = stop_is_memory q doc e (ap segments_patterns same ∙ steps_patterns l) refused

@@ -121,6 +121,11 @@ pub fn js_path_limited<'a, T: Queryable>(
     ensures only { (q : Query) → Derives MAX_NESTING_DEPTH path.now q → MatchResult result
         (λ o. IfSome o (λ v. AllZip (IsNodeAt (document_of T.tree T.custom value.now)) (selected q (document_of T.tree T.custom value.now)) (shown T.tree v.items)))
         (IsStop q (document_of T.tree T.custom value.now)) }
+
+    // A Normalized Path is refused for want of memory alone. Its node is given, or none where nothing is there, if the work is enough.
+    ensures normal { (l : Location) → IsNormal l path.now → HasIndexesInRange l → MatchResult result
+        (λ o. IfSome o (λ v. shown T.tree v.items ≡ node_there (document_of T.tree T.custom value.now) l path.now))
+        (λ e. e ≡ OutOfMemory) }
     ensures whole { IfOk result (λ o. IfSome o (λ v. All (λ r. IsTrue (T.is_whole r.val.now)) v.items)) }
     ensures refused { IfErr result (IsQueryRefusal MAX_NESTING_DEPTH path.now (document_of T.tree T.custom value.now)) }
 {

@@ -33,6 +33,15 @@ pub fn is_idle<T: Queryable>(action: Action<'_>, value: &T) -> bool
     }
 }
 
+/// How many units of work a look at so many children costs: two each for a filter, and else one.
+#[inline(always)]
+pub fn visit_cost(action: Action<'_>, count: usize) -> usize {
+    match action {
+        Action::If(_filter) => count.saturating_mul(2),
+        _ => count,
+    }
+}
+
 /// What the segment does at each child, where that is all it does.
 #[inline(always)]
 pub fn of_each_child(segment: &Segment) -> Option<Action<'_>>

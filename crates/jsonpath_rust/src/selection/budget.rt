@@ -1,7 +1,7 @@
 //! How much work a walk may take. Who lets strangers ask limits it: their queries can be dear by what they mean.
-ghost use Rattle.std.specs.Prelude.{◌≡◌, IfErr};
+ghost use Rattle.std.specs.Prelude.{◌≡◌, ◌+◌, ◌<◌, IfErr, OnOk, OnErr};
 ghost use Rattle.jsonpath_rust.specs.selection.inner.Halting.{IsSpent};
-ghost use Rattle.jsonpath_rust.specs.declared.selection.budget.Limit.TheVariants.{Unlimited};
+ghost use Rattle.jsonpath_rust.specs.declared.selection.budget.Limit.TheVariants.{Limited, Unlimited};
 
 use crate::documents::halt::{Halt, Walked};
 
@@ -31,7 +31,10 @@ impl Budget {
     }
 
     /// So many units.
-    pub fn of(units: usize) -> Self {
+    pub fn of(units: usize) -> Self
+        ensures limit { result.limit ≡ Limited }
+        ensures left { result.left ≡ units }
+    {
         Budget {
             limit: Limit::Limited,
             left: units,
@@ -41,19 +44,14 @@ impl Budget {
     /// Takes so many units from what is left. Where it is less, and limited, the walk halts.
     #[inline(always)]
     pub fn spend(&mut self, limit: Limit, units: usize) -> Walked<()>
-        ensures { IfErr result (IsSpent limit) }
+        ensures paid { OnOk result (limit ≡ Limited → self.new.left + units ≡ self.old.left) }
+        ensures short { OnErr result (self.old.left < units) }
+        ensures refused { IfErr result (IsSpent limit) }
     {
         if units <= self.left {
             self.left -= units;
             return Ok(());
         }
-        self.run_out(limit)
-    }
-
-    /// Nothing is left, where that is limited.
-    fn run_out(&mut self, limit: Limit) -> Walked<()>
-        ensures { IfErr result (IsSpent limit) }
-    {
         match limit {
             Limit::Unlimited => {
                 self.left = usize::MAX;

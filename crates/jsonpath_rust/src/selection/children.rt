@@ -13,7 +13,7 @@ ghost use Rattle.jsonpath_rust.specs.selection.inner.Walking.{through, node_of, 
 
 use crate::documents::halt::Walked;
 use crate::documents::queryable::Queryable;
-use crate::selection::action::{Action, is_idle, of_each_child};
+use crate::selection::action::{Action, is_idle, of_each_child, visit_cost};
 use crate::selection::plan::Segment;
 use crate::selection::sink::Sink;
 use crate::selection::trail::Trail;
@@ -56,7 +56,8 @@ impl<'a: 's, 's, T: Queryable> Task<'a, 's, T> {
         ensures refused { IfErr result (IsHalt self.now.limit (query_of self.now) (document T.tree T.custom self.now)) }
     {
         if let Some(items) = at.as_array() {
-            trail.budget.spend(self.limit, items.len())?;
+            let cost = visit_cost(action, items.len());
+            trail.budget.spend(self.limit, cost)?;
             for (i, value) in items.iter().enumerate() {
                 let step = StepRef::Index(i);
                 if !self.at_child(action, rest, Child { step, value }, trail, sink)? {
@@ -94,7 +95,8 @@ impl<'a: 's, 's, T: Queryable> Task<'a, 's, T> {
         ensures ready { OnErr result (IsReady T.tree T.is_whole T.custom self.now trail.new.cache) }
         ensures refused { IfErr result (IsHalt self.now.limit (query_of self.now) (document T.tree T.custom self.now)) }
     {
-        trail.budget.spend(self.limit, members.list.len())?;
+        let cost = visit_cost(action, members.list.len());
+        trail.budget.spend(self.limit, cost)?;
         for member in members.list {
             let step = StepRef::Name(member.0);
             let value = member.1;

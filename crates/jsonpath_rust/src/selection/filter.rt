@@ -41,7 +41,6 @@ impl<'a: 's, 's, T: Queryable> Task<'a, 's, T> {
         ensures ready { OnErr result (IsReady T.tree T.is_whole T.custom self.now trail.new.cache) }
         ensures refused { IfErr result (IsHalt self.now.limit (query_of self.now) (document T.tree T.custom self.now)) }
     {
-        trail.budget.spend(self.limit, 1)?;
         match filter {
             Filter::Or(parts) => self.some_holds(parts, at, trail),
             Filter::And(parts) => self.each_holds(parts, at, trail),
@@ -70,6 +69,7 @@ impl<'a: 's, 's, T: Queryable> Task<'a, 's, T> {
         ensures ready { OnErr result (IsReady T.tree T.is_whole T.custom self.now trail.new.cache) }
         ensures refused { IfErr result (IsHalt self.now.limit (query_of self.now) (document T.tree T.custom self.now)) }
     {
+        trail.budget.spend(self.limit, parts.len())?;
         for part in parts {
             if self.filter_holds(part, at, trail)? {
                 return Ok(true);
@@ -93,6 +93,7 @@ impl<'a: 's, 's, T: Queryable> Task<'a, 's, T> {
         ensures ready { OnErr result (IsReady T.tree T.is_whole T.custom self.now trail.new.cache) }
         ensures refused { IfErr result (IsHalt self.now.limit (query_of self.now) (document T.tree T.custom self.now)) }
     {
+        trail.budget.spend(self.limit, parts.len())?;
         for part in parts {
             if !self.filter_holds(part, at, trail)? {
                 return Ok(false);

@@ -26,11 +26,16 @@ use std::mem;
 /// stays from one call to the next, so that only the first call makes it.
 ///
 /// Each call answers and refuses as that of `Prepared` does. The calls with a limit are for queries of strangers: they take a
-/// number of units of work, and answer None where that is not enough. A unit is spent for each child that a `*`, a slice, a
-/// filter or `..` looks at, for each selector of several in one segment, for each filter, and parts of one, that is evaluated,
-/// for each value in the smaller side of a comparison, for each byte of a text or a pattern of the document that `length`,
-/// `match` or `search` reads, and for the product of the sizes of the arguments of any other function. Names and indexes cost
-/// nothing by themselves. So the time of a unit grows with the length of the query alone.
+/// number of units of work, and answer None where that is not enough. These are spent:
+///
+/// - one for each child that a `*`, a slice or `..` looks at, and two for each that a filter is tried on;
+/// - one for each selector of several in one segment, and for each operand of `&&` and `||`;
+/// - one for each value in the smaller side of a comparison, 16 bytes of a text as one;
+/// - one for each byte of a text, or of a pattern of the document, that `length`, `match` or `search` reads;
+/// - the product of the sizes of its arguments for each other function.
+///
+/// Names and indexes cost nothing by themselves. The time of a unit grows with the length of the query alone, but for two things:
+/// a pattern of the document that is built, and the path of a node, which is copied.
 #[derive(Drop)]
 pub struct Runner<'p> {
     prepared: &'p Prepared,

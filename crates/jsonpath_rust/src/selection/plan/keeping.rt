@@ -1,11 +1,13 @@
 //! Parts of the query without `@` that were met, and when each of them is worked out.
 ghost use Rattle.std.specs.Prelude.{◌≡◌, IfOk, IfErr, IfSome, IsTrue};
 ghost use Rattle.jsonpath_parser.specs.declared.errors.JsonPathError.TheVariants.{OutOfMemory};
-ghost use Rattle.jsonpath_rust.specs.selection.inner.PlanMaking.{IsBeside, IsKept, IsNumbered, IsNumberOf, source_of};
+ghost use Rattle.jsonpath_rust.specs.selection.inner.PlanMaking.{IsBeside, IsCompared, IsKept, IsNumbered, IsNumberOf, source_of};
 ghost use Rattle.jsonpath_rust.specs.selection.inner.PlanViews.{is_same_wanted};
+ghost use Rattle.jsonpath_rust.specs.declared.selection.plan.Rooted.TheVariants.{Comparison};
 
+use super::absolute::are_rooted_sides;
 use super::make::Maker;
-use super::{Entry, Rooted, Turn};
+use super::{Entry, Filter, Rooted, Side, Turn};
 use crate::selection::sink::Wanted;
 use jsonpath_parser::errors::Parsed;
 use jsonpath_parser::model::{Comparable, JpQuery, Operator, SingularQuery, TestFunction};
@@ -111,6 +113,27 @@ impl<'q> Maker<'q> {
         self.kept.push(Entry { part, turn })?;
         self.met.push(met)?;
         Ok(number)
+    }
+
+    /// A comparison that was begun: the number of its entry, where it has no `@`.
+    pub fn compare(
+        &mut self,
+        source: Source<'q>,
+        operator: Operator,
+        sides: (Side, Side),
+        around: usize,
+    ) -> Parsed<Filter>
+        ensures made { IfOk result (λ f. IsCompared self.old self.new (Comparison operator sides.0 sides.1) source.entry f) }
+        ensures memory { IfErr result (λ e. e ≡ OutOfMemory) }
+    {
+        let run = self.end(around);
+        let (left, right) = sides;
+        if are_rooted_sides(&left, &right) {
+            let part = Rooted::Comparison(operator, left, right);
+            let number = self.number(part, Met { source, run })?;
+            return Ok(Filter::Kept(number));
+        }
+        Ok(Filter::Comparison(operator, left, right))
     }
 }
 

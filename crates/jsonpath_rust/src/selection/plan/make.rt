@@ -4,13 +4,12 @@ ghost use Rattle.jsonpath_parser.specs.declared.errors.JsonPathError.TheVariants
 ghost use Rattle.jsonpath_parser.specs.tree.Syntax as syntax;
 ghost use Rattle.jsonpath_parser.specs.tree.View as tree;
 ghost use Rattle.jsonpath_rust.specs.selection.inner.PlanViews as plan;
-ghost use Rattle.jsonpath_rust.specs.selection.inner.PlanMaking.{IsCompared, Made};
+ghost use Rattle.jsonpath_rust.specs.selection.inner.PlanMaking.{Made};
 ghost use Rattle.jsonpath_rust.specs.selection.inner.Planned.{plan_view};
-ghost use Rattle.jsonpath_rust.specs.declared.selection.plan.Rooted.TheVariants.{Comparison};
 ghost use Rattle.jsonpath_rust.specs.declared.selection.sink.Wanted.{Wanted};
 ghost use Rattle.jsonpath_rust.specs.declared.selection.sink.Wanted.TheVariants.{Only, Values};
 
-use super::absolute::{are_rooted_sides, is_rooted_call};
+use super::absolute::is_rooted_call;
 use super::keeping::{Met, Source};
 use super::steps::{steps_again, steps_of};
 use super::{
@@ -224,27 +223,6 @@ impl<'q> Maker<'q> {
                 self.compare(source, Operator::LessOrEqual, sides, around)
             }
         }
-    }
-
-    /// A comparison that was begun: the number of its entry, where it has no `@`.
-    fn compare(
-        &mut self,
-        source: Source<'q>,
-        operator: Operator,
-        sides: (Side, Side),
-        around: usize,
-    ) -> Parsed<Filter>
-        ensures made { IfOk result (λ f. IsCompared self.old self.new (Comparison operator sides.0 sides.1) source.entry f) }
-        ensures memory { IfErr result (λ e. e ≡ OutOfMemory) }
-    {
-        let run = self.end(around);
-        let (left, right) = sides;
-        if are_rooted_sides(&left, &right) {
-            let part = Rooted::Comparison(operator, left, right);
-            let number = self.number(part, Met { source, run })?;
-            return Ok(Filter::Kept(number));
-        }
-        Ok(Filter::Comparison(operator, left, right))
     }
 
     #[cycle(make)]
