@@ -1,15 +1,24 @@
 //! Rows on patterns: `found`, `pattern`, `finder`, `found_again`.
 use jpath_row::Memory;
 use jpath_row::members::list;
-use jsonpath_base::{Pattern, found, found_again};
+use jsonpath_base::{Extent, Pattern, found, found_again};
 use serde_json::Value;
 
-/// A text, a pattern, and whether the pattern has to match the whole text.
+/// A text, a pattern, and what of the text the pattern has to match.
 #[derive(Clone, Copy)]
 struct Search<'r> {
     text: &'r str,
     pattern: &'r str,
-    whole: bool,
+    extent: Extent,
+}
+
+/// What of a text has to match: where `whole`, the entire text.
+fn extent_of(whole: bool) -> Extent {
+    if whole {
+        Extent::Entire
+    } else {
+        Extent::Substring
+    }
 }
 
 fn search_of(arguments: &[Value]) -> Option<Search<'_>> {
@@ -17,7 +26,7 @@ fn search_of(arguments: &[Value]) -> Option<Search<'_>> {
         [text, pattern, whole] => Some(Search {
             text: text.as_str()?,
             pattern: pattern.as_str()?,
-            whole: whole.as_bool()?,
+            extent: extent_of(whole.as_bool()?),
         }),
         _ => None,
     }
@@ -30,9 +39,12 @@ pub fn is_found(memory: &Memory, arguments: &[Value], answer: &Value) -> bool {
             Search {
                 text,
                 pattern,
-                whole,
+                extent,
             },
-        ) => is_truth(answer, memory.ok(found(memory.alloc, text, pattern, whole))),
+        ) => is_truth(
+            answer,
+            memory.ok(found(memory.alloc, text, pattern, extent)),
+        ),
         None => false,
     }
 }
@@ -47,13 +59,13 @@ pub fn is_found_by_pattern(memory: &Memory, arguments: &[Value], answer: &Value)
     let Some(search) = search_of(arguments) else {
         return false;
     };
-    let Some(read) = memory.ok(Pattern::new(memory.alloc, search.pattern, search.whole)) else {
+    let Some(read) = memory.ok(Pattern::new(memory.alloc, search.pattern, search.extent)) else {
         return false;
     };
     read.source() == search.pattern
-        && read.is_whole() == search.whole
-        && read.is_of(search.pattern, search.whole)
-        && !read.is_of(search.pattern, !search.whole)
+        && read.extent().is_entire() == search.extent.is_entire()
+        && read.is_of(search.pattern, search.extent)
+        && !read.is_of(search.pattern, extent_of(!search.extent.is_entire()))
         && is_truth(answer, memory.ok(read.is_found(memory.alloc, search.text)))
 }
 
@@ -68,7 +80,7 @@ pub fn are_found(memory: &Memory, arguments: &[Value], answer: &Value) -> bool {
             ],
             Some(answers),
         ) => {
-            match memory.ok(Pattern::new(memory.alloc, pattern.as_str(), *whole)) {
+            match memory.ok(Pattern::new(memory.alloc, pattern.as_str(), extent_of(*whole))) {
                 Some(read) => finds(memory, &read, texts.as_slice(), answers),
                 None => false,
             }
@@ -90,7 +102,7 @@ fn finds(memory: &Memory, read: &Pattern, texts: &[Value], answers: &[Value]) ->
             return false;
         }
     }
-    texts.len() == answers.len() && finder.is_of(read.source(), read.is_whole())
+    texts.len() == answers.len() && finder.is_of(read.source(), read.extent())
 }
 
 /// Whether one kept pattern, asked again and again, answers so.
@@ -121,11 +133,11 @@ fn is_found_again(
             Search {
                 text,
                 pattern,
-                whole,
+                extent,
             },
         ) => is_truth(
             answer,
-            memory.ok(found_again(memory.alloc, kept, text, pattern, whole)),
+            memory.ok(found_again(memory.alloc, kept, text, pattern, extent)),
         ),
         None => false,
     }

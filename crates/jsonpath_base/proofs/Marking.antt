@@ -12,7 +12,7 @@ use Rattle.std.specs.List.Sorted.{IsStrictlySortedBy}
 use Rattle.std.specs.Map.{lookup, set_value, keys_of}
 use Rattle.std.specs.Ordering.{match_ordering}
 use Rattle.jsonpath_parser.specs.Location.{Step, name, index, Location}
-use Rattle.jsonpath_base.specs.Without.{is_step, is_location}
+use Rattle.jsonpath_base.specs.Without.{is_same_step, is_location}
 use Rattle.jsonpath_base.specs.inner.Marks.{key_view, is_key, in_set, marked, marked_by, marked_below, HasAlso, total, marks_count}
 use Rattle.jsonpath_base.specs.contracts.marks.KeyOrd.TheImpl as key_order
 use Rattle.jsonpath_base.specs.declared.marks.Key.{Key}
@@ -22,13 +22,13 @@ use Rattle.jsonpath_base.specs.declared.marks.Marks.TheViews.{out-Marks, roll-Ma
 
 -- ---- steps
 
-pub same_step : (s r : Step) → is_step s r ≡ true → s ≡ r
+pub same_step : (s r : Step) → is_same_step s r ≡ true → s ≡ r
 same_step (name k) (name l) h = ap name ((bytes_eq-Decides k l).0 h)
 same_step (name k) (index j) h = absurd (true≢false (sym h))
 same_step (index i) (name l) h = absurd (true≢false (sym h))
 same_step (index i) (index j) h = ap index (eqb-true i j h)
 
-pub step_itself : (s : Step) → is_step s s ≡ true
+pub step_itself : (s : Step) → is_same_step s s ≡ true
 step_itself (name k) = (bytes_eq-Decides k k).1 refl
 step_itself (index i) = nat_eq_equiv.refl i
 
@@ -130,8 +130,8 @@ also_rolled m below s rest at e h = record { each = each }
     each [] = rolled_here (out-Marks m).here below ∙ sym (rw (e, marked_here m))
     each (r ∷ l) = rolled_step (out-Marks m).here below r l ∙ h.each (r ∷ l) ∙ sym (rw (e, marked_step m r l))
 
-by_step : (b : Bool) (s t : Step) (l rest : Location) (old new : List (Key × Marks)) (o : Option Marks) (w : Marks) → is_step s t ≡ b
-    → lookup (is_key s) old ≡ o → lookup (is_key s) new ≡ Some w → (is_step s t ≡ false → lookup (is_key t) new ≡ lookup (is_key t) old) → HasAlso (marked_by o) rest (marked w)
+by_step : (b : Bool) (s t : Step) (l rest : Location) (old new : List (Key × Marks)) (o : Option Marks) (w : Marks) → is_same_step s t ≡ b
+    → lookup (is_key s) old ≡ o → lookup (is_key s) new ≡ Some w → (is_same_step s t ≡ false → lookup (is_key t) new ≡ lookup (is_key t) old) → HasAlso (marked_by o) rest (marked w)
     → marked_below new (t ∷ l) ≡ ((b && is_location rest l) || marked_below old (t ∷ l))
 by_step true s t l rest old new o w e was is others h =
     let same : s ≡ t = same_step s t e in
@@ -140,21 +140,21 @@ by_step false s t l rest old new o w e was is others h = ap (λ x. marked_by x l
 
 -- where the marks below one step are others
 pub also_below : (old new : List (Key × Marks)) (s : Step) (rest : Location) (o : Option Marks) (w : Marks) → lookup (is_key s) old ≡ o → lookup (is_key s) new ≡ Some w
-    → ((t : Step) → is_step s t ≡ false → lookup (is_key t) new ≡ lookup (is_key t) old) → HasAlso (marked_by o) rest (marked w) → HasAlso (marked_below old) (s ∷ rest) (marked_below new)
+    → ((t : Step) → is_same_step s t ≡ false → lookup (is_key t) new ≡ lookup (is_key t) old) → HasAlso (marked_by o) rest (marked w) → HasAlso (marked_below old) (s ∷ rest) (marked_below new)
 also_below old new s rest o w was is others h = record { each = each }
   where
     each : (l : Location) → marked_below new l ≡ (is_location (s ∷ rest) l || marked_below old l)
     each [] = refl
-    each (t ∷ l) = by_step (is_step s t) s t l rest old new o w refl was is (others t) h
+    each (t ∷ l) = by_step (is_same_step s t) s t l rest old new o w refl was is (others t) h
 
 -- ---- after a write
 
-key_apart : (k l : Key) (t : Step) → is_step (key_view k) t ≡ false → is_eq (key_compare k l) ≡ true → is_key t l ≡ false
+key_apart : (k l : Key) (t : Step) → is_same_step (key_view k) t ≡ false → is_eq (key_compare k l) ≡ true → is_key t l ≡ false
 key_apart k l t h e =
     let same : key_view k ≡ key_view l = same_step (key_view k) (key_view l) (sym (key_test k l) ∙ e) in
-    flipped t (key_view l) (ap (λ s. is_step s t) (sym same) ∙ h)
+    flipped t (key_view l) (ap (λ s. is_same_step s t) (sym same) ∙ h)
   where
-    flipped : (t s : Step) → is_step s t ≡ false → is_step t s ≡ false
+    flipped : (t s : Step) → is_same_step s t ≡ false → is_same_step t s ≡ false
     flipped (name k) (name l) h = differ (bytes_eq k l) refl
       where
         differ : (b : Bool) → bytes_eq k l ≡ b → b ≡ false
@@ -176,7 +176,7 @@ set_found k (e ∷ es) v w h = pick (is_eq (key_compare k e.0)) refl (set_found 
         let later : lookup (is_at (key_compare k)) es ≡ Some v = sym (rw t) ∙ h in
         rw (t, other) (more later)
 
-pub set_apart : (k : Key) (t : Step) (es : List (Key × Marks)) (w : Marks) → is_step (key_view k) t ≡ false → lookup (is_key t) (set_value (is_at (key_compare k)) es w) ≡ lookup (is_key t) es
+pub set_apart : (k : Key) (t : Step) (es : List (Key × Marks)) (w : Marks) → is_same_step (key_view k) t ≡ false → lookup (is_key t) (set_value (is_at (key_compare k)) es w) ≡ lookup (is_key t) es
 set_apart k t [] w h = refl
 set_apart k t (e ∷ es) w h = pick (is_eq (key_compare k e.0)) refl (set_apart k t es w h)
   where
@@ -194,7 +194,7 @@ insert_found k (e ∷ es) w = pick (key_compare k e.0) refl (insert_found k es w
     pick Equal o more = let same : is_key (key_view k) e.0 ≡ true = sym (key_test k e.0) ∙ ap is_eq o in rw same
     pick Greater o more = let other : is_key (key_view k) e.0 ≡ false = sym (key_test k e.0) ∙ ap is_eq o in rw other more
 
-pub insert_apart : (k : Key) (t : Step) (es : List (Key × Marks)) (w : Marks) → is_step (key_view k) t ≡ false → lookup (is_key t) (insert_entry key_compare es k w) ≡ lookup (is_key t) es
+pub insert_apart : (k : Key) (t : Step) (es : List (Key × Marks)) (w : Marks) → is_same_step (key_view k) t ≡ false → lookup (is_key t) (insert_entry key_compare es k w) ≡ lookup (is_key t) es
 insert_apart k t [] w h = rw (key_apart k k t h (key_test k k ∙ step_itself (key_view k)))
 insert_apart k t (e ∷ es) w h = pick (key_compare k e.0) refl (insert_apart k t es w h)
   where

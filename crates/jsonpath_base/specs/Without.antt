@@ -7,14 +7,14 @@ use Rattle.jsonpath_base.specs.Tree.{Tree, null, truth, number, text, list, obje
 
 -- ---- sets of locations
 
-abbrev pub is_step : Step → Step → Bool
-is_step (name k) (name l) = bytes_eq k l
-is_step (index i) (index j) = nat_eq i j
-is_step _ _ = false
+abbrev pub is_same_step : Step → Step → Bool
+is_same_step (name k) (name l) = bytes_eq k l
+is_same_step (index i) (index j) = nat_eq i j
+is_same_step _ _ = false
 
 abbrev pub is_location : Location → Location → Bool
 is_location [] [] = true
-is_location (s ∷ l) (r ∷ m) = is_step s r && is_location l m
+is_location (s ∷ l) (r ∷ m) = is_same_step s r && is_location l m
 is_location _ _ = false
 
 -- the set of the locations of a list

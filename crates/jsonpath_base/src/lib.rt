@@ -16,7 +16,7 @@ pub mod value;
 
 pub use equality::{same, same_is_an_equivalence};
 pub use lending::at_mut;
-pub use pattern::{Finder, Pattern, found, found_again};
+pub use pattern::{Extent, Finder, Pattern, found, found_again};
 pub use place::{at, put_at, put_is_there, put_leaves_the_rest};
 pub use removal::remove_all;
 pub use set_functions::set_function;

@@ -11,7 +11,7 @@ use std::alloc::{AllocError, Global};
 
 /// What of a text a pattern has to match.
 #[derive(Clone, Copy)]
-enum Extent {
+pub enum Extent {
     /// The entire text, as `match` asks.
     Entire,
     /// Some substring, as `search` asks.
@@ -19,19 +19,9 @@ enum Extent {
 }
 
 impl Extent {
-    /// The entire text where `whole`.
-    fn of(whole: bool) -> Extent
-        ensures { is_entire result ≡ whole }
-    {
-        if whole {
-            Extent::Entire
-        } else {
-            Extent::Substring
-        }
-    }
-
     /// Whether it is the entire text.
-    fn is_entire(self) -> bool
+    #[inline(always)]
+    pub fn is_entire(self) -> bool
         ensures { result ≡ is_entire self }
     {
         match self {
@@ -54,15 +44,14 @@ pub struct Pattern {
 impl Pattern {
     ghost use Rattle.jsonpath_base.specs.PatternViews.{source_of, is_for_match, pattern_of};
 
-    /// Reads a pattern: where `whole`, for `match`, else for `search`. A text that `regex` cannot read is found nowhere.
+    /// Reads a pattern, for `match` or for `search`. A text that `regex` cannot read is found nowhere.
     /// `InvalidJsonPath` comes only where `regex` can read it and refuses it for its size; else memory ran out.
     /// Counted repetitions are built as if they were written out, so `(a{1000}){1000}` costs as a million characters do.
-    pub fn new(alloc: Global, pattern: &str, whole: bool) -> Parsed<Pattern>
+    pub fn new(alloc: Global, pattern: &str, extent: Extent) -> Parsed<Pattern>
         ensures source { IfOk result (λ p. source_of p ≡ pattern.now) }
-        ensures extent { IfOk result (λ p. is_for_match p ≡ whole) }
-        ensures refused { IfErr result (IsPatternRefusal (pattern_sought whole pattern.now)) }
+        ensures extent { IfOk result (λ p. is_for_match p ≡ is_entire extent) }
+        ensures refused { IfErr result (IsPatternRefusal (pattern_sought (is_entire extent) pattern.now)) }
     {
-        let extent = Extent::of(whole);
         let regex = built_for(alloc, pattern, extent)?;
         let source = String::from_str(alloc, pattern)?;
         Ok(Pattern {
@@ -79,18 +68,18 @@ impl Pattern {
         self.source.as_str()
     }
 
-    /// Whether it was read for `match`.
-    pub fn is_whole(&self) -> bool
-        ensures { result ≡ is_for_match self.now }
+    /// What of a text it has to match.
+    pub fn extent(&self) -> Extent
+        ensures { is_entire result ≡ is_for_match self.now }
     {
-        self.extent.is_entire()
+        self.extent
     }
 
-    /// Whether it was read from this text, and for `match` where `whole`.
-    pub fn is_of(&self, pattern: &str, whole: bool) -> bool
-        ensures { IsTrue result ↔ (source_of self.now ≡ pattern.now) × (is_for_match self.now ≡ whole) }
+    /// Whether it was read from this text, and for this extent.
+    pub fn is_of(&self, pattern: &str, extent: Extent) -> bool
+        ensures { IsTrue result ↔ (source_of self.now ≡ pattern.now) × (is_for_match self.now ≡ is_entire extent) }
     {
-        self.is_whole() == whole && self.source.as_str() == pattern
+        extent.is_entire() == self.extent.is_entire() && self.source.as_str() == pattern
     }
 
     /// What asks this pattern of many texts: what one search has worked out is kept for the next.
@@ -128,11 +117,11 @@ pub struct Finder<'p> {
 impl<'p> Finder<'p> {
     ghost use Rattle.jsonpath_base.specs.PatternViews.{source_of, is_for_match, pattern_of};
 
-    /// Whether its pattern was read from this text, and for `match` where `whole`.
-    pub fn is_of(&self, pattern: &str, whole: bool) -> bool
-        ensures { IsTrue result ↔ (source_of (pattern_of self.now) ≡ pattern.now) × (is_for_match (pattern_of self.now) ≡ whole) }
+    /// Whether its pattern was read from this text, and for this extent.
+    pub fn is_of(&self, pattern: &str, extent: Extent) -> bool
+        ensures { IsTrue result ↔ (source_of (pattern_of self.now) ≡ pattern.now) × (is_for_match (pattern_of self.now) ≡ is_entire extent) }
     {
-        self.pattern.is_of(pattern, whole)
+        self.pattern.is_of(pattern, extent)
     }
 
     /// What `match` or `search` answers for a text. It never fails: where memory runs out it searches more slowly.
@@ -147,13 +136,13 @@ impl<'p> Finder<'p> {
     }
 }
 
-/// What `match` answers where `whole`, and else `search`, for a text and a pattern. It reads the pattern anew each time: see
+/// What `match` answers for a text and a pattern, or `search`, by the extent. It reads the pattern anew each time: see
 /// [`Pattern`]. It refuses as [`Pattern::new`] does.
-pub fn found(alloc: Global, text: &str, pattern: &str, whole: bool) -> Parsed<bool>
-    ensures value { IfOk result (λ b. b ≡ found whole pattern.now text.now) }
-    ensures refused { IfErr result (IsPatternRefusal (pattern_sought whole pattern.now)) }
+pub fn found(alloc: Global, text: &str, pattern: &str, extent: Extent) -> Parsed<bool>
+    ensures value { IfOk result (λ b. b ≡ found (is_entire extent) pattern.now text.now) }
+    ensures refused { IfErr result (IsPatternRefusal (pattern_sought (is_entire extent) pattern.now)) }
 {
-    let read = Pattern::new(alloc, pattern, whole)?;
+    let read = Pattern::new(alloc, pattern, extent)?;
     Ok(read.is_found(alloc, text)?)
 }
 
@@ -163,17 +152,17 @@ pub fn found_again(
     kept: &mut Option<Pattern>,
     text: &str,
     pattern: &str,
-    whole: bool,
+    extent: Extent,
 ) -> Parsed<bool>
-    ensures value { IfOk result (λ b. b ≡ found whole pattern.now text.now) }
-    ensures refused { IfErr result (IsPatternRefusal (pattern_sought whole pattern.now)) }
+    ensures value { IfOk result (λ b. b ≡ found (is_entire extent) pattern.now text.now) }
+    ensures refused { IfErr result (IsPatternRefusal (pattern_sought (is_entire extent) pattern.now)) }
 {
     if let Some(read) = kept.as_ref() {
-        if read.is_of(pattern, whole) {
+        if read.is_of(pattern, extent) {
             return Ok(read.is_found(alloc, text)?);
         }
     }
-    let read = Pattern::new(alloc, pattern, whole)?;
+    let read = Pattern::new(alloc, pattern, extent)?;
     let is_found = read.is_found(alloc, text)?;
     *kept = Some(read);
     Ok(is_found)

@@ -2,7 +2,7 @@
 use Rattle.std.specs.Prelude.{◌≡◌, ◌<◌, ℕ, ◌+◌, suc, List, [], ◌∷◌, Bool, true, false, ◌||◌, Option, Some, None}
 use Rattle.std.specs.Map.{lookup}
 use Rattle.jsonpath_parser.specs.Location.{Step, name, index, Location}
-use Rattle.jsonpath_base.specs.Without.{is_step, is_location}
+use Rattle.jsonpath_base.specs.Without.{is_same_step, is_location}
 use Rattle.jsonpath_base.specs.declared.marks.Key.{Key}
 use Rattle.jsonpath_base.specs.declared.marks.Key.TheVariants.{Name, Index}
 use Rattle.jsonpath_base.specs.declared.marks.Marks.{Marks, fold-Marks}
@@ -13,7 +13,7 @@ key_view (Name k) = name k.now
 key_view (Index i) = index i
 
 abbrev pub is_key : Step → Key → Bool
-is_key s k = is_step s (key_view k)
+is_key s k = is_same_step s (key_view k)
 
 abbrev pub in_set : Option (Location → Bool) → Location → Bool
 in_set None l = false

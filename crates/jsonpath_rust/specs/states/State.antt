@@ -102,18 +102,18 @@ AreRefs (Ref p) qs = ⊥
 AreRefs (Value v) qs = ⊥
 AreRefs Nothing qs = ⊥
 
-abbrev pub IsNothing : {A : Type 0} → Data A → Type 0
-IsNothing Nothing = Unit {0}
-IsNothing (Ref p) = ⊥
-IsNothing (Refs ps) = ⊥
-IsNothing (Value v) = ⊥
+abbrev pub HasNothing : {A : Type 0} → Data A → Type 0
+HasNothing Nothing = Unit {0}
+HasNothing (Ref p) = ⊥
+HasNothing (Refs ps) = ⊥
+HasNothing (Value v) = ⊥
 
 -- The same of any closure: Gives p d says that d is what it answered at p.
 abbrev pub Made : {A : Type 0} → (Pointer A → Data A → Type 0) → Data A → Data A → Type 0
 Made Gives (Ref p) d = Gives p d
 Made {A} Gives (Refs ps) d = (ds : List (Data A)) × AllZip Gives ps.items ds × AreRefs d (flat_map pointers ds)
-Made Gives (Value v) d = IsNothing d
-Made Gives Nothing d = IsNothing d
+Made Gives (Value v) d = HasNothing d
+Made Gives Nothing d = HasNothing d
 
 -- what is given at a pointer whose value is whole is whole
 abbrev pub GivesWhole : {A : Type 0} → (A → Bool) → (Pointer A → Data A → Type 0) → Type 0

@@ -5,15 +5,15 @@ ghost use Rattle.jsonpath_base.specs.Pattern.{pattern_sought, found, IsPatternRe
 ghost use Rattle.jsonpath_rust.specs.documents.Functions.{is_matched};
 ghost use Rattle.jsonpath_rust.specs.documents.Patterns.{IsPattern};
 ghost use Rattle.jsonpath_rust.specs.declared.documents.halt.Halt.TheVariants.{Memory};
-ghost use Rattle.jsonpath_rust.specs.documents.inner.Operands.{is_entire, operand_tree, operand_is_whole};
+ghost use Rattle.jsonpath_base.specs.Pattern.{is_entire};
+ghost use Rattle.jsonpath_rust.specs.documents.inner.Operands.{operand_tree, operand_is_whole};
 
-use crate::documents::extent::Extent;
 use crate::documents::halt::Walked;
 use crate::documents::queryable::Queryable;
 use crate::documents::value::Operand;
 use crate::selection::lent::LentFinders;
 use crate::selection::patterns::{LentPlaces, Origin, Place, Places};
-use jsonpath_base::pattern::{Finder, Pattern};
+use jsonpath_base::pattern::{Extent, Finder, Pattern};
 use jsonpath_parser::errors::Parsed;
 use std::alloc::{AllocError, Global};
 
@@ -29,7 +29,7 @@ impl<'p> Asked<'p> {
     pub fn built(self, alloc: Global) -> Parsed<Box<Pattern>>
         ensures refused { IfErr result (IsPatternRefusal (pattern_sought (is_entire self.entry.extent) self.entry.pattern.now)) }
     {
-        let pattern = Pattern::new(alloc, self.pattern, self.extent.is_entire())?;
+        let pattern = Pattern::new(alloc, self.pattern, self.extent)?;
         Ok(Box::new(alloc, pattern)?)
     }
 
@@ -38,7 +38,7 @@ impl<'p> Asked<'p> {
     pub fn answer_of(self, finder: &mut Finder<'_>, text: &str) -> Option<bool>
         ensures { IfSome result (λ b. b ≡ found (is_entire self.entry.extent) self.entry.pattern.now text.now) }
     {
-        if !finder.is_of(self.pattern, self.extent.is_entire()) {
+        if !finder.is_of(self.pattern, self.extent) {
             return None;
         }
         Some(finder.is_found(text))
@@ -171,7 +171,7 @@ impl<'s, 'p> Finders<'s, 'p> {
 /// Whether this pattern was built in the place.
 fn holds(place: &Place, asked: Asked<'_>) -> bool {
     match place.get() {
-        Some(pattern) => pattern.is_of(asked.pattern, asked.extent.is_entire()),
+        Some(pattern) => pattern.is_of(asked.pattern, asked.extent),
         None => false,
     }
 }

@@ -4,7 +4,8 @@ ghost use Rattle.jsonpath_base.specs.Tree.{truth};
 ghost use Rattle.jsonpath_rust.specs.documents.Functions.{is_matched, as_value};
 ghost use Rattle.jsonpath_rust.specs.documents.Meaning.{answer, argued, all_trees};
 ghost use Rattle.jsonpath_rust.specs.documents.Patterns.{call_patterns, argument_patterns, arguments_patterns};
-ghost use Rattle.jsonpath_rust.specs.documents.inner.Operands.{operand_tree, operand_is_whole, is_entire};
+ghost use Rattle.jsonpath_base.specs.Pattern.{is_entire};
+ghost use Rattle.jsonpath_rust.specs.documents.inner.Operands.{operand_tree, operand_is_whole};
 ghost use Rattle.jsonpath_rust.specs.selection.inner.Arguing.{held, holding, IsHeld};
 ghost use Rattle.jsonpath_rust.specs.selection.inner.Halting.{IsHalt, StandIn};
 ghost use Rattle.jsonpath_rust.specs.selection.inner.Keeping.{IsReady, document, kept_of, query_of};
@@ -13,7 +14,6 @@ ghost use Rattle.jsonpath_rust.specs.selection.inner.Standing.{Stands, Returns};
 ghost use Rattle.jsonpath_rust.specs.selection.inner.Walking.{node_of};
 ghost use Rattle.jsonpath_rust.specs.declared.selection.sink.Wanted.TheVariants.{Only};
 
-use crate::documents::extent::Extent;
 use crate::documents::halt::Walked;
 use crate::documents::queryable::Queryable;
 use crate::documents::value::{Operand, Scalar, scalar_of};
@@ -24,6 +24,7 @@ use crate::selection::plan::Call;
 use crate::selection::sink::Wanted;
 use crate::selection::trail::Trail;
 use crate::selection::walk::Task;
+use jsonpath_base::Extent;
 
 impl<'a: 's, 's, T: Queryable> Task<'a, 's, T> {
     /// What a call answers at a value, to which the way leads.

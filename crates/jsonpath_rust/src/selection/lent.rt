@@ -6,7 +6,7 @@
 //! the others the few that were asked last are kept built, with no finder.
 ghost use Rattle.std.specs.Prelude.{◌≡◌, IfOk, IfErr, IfSome};
 ghost use Rattle.jsonpath_base.specs.Pattern.{pattern_sought, found, IsPatternRefusal};
-ghost use Rattle.jsonpath_rust.specs.documents.inner.Operands.{is_entire};
+ghost use Rattle.jsonpath_base.specs.Pattern.{is_entire};
 
 use crate::selection::finders::Asked;
 use crate::selection::patterns::{LentPlaces, Place};
@@ -79,7 +79,7 @@ impl<'p> LentFinders<'p> {
     /// The index of the finder of this pattern, or that behind all of them.
     fn index_of(&self, asked: Asked<'_>) -> usize {
         for (index, finder) in self.finders.iter().enumerate() {
-            if finder.is_of(asked.pattern, asked.extent.is_entire()) {
+            if finder.is_of(asked.pattern, asked.extent) {
                 return index;
             }
         }
@@ -104,7 +104,7 @@ impl<'p> LentFinders<'p> {
                 if let Some(found) = self.ask(index, text, asked) {
                     return Ok(found);
                 }
-                return found(alloc, text, asked.pattern, asked.extent.is_entire());
+                return found(alloc, text, asked.pattern, asked.extent);
             }
         }
         let answer = unplaced.is_found(alloc, text, asked)?;

@@ -1,7 +1,7 @@
 //! Patterns that come from the document and are kept built with no finder, as long as they are among those asked last.
 ghost use Rattle.std.specs.Prelude.{◌≡◌, IfOk, IfErr};
 ghost use Rattle.jsonpath_base.specs.Pattern.{pattern_sought, found, IsPatternRefusal};
-ghost use Rattle.jsonpath_rust.specs.documents.inner.Operands.{is_entire};
+ghost use Rattle.jsonpath_base.specs.Pattern.{is_entire};
 
 use crate::selection::finders::Asked;
 use jsonpath_base::pattern::{Pattern, found};
@@ -26,7 +26,7 @@ impl Unplaced {
 
     /// Whether it is this pattern.
     pub fn is_of(&self, asked: Asked<'_>) -> bool {
-        self.pattern.is_of(asked.pattern, asked.extent.is_entire())
+        self.pattern.is_of(asked.pattern, asked.extent)
     }
 
     /// What `match` or `search` answers for a text and this pattern, which is read anew where it is another.
@@ -34,11 +34,10 @@ impl Unplaced {
         ensures value { IfOk result (λ b. b ≡ found (is_entire asked.entry.extent) asked.entry.pattern.now text.now) }
         ensures refused { IfErr result (IsPatternRefusal (pattern_sought (is_entire asked.entry.extent) asked.entry.pattern.now)) }
     {
-        let entire = asked.extent.is_entire();
-        if self.pattern.is_of(asked.pattern, entire) {
+        if self.pattern.is_of(asked.pattern, asked.extent) {
             return Ok(self.pattern.is_found(alloc, text)?);
         }
-        found(alloc, text, asked.pattern, entire)
+        found(alloc, text, asked.pattern, asked.extent)
     }
 }
 

@@ -4,7 +4,7 @@ use Rattle.std.proofs.lemmas.List.Elements.{All-append, All-cons, All-nil, All-h
 use Rattle.std.proofs.lemmas.List.{map-append}
 use Rattle.std.specs.List.{AllZip, AllByRecursion, flat_map}
 use Rattle.jsonpath_base.specs.Tree.{Tree}
-use Rattle.jsonpath_rust.specs.states.State.{Place, Content, refs, nothing, places, mapped, place_of, content_of, pointers, Made, AreRefs, IsNothing, PointersAreWhole, DataIsWhole, GivesWhole, SomeHas}
+use Rattle.jsonpath_rust.specs.states.State.{Place, Content, refs, nothing, places, mapped, place_of, content_of, pointers, Made, AreRefs, HasNothing, PointersAreWhole, DataIsWhole, GivesWhole, SomeHas}
 use Rattle.jsonpath_rust.specs.states.inner.Evaluating.{Completes}
 use Rattle.jsonpath_rust.specs.declared.states.state.pointer.Pointer.{Pointer}
 use Rattle.jsonpath_rust.specs.declared.states.state.data.Data.{Data}
@@ -44,7 +44,7 @@ refs_content tree (Refs qs) ps h = ap (λ (x : List (Pointer _)). refs (map (pla
 refs_content tree (Value x) ps h = absurd h
 refs_content tree Nothing ps h = absurd h
 
-nothing_content : {A : Type 0} (tree : A → Tree) (d : Data A) → IsNothing d → content_of tree d ≡ nothing
+nothing_content : {A : Type 0} (tree : A → Tree) (d : Data A) → HasNothing d → content_of tree d ≡ nothing
 nothing_content tree (Ref p) h = absurd h
 nothing_content tree (Refs qs) h = absurd h
 nothing_content tree (Value x) h = absurd h
@@ -79,7 +79,7 @@ refs_whole whole (Refs qs) ps h w = subst (PointersAreWhole whole) (sym h) w
 refs_whole whole (Value x) ps h w = absurd h
 refs_whole whole Nothing ps h w = absurd h
 
-nothing_whole : {A : Type 0} (whole : A → Bool) (d : Data A) → IsNothing d → DataIsWhole whole d
+nothing_whole : {A : Type 0} (whole : A → Bool) (d : Data A) → HasNothing d → DataIsWhole whole d
 nothing_whole whole (Ref p) h = absurd h
 nothing_whole whole (Refs qs) h = absurd h
 nothing_whole whole (Value x) h = absurd h

@@ -7,8 +7,6 @@ use Rattle.jsonpath_rust.specs.documents.Args.{arg_value}
 use Rattle.jsonpath_rust.specs.declared.documents.queryable.Arg.{Arg}
 use Rattle.jsonpath_rust.specs.declared.documents.comparison.Side.{Side}
 use Rattle.jsonpath_rust.specs.declared.documents.comparison.Side.TheVariants as side
-use Rattle.jsonpath_rust.specs.declared.documents.extent.Extent.{Extent}
-use Rattle.jsonpath_rust.specs.declared.documents.extent.Extent.TheVariants.{Entire, Substring}
 use Rattle.jsonpath_rust.specs.declared.documents.value.Scalar.{Scalar}
 use Rattle.jsonpath_rust.specs.declared.documents.value.Scalar.TheVariants as scalar
 use Rattle.jsonpath_rust.specs.declared.documents.value.Operand.{Operand}
@@ -48,11 +46,6 @@ side_is_whole w (side.Plain s) = true
 abbrev pub is_text_below : Option Tree → Option Tree → Bool
 is_text_below (Some (tree.text s)) (Some (tree.text t)) = is_less (chars s) (chars t)
 is_text_below _ _ = false
-
--- whether a pattern has to match the entire text
-abbrev pub is_entire : Extent → Bool
-is_entire Entire = true
-is_entire Substring = false
 
 -- the arguments of a custom function
 abbrev pub arg_trees : {A : Type 0} → (A → Tree) → List (Arg A) → List Tree

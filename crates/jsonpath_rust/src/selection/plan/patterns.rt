@@ -1,6 +1,6 @@
 //! Numbers of the patterns that stand in a query. Each is where its finder is kept, and no more: whether a finder is one of the
 //! pattern is looked at where it is asked.
-ghost use Rattle.std.specs.Prelude.{◌≡◌, IsTrue, IfOk, IfErr, OnOk};
+ghost use Rattle.std.specs.Prelude.{◌≡◌, IfOk, IfErr, OnOk};
 ghost use Rattle.jsonpath_parser.specs.declared.errors.JsonPathError.TheVariants.{OutOfMemory};
 ghost use Rattle.jsonpath_parser.specs.tree.Syntax as syntax;
 ghost use Rattle.jsonpath_parser.specs.tree.View as tree;
@@ -10,8 +10,8 @@ ghost use Rattle.jsonpath_rust.specs.declared.selection.sink.Wanted.TheVariants.
 
 use super::Argument;
 use super::make::Maker;
-use crate::documents::extent::Extent;
 use crate::selection::finders::Asked;
+use jsonpath_base::Extent;
 use jsonpath_parser::errors::Parsed;
 use jsonpath_parser::model as tree;
 
@@ -66,16 +66,5 @@ fn near_pattern(patterns: &Vec<Asked<'_>>, asked: Asked<'_>) -> Option<usize> {
 
 /// Whether the same is asked.
 fn is_same_pattern(left: Asked<'_>, right: Asked<'_>) -> bool {
-    is_same_extent(left.extent, right.extent) && left.pattern == right.pattern
-}
-
-/// Whether they have to match the same of a text.
-fn is_same_extent(left: Extent, right: Extent) -> bool
-    ensures { IsTrue result → left ≡ right }
-{
-    match (left, right) {
-        (Extent::Entire, Extent::Entire) => true,
-        (Extent::Substring, Extent::Substring) => true,
-        _ => false,
-    }
+    left.extent.is_entire() == right.extent.is_entire() && left.pattern == right.pattern
 }

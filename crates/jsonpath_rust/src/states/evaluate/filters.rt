@@ -10,7 +10,6 @@ ghost use Rattle.jsonpath_rust.specs.states.inner.Evaluating.{HaltsAt};
 ghost use Rattle.jsonpath_rust.specs.documents.inner.Operands.{arg_trees, AreWhole};
 ghost use Rattle.jsonpath_rust.specs.documents.inner.Parts.{filters_in, arguments_in};
 
-use crate::documents::extent::Extent;
 use crate::documents::halt::Walked;
 use crate::documents::queryable::{Arg, Queryable};
 use crate::states::evaluate::comparison::compares;
@@ -22,6 +21,7 @@ use crate::states::evaluate::singular::singular_data;
 use crate::states::evaluate::test::{is_true, test_answer};
 use crate::states::evaluate::value::{literal_data, truth_data};
 use crate::states::state::{Data, root_of};
+use jsonpath_base::Extent;
 use jsonpath_parser::model::{
     Comparable, Comparison, Filter, FilterAtom, FnArg, Test, TestFunction,
 };

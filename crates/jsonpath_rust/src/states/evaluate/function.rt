@@ -5,16 +5,16 @@ ghost use Rattle.jsonpath_rust.specs.documents.Functions as functions;
 ghost use Rattle.jsonpath_rust.specs.documents.Patterns.{IsPattern};
 ghost use Rattle.jsonpath_rust.specs.states.Process.{plain, optional, length_content, count_content, value_content, content_trees};
 ghost use Rattle.jsonpath_rust.specs.states.State.{value, content_of, DataIsWhole};
-ghost use Rattle.jsonpath_rust.specs.documents.inner.Operands.{arg_trees, AreWhole, is_entire};
+ghost use Rattle.jsonpath_base.specs.Pattern.{is_entire};
+ghost use Rattle.jsonpath_rust.specs.documents.inner.Operands.{arg_trees, AreWhole};
 ghost use Rattle.jsonpath_rust.specs.declared.documents.halt.Halt.TheVariants.{Memory};
 
-use crate::documents::extent::Extent;
 use crate::documents::halt::Walked;
 use crate::documents::queryable::{Arg, Queryable};
 use crate::documents::value::length_of;
 use crate::states::evaluate::value::{count_data, plain_value, truth_data};
 use crate::states::state::Data;
-use jsonpath_base::found;
+use jsonpath_base::{Extent, found};
 use std::alloc::Global;
 
 /// What `length` answers.
@@ -112,7 +112,7 @@ fn is_matched<T: Queryable>(
 {
     match (text, pattern) {
         (Some(text), Some(pattern)) => match (text.as_str(), pattern.as_str()) {
-            (Some(text), Some(pattern)) => Ok(found(alloc, text, pattern, extent.is_entire())?),
+            (Some(text), Some(pattern)) => Ok(found(alloc, text, pattern, extent)?),
             _ => Ok(false),
         },
         _ => Ok(false),

@@ -39,7 +39,8 @@ use Rattle.jsonpath_rust.proofs.laws.selection.Kept.{kept_query, found_there, ga
 use Rattle.jsonpath_rust.proofs.laws.selection.RootedLaws.{answer_as, answer_kept, comparison_as, comparison_kept, kept_call_same, kept_comparison_same}
 use Rattle.jsonpath_rust.specs.documents.Comparing.{compares}
 use Rattle.jsonpath_rust.specs.documents.Functions.{length_of, as_value, as_trees, as_truth, is_matched, is_true}
-use Rattle.jsonpath_rust.specs.documents.inner.Operands.{operand_tree, side_tree, arg_trees, AreWhole, is_entire}
+use Rattle.jsonpath_base.specs.Pattern.{is_entire}
+use Rattle.jsonpath_rust.specs.documents.inner.Operands.{operand_tree, side_tree, arg_trees, AreWhole}
 use Rattle.jsonpath_rust.proofs.laws.selection.NodelistLaws.{through-applied, nodelist-through}
 use Rattle.jsonpath_rust.specs.declared.selection.way.StepRef.{StepRef}
 use Rattle.jsonpath_rust.specs.selection.inner.Arguing.{value, nodes, holding, value_held, only_held, count_held, trees_held, truth_held, OnlyIsWhole, HeldAreWhole}
