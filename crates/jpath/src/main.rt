@@ -1,4 +1,5 @@
-//! Asks a JSONPath query of the JSON on standard input.
+//! The program `jpath`: it runs a JSONPath query on the JSON on standard input, and prints what the query selects, or what is left
+//! when that is deleted. `words` reads the command line, `run` does the work, `output` prints, and `fault` has how a run ends.
 #![tactic(auto)]
 
 mod fault;

@@ -1,4 +1,5 @@
-//! What no row asks of the program: runs and their streams, trees made by hand, and a pattern that `regex` may refuse.
+//! What no row asks: runs of the program and their streams; trees, documents, nodes and states made by hand; the texts of
+//! errors; a pattern that `regex` may refuse.
 mod documents;
 mod errors;
 mod nodes;

@@ -34,7 +34,7 @@ impl<'s> Marks<'s> {
     }
 }
 
-/// Adds a location to the set. The answer says whether it is new there.
+/// Adds a location to the set. The result says whether it is new there.
 #[cycle(mark)]
 pub fn mark<'s>(alloc: Global, marks: &mut Marks<'s>, steps: &'s [Step]) -> Result<bool, AllocError>
     ensures fresh { IfOk result (λ b. b ≡ not (marked marks.old (location_view steps.now))) }

@@ -96,7 +96,7 @@ impl Pattern {
         })
     }
 
-    /// What `match` or `search` answers for a text. For many texts a [`Finder`] is faster.
+    /// What `match` or `search` returns for a text. For many texts a [`Finder`] is faster.
     pub fn is_found(&self, alloc: Global, text: &str) -> Result<bool, AllocError>
         ensures value { IfOk result (λ b. b ≡ found (is_for_match self.now) (source_of self.now) text.now) }
     {
@@ -124,7 +124,7 @@ impl<'p> Finder<'p> {
         self.pattern.is_of(pattern, extent)
     }
 
-    /// What `match` or `search` answers for a text. It never fails: where memory runs out it searches more slowly.
+    /// What `match` or `search` returns for a text. It never fails: where memory runs out it searches more slowly.
     pub fn is_found(&mut self, text: &str) -> bool
         ensures value { result ≡ found (is_for_match (pattern_of self.old)) (source_of (pattern_of self.old)) text.now }
         ensures same { pattern_of self.new ≡ pattern_of self.old }
@@ -136,7 +136,7 @@ impl<'p> Finder<'p> {
     }
 }
 
-/// What `match` answers for a text and a pattern, or `search`, by the extent. It reads the pattern anew each time: see
+/// What `match` returns for a text and a pattern, or `search`, by the extent. It reads the pattern anew each time: see
 /// [`Pattern`]. It refuses as [`Pattern::new`] does.
 pub fn found(alloc: Global, text: &str, pattern: &str, extent: Extent) -> Parsed<bool>
     ensures value { IfOk result (λ b. b ≡ found (is_entire extent) pattern.now text.now) }

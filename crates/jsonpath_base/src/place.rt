@@ -36,8 +36,8 @@ fn child<'v>(value: &'v Value, step: &Step) -> Option<&'v Value>
     }
 }
 
-/// Puts a value at the location of these steps, in the place of the one there, and answers true; where nothing is there,
-/// it answers false and changes nothing, and the new value is dropped. It takes no memory, and time as `at`.
+/// Puts a value at the location of these steps, in the place of the one there, and returns true; where nothing is there,
+/// it returns false and changes nothing, and the new value is dropped. It takes no memory, and time as `at`.
 #[cycle(put_at)]
 pub fn put_at(value: &mut Value, steps: &[Step], new: Value) -> bool
     ensures value { value_tree value.new ≡ put (location_view steps.now) (value_tree new) (value_tree value.old) }

@@ -17,10 +17,10 @@ use std::alloc::Global;
 use std::collections::BTreeMap;
 use std::mem;
 
-/// Removes the values at these locations, all at once and each by its original place, and answers how many distinct
+/// Removes the values at these locations, all at once and each by its original place, and returns how many distinct
 /// locations there are. One where nothing is counts, and changes nothing; where the root is one of them, null is left.
 ///
-/// It refuses for want of memory alone, and then the value is as it was: all locations are marked first, and from there
+/// It refuses by `OutOfMemory` alone, and then the value is as it was: all locations are marked first, and from there
 /// on nothing is taken. Time n log n in the steps of the locations; in a list that loses elements, each element behind the
 /// first of them is moved once.
 pub fn remove_all(alloc: Global, value: &mut Value, places: &[Vec<Step>]) -> Parsed<usize>

@@ -42,7 +42,7 @@ pub fn arg_lit(literal: Literal) -> FnArg
 ///
 /// # Errors
 ///
-/// `OutOfMemory` where a growth was refused.
+/// `OutOfMemory` where memory ran out.
 pub fn arg_test(alloc: Global, test: Test) -> Parsed<FnArg>
     ensures made { IfOk result (λ a. argument_view a ≡ tree.test_argument (test_view test)) }
     ensures refused { IfErr result (λ e. e ≡ OutOfMemory) }

@@ -29,7 +29,7 @@ pub fn comparable_lit(literal: Literal) -> Comparable
     Comparable::Literal(literal)
 }
 
-/// The side that is what this call answers.
+/// The side that is what this call returns.
 pub fn comparable_fn(call: TestFunction) -> Comparable
     ensures { comparable_view result ≡ tree.function (call_view call) }
 {

@@ -26,11 +26,11 @@ pub fn test_abs(query: JpQuery) -> Test
     Test::AbsQuery(query)
 }
 
-/// The test of what this call answers.
+/// The test of what this call returns.
 ///
 /// # Errors
 ///
-/// `OutOfMemory` where a growth was refused.
+/// `OutOfMemory` where memory ran out.
 pub fn test_function(alloc: Global, call: TestFunction) -> Parsed<Test>
     ensures made { IfOk result (λ t. test_view t ≡ tree.call (call_view call)) }
     ensures refused { IfErr result (λ e. e ≡ OutOfMemory) }
@@ -63,7 +63,7 @@ pub fn filter(atom: FilterAtom) -> Filter
 ///
 /// # Errors
 ///
-/// `OutOfMemory` where a growth was refused.
+/// `OutOfMemory` where memory ran out.
 pub fn atom(alloc: Global, expr: Filter) -> Parsed<FilterAtom>
     ensures made { IfOk result (λ a. atom_view a ≡ tree.group false (filter_view expr)) }
     ensures refused { IfErr result (λ e. e ≡ OutOfMemory) }
@@ -75,7 +75,7 @@ pub fn atom(alloc: Global, expr: Filter) -> Parsed<FilterAtom>
 ///
 /// # Errors
 ///
-/// `OutOfMemory` where a growth was refused.
+/// `OutOfMemory` where memory ran out.
 pub fn atom_not(alloc: Global, expr: Filter) -> Parsed<FilterAtom>
     ensures made { IfOk result (λ a. atom_view a ≡ tree.group true (filter_view expr)) }
     ensures refused { IfErr result (λ e. e ≡ OutOfMemory) }
@@ -87,7 +87,7 @@ pub fn atom_not(alloc: Global, expr: Filter) -> Parsed<FilterAtom>
 ///
 /// # Errors
 ///
-/// `OutOfMemory` where a growth was refused.
+/// `OutOfMemory` where memory ran out.
 pub fn atom_test(alloc: Global, expr: Test) -> Parsed<FilterAtom>
     ensures made { IfOk result (λ a. atom_view a ≡ tree.Atom.test false (test_view expr)) }
     ensures refused { IfErr result (λ e. e ≡ OutOfMemory) }
@@ -99,7 +99,7 @@ pub fn atom_test(alloc: Global, expr: Test) -> Parsed<FilterAtom>
 ///
 /// # Errors
 ///
-/// `OutOfMemory` where a growth was refused.
+/// `OutOfMemory` where memory ran out.
 pub fn atom_test_not(alloc: Global, expr: Test) -> Parsed<FilterAtom>
     ensures made { IfOk result (λ a. atom_view a ≡ tree.Atom.test true (test_view expr)) }
     ensures refused { IfErr result (λ e. e ≡ OutOfMemory) }
@@ -111,7 +111,7 @@ pub fn atom_test_not(alloc: Global, expr: Test) -> Parsed<FilterAtom>
 ///
 /// # Errors
 ///
-/// Those of `Comparison::try_new`, and `OutOfMemory` where a growth was refused.
+/// Those of `Comparison::try_new`, and `OutOfMemory` where memory ran out.
 pub fn atom_cmp(
     alloc: Global,
     left: Comparable,

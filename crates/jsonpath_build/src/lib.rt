@@ -5,7 +5,7 @@
 //!     let name = selector_name(alloc, "a")?;
 //!     let query = jq(vec![in alloc; segment_one(name), segment_one(selector_index(0))]?);
 //!
-//! What takes memory takes `alloc` first and answers a `Parsed`. The parts are moved into what is made, and a tree need not be
+//! What takes memory takes `alloc` first and returns a `Parsed`. The parts are moved into what is made, and a tree need not be
 //! one that a text spells.
 #![tactic(auto)]
 

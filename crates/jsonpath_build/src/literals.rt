@@ -26,7 +26,7 @@ pub fn lit_bool(truth: bool) -> Literal
 ///
 /// # Errors
 ///
-/// `OutOfMemory` where a growth was refused.
+/// `OutOfMemory` where memory ran out.
 pub fn lit_str(alloc: Global, text: &str) -> Parsed<Literal>
     ensures made { IfOk result (λ l. literal_view l ≡ tree.string text.now) }
     ensures refused { IfErr result (λ e. e ≡ OutOfMemory) }

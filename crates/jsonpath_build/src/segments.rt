@@ -34,7 +34,7 @@ pub fn selector_slice(parts: SliceParts) -> Selector
 ///
 /// # Errors
 ///
-/// `OutOfMemory` where a growth was refused.
+/// `OutOfMemory` where memory ran out.
 pub fn selector_name(alloc: Global, name: &str) -> Parsed<Selector>
     ensures made { IfOk result (λ s. selector_view s ≡ tree.name name.now) }
     ensures refused { IfErr result (λ e. e ≡ OutOfMemory) }
@@ -53,7 +53,7 @@ pub fn selector_index(index: i64) -> Selector
 ///
 /// # Errors
 ///
-/// `OutOfMemory` where a growth was refused.
+/// `OutOfMemory` where memory ran out.
 pub fn segment_descendant(alloc: Global, segment: Segment) -> Parsed<Segment>
     ensures made { IfOk result (λ g. segment_view g ≡ tree.descendant (segment_view segment)) }
     ensures refused { IfErr result (λ e. e ≡ OutOfMemory) }

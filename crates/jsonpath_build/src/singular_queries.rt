@@ -12,7 +12,7 @@ use std::alloc::Global;
 ///
 /// # Errors
 ///
-/// `OutOfMemory` where a growth was refused.
+/// `OutOfMemory` where memory ran out.
 pub fn q_name(alloc: Global, name: &str) -> Parsed<SingularQuerySegment>
     ensures made { IfOk result (λ s. step_view s ≡ tree.name_step name.now) }
     ensures refused { IfErr result (λ e. e ≡ OutOfMemory) }
@@ -31,7 +31,7 @@ pub fn q_index(index: i64) -> SingularQuerySegment
 ///
 /// # Errors
 ///
-/// `OutOfMemory` where a growth was refused.
+/// `OutOfMemory` where memory ran out.
 pub fn q_segments_one(
     alloc: Global,
     step: SingularQuerySegment,
@@ -46,7 +46,7 @@ pub fn q_segments_one(
 ///
 /// # Errors
 ///
-/// `OutOfMemory` where a growth was refused.
+/// `OutOfMemory` where memory ran out.
 ///
 /// The time is linear in the others.
 pub fn q_segments(

@@ -14,5 +14,5 @@ pub use crate::documents::reference::replace_by_path;
 pub use crate::documents::refusal::not_a_reference;
 use jsonpath_parser::errors::JsonPathError;
 
-/// What a query answers.
+/// What a query returns.
 pub type Queried<T> = Result<T, JsonPathError>;

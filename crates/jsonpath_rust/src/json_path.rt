@@ -33,7 +33,7 @@ pub trait JsonPath: Queryable {
             (λ v. AllZip (IsNodeAt (document_of Self.tree Self.custom self.now)) (selected q (document_of Self.tree Self.custom self.now)) (shown Self.tree v.items))
             (IsStop q (document_of Self.tree Self.custom self.now)) }
 
-        // A Normalized Path is refused for want of memory alone. It gives the node at its location, or none where nothing is there.
+        // A Normalized Path is refused by `OutOfMemory` alone. It gives the node at its location, or none where nothing is there.
         ensures normal { (l : Location) → IsNormal l path.now → HasIndexesInRange l → MatchResult result
             (λ v. shown Self.tree v.items ≡ node_there (document_of Self.tree Self.custom self.now) l path.now)
             (λ e. e ≡ OutOfMemory) }

@@ -1,7 +1,7 @@
 //! JSONPath (RFC 9535) over documents of any type.
 //!
-//! `documents` has what a document is, and what a query means of it. Two evaluators answer: `selection` walks to the nodes of a
-//! query, and `states` answers each part of a query by itself. `query` and `json_path` have the calls.
+//! `documents` has what a document is, and what a query means of it. Two evaluators work that out: `selection` walks to the
+//! nodes of a query, and `states` evaluates each part of a query by itself. `query` and `json_path` have the calls.
 #![tactic(auto)]
 
 mod documents;

@@ -60,7 +60,7 @@ pub fn js_path<'a, T: Queryable>(
         (λ v. AllZip (IsNodeAt (document_of T.tree T.custom value.now)) (selected q (document_of T.tree T.custom value.now)) (shown T.tree v.items))
         (IsStop q (document_of T.tree T.custom value.now)) }
 
-    // A Normalized Path is refused for want of memory alone. It gives the node at its location, or none where nothing is there.
+    // A Normalized Path is refused by `OutOfMemory` alone. It gives the node at its location, or none where nothing is there.
     ensures normal { (l : Location) → IsNormal l path.now → HasIndexesInRange l → MatchResult result
         (λ v. shown T.tree v.items ≡ node_there (document_of T.tree T.custom value.now) l path.now)
         (λ e. e ≡ OutOfMemory) }
@@ -89,7 +89,7 @@ pub fn js_path_within<'a, T: Queryable>(
         (λ v. AllZip (IsNodeAt (document_of T.tree T.custom value.now)) (selected q (document_of T.tree T.custom value.now)) (shown T.tree v.items))
         (IsStop q (document_of T.tree T.custom value.now)) }
 
-    // A Normalized Path is refused for want of memory alone. It gives the node at its location, or none where nothing is there.
+    // A Normalized Path is refused by `OutOfMemory` alone. It gives the node at its location, or none where nothing is there.
     ensures normal { (l : Location) → IsNormal l path.now → HasIndexesInRange l → 1 ≤ depth → MatchResult result
         (λ v. shown T.tree v.items ≡ node_there (document_of T.tree T.custom value.now) l path.now)
         (λ e. e ≡ OutOfMemory) }
@@ -122,7 +122,7 @@ pub fn js_path_limited<'a, T: Queryable>(
         (λ o. IfSome o (λ v. AllZip (IsNodeAt (document_of T.tree T.custom value.now)) (selected q (document_of T.tree T.custom value.now)) (shown T.tree v.items)))
         (IsStop q (document_of T.tree T.custom value.now)) }
 
-    // A Normalized Path is refused for want of memory alone. Its node is given, or none where nothing is there, if the work is enough.
+    // A Normalized Path is refused by `OutOfMemory` alone. Its node is given, or none where nothing is there, if the work is enough.
     ensures normal { (l : Location) → IsNormal l path.now → HasIndexesInRange l → MatchResult result
         (λ o. IfSome o (λ v. shown T.tree v.items ≡ node_there (document_of T.tree T.custom value.now) l path.now))
         (λ e. e ≡ OutOfMemory) }
@@ -208,7 +208,7 @@ pub fn js_path_process<'a, T: Queryable>(
     }
 }
 
-/// The values of the nodes that [`js_path_process`] answers, in order. It refuses as that does, and of a tree that
+/// The values of the nodes that [`js_path_process`] returns, in order. It refuses as that does, and of a tree that
 /// [`is_typed`] it makes no path.
 pub fn js_path_process_vals<'a, T: Queryable>(
     alloc: Global,

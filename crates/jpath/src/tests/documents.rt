@@ -114,7 +114,7 @@ fn makes_values_and_lists(rt: HostRuntime) {
 
 // ---- custom functions
 
-/// Whether a custom function answers this truth, or none, of the number, lent, and the list, given.
+/// Whether a custom function returns this truth, or none, of the number, lent, and the list, given.
 fn is_answer<T: Queryable>(alloc: Global, name: &str, answer: Option<bool>) -> Option<bool> {
     let number = T::from_i64(alloc, NUMBER).ok()?;
     let mut args = Vec::new(alloc);

@@ -10,7 +10,7 @@ const PATTERN: &str = "((a{1000}){1000}){1000}";
 
 const QUERY: &str = "$[?search(@,'((a{1000}){1000}){1000}')]";
 
-/// What a search of this pattern answers, and the status of a run and what it shows, where `regex` builds the pattern.
+/// What a search of this pattern returns, and the status of a run and what it shows, where `regex` builds the pattern.
 const BUILT: (&str, u8, &str) = ("false", 0, "");
 
 /// The same, where it does not.
@@ -29,7 +29,7 @@ fn wanted(alloc: Global) -> Option<(&'static str, u8, &'static str)> {
     }
 }
 
-/// Whether a search answers so, or is refused by an error of this text.
+/// Whether a search returns so, or is refused by an error of this text.
 fn is_answer(alloc: Global, wanted: &str) -> Option<bool> {
     let answer = match found(alloc, "a", PATTERN, false) {
         Ok(found) => found.to_string(alloc).ok(),

@@ -76,7 +76,7 @@ fn flat_map_answers_what_is_made_of_each_node(rt: HostRuntime) {
     }
 }
 
-/// Whether `flat_map` answers the refusal of its closure.
+/// Whether `flat_map` returns the refusal of its closure.
 fn refuses(alloc: Global, held: Held) -> Option<bool> {
     let document = Value::Null;
     let given = state(alloc, held, &document).ok()?;

@@ -18,7 +18,7 @@ pub enum Halt {
     Spent,
 }
 
-/// What a step of a walk answers.
+/// What a step of a walk returns.
 pub type Walked<T> = Result<T, Halt>;
 
 impl Halt {

@@ -31,7 +31,7 @@ impl<'a, T> Arg<'a, T> {
     }
 }
 
-/// A document. A value that passes `is_whole` has one tree, and each call agrees with it; what the calls answer on any
+/// A document. A value that passes `is_whole` has one tree, and each call agrees with it; what the calls return on any
 /// other value is left open. All calls refuse by `OutOfMemory` alone.
 pub trait Queryable: Sized + Debug + Drop {
     /// The tree of a value.
@@ -40,10 +40,10 @@ pub trait Queryable: Sized + Debug + Drop {
     /// Whether every number in it is a whole number of 64 bits.
     ghost is_whole: { Self → Bool };
 
-    /// What a custom function of that name answers, of the arguments' trees (RFC 9535, 2.4).
+    /// What a custom function of that name returns, of the arguments' trees (RFC 9535, 2.4).
     ghost custom: { List ℕ → List Tree → Tree };
 
-    /// Whether `reference` looks for a location, and `reference_mut` may. Where they do not, they answer None.
+    /// Whether `reference` looks for a location, and `reference_mut` may. Where they do not, they return None.
     ghost refers: { Bool } = { false };
 
     /// The member of that name.
@@ -132,7 +132,7 @@ pub trait Queryable: Sized + Debug + Drop {
         requires right { IsTrue (is_whole other.now) }
         ensures { result ≡ same (tree self.now) (tree other.now) };
 
-    /// What a custom function of that name answers. It refuses by `OutOfMemory` alone.
+    /// What a custom function of that name returns. It refuses by `OutOfMemory` alone.
     fn extension_custom(alloc: Global, name: &str, args: &[Arg<'_, Self>]) -> Queried<Self>
         requires { All (λ a. IsTrue (is_whole (arg_value a))) args.now }
         ensures value { IfOk result (λ v. tree v ≡ custom name.now (map (λ a. tree (arg_value a)) args.now)) }

@@ -40,8 +40,8 @@ struct Place<'v> {
     value: &'v Value,
 }
 
-/// Puts a value at the one location that a path of names and indexes means, in the place of the one there, and answers
-/// true. Where the text means no location, as each other text does, it answers false and nothing is changed. It refuses
+/// Puts a value at the one location that a path of names and indexes means, in the place of the one there, and returns
+/// true. Where the text means no location, as each other text does, it returns false and nothing is changed. It refuses
 /// by `OutOfMemory` alone, and then nothing is changed.
 ///
 /// The time is linear in the length of the path, with a search by name in each object on the way.

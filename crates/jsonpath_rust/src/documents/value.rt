@@ -1,4 +1,4 @@
-//! Values inside the evaluator: the sides of a comparison, and what functions take and answer.
+//! Values inside the evaluator: the sides of a comparison, and what functions take and return.
 ghost use Rattle.std.specs.Prelude.{◌≡◌, ◌++◌, [], ◌∷◌, Some, IsTrue, IfOk, IfErr, IfSome, OnOk, option_map, option_and_then, option_to_list};
 ghost use Rattle.jsonpath_parser.specs.tree.View.{literal_view};
 ghost use Rattle.jsonpath_rust.specs.declared.documents.halt.Halt.TheVariants.{Memory};
@@ -26,7 +26,7 @@ pub enum Scalar<'s> {
     Text(&'s str),
 }
 
-/// A side of a comparison, or what a function answers.
+/// A side of a comparison, or what a function returns.
 #[derive(Drop)]
 pub enum Operand<'a, 's, T> {
     Absent,

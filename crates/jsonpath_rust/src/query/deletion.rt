@@ -23,7 +23,7 @@ use jsonpath_parser::{MAX_NESTING_DEPTH, let_go, parse_json_path_within};
 use serde_json::Value;
 use std::alloc::Global;
 
-/// States a law and does nothing: a deletion by a query that selects nothing leaves the document's tree, and answers 0.
+/// States a law and does nothing: a deletion by a query that selects nothing leaves the document's tree, and returns 0.
 pub fn nothing_selected_deletes_nothing()
     ensures { NothingSelectedDeletesNothing }
 {}
@@ -33,7 +33,7 @@ pub trait Deletable: Queryable {
     /// Whether `delete_by_path` removes anything. Where it does not, it refuses.
     ghost deletes: { Bool } = { false };
 
-    /// Removes all locations that a query selects, and answers how many distinct ones there were; by default it refuses
+    /// Removes all locations that a query selects, and returns how many distinct ones there were; by default it refuses
     /// by `InvalidJsonPath`. After any refusal the value has the tree it had.
     fn delete_by_path(&mut self, alloc: Global, _path: &str) -> Queried<usize>
         requires { IsTrue (Self.is_whole self.old) }
@@ -65,7 +65,7 @@ impl Deletable for Value {
     }
 }
 
-/// Removes all locations that a query text selects in a document, at once and each by its original place, and answers how
+/// Removes all locations that a query text selects in a document, at once and each by its original place, and returns how
 /// many distinct ones there are, those inside other ones counted too. Where the root is selected, null is left.
 ///
 /// All nodes are found, and all memory is taken, before anything is removed. Time as [`js_path_within`], and as
@@ -94,7 +94,7 @@ pub fn delete_within(alloc: Global, value: &mut Value, path: &str, depth: usize)
     deleted
 }
 
-/// Removes all locations that a query selects in a document, and answers how many distinct ones there are, as
+/// Removes all locations that a query selects in a document, and returns how many distinct ones there are, as
 /// [`delete_within`] does. It refuses as [`js_path_process`] does of a tree that is well-typed, and then the document is
 /// as it was. A tree that is not well-typed is asked in the same way here, and not by `process`.
 ///

@@ -20,7 +20,7 @@ use crate::selection::plan::{Argument, Call, Nodes, Segment};
 use crate::selection::singular::value_at;
 use jsonpath_base::text::text_length;
 
-/// What a function of nodes that are looked up answers; None where that takes a walk, or memory.
+/// What a function of nodes that are looked up returns; None where that takes a walk, or memory.
 #[inline(always)]
 pub fn direct_answer<'k, 's, T: Queryable>(call: &Call, at: &'k T) -> Option<Side<'k, 's, T>>
     requires { IsTrue (T.is_whole at.now) }

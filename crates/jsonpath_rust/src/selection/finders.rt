@@ -33,7 +33,7 @@ impl<'p> Asked<'p> {
         Ok(Box::new(alloc, pattern)?)
     }
 
-    /// What the finder answers for a text, if it is one of this pattern.
+    /// What the finder returns for a text, if it is one of this pattern.
     #[inline(always)]
     pub fn answer_of(self, finder: &mut Finder<'_>, text: &str) -> Option<bool>
         ensures { IfSome result (λ b. b ≡ found (is_entire self.entry.extent) self.entry.pattern.now text.now) }
@@ -64,7 +64,7 @@ impl<'p> Standing<'p> {
         }
     }
 
-    /// What the finder at this number answers for a text, if it is one of this pattern.
+    /// What the finder at this number returns for a text, if it is one of this pattern.
     #[inline(always)]
     fn ask(&mut self, number: usize, text: &str, asked: Asked<'_>) -> Option<bool>
         ensures { IfSome result (λ b. b ≡ found (is_entire asked.entry.extent) asked.entry.pattern.now text.now) }
@@ -122,7 +122,7 @@ impl<'s, 'p> Finders<'s, 'p> {
         }
     }
 
-    /// What `match` or `search` answers for a value and a pattern. It refuses where the pattern cannot be built, and where
+    /// What `match` or `search` returns for a value and a pattern. It refuses where the pattern cannot be built, and where
     /// memory ran out.
     pub fn is_matched<T: Queryable>(
         &mut self,
@@ -143,7 +143,7 @@ impl<'s, 'p> Finders<'s, 'p> {
         Ok(self.is_found(alloc, text, asked, origin)?)
     }
 
-    /// What `match` or `search` answers for a text and a pattern. A number tells only where to look: where there is no such
+    /// What `match` or `search` returns for a text and a pattern. A number tells only where to look: where there is no such
     /// place, or another pattern was built in it, the pattern is asked as one that comes from the document.
     fn is_found(
         &mut self,

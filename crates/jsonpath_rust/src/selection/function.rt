@@ -27,7 +27,7 @@ use crate::selection::walk::Task;
 use jsonpath_base::Extent;
 
 impl<'a: 's, 's, T: Queryable> Task<'a, 's, T> {
-    /// What a call answers at a value, to which the way leads.
+    /// What a call returns at a value, to which the way leads.
     #[cycle(walk)]
     pub fn answer(
         &self,
@@ -72,7 +72,7 @@ impl<'a: 's, 's, T: Queryable> Task<'a, 's, T> {
         }
     }
 
-    /// What `match` answers of an entire text, or `search` of its substrings: a text and a pattern (RFC 9535, 2.4.6 and
+    /// What `match` returns of an entire text, or `search` of its substrings: a text and a pattern (RFC 9535, 2.4.6 and
     /// 2.4.7).
     #[cycle(walk)]
     fn match_or_search(
@@ -104,7 +104,7 @@ impl<'a: 's, 's, T: Queryable> Task<'a, 's, T> {
         Ok(Operand::Plain(Scalar::Truth(found)))
     }
 
-    /// What a custom function answers.
+    /// What a custom function returns.
     #[cycle(walk)]
     fn custom(
         &self,

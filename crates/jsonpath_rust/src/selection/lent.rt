@@ -45,7 +45,7 @@ impl<'p> LentFinders<'p> {
         }
     }
 
-    /// What `match` or `search` answers for a text and a pattern. It refuses where the pattern cannot be built, and where
+    /// What `match` or `search` returns for a text and a pattern. It refuses where the pattern cannot be built, and where
     /// memory ran out.
     pub fn is_found(&mut self, alloc: Global, text: &str, asked: Asked<'_>) -> Parsed<bool>
         ensures value { IfOk result (λ b. b ≡ found (is_entire asked.entry.extent) asked.entry.pattern.now text.now) }
@@ -65,7 +65,7 @@ impl<'p> LentFinders<'p> {
         self.ask_unplaced(alloc, unplaced, text, asked)
     }
 
-    /// What the finder at this index answers for a text, if it is one of this pattern.
+    /// What the finder at this index returns for a text, if it is one of this pattern.
     #[inline(always)]
     fn ask(&mut self, index: usize, text: &str, asked: Asked<'_>) -> Option<bool>
         ensures { IfSome result (λ b. b ≡ found (is_entire asked.entry.extent) asked.entry.pattern.now text.now) }

@@ -44,7 +44,7 @@ pub enum Rooted {
     Nodes(Vec<Segment>, Wanted),
     /// The value of the one node, if there is one, by these steps from the root.
     Value(Vec<SingularQuerySegment>),
-    /// What a call answers.
+    /// What a call returns.
     Answer(Call),
     /// Whether the sides compare so.
     Comparison(Operator, Side, Side),
@@ -99,7 +99,7 @@ pub enum Filter {
     Group { expr: Box<Filter>, not: bool },
     /// There is a node, turned round where `not`.
     Exists { nodes: Nodes, not: bool },
-    /// The call answers true, turned round where `not`.
+    /// The call returns true, turned round where `not`.
     Call { call: Called, not: bool },
     /// The sides compare so.
     Comparison(Operator, Side, Side),
@@ -129,11 +129,11 @@ pub enum Side {
     Lookup(Vec<SingularQuerySegment>),
     /// The value of the one node, if there is one, by the kept entry of this number.
     Kept(usize),
-    /// What a call answers.
+    /// What a call returns.
     Call(Called),
 }
 
-/// A call, by what answers it.
+/// A call, by where it is worked out.
 #[derive(Drop)]
 #[cycle(plan)]
 pub enum Called {
@@ -171,7 +171,7 @@ pub enum Argument {
     Pattern(String, usize),
     /// What is wanted of nodes.
     Nodes(Nodes),
-    /// What a call answers.
+    /// What a call returns.
     Call(Called),
     /// Whether a filter holds.
     Filter(Filter),

@@ -61,7 +61,7 @@ impl Prepared {
         &self.planned.query
     }
 
-    /// The nodes that the query selects in a document, in order (RFC 9535, 2.1.2), as [`selected_nodes`] answers them.
+    /// The nodes that the query selects in a document, in order (RFC 9535, 2.1.2), as [`selected_nodes`] returns them.
     ///
     /// [`selected_nodes`]: crate::selection::selected_nodes
     pub fn nodes<'a, T: Queryable>(

@@ -29,7 +29,7 @@ impl Unplaced {
         self.pattern.is_of(asked.pattern, asked.extent)
     }
 
-    /// What `match` or `search` answers for a text and this pattern, which is read anew where it is another.
+    /// What `match` or `search` returns for a text and this pattern, which is read anew where it is another.
     pub fn is_found(&self, alloc: Global, text: &str, asked: Asked<'_>) -> Parsed<bool>
         ensures value { IfOk result (λ b. b ≡ found (is_entire asked.entry.extent) asked.entry.pattern.now text.now) }
         ensures refused { IfErr result (IsPatternRefusal (pattern_sought (is_entire asked.entry.extent) asked.entry.pattern.now)) }

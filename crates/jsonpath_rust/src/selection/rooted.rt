@@ -78,7 +78,7 @@ impl<'a: 's, 's, T: Queryable> Task<'a, 's, T> {
         Ok(Operand::lent(value))
     }
 
-    /// What a call answers at a value, to which the way leads.
+    /// What a call returns at a value, to which the way leads.
     #[cycle(walk)]
     pub fn called(
         &self,
@@ -100,7 +100,7 @@ impl<'a: 's, 's, T: Queryable> Task<'a, 's, T> {
         }
     }
 
-    /// What the call answers that is kept under this number.
+    /// What the call returns that is kept under this number.
     #[cycle(walk)]
     fn kept_answer(
         &self,

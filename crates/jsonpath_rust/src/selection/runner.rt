@@ -25,8 +25,8 @@ use std::mem;
 /// What asks a [`Prepared`] query of one document after another. Beside what `Prepared` keeps, what searches for its patterns
 /// stays from one call to the next, so that only the first call makes it.
 ///
-/// Each call answers and refuses as that of `Prepared` does. The calls with a limit are for queries of strangers: they take a
-/// number of units of work, and answer None where that is not enough. These are spent:
+/// Each call returns and refuses as that of `Prepared` does. The calls with a limit are for queries of strangers: they take a
+/// number of units of work, and return None where that is not enough. These are spent:
 ///
 /// - one for each child that a `*`, a slice or `..` looks at, and two for each that a filter is tried on;
 /// - one for each selector of several in one segment, and for each operand of `&&` and `||`;
@@ -60,7 +60,7 @@ impl<'p> Runner<'p> {
         self.prepared.query()
     }
 
-    /// The nodes that the query selects in a document, in order, as [`Prepared::nodes`] answers them.
+    /// The nodes that the query selects in a document, in order, as [`Prepared::nodes`] returns them.
     pub fn nodes<'a, T: Queryable>(
         &mut self,
         alloc: Global,

@@ -69,7 +69,7 @@ impl<'a: 's, 's, T: Queryable> Task<'a, 's, T> {
         }
     }
 
-    /// What a call answers; None where that takes a walk or memory, and where it is an entry that is not worked out yet.
+    /// What a call returns; None where that takes a walk or memory, and where it is an entry that is not worked out yet.
     #[inline(always)]
     fn lent_answer<'k>(
         &self,

@@ -21,7 +21,7 @@ pub enum StepRef<'s> {
     Index(usize),
 }
 
-/// The steps from the root to the value at hand. A step is spelled when a node at its end or below is answered, and then
+/// The steps from the root to the value at hand. A step is spelled when a node at its end or below is returned, and then
 /// no more while it stands here.
 #[derive(Drop)]
 pub struct Way<'s> {

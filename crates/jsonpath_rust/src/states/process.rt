@@ -30,16 +30,16 @@ use jsonpath_parser::model::{
 };
 use std::alloc::Global;
 
-/// What can be asked of a state: a query, and each part of one. It answers on every state, hand-made ones included, and on
+/// What can be asked of a state: a query, and each part of one. It has a result on every state, hand-made ones included, and on
 /// trees that the typing of RFC 9535, 2.4.3 refuses.
 pub trait Query {
-    /// What it answers, of a document and what a state holds.
+    /// What it returns, of a document and what a state holds.
     ghost answers: { Self → Document → Content → Content };
 
     /// The patterns that stand in it: the second argument of each call of `match`, with true, and of `search`, with false.
     ghost patterns: { Self → List (Bool × Argument) };
 
-    /// The answer, in the same document.
+    /// The result, in the same document.
     ///
     /// # Errors
     ///
@@ -55,7 +55,7 @@ pub trait Query {
         ensures refused { IfErr result (IsProcessStop (patterns self.now) (document_of T.tree T.custom state.entry.root.now) (content_of T.tree state.entry.content)) };
 }
 
-/// The state of what was answered, or what a caller is told.
+/// The state of what was returned, or what a caller is told.
 fn answered<'a, T: Queryable>(
     alloc: Global,
     answer: Walked<Data<'a, T>>,
@@ -74,7 +74,7 @@ fn answered<'a, T: Queryable>(
     }
 }
 
-/// Its segments, each on the answer before.
+/// Its segments, each on the result before.
 impl Query for JpQuery {
     ghost answers = { λ q. segments_content (query_view q) };
 
@@ -94,7 +94,7 @@ impl Query for JpQuery {
     }
 }
 
-/// Each on the answer before.
+/// Each on the result before.
 impl Query for Vec<Segment> {
     ghost answers = { λ q. segments_content (segments_view q) };
 
@@ -162,7 +162,7 @@ impl Query for Filter {
     }
 }
 
-/// Its truth; of a call that answers a truth, what the call answers.
+/// Its truth; of a call that returns a truth, what the call returns.
 impl Query for FilterAtom {
     ghost answers = { λ q. atom_content (atom_view q) };
 
@@ -194,7 +194,7 @@ impl Query for Comparison {
     }
 }
 
-/// The literal, what the function answers, or the singular query.
+/// The literal, what the function returns, or the singular query.
 impl Query for Comparable {
     ghost answers = { λ q. comparable_content (comparable_view q) };
 
@@ -250,7 +250,7 @@ impl Query for SingularQuerySegment {
     }
 }
 
-/// Each on the answer before.
+/// Each on the result before.
 impl Query for Vec<SingularQuerySegment> {
     ghost answers = { λ q d. steps_content (map step_view q.items) };
 
@@ -305,7 +305,7 @@ impl Query for Test {
     }
 }
 
-/// What the function answers of its arguments at the state.
+/// What the function returns of its arguments at the state.
 impl Query for TestFunction {
     ghost answers = { λ q. call_content (call_view q) };
 
@@ -337,7 +337,7 @@ impl Query for FnArg {
     }
 }
 
-/// What the function answers, as [`Query::process`] of it.
+/// What the function returns, as [`Query::process`] of it.
 pub fn apply<'a, T: Queryable>(
     alloc: Global,
     function: &TestFunction,

@@ -1,4 +1,4 @@
-//! The nodes that [`Query::process`] answers from the root, as a caller of `js_path_process` wants them.
+//! The nodes that [`Query::process`] returns from the root, as a caller of `js_path_process` wants them.
 ghost use Rattle.std.specs.Prelude.{◌≡◌, map, All, IsTrue, IfOk, IfErr};
 ghost use Rattle.jsonpath_parser.specs.tree.View.{query_view};
 ghost use Rattle.jsonpath_rust.specs.documents.Answer.{shown};
@@ -54,7 +54,7 @@ pub fn processed_values<'a, T: Queryable>(
     Ok(values)
 }
 
-/// The nodes, as they stand in the state that is answered.
+/// The nodes, as they stand in the state that is returned.
 fn pointers_from_root<'a, T: Queryable>(
     alloc: Global,
     query: &JpQuery,

@@ -1,4 +1,4 @@
-//! States: what a part of a query is asked of, and what it answers.
+//! States: what a part of a query is asked of, and what it returns.
 ghost use Rattle.std.specs.Prelude.{◌≡◌, ◌↔◌, ◌⊎◌, ◌&&◌, codes, Ok, Err, IsTrue, IfOk, IfErr, option_map};
 ghost use Rattle.std.specs.List.{AllByRecursion};
 ghost use Rattle.jsonpath_parser.specs.declared.errors.JsonPathError.TheVariants.{OutOfMemory};

@@ -61,7 +61,7 @@ none_asked q doc none asks = by_patterns (segments_patterns q) none asks.stands
     by_patterns [] e c = omega (arith, c.1)
     by_patterns (p ∷ ps) e c = absurd cc
 
--- so it is refused for memory alone
+-- so it is refused by `OutOfMemory` alone
 pub stop_is_memory : (q : Query) (doc : Document) (e : JsonPathError) → segments_patterns q ≡ [] → IsStop q doc e → e ≡ OutOfMemory
 stop_is_memory q doc OutOfMemory none stop = refl
 stop_is_memory q doc _ none stop = absurd (none_asked q doc none (stop (λ m. cc)).1)

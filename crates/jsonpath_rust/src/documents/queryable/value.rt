@@ -148,7 +148,7 @@ impl Queryable for Value {
         referred(alloc, self, path)
     }
 
-    /// The value that `reference` answers, lent for writing. When the loan ends, what was written stands there, and nothing
+    /// The value that `reference` returns, lent for writing. When the loan ends, what was written stands there, and nothing
     /// else has changed. None and a refusal leave the value as it was.
     fn reference_mut(&mut self, alloc: Global, path: &str) -> Queried<Option<&mut Value>>
         ensures* writes_back { sem 𝓛 (LendsReferred path.now self.entry (lent_in result)) }

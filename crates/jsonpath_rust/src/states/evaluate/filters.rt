@@ -176,7 +176,7 @@ pub fn comparable_data<'a, T: Queryable>(
     }
 }
 
-/// What a test answers.
+/// What a test returns.
 #[cycle(evaluate)]
 pub fn test_data<'a, T: Queryable>(
     alloc: Global,
@@ -203,7 +203,7 @@ pub fn test_data<'a, T: Queryable>(
     }
 }
 
-/// What a function answers.
+/// What a function returns.
 #[cycle(evaluate)]
 pub fn call_data<'a, T: Queryable>(
     alloc: Global,
@@ -260,7 +260,7 @@ fn arguments<'a, T: Queryable>(
     Ok(values)
 }
 
-/// What an argument answers.
+/// What an argument returns.
 #[cycle(evaluate)]
 pub fn argument_data<'a, T: Queryable>(
     alloc: Global,

@@ -17,7 +17,7 @@ use crate::states::state::Data;
 use jsonpath_base::{Extent, found};
 use std::alloc::Global;
 
-/// What `length` answers.
+/// What `length` returns.
 pub fn length_data<'a, T: Queryable>(alloc: Global, given: Data<'a, T>) -> Walked<Data<'a, T>>
     requires { DataIsWhole T.is_whole given }
     ensures value { IfOk result (λ d. content_of T.tree d ≡ length_content (content_of T.tree given.entry)) }
@@ -45,7 +45,7 @@ fn value_length<'a, T: Queryable>(alloc: Global, of: &T) -> Walked<Data<'a, T>>
     }
 }
 
-/// What `count` answers.
+/// What `count` returns.
 pub fn node_count<'a, T: Queryable>(alloc: Global, given: Data<'a, T>) -> Walked<Data<'a, T>>
     ensures value { IfOk result (λ d. content_of T.tree d ≡ count_content (content_of T.tree given.entry)) }
     ensures whole { IfOk result (λ d. DataIsWhole T.is_whole d) }
@@ -59,7 +59,7 @@ pub fn node_count<'a, T: Queryable>(alloc: Global, given: Data<'a, T>) -> Walked
     }
 }
 
-/// What `value` answers.
+/// What `value` returns.
 pub fn only_value<'a, T: Queryable>(given: Data<'a, T>) -> Data<'a, T>
     requires { DataIsWhole T.is_whole given }
     ensures value { content_of T.tree result ≡ value_content (content_of T.tree given.entry) }
@@ -82,7 +82,7 @@ pub fn only_value<'a, T: Queryable>(given: Data<'a, T>) -> Data<'a, T>
     }
 }
 
-/// What `match` answers of the entire text, or `search` of its substrings.
+/// What `match` returns of the entire text, or `search` of its substrings.
 pub fn found_data<'a, T: Queryable>(
     alloc: Global,
     text: &Data<'a, T>,
@@ -119,7 +119,7 @@ fn is_matched<T: Queryable>(
     }
 }
 
-/// What a custom function answers.
+/// What a custom function returns.
 pub fn custom_data<'a, T: Queryable>(
     alloc: Global,
     name: &String,
@@ -133,7 +133,7 @@ pub fn custom_data<'a, T: Queryable>(
     Ok(Data::Value(T::extension_custom(alloc, name, args)?))
 }
 
-/// Follows the arguments of a custom function by what an answer stands for: its value, or the values of its nodes.
+/// Follows the arguments of a custom function by what a result stands for: its value, or the values of its nodes.
 pub fn push_values<'a, T: Queryable>(
     values: &mut Vec<Arg<'a, T>>,
     answer: Data<'a, T>,

@@ -1,4 +1,4 @@
-//! Segments and selectors, on any state: each on the answer before, node by node.
+//! Segments and selectors, on any state: each on the result before, node by node.
 ghost use Rattle.std.specs.Prelude.{◌≡◌, IsTrue, IfOk, IfErr};
 ghost use Rattle.jsonpath_parser.specs.tree.View.{segment_view, selector_view, filter_view};
 ghost use Rattle.jsonpath_rust.specs.documents.Document.{document_of};
@@ -32,7 +32,7 @@ pub enum Part<'s> {
     Joined(&'s [Selector]),
 }
 
-/// The segments, each on the answer before.
+/// The segments, each on the result before.
 #[cycle(evaluate)]
 pub fn segments_data<'a, T: Queryable>(
     alloc: Global,

@@ -38,7 +38,7 @@ pub fn singular_data<'a, T: Queryable>(
     }
 }
 
-/// The steps, each on the answer before.
+/// The steps, each on the result before.
 pub fn steps_data<'a, T: Queryable>(
     alloc: Global,
     steps: &[SingularQuerySegment],

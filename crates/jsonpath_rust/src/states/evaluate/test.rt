@@ -38,7 +38,7 @@ fn has_place<'a, T: Queryable>(given: &Data<'a, T>) -> bool
     }
 }
 
-/// What a test in a filter answers: a call that answers a truth, that truth; else whether it exists. Both are turned round
+/// What a test in a filter returns: a call that returns a truth, that truth; else whether it exists. Both are turned round
 /// behind `!`.
 pub fn test_answer<'a, T: Queryable>(
     alloc: Global,

@@ -17,7 +17,7 @@ pub enum Data<'a, T> {
     Ref(Pointer<'a, T>),
     /// Nodes, in order, perhaps none.
     Refs(Vec<Pointer<'a, T>>),
-    /// A value of its own, as a literal or a function answers.
+    /// A value of its own, as a literal or a function returns.
     Value(T),
     Nothing,
 }
@@ -114,8 +114,8 @@ impl<'a, T: Queryable> Data<'a, T> {
         }
     }
 
-    /// What the closure answers at the node; of several nodes, the nodes of what it answers at each, in order; and else
-    /// nothing. A refusal of the closure is answered as it is; its own are `OutOfMemory` alone.
+    /// What the closure returns at the node; of several nodes, the nodes of what it returns at each, in order; and else
+    /// nothing. A refusal of the closure is returned as it is; its own are `OutOfMemory` alone.
     pub fn flat_map<F: Fn(Pointer<'a, T>) -> Queried<Data<'a, T>> + Drop>(
         self,
         alloc: Global,
@@ -219,7 +219,7 @@ fn write_joined<'a, T: Debug, W: Write>(
     Ok(())
 }
 
-/// Follows the nodes by those of an answer.
+/// Follows the nodes by those of a result.
 pub(crate) fn push_nodes<'a, T: Queryable>(
     all: &mut Vec<Pointer<'a, T>>,
     found: Data<'a, T>,
