@@ -1,4 +1,4 @@
-//! What the rows of `jpath_states` cannot ask of states: `flat_map`, whose closure no row writes, and states in two documents.
+//! What the rows of states cannot ask of states: `flat_map`, whose closure no row writes, and states in two documents.
 use jsonpath_parser::errors::JsonPathError;
 use jsonpath_rust::query::Queried;
 use jsonpath_rust::query::queryable::Queryable;

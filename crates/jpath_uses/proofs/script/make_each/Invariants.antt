@@ -1,8 +1,0 @@
-use Rattle.std.proofs.Common.{take, IsTrue}
-use Rattle.jsonpath_rust.specs.base.Values.{value_tree, value_is_whole}
-use Rattle.jpath_uses.specs.Script.{AllMake}
-use Rattle.jpath_uses.proofs.script.make_each.Given as goal
-
--- the edits so far found something each
-abbrev pub invariant-loop-index : goal.invariant-loop-index
-invariant-loop-index l = AllMake (take l.index l.edits) (value_tree l.initial.document) (value_tree l.document) × IsTrue (value_is_whole l.document)

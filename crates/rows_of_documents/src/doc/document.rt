@@ -1,0 +1,39 @@
+//! The types of documents that rows are asked of, each made of a value.
+use crate::doc::{Doc, of_value};
+use jsonpath_rust::JsonPath;
+use jsonpath_rust::query::Queried;
+use jsonpath_rust::query::queryable::Queryable;
+use serde_json::Value;
+use std::alloc::Global;
+
+/// A document that can be made of a value.
+pub trait Document: Queryable {
+    /// The document of a value, whose numbers are whole.
+    fn made(alloc: Global, value: &Value) -> Queried<Self>;
+}
+
+impl Document for Value {
+    fn made(_alloc: Global, value: &Value) -> Queried<Value> {
+        Ok(value.clone()?)
+    }
+}
+
+impl Document for Doc {
+    fn made(alloc: Global, value: &Value) -> Queried<Doc> {
+        Ok(of_value(alloc, value)?)
+    }
+}
+
+/// Whether the value in a document is this one.
+pub fn is_value<T: Document>(alloc: Global, found: &T, wanted: &Value) -> Queried<bool> {
+    if !wanted.is_whole() {
+        return Ok(false);
+    }
+    let made = T::made(alloc, wanted)?;
+    Ok(are_equal(found, &made))
+}
+
+/// Whether both are whole, and equal.
+pub fn are_equal<T: Queryable>(left: &T, right: &T) -> bool {
+    left.is_whole() && right.is_whole() && left.equal(right)
+}

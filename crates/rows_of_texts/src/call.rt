@@ -1,0 +1,40 @@
+//! Rows on the functions of `jsonpath_base`.
+use crate::{pattern, place, slice, step, values};
+use rows_common::Memory;
+use rows_common::members::{has_only, list_at, string_at};
+use serde_json::Value;
+
+/// Whether a row on a call, by its name, holds.
+pub fn holds(memory: &Memory, row: &Value) -> bool {
+    match (
+        string_at(row, "call"),
+        list_at(row, "arguments"),
+        row.get("answer"),
+    ) {
+        (Some(name), Some(arguments), Some(answer)) => {
+            has_only(row, &["call", "arguments", "answer"])
+                && answers(memory, name, arguments, answer)
+        }
+        _ => false,
+    }
+}
+
+/// Whether the call of that name answers so.
+fn answers(memory: &Memory, name: &str, arguments: &[Value], answer: &Value) -> bool {
+    match name {
+        "text_length" | "text_less" | "whole" | "same" | "set_function" => {
+            values::answers(name, arguments, answer)
+        }
+        "add_name" | "push_name" | "add_index" | "push_index" => {
+            step::answers(memory, name, arguments, answer)
+        }
+        "picked" => slice::are_picked(memory, arguments, answer),
+        "slice_places" => slice::are_places(arguments, answer),
+        "at" | "put_at" | "remove_all" => place::answers(memory, name, arguments, answer),
+        "found" => pattern::is_found(memory, arguments, answer),
+        "pattern" => pattern::is_found_by_pattern(memory, arguments, answer),
+        "finder" => pattern::are_found(memory, arguments, answer),
+        "found_again" => pattern::are_found_again(memory, arguments, answer),
+        _ => false,
+    }
+}

@@ -1,0 +1,24 @@
+//! Asks the rows on standard input that need no document: on texts and their trees, on trees made by hand, and on calls of
+//! `jsonpath_base`.
+#![tactic(auto)]
+
+mod built;
+mod call;
+mod maker;
+mod parse;
+mod pattern;
+mod place;
+mod production;
+mod row;
+mod slice;
+mod step;
+mod tree;
+mod values;
+
+use rows_common::ask_rows;
+use std::io;
+
+fn main(rt: HostRuntime) -> io::Result<()> {
+    let input = io::read_to_string(rt.alloc(), rt.reader())?;
+    ask_rows(&rt, input.as_str(), row::holds)
+}

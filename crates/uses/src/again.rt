@@ -1,0 +1,60 @@
+//! What was found is asked again: a node by its printed path, and a part of a document as a document of its own.
+ghost use Rattle.std.specs.Prelude.{IsTrue, IfOk, IfErr, map, option_map};
+ghost use Rattle.jsonpath_rust.specs.Document.{document_of};
+ghost use Rattle.jsonpath_rust.specs.Places as places;
+ghost use Rattle.jsonpath_rust.specs.SetFunctions.{set_function};
+ghost use Rattle.jsonpath_rust.specs.View.{query_view};
+ghost use Rattle.jsonpath_rust.specs.base.Steps.{location_view};
+ghost use Rattle.jsonpath_rust.specs.base.Values.{value_tree, value_is_whole};
+ghost use Rattle.uses.specs.Again.{AreValuesIn, IsAtFirst};
+
+use crate::first::first_path;
+use jsonpath_rust::parser::model::JpQuery;
+use jsonpath_rust::query::queryable::Queryable;
+use jsonpath_rust::query::{Queried, Step, at, selected_values};
+use serde_json::Value;
+use std::alloc::Global;
+
+/// The value of the first node that a query selects, found by that node's printed path; None where the query selects none.
+///
+/// # Errors
+///
+/// Those of `selected_nodes`, and `OutOfMemory`.
+///
+/// The cost is that of `selected_nodes`, and of the way down to the node.
+pub fn first_again<'a>(
+    alloc: Global,
+    query: &JpQuery,
+    document: &'a Value,
+) -> Queried<Option<&'a Value>>
+    requires { IsTrue (value_is_whole document.now) }
+    ensures again { IfOk result (λ o. IsAtFirst (document_of value_tree set_function document.now) (query_view query.now) (option_map (λ v. value_tree v.now) o)) }
+{
+    match first_path(alloc, query, document)? {
+        Some(path) => document.reference(alloc, path.as_str()),
+        None => Ok(None),
+    }
+}
+
+/// The values that a query selects in the part of a document at these steps, which is asked as a document of its own, with no
+/// test of its numbers; no values where nothing is there.
+///
+/// # Errors
+///
+/// Those of `selected_values`.
+///
+/// The cost is that of the way down, and of `selected_values` of the part.
+pub fn values_below<'a>(
+    alloc: Global,
+    query: &JpQuery,
+    document: &'a Value,
+    steps: &[Step],
+) -> Queried<Vec<&'a Value>>
+    requires { IsTrue (value_is_whole document.now) }
+    ensures values { IfOk result (λ v. AreValuesIn (query_view query.now) (places.at (location_view steps.now) (value_tree document.now)) (map (λ x. value_tree x.now) v.items)) }
+{
+    match at(document, steps) {
+        Some(part) => selected_values(alloc, query, part),
+        None => Ok(Vec::new(alloc)),
+    }
+}

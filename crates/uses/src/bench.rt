@@ -1,0 +1,32 @@
+//! The bench: what queries cost, on documents that it makes itself.
+//!
+//! - `counts BYTES`: how many nodes each query selects.
+//! - `time BYTES`: nodes selected, nodes of the bookstore, nanoseconds for each of these for values alone and with paths, query.
+//! - `route COUNT`: nanoseconds for each message that all of a table is asked of, by runners, prepared and by `js_path_process`.
+//! - `calls COUNT`: nanoseconds for each call on a tiny document, by text and by tree, query.
+//! - `delete BYTES`: locations deleted, nanoseconds for each of these, query.
+//! - `document BYTES`, `messages COUNT`: what was asked; before the messages stand the queries of the table.
+mod calls;
+pub mod counts;
+mod documents;
+mod queries;
+mod report;
+mod routes;
+mod timing;
+
+use std::io;
+use std::io::ErrorKind;
+
+/// Does what the word says, for documents of that size.
+pub fn run(rt: &HostRuntime, word: &str, size: &str) -> io::Result<()> {
+    match (word, size.parse()) {
+        ("counts", Ok(bytes)) => report::counts(rt, bytes),
+        ("time", Ok(bytes)) => report::times(rt, bytes),
+        ("route", Ok(count)) => report::routes(rt, count),
+        ("calls", Ok(count)) => report::calls(rt, count),
+        ("delete", Ok(bytes)) => report::deletions(rt, bytes),
+        ("document", Ok(bytes)) => report::document(rt, bytes),
+        ("messages", Ok(count)) => report::messages(rt, count),
+        _ => Err(ErrorKind::InvalidInput.into()),
+    }
+}

@@ -1,0 +1,75 @@
+//! Calls that are made many times, on a small document, and deletions.
+ghost use Rattle.std.specs.Prelude.{IsTrue};
+ghost use Rattle.jsonpath_rust.specs.base.Values.{value_is_whole};
+
+use crate::bench::timing::refused;
+use jsonpath_rust::parser::{let_go, parse_json_path};
+use jsonpath_rust::query::{Queried, delete_selected, js_path, selected_nodes};
+use serde_json::Value;
+use std::alloc::Global;
+use std::io;
+use std::time::{Clock, Duration, Instant};
+
+/// How long so many calls of `js_path` take, which read the query each time.
+pub fn reading_calls(
+    rt: &(impl Clock + AllocGlobal),
+    text: &str,
+    document: &Value,
+    count: usize,
+) -> io::Result<Duration>
+    requires { IsTrue (value_is_whole document.now) }
+{
+    let start = Instant::now(rt)?;
+    read_each(rt.alloc(), text, document, count).map_err(refused)?;
+    Ok(start.elapsed(rt)?)
+}
+
+fn read_each(alloc: Global, text: &str, document: &Value, count: usize) -> Queried<()>
+    requires { IsTrue (value_is_whole document.now) }
+{
+    for _ in 0..count {
+        drop(js_path(alloc, text, document)?);
+    }
+    Ok(())
+}
+
+/// How long so many calls of `selected_nodes` take, of a query that was read once.
+pub fn walking_calls(
+    rt: &(impl Clock + AllocGlobal),
+    text: &str,
+    document: &Value,
+    count: usize,
+) -> io::Result<Duration>
+    requires { IsTrue (value_is_whole document.now) }
+{
+    let start = Instant::now(rt)?;
+    walk_each(rt.alloc(), text, document, count).map_err(refused)?;
+    Ok(start.elapsed(rt)?)
+}
+
+fn walk_each(alloc: Global, text: &str, document: &Value, count: usize) -> Queried<()>
+    requires { IsTrue (value_is_whole document.now) }
+{
+    let query = parse_json_path(alloc, text)?;
+    for _ in 0..count {
+        drop(selected_nodes(alloc, &query, document)?);
+    }
+    let_go(query);
+    Ok(())
+}
+
+/// How many locations a query deletes, and how long that takes.
+pub fn deletion(
+    rt: &(impl Clock + AllocGlobal),
+    text: &str,
+    document: &mut Value,
+) -> io::Result<(usize, Duration)>
+    requires { IsTrue (value_is_whole document.old) }
+{
+    let query = parse_json_path(rt.alloc(), text).map_err(refused)?;
+    let start = Instant::now(rt)?;
+    let deleted = delete_selected(rt.alloc(), document, &query).map_err(refused);
+    let taken = start.elapsed(rt)?;
+    let_go(query);
+    Ok((deleted?, taken))
+}

@@ -1,0 +1,71 @@
+//! How many nodes the queries select.
+ghost use Rattle.std.specs.Prelude.{IsTrue};
+ghost use Rattle.jsonpath_rust.specs.base.Values.{value_is_whole};
+
+use crate::bench::documents::{bookstore, inbox, read};
+use crate::bench::queries::{QUERIES, TABLE};
+use crate::bench::routes::{counted, prepared};
+use crate::bench::timing::refused;
+use jsonpath_rust::parser::model::JpQuery;
+use jsonpath_rust::parser::{let_go, parse_json_path};
+use jsonpath_rust::query::{selected_nodes, selected_values};
+use serde_json::Value;
+use std::alloc::Global;
+use std::io;
+use std::io::ErrorKind;
+
+/// How much a query selects.
+#[derive(Clone, Copy)]
+pub struct Count {
+    pub query: &'static str,
+    pub selected: usize,
+}
+
+/// How many nodes each query selects in a bookstore of that many bytes, and in how many of a hundred messages each of the table
+/// selects some.
+pub fn all_counts(alloc: Global, bytes: usize) -> io::Result<Vec<Count>> {
+    let document = read(alloc, bookstore(alloc, bytes)?)?;
+    let books = book_counts(alloc, &document);
+    drop(document);
+    let mut counts = books?;
+    let messages = inbox(alloc, 100)?;
+    for query in TABLE {
+        let table = prepared(alloc, &[query]).map_err(refused)?;
+        let selected = counted(alloc, &table, &messages)?;
+        counts.push(Count { query, selected })?;
+    }
+    Ok(counts)
+}
+
+fn book_counts(alloc: Global, document: &Value) -> io::Result<Vec<Count>>
+    requires { IsTrue (value_is_whole document.now) }
+{
+    let mut counts = Vec::new(alloc);
+    for query in QUERIES {
+        let selected = selected_of(alloc, query, document)?;
+        counts.push(Count { query, selected })?;
+    }
+    Ok(counts)
+}
+
+fn selected_of(alloc: Global, text: &str, document: &Value) -> io::Result<usize>
+    requires { IsTrue (value_is_whole document.now) }
+{
+    let query = parse_json_path(alloc, text).map_err(refused)?;
+    let selected = selected_both_ways(alloc, &query, document);
+    let_go(query);
+    selected
+}
+
+/// How many nodes the query selects, by values alone and with paths.
+fn selected_both_ways(alloc: Global, query: &JpQuery, document: &Value) -> io::Result<usize>
+    requires { IsTrue (value_is_whole document.now) }
+{
+    let values = selected_values(alloc, query, document).map_err(refused)?;
+    let nodes = selected_nodes(alloc, query, document).map_err(refused)?;
+    if values.len() == nodes.len() {
+        Ok(nodes.len())
+    } else {
+        Err(ErrorKind::InvalidData.into())
+    }
+}

@@ -1,0 +1,116 @@
+//! How long queries of one document take, the least of several rounds. What is given back to memory is not counted.
+ghost use Rattle.std.specs.Prelude.{IsTrue};
+ghost use Rattle.jsonpath_rust.specs.base.Values.{value_is_whole};
+
+use jsonpath_rust::parser::errors::JsonPathError;
+use jsonpath_rust::parser::model::JpQuery;
+use jsonpath_rust::parser::{let_go, parse_json_path};
+use jsonpath_rust::query::{selected_nodes, selected_values};
+use serde_json::Value;
+use std::io;
+use std::io::ErrorKind;
+use std::time::{Clock, Duration, Instant};
+
+/// How much was selected, and how long it took by values alone and with paths.
+#[derive(Clone, Copy)]
+pub struct Round {
+    pub selected: usize,
+    pub lean: Duration,
+    pub full: Duration,
+}
+
+impl Round {
+    /// The lesser time of two rounds, each way.
+    pub fn least(self, other: Round) -> Round {
+        Round {
+            selected: self.selected,
+            lean: self.lean.min(other.lean),
+            full: self.full.min(other.full),
+        }
+    }
+}
+
+/// A query of a document by values alone and with paths, so many rounds and one more.
+pub fn fastest(
+    rt: &(impl Clock + AllocGlobal),
+    text: &str,
+    document: &Value,
+    more: u32,
+) -> io::Result<Round>
+    requires { IsTrue (value_is_whole document.now) }
+{
+    let query = parse_json_path(rt.alloc(), text).map_err(refused)?;
+    let best = least_of(rt, &query, document, more);
+    let_go(query);
+    best
+}
+
+fn least_of(
+    rt: &(impl Clock + AllocGlobal),
+    query: &JpQuery,
+    document: &Value,
+    more: u32,
+) -> io::Result<Round>
+    requires { IsTrue (value_is_whole document.now) }
+{
+    let mut best = one_round(rt, query, document)?;
+    for _ in 0..more {
+        best = best.least(one_round(rt, query, document)?);
+    }
+    Ok(best)
+}
+
+fn one_round(
+    rt: &(impl Clock + AllocGlobal),
+    query: &JpQuery,
+    document: &Value,
+) -> io::Result<Round>
+    requires { IsTrue (value_is_whole document.now) }
+{
+    let start = Instant::now(rt)?;
+    let values = selected_values(rt.alloc(), query, document).map_err(refused)?;
+    let lean = start.elapsed(rt)?;
+    let count = values.len();
+    drop(values);
+    let start = Instant::now(rt)?;
+    let nodes = selected_nodes(rt.alloc(), query, document).map_err(refused)?;
+    let full = start.elapsed(rt)?;
+    let selected = nodes.len();
+    drop(nodes);
+    if count != selected {
+        return Err(ErrorKind::InvalidData.into());
+    }
+    Ok(Round {
+        selected,
+        lean,
+        full,
+    })
+}
+
+/// How long it takes to read a query text, the least of so many calls and one more.
+pub fn reading(rt: &(impl Clock + AllocGlobal), text: &str, more: u32) -> io::Result<Duration> {
+    let mut best = one_reading(rt, text)?;
+    for _ in 0..more {
+        best = best.min(one_reading(rt, text)?);
+    }
+    Ok(best)
+}
+
+fn one_reading(rt: &(impl Clock + AllocGlobal), text: &str) -> io::Result<Duration> {
+    let start = Instant::now(rt)?;
+    let query = parse_json_path(rt.alloc(), text).map_err(refused)?;
+    let taken = start.elapsed(rt);
+    let_go(query);
+    taken
+}
+
+/// A refusal, as an error of this program.
+pub fn refused(error: JsonPathError) -> io::Error {
+    let kind = if matches!(error, JsonPathError::OutOfMemory) {
+        ErrorKind::OutOfMemory
+    } else {
+        ErrorKind::InvalidInput
+    };
+    drop(error);
+    kind.into()
+}

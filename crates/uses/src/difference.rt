@@ -1,0 +1,84 @@
+//! Whether two queries answer the same values, for a test that says what differs.
+ghost use Rattle.std.specs.Prelude.{◌≡◌, ◌⊎◌, None, All, IsTrue, IfOk, IfErr, IfSome, IfNone, map};
+ghost use Rattle.jsonpath_rust.specs.View.{query_view};
+ghost use Rattle.jsonpath_rust.specs.Document.{document_of};
+ghost use Rattle.jsonpath_rust.specs.Patterns.{IsStop};
+ghost use Rattle.uses.specs.Difference.{values_of, AreSame, IsFirstDifference};
+
+use jsonpath_rust::parser::model::JpQuery;
+use jsonpath_rust::query::queryable::Queryable;
+use jsonpath_rust::query::{Queried, selected_values};
+use std::alloc::Global;
+
+/// Which of two lists of values ends before an index.
+#[derive(Debug, Clone, Copy)]
+pub enum Missing {
+    /// Both have a value there, and these are not the same.
+    Neither,
+    First,
+    Second,
+}
+
+/// Where two lists of values differ first.
+#[derive(Debug, Clone, Copy)]
+pub struct Difference {
+    /// The place in both lists, from 0.
+    pub index: usize,
+    pub missing: Missing,
+}
+
+/// The first place at which the values that a query selects in a document differ from those that another query selects in
+/// another document; None exactly where both select as many values, and these are the same place by place.
+///
+/// # Errors
+///
+/// Those of `selected_values`, for either query.
+///
+/// The cost is that of `selected_values` for both, and of comparing the values, which takes no memory.
+pub fn difference_of<T: Queryable>(
+    alloc: Global,
+    query: &JpQuery,
+    document: &T,
+    other_query: &JpQuery,
+    other: &T,
+) -> Queried<Option<Difference>>
+    requires whole { IsTrue (T.is_whole document.now) }
+    requires other_whole { IsTrue (T.is_whole other.now) }
+    ensures same { IfOk result (λ o. IfNone o (AreSame (values_of query.now (document_of T.tree T.custom document.now)) (values_of other_query.now (document_of T.tree T.custom other.now)))) }
+    ensures different { IfOk result (λ o. IfSome o (λ d. IsFirstDifference d (values_of query.now (document_of T.tree T.custom document.now)) (values_of other_query.now (document_of T.tree T.custom other.now)))) }
+    ensures only { AreSame (values_of query.now (document_of T.tree T.custom document.now)) (values_of other_query.now (document_of T.tree T.custom other.now)) → IfOk result (λ o. o ≡ None) }
+    ensures refused { IfErr result (λ e. IsStop (query_view query.now) (document_of T.tree T.custom document.now) e ⊎ IsStop (query_view other_query.now) (document_of T.tree T.custom other.now) e) }
+{
+    let values = selected_values(alloc, query, document)?;
+    let others = selected_values(alloc, other_query, other)?;
+    Ok(first_difference(&values, &others))
+}
+
+/// The first place at which two lists of values differ; None where they are the same place by place.
+fn first_difference<T: Queryable>(values: &[&T], others: &[&T]) -> Option<Difference>
+    requires values_whole { All (λ v. IsTrue (T.is_whole v.now)) values.now }
+    requires others_whole { All (λ v. IsTrue (T.is_whole v.now)) others.now }
+    ensures same { IfNone result (AreSame (map (λ v. T.tree v.now) values.now) (map (λ v. T.tree v.now) others.now)) }
+    ensures different { IfSome result (λ d. IsFirstDifference d (map (λ v. T.tree v.now) values.now) (map (λ v. T.tree v.now) others.now)) }
+{
+    for (index, value) in values.iter().enumerate() {
+        match others.get(index) {
+            Some(other) => {
+                if !value.equal(*other) {
+                    let missing = Missing::Neither;
+                    return Some(Difference { index, missing });
+                }
+            }
+            None => {
+                let missing = Missing::Second;
+                return Some(Difference { index, missing });
+            }
+        }
+    }
+    if values.len() < others.len() {
+        let index = values.len();
+        let missing = Missing::First;
+        return Some(Difference { index, missing });
+    }
+    None
+}

@@ -1,0 +1,68 @@
+//! Rows on a policy: `policy`, which is the queries, and `document`; with `answer`, `{"rule": .., "path": ..}` or null where the
+//! document keeps the policy, or `refused`.
+ghost use Rattle.std.specs.Prelude.{IsTrue};
+ghost use Rattle.jsonpath_rust.specs.base.Values.{value_is_whole};
+
+use crate::policy::{Violation, first_violation};
+use crate::rows::queries::queries_of;
+use crate::rows::wanted::{Wanted, refuses, wanted_of};
+use jsonpath_rust::query::Queried;
+use jsonpath_rust::query::queryable::Queryable;
+use rows_common::Memory;
+use rows_common::members::{has_only, list_at, size, string_at};
+use serde_json::Value;
+use std::alloc::Global;
+
+/// Whether a row on a policy holds.
+pub fn holds(memory: &Memory, row: &Value) -> bool {
+    match (list_at(row, "policy"), row.get("document"), wanted_of(row)) {
+        (Some(rules), Some(document), Some(wanted)) => {
+            has_only(row, &["policy", "document", "answer", "refused"])
+                && tells(memory, rules, document, wanted)
+        }
+        _ => false,
+    }
+}
+
+/// Whether the check tells what is wanted.
+fn tells(memory: &Memory, rules: &[Value], document: &Value, wanted: Wanted<'_>) -> bool {
+    match wanted {
+        Wanted::Answer(answer) => {
+            document.is_whole()
+                && is_answer(memory, violation(memory.alloc, rules, document), answer)
+        }
+        Wanted::Refused(kind) => {
+            document.is_whole() && refuses(memory, violation(memory.alloc, rules, document), kind)
+        }
+        Wanted::NoCall => !document.is_whole(),
+    }
+}
+
+/// What the check tells of the queries that the texts spell.
+fn violation(alloc: Global, rules: &[Value], document: &Value) -> Queried<Option<Violation>>
+    requires { IsTrue (value_is_whole document.now) }
+{
+    let queries = queries_of(alloc, rules)?;
+    let found = first_violation(alloc, &queries, document);
+    drop(queries);
+    found
+}
+
+/// Whether it told this; null stands for None.
+fn is_answer(memory: &Memory, found: Queried<Option<Violation>>, answer: &Value) -> bool {
+    match memory.ok(found) {
+        Some(Some(violation)) => is_violation(&violation, answer),
+        Some(None) => answer.is_null(),
+        None => false,
+    }
+}
+
+/// Whether the violation is of that rule, at that path.
+fn is_violation(violation: &Violation, answer: &Value) -> bool {
+    match (answer.get("rule"), string_at(answer, "path")) {
+        (Some(rule), Some(path)) => {
+            size(rule) == Some(violation.rule) && path == violation.path.as_str()
+        }
+        _ => false,
+    }
+}
