@@ -51,18 +51,11 @@ is_proved() {
 # How long the proof of a crate takes from nothing, in processor seconds.
 weight() {
     case $1 in
-    jsonpath_core) echo 8 ;;
-    jsonpath_lexical) echo 111 ;;
-    jsonpath_tree) echo 577 ;;
-    jsonpath_parser) echo 659 ;;
+    jsonpath_parser) echo 1360 ;;
     jsonpath_build) echo 102 ;;
-    jsonpath_base) echo 293 ;;
-    jsonpath_node) echo 263 ;;
-    jsonpath_walk) echo 1125 ;;
-    jsonpath_state) echo 888 ;;
-    jsonpath_rust) echo 118 ;;
-    jpath_program) echo 159 ;;
-    jpath) echo 134 ;;
+    jsonpath_base) echo 330 ;;
+    jsonpath_rust) echo 2500 ;;
+    jpath) echo 236 ;;
     *) echo 100 ;;
     esac
 }

@@ -18,7 +18,7 @@ pub use self::queries::{
 /// A place in a text, between two characters, at its start or at its end.
 ///
 /// The grammar functions read forward from there, each one kind of tree. Where the whole rest of the text spells such a
-/// tree, that is answered and the cursor stands at the end. Where it does not, a beginning of the rest may be read, or
+/// tree, that is returned and the cursor stands at the end. Where it does not, a beginning of the rest may be read, or
 /// the text is refused. At a refusal the cursor stays where it was. They look at no limit of depth.
 ///
 /// # Errors
@@ -28,7 +28,7 @@ pub use self::queries::{
 /// - `InvalidNumber(literal)` where the rest would spell such a tree if each number literal in it had a value. No number
 ///   literal stands in a slice or a singular query, so these are never refused so.
 /// - `PestError(place)` where the rest spells no such tree for another cause; the place is at most the length of the text.
-/// - `OutOfMemory` where a growth was refused.
+/// - `OutOfMemory` where memory ran out.
 ///
 /// The time is linear in the length of the rest. Only a text that is refused is read twice.
 // Its methods stand in place.rt: the words of their contracts rest on this struct, and a struct with a ghost field

@@ -1,4 +1,4 @@
-//! What a call of the crates answers in place of a result.
+//! What a call of the crates returns in place of a result.
 ghost use Rattle.std.specs.Prelude.{◌≡◌, ℕ, List, IfOk, IfErr};
 ghost use Rattle.jsonpath_parser.specs.Errors as error;
 ghost use Rattle.jsonpath_parser.specs.Errors.{error_view};
@@ -9,7 +9,7 @@ use std::num::ParseIntError;
 use std::str::ParseBoolError;
 use thiserror::Error;
 
-/// Why a call refused. The calls of this project answer only `PestError`, `InvalidNumber`, `InvalidJsonPath`,
+/// Why a call refused. The calls of this project return only `PestError`, `InvalidNumber`, `InvalidJsonPath`,
 /// `MaxNestingDepthExceeded` and `OutOfMemory`; the other variants are for callers.
 #[derive(Debug, Drop, PartialEq, Error)]
 pub enum JsonPathError {
@@ -66,7 +66,7 @@ impl JsonPathError {
     ///
     /// # Errors
     ///
-    /// `OutOfMemory` where a growth was refused.
+    /// `OutOfMemory` where memory ran out.
     pub fn empty(alloc: Global, text: &str) -> Parsed<Self>
         ensures made { IfOk result (λ e. error_view e ≡ error.empty_inner text.now) }
         ensures memory { IfErr result (λ e. e ≡ OutOfMemory) }
@@ -78,7 +78,7 @@ impl JsonPathError {
     ///
     /// # Errors
     ///
-    /// `OutOfMemory` where a growth was refused.
+    /// `OutOfMemory` where memory ran out.
     pub fn from_text(alloc: Global, text: &str) -> Parsed<Self>
         ensures made { IfOk result (λ e. error_view e ≡ error.empty_inner text.now) }
         ensures memory { IfErr result (λ e. e ≡ OutOfMemory) }
@@ -90,7 +90,7 @@ impl JsonPathError {
     ///
     /// # Errors
     ///
-    /// `OutOfMemory` where a growth was refused.
+    /// `OutOfMemory` where memory ran out.
     pub fn bad_int(alloc: Global, _cause: ParseIntError, text: &str) -> Parsed<Self>
         ensures made { IfOk result (λ e. error_view e ≡ error.invalid_number text.now) }
         ensures memory { IfErr result (λ e. e ≡ OutOfMemory) }
@@ -102,7 +102,7 @@ impl JsonPathError {
     ///
     /// # Errors
     ///
-    /// `OutOfMemory` where a growth was refused.
+    /// `OutOfMemory` where memory ran out.
     pub fn within(alloc: Global, cause: JsonPathError, text: &str) -> Parsed<Self>
         ensures made { IfOk result (λ e. error_view e ≡ error.invalid_json_path text.now) }
         ensures memory { IfErr result (λ e. e ≡ OutOfMemory) }
@@ -116,7 +116,7 @@ impl JsonPathError {
     ///
     /// # Errors
     ///
-    /// `OutOfMemory` where a growth was refused.
+    /// `OutOfMemory` where memory ran out.
     pub fn bad_bool(alloc: Global, cause: ParseBoolError) -> Parsed<Self>
         ensures made { IfOk result (λ e. (said : List ℕ) × (error_view e ≡ error.invalid_json_path said)) }
         ensures memory { IfErr result (λ e. e ≡ OutOfMemory) }
@@ -128,7 +128,7 @@ impl JsonPathError {
     ///
     /// # Errors
     ///
-    /// `OutOfMemory` where a growth was refused.
+    /// `OutOfMemory` where memory ran out.
     pub fn unexpected_rule(alloc: Global, rule: &str, text: &str) -> Parsed<Self>
         ensures made { IfOk result (λ e. error_view e ≡ error.unexpected_rule rule.now text.now) }
         ensures memory { IfErr result (λ e. e ≡ OutOfMemory) }
@@ -143,7 +143,7 @@ impl JsonPathError {
     ///
     /// # Errors
     ///
-    /// `OutOfMemory` where a growth was refused.
+    /// `OutOfMemory` where memory ran out.
     pub fn try_clone(&self, alloc: Global) -> Parsed<Self>
         ensures same { IfOk result (λ e. error_view e ≡ error_view self.now) }
         ensures memory { IfErr result (λ e. e ≡ OutOfMemory) }
@@ -187,5 +187,5 @@ fn unexpected_none(alloc: Global, part: &str, whole: &str) -> Parsed<JsonPathErr
     Ok(JsonPathError::UnexpectedNoneLogicError(part, whole))
 }
 
-/// What a call of the parser answers.
+/// What a call of the parser returns.
 pub type Parsed<T> = Result<T, JsonPathError>;

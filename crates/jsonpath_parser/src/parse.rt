@@ -105,7 +105,7 @@ fn read_within(alloc: Global, text: &str, depth: usize) -> Parsed<JpQuery>
 /// - `PestError(place)` where the text is no query for another cause: its spelling, an index or a part of a slice
 ///   outside -(2^53 - 1) to 2^53 - 1, or a function that does not take its arguments or stands where it may not (2.4.3).
 ///   The place is where reading stopped: a count of bytes from the start, at most the text's length.
-/// - `OutOfMemory` where a growth was refused.
+/// - `OutOfMemory` where memory ran out.
 ///
 /// The time is linear in the length of the text. Only a text that is refused is read twice.
 pub fn parse_json_path(alloc: Global, text: &str) -> Parsed<JpQuery>
@@ -118,7 +118,7 @@ pub fn parse_json_path(alloc: Global, text: &str) -> Parsed<JpQuery>
     // At Ok no other tree is spelled, each of its number literals with a value or without.
     ensures one_tree { (t : Query) → Spells SpellsNumber t text.now → IfOk result (λ q. query_view q ≡ t) }
 
-    // A Normalized Path is refused for want of memory alone.
+    // A Normalized Path is refused by `OutOfMemory` alone.
     ensures normal { (l : Location) → IsNormal l text.now → HasIndexesInRange l → Answers result (steps_query l) }
     ensures refused { IfErr result (IsRefusal MAX_NESTING_DEPTH text.now) }
     ensures too_deep { MAX_NESTING_DEPTH < spec.depth text.now → result ≡ Err (JsonPathError.MaxNestingDepthExceeded MAX_NESTING_DEPTH) }

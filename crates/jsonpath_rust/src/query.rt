@@ -134,8 +134,11 @@ pub fn js_path_limited<'a, T: Queryable>(
     prepared.runner(alloc).nodes_limited(alloc, units, value)
 }
 
-/// The values of the nodes that a query text selects in a document, in order. It refuses as [`js_path`] does, and
-/// makes no path.
+/// The values of the nodes that a query text selects in a document, in order. No path is made.
+///
+/// # Errors
+///
+/// Those of [`js_path`].
 pub fn js_path_vals<'a, T: Queryable>(
     alloc: Global,
     path: &str,
@@ -157,7 +160,11 @@ pub fn js_path_vals<'a, T: Queryable>(
     values
 }
 
-/// The Normalized Paths of the nodes that a query text selects in a document, in order. It refuses as [`js_path`] does.
+/// The Normalized Paths of the nodes that a query text selects in a document, in order.
+///
+/// # Errors
+///
+/// Those of [`js_path`].
 pub fn js_path_path<T: Queryable>(alloc: Global, path: &str, value: &T) -> Queried<Vec<QueryPath>>
     requires { IsTrue (T.is_whole value.now) }
     ensures answered { IfOk result (λ v. Lists IsPathAt MAX_NESTING_DEPTH path.now (document_of T.tree T.custom value.now) (paths_of v.items)) }
@@ -208,8 +215,11 @@ pub fn js_path_process<'a, T: Queryable>(
     }
 }
 
-/// The values of the nodes that [`js_path_process`] returns, in order. It refuses as that does, and of a tree that
-/// [`is_typed`] it makes no path.
+/// The values of the nodes that [`js_path_process`] returns, in order. Of a tree that [`is_typed`] no path is made.
+///
+/// # Errors
+///
+/// Those of [`js_path_process`].
 pub fn js_path_process_vals<'a, T: Queryable>(
     alloc: Global,
     query: &JpQuery,

@@ -10,7 +10,7 @@ use Rattle.jsonpath_rust.specs.Tree.{Tree}
 use Rattle.jsonpath_rust.specs.Answer.{IsNodeAt, shown}
 use Rattle.jsonpath_rust.specs.Document.{Document}
 use Rattle.jsonpath_rust.specs.Meaning.{selected}
-use Rattle.jsonpath_rust.specs.QueryRef.{QueryRef}
+use Rattle.jsonpath_rust.specs.declared.documents.node.QueryRef.{QueryRef}
 use Rattle.uses.specs.First.{IsSilent, IsFirst, IsFirstPath}
 
 -- the first node has the path of the first location

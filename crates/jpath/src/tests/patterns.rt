@@ -1,7 +1,7 @@
 //! A pattern so large that `regex` may refuse it; which of the two it does is left open.
 use crate::fault::Fault;
 use crate::tests::runs::{ends_so, texts};
-use jsonpath_base::found;
+use jsonpath_base::{Extent, found};
 use jsonpath_parser::errors::JsonPathError;
 use regex::Regex;
 use std::alloc::Global;
@@ -31,7 +31,7 @@ fn wanted(alloc: Global) -> Option<(&'static str, u8, &'static str)> {
 
 /// Whether a search returns so, or is refused by an error of this text.
 fn is_answer(alloc: Global, wanted: &str) -> Option<bool> {
-    let answer = match found(alloc, "a", PATTERN, false) {
+    let answer = match found(alloc, "a", PATTERN, Extent::Substring) {
         Ok(found) => found.to_string(alloc).ok(),
         Err(error) => {
             let text = error.to_string(alloc).ok();

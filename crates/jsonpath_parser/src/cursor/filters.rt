@@ -12,9 +12,12 @@ use crate::tree::model::{Comparable, Comparison, Filter, FilterAtom, Literal, Te
 use crate::tree::typing;
 use std::alloc::Global;
 
-/// Reads a logical expression (2.3.5.1). It answers `Or` of the operands of `||` where there are two or more, else what the
+/// Reads a logical expression (2.3.5.1). It returns `Or` of the operands of `||` where there are two or more, else what the
 /// one operand is.
-/// Its errors are those of [`Cursor`].
+///
+/// # Errors
+///
+/// Those of [`Cursor`].
 pub fn logical_expr(alloc: Global, cursor: &mut Cursor<'_>) -> Parsed<Filter>
     ensures { ReadsPart SpellsLogical typed.is_typed_filter filter_view cursor.old cursor.new result }
 {
@@ -27,9 +30,12 @@ pub fn logical_expr(alloc: Global, cursor: &mut Cursor<'_>) -> Parsed<Filter>
     )
 }
 
-/// Reads an operand of `||` (2.3.5.1). It answers `And` of the operands of `&&` where there are two or more, else the one
+/// Reads an operand of `||` (2.3.5.1). It returns `And` of the operands of `&&` where there are two or more, else the one
 /// operand as an `Atom`.
-/// Its errors are those of [`Cursor`].
+///
+/// # Errors
+///
+/// Those of [`Cursor`].
 pub fn logical_expr_and(alloc: Global, cursor: &mut Cursor<'_>) -> Parsed<Filter>
     ensures { ReadsPart SpellsConjunction typed.is_typed_filter filter_view cursor.old cursor.new result }
 {
@@ -43,8 +49,11 @@ pub fn logical_expr_and(alloc: Global, cursor: &mut Cursor<'_>) -> Parsed<Filter
 }
 
 /// Reads an operand of `&&`: an expression in parentheses or a test, each perhaps behind `!`, or a comparison (2.3.5.1). It
-/// answers the operand.
-/// Its errors are those of [`Cursor`].
+/// returns the operand.
+///
+/// # Errors
+///
+/// Those of [`Cursor`].
 pub fn filter_atom(alloc: Global, cursor: &mut Cursor<'_>) -> Parsed<FilterAtom>
     ensures { ReadsPart SpellsBasic typed.is_typed_atom atom_view cursor.old cursor.new result }
 {
@@ -57,8 +66,11 @@ pub fn filter_atom(alloc: Global, cursor: &mut Cursor<'_>) -> Parsed<FilterAtom>
     )
 }
 
-/// Reads a comparison of two values (2.3.5.1). It answers the comparison by its operator.
-/// Its errors are those of [`Cursor`].
+/// Reads a comparison of two values (2.3.5.1). It returns the comparison by its operator.
+///
+/// # Errors
+///
+/// Those of [`Cursor`].
 pub fn comp_expr(alloc: Global, cursor: &mut Cursor<'_>) -> Parsed<Comparison>
     ensures { ReadsPart SpellsComparison typed.is_typed_comparison comparison_view cursor.old cursor.new result }
 {
@@ -71,8 +83,11 @@ pub fn comp_expr(alloc: Global, cursor: &mut Cursor<'_>) -> Parsed<Comparison>
     )
 }
 
-/// Reads a side of a comparison: a literal, a singular query, or a call that gives a value (2.3.5.1). It answers the side.
-/// Its errors are those of [`Cursor`].
+/// Reads a side of a comparison: a literal, a singular query, or a call that gives a value (2.3.5.1). It returns the side.
+///
+/// # Errors
+///
+/// Those of [`Cursor`].
 pub fn comparable(alloc: Global, cursor: &mut Cursor<'_>) -> Parsed<Comparable>
     ensures { ReadsPart SpellsComparable typed.is_typed_comparable comparable_view cursor.old cursor.new result }
 {
@@ -85,8 +100,11 @@ pub fn comparable(alloc: Global, cursor: &mut Cursor<'_>) -> Parsed<Comparable>
     )
 }
 
-/// Reads a literal: a number, a string, `true`, `false` or `null` (2.3.5.1). It answers its value.
-/// Its errors are those of [`Cursor`].
+/// Reads a literal: a number, a string, `true`, `false` or `null` (2.3.5.1). It returns its value.
+///
+/// # Errors
+///
+/// Those of [`Cursor`].
 pub fn literal(alloc: Global, cursor: &mut Cursor<'_>) -> Parsed<Literal>
     ensures { ReadsPart SpellsLiteral always literal_view cursor.old cursor.new result }
 {
@@ -99,8 +117,11 @@ pub fn literal(alloc: Global, cursor: &mut Cursor<'_>) -> Parsed<Literal>
     )
 }
 
-/// Reads a test: a query from `@` or from `$`, or a call that gives a truth (2.3.5.1). It answers the test.
-/// Its errors are those of [`Cursor`].
+/// Reads a test: a query from `@` or from `$`, or a call that gives a truth (2.3.5.1). It returns the test.
+///
+/// # Errors
+///
+/// Those of [`Cursor`].
 pub fn test(alloc: Global, cursor: &mut Cursor<'_>) -> Parsed<Test>
     ensures { ReadsPart SpellsTest typed.is_typed_truth test_view cursor.old cursor.new result }
 {
@@ -113,8 +134,11 @@ pub fn test(alloc: Global, cursor: &mut Cursor<'_>) -> Parsed<Test>
     )
 }
 
-/// Reads a call of a function that takes its arguments (2.4). It answers the call.
-/// Its errors are those of [`Cursor`].
+/// Reads a call of a function that takes its arguments (2.4). It returns the call.
+///
+/// # Errors
+///
+/// Those of [`Cursor`].
 pub fn function_expr(alloc: Global, cursor: &mut Cursor<'_>) -> Parsed<TestFunction>
     ensures { ReadsPart SpellsCall typed.is_typed_call call_view cursor.old cursor.new result }
 {

@@ -13,8 +13,11 @@ use crate::tree::model::{JpQuery, Segment, Selector, SingularQuery, SingularQuer
 use crate::tree::typing;
 use std::alloc::Global;
 
-/// Reads a query: `$` and segments (2.1.1, 2.2.1). It answers the query tree.
-/// Its errors are those of [`Cursor`].
+/// Reads a query: `$` and segments (2.1.1, 2.2.1). It returns the query tree.
+///
+/// # Errors
+///
+/// Those of [`Cursor`].
 pub fn jp_query(alloc: Global, cursor: &mut Cursor<'_>) -> Parsed<JpQuery>
     ensures { ReadsPart Spells typed.is_typed query_view cursor.old cursor.new result }
 {
@@ -27,8 +30,11 @@ pub fn jp_query(alloc: Global, cursor: &mut Cursor<'_>) -> Parsed<JpQuery>
     )
 }
 
-/// Reads a query from the current node: `@` and segments (2.3.5.1). It answers the segments.
-/// Its errors are those of [`Cursor`].
+/// Reads a query from the current node: `@` and segments (2.3.5.1). It returns the segments.
+///
+/// # Errors
+///
+/// Those of [`Cursor`].
 pub fn rel_query(alloc: Global, cursor: &mut Cursor<'_>) -> Parsed<Vec<Segment>>
     ensures { ReadsPart SpellsRelative typed.is_typed segments_view cursor.old cursor.new result }
 {
@@ -41,8 +47,11 @@ pub fn rel_query(alloc: Global, cursor: &mut Cursor<'_>) -> Parsed<Vec<Segment>>
     )
 }
 
-/// Reads segments, also none, each perhaps after blanks (2.1.1, 2.5). It answers them in their order.
-/// Its errors are those of [`Cursor`].
+/// Reads segments, also none, each perhaps after blanks (2.1.1, 2.5). It returns them in their order.
+///
+/// # Errors
+///
+/// Those of [`Cursor`].
 pub fn segments(alloc: Global, cursor: &mut Cursor<'_>) -> Parsed<Vec<Segment>>
     ensures { ReadsPart SpellsSegments typed.is_typed segments_view cursor.old cursor.new result }
 {
@@ -55,8 +64,11 @@ pub fn segments(alloc: Global, cursor: &mut Cursor<'_>) -> Parsed<Vec<Segment>>
     )
 }
 
-/// Reads selectors between brackets, `*` or a shorthand name, as behind `..` or a dot (2.5.1, 2.5.2.1). It answers the child segment.
-/// Its errors are those of [`Cursor`].
+/// Reads selectors between brackets, `*` or a shorthand name, as behind `..` or a dot (2.5.1, 2.5.2.1). It returns the child segment.
+///
+/// # Errors
+///
+/// Those of [`Cursor`].
 pub fn child_segment(alloc: Global, cursor: &mut Cursor<'_>) -> Parsed<Segment>
     ensures { ReadsPart SpellsChild typed.is_typed_segment segment_view cursor.old cursor.new result }
 {
@@ -69,8 +81,11 @@ pub fn child_segment(alloc: Global, cursor: &mut Cursor<'_>) -> Parsed<Segment>
     )
 }
 
-/// Reads a segment: between brackets, behind `.` or behind `..` (2.5). It answers the segment.
-/// Its errors are those of [`Cursor`].
+/// Reads a segment: between brackets, behind `.` or behind `..` (2.5). It returns the segment.
+///
+/// # Errors
+///
+/// Those of [`Cursor`].
 pub fn segment(alloc: Global, cursor: &mut Cursor<'_>) -> Parsed<Segment>
     ensures { ReadsPart SpellsSegment typed.is_typed_segment segment_view cursor.old cursor.new result }
 {
@@ -83,8 +98,11 @@ pub fn segment(alloc: Global, cursor: &mut Cursor<'_>) -> Parsed<Segment>
     )
 }
 
-/// Reads a selector: a string, `*`, an index, a slice, or `?` and a logical expression (2.3). It answers the selector.
-/// Its errors are those of [`Cursor`].
+/// Reads a selector: a string, `*`, an index, a slice, or `?` and a logical expression (2.3). It returns the selector.
+///
+/// # Errors
+///
+/// Those of [`Cursor`].
 pub fn selector(alloc: Global, cursor: &mut Cursor<'_>) -> Parsed<Selector>
     ensures { ReadsPart SpellsSelector typed.is_typed_selector selector_view cursor.old cursor.new result }
 {
@@ -97,9 +115,12 @@ pub fn selector(alloc: Global, cursor: &mut Cursor<'_>) -> Parsed<Selector>
     )
 }
 
-/// Reads a slice (2.3.4). It answers the start, the end and the step; a part that does not stand there is `None`.
+/// Reads a slice (2.3.4). It returns the start, the end and the step; a part that does not stand there is `None`.
 /// Blanks behind the first `:`, or behind the end, belong to the slice.
-/// Its errors are those of [`Cursor`].
+///
+/// # Errors
+///
+/// Those of [`Cursor`].
 pub fn slice_selector(
     alloc: Global,
     cursor: &mut Cursor<'_>,
@@ -115,8 +136,11 @@ pub fn slice_selector(
     )
 }
 
-/// Reads a singular query: `@` or `$` and steps of one name or one index each (2.3.5.1). It answers the singular query.
-/// Its errors are those of [`Cursor`].
+/// Reads a singular query: `@` or `$` and steps of one name or one index each (2.3.5.1). It returns the singular query.
+///
+/// # Errors
+///
+/// Those of [`Cursor`].
 pub fn singular_query(alloc: Global, cursor: &mut Cursor<'_>) -> Parsed<SingularQuery>
     ensures { ReadsPart SpellsSingular always singular_view cursor.old cursor.new result }
 {
@@ -129,8 +153,11 @@ pub fn singular_query(alloc: Global, cursor: &mut Cursor<'_>) -> Parsed<Singular
     )
 }
 
-/// Reads the steps of a singular query, also none, each perhaps after blanks (2.3.5.1). It answers them in their order.
-/// Its errors are those of [`Cursor`].
+/// Reads the steps of a singular query, also none, each perhaps after blanks (2.3.5.1). It returns them in their order.
+///
+/// # Errors
+///
+/// Those of [`Cursor`].
 pub fn singular_query_segments(
     alloc: Global,
     cursor: &mut Cursor<'_>,

@@ -99,7 +99,7 @@ pub enum Comparison {
 pub enum Comparable {
     /// A literal.
     Literal(Literal),
-    /// What a function answers.
+    /// What a function returns.
     Function(TestFunction),
     /// The value of the one node of a query, if it has one.
     SingularQuery(SingularQuery),
@@ -189,7 +189,7 @@ impl Segment {
     ///
     /// # Errors
     ///
-    /// `OutOfMemory` where a growth was refused.
+    /// `OutOfMemory` where memory ran out.
     pub fn name(alloc: Global, name: &str) -> Parsed<Self>
         ensures named { IfOk result (λ g. segment_view g ≡ tree.one (tree.name name.now)) }
         ensures refused { IfErr result (λ e. e ≡ OutOfMemory) }
@@ -211,7 +211,7 @@ impl FilterAtom {
     ///
     /// # Errors
     ///
-    /// `OutOfMemory` where a growth was refused.
+    /// `OutOfMemory` where memory ran out.
     pub fn filter(alloc: Global, expr: Filter, not: bool) -> Parsed<Self>
         ensures grouped { IfOk result (λ a. atom_view a ≡ tree.group not (filter_view expr)) }
         ensures refused { IfErr result (λ e. e ≡ OutOfMemory) }
@@ -226,7 +226,7 @@ impl FilterAtom {
     ///
     /// # Errors
     ///
-    /// `OutOfMemory` where a growth was refused.
+    /// `OutOfMemory` where memory ran out.
     pub fn test(alloc: Global, expr: Test, not: bool) -> Parsed<Self>
         ensures tested { IfOk result (λ a. atom_view a ≡ tree.Atom.test not (test_view expr)) }
         ensures refused { IfErr result (λ e. e ≡ OutOfMemory) }

@@ -3,7 +3,7 @@ ghost use Rattle.std.specs.Prelude.{◌≡◌};
 
 use std::alloc::{AllocError, AllocFailed};
 
-/// What a reading function answers where it has no tree.
+/// What a reading function returns where it has no tree.
 #[derive(Debug, Drop)]
 pub enum Stop {
     /// A growth was refused.

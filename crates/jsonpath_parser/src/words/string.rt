@@ -13,7 +13,7 @@ use crate::words::text::{byte_at, first, skip};
 use std::alloc::Global;
 
 /// The value of the string at the front, without its quotes and with its escapes read, and the text after it (2.3.1).
-/// It takes time in the length of the string. Where no string stands at the front it answers `Stop::Syntax`, where a
+/// It takes time in the length of the string. Where no string stands at the front it returns `Stop::Syntax`, where a
 /// growth is refused `Stop::Memory`.
 #[tactic(auto, unfolding(crate::specs::words::inner::ReadingStrings::string_at))]
 pub fn string(alloc: Global, s: &str) -> Result<(String, &str), Stop>

@@ -95,8 +95,11 @@ pub fn delete_within(alloc: Global, value: &mut Value, path: &str, depth: usize)
 }
 
 /// Removes all locations that a query selects in a document, and returns how many distinct ones there are, as
-/// [`delete_within`] does. It refuses as [`js_path_process`] does of a tree that is well-typed, and then the document is
-/// as it was. A tree that is not well-typed is asked in the same way here, and not by `process`.
+/// [`delete_within`] does. A tree that is not well-typed is evaluated in the same way here, and not by `process`.
+///
+/// # Errors
+///
+/// Those of [`js_path_process`] of a tree that is well-typed; after any of them the document is as it was.
 ///
 /// [`js_path_process`]: crate::query::js_path_process
 pub fn delete_selected(alloc: Global, value: &mut Value, query: &JpQuery) -> Queried<usize>

@@ -16,10 +16,13 @@ use jsonpath_base::Step;
 use jsonpath_parser::model::JpQuery;
 use std::alloc::Global;
 
-/// The nodes that a query tree selects in a document, in order (RFC 9535, 2.1.2): what
-/// `js_path_process` returns of a tree that [`is_typed`], with no test of that. A tree that is not is asked in the same
-/// way: where it asks a query for a value, that is the value of its only node, and what is no query has no nodes. It
-/// refuses as `js_path_process` does of a tree that is typed.
+/// The nodes that a query tree selects in a document, in order (RFC 9535, 2.1.2): what `js_path_process` returns of a tree
+/// that [`is_typed`], with no test of that. A tree that is not typed is evaluated in the same way: where a function takes a
+/// value and is given a query, that is the value of its only node, and what is no query has no nodes.
+///
+/// # Errors
+///
+/// Those of `js_path_process` of a tree that is typed.
 ///
 /// [`is_typed`]: jsonpath_parser::is_typed
 pub fn selected_nodes<'a, T: Queryable>(
@@ -38,7 +41,11 @@ pub fn selected_nodes<'a, T: Queryable>(
     Ok(sink.into_nodes(alloc))
 }
 
-/// The values of the nodes that [`selected_nodes`] returns, in order. It refuses as that does, and makes no path.
+/// The values of the nodes that [`selected_nodes`] returns, in order. No path is made.
+///
+/// # Errors
+///
+/// Those of [`selected_nodes`].
 pub fn selected_values<'a, T: Queryable>(
     alloc: Global,
     query: &JpQuery,
@@ -55,7 +62,11 @@ pub fn selected_values<'a, T: Queryable>(
     Ok(sink.into_values(alloc))
 }
 
-/// The Normalized Paths of the nodes that [`selected_nodes`] returns, in order. It refuses as that does.
+/// The Normalized Paths of the nodes that [`selected_nodes`] returns, in order.
+///
+/// # Errors
+///
+/// Those of [`selected_nodes`].
 pub fn selected_paths<T: Queryable>(
     alloc: Global,
     query: &JpQuery,
@@ -71,7 +82,11 @@ pub fn selected_paths<T: Queryable>(
     Ok(sink.into_paths(alloc))
 }
 
-/// The locations of the nodes that [`selected_nodes`] returns, in order. It refuses as that does.
+/// The locations of the nodes that [`selected_nodes`] returns, in order.
+///
+/// # Errors
+///
+/// Those of [`selected_nodes`].
 pub fn selected_locations<T: Queryable>(
     alloc: Global,
     query: &JpQuery,

@@ -21,13 +21,15 @@ use crate::selection::runner::Runner;
 use jsonpath_parser::model::JpQuery;
 use std::alloc::Global;
 
-/// A query, to be asked of any number of documents, of any types.
+/// A query, to be run on any number of documents, of any types.
 ///
 /// A pattern that stands in it, as the second argument of `match` or of `search` (RFC 9535, 2.4.6 and 2.4.7), is built by
-/// the first call that asks it, and then stays built. Nothing of a document outlasts a call.
+/// the first call that needs it, and then stays built. Nothing of a document outlasts a call.
 ///
-/// Each call refuses as [`selected_nodes`] does: by `InvalidJsonPath` where `regex` refuses a pattern for its size, and by
-/// `OutOfMemory`. It can be asked again after that.
+/// # Errors
+///
+/// Each call has those of [`selected_nodes`]: `InvalidJsonPath` where `regex` refuses a pattern for its size, and
+/// `OutOfMemory`. The query can be run again after that.
 ///
 /// [`selected_nodes`]: crate::selection::selected_nodes
 #[derive(Drop)]

@@ -22,7 +22,7 @@ use jsonpath_parser::model::JpQuery;
 use std::alloc::Global;
 use std::mem;
 
-/// What asks a [`Prepared`] query of one document after another. Beside what `Prepared` keeps, what searches for its patterns
+/// What runs a [`Prepared`] query on one document after another. Beside what `Prepared` keeps, what searches for its patterns
 /// stays from one call to the next, so that only the first call makes it.
 ///
 /// Each call returns and refuses as that of `Prepared` does. The calls with a limit are for queries of strangers: they take a
@@ -32,7 +32,7 @@ use std::mem;
 /// - one for each selector of several in one segment, and for each operand of `&&` and `||`;
 /// - one for each value in the smaller side of a comparison, 16 bytes of a text as one;
 /// - one for each byte of a text, or of a pattern of the document, that `length`, `match` or `search` reads;
-/// - the product of the sizes of its arguments for each other function.
+/// - the product of the sizes of its arguments for each custom function; `count` and `value` spend what their walks spend.
 ///
 /// Names and indexes cost nothing by themselves. The time of a unit grows with the length of the query alone, but for two things:
 /// a pattern of the document that is built, and the path of a node, which is copied.
@@ -43,7 +43,7 @@ pub struct Runner<'p> {
 }
 
 impl<'p> Runner<'p> {
-    /// Of this query. Nothing is allocated yet.
+    /// A runner of this query. Nothing is allocated yet.
     pub fn new(alloc: Global, prepared: &'p Prepared) -> Self
         ensures { runner_view result ≡ prepared_view prepared.now }
     {

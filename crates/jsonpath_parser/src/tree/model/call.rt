@@ -156,7 +156,7 @@ impl TestFunction {
     /// # Errors
     ///
     /// - `InvalidJsonPath` where one of the five has a wrong number or a wrong kind of arguments.
-    /// - `OutOfMemory` where a growth was refused.
+    /// - `OutOfMemory` where memory ran out.
     ///
     /// The time is linear in the segments of the arguments.
     pub fn try_new(alloc: Global, name: &str, args: Vec<FnArg>) -> Parsed<Self>

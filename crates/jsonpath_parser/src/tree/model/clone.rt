@@ -15,7 +15,7 @@ impl JpQuery {
     ///
     /// # Errors
     ///
-    /// `OutOfMemory` where a growth was refused.
+    /// `OutOfMemory` where memory ran out.
     #[cycle(clones)]
     pub fn try_clone(&self, alloc: Global) -> Parsed<Self>
         ensures same { IfOk result (λ q. query_view q ≡ query_view self.now) }
@@ -42,7 +42,7 @@ impl Segment {
     ///
     /// # Errors
     ///
-    /// `OutOfMemory` where a growth was refused.
+    /// `OutOfMemory` where memory ran out.
     #[cycle(clones)]
     pub fn try_clone(&self, alloc: Global) -> Parsed<Self>
         ensures same { IfOk result (λ g. segment_view g ≡ segment_view self.now) }
@@ -76,7 +76,7 @@ impl Selector {
     ///
     /// # Errors
     ///
-    /// `OutOfMemory` where a growth was refused.
+    /// `OutOfMemory` where memory ran out.
     #[cycle(clones)]
     pub fn try_clone(&self, alloc: Global) -> Parsed<Self>
         ensures same { IfOk result (λ s. selector_view s ≡ selector_view self.now) }
@@ -109,7 +109,7 @@ impl Filter {
     ///
     /// # Errors
     ///
-    /// `OutOfMemory` where a growth was refused.
+    /// `OutOfMemory` where memory ran out.
     #[cycle(clones)]
     pub fn try_clone(&self, alloc: Global) -> Parsed<Self>
         ensures same { IfOk result (λ f. filter_view f ≡ filter_view self.now) }
@@ -128,7 +128,7 @@ impl FilterAtom {
     ///
     /// # Errors
     ///
-    /// `OutOfMemory` where a growth was refused.
+    /// `OutOfMemory` where memory ran out.
     #[cycle(clones)]
     pub fn try_clone(&self, alloc: Global) -> Parsed<Self>
         ensures same { IfOk result (λ a. atom_view a ≡ atom_view self.now) }
@@ -154,7 +154,7 @@ impl Comparison {
     ///
     /// # Errors
     ///
-    /// `OutOfMemory` where a growth was refused.
+    /// `OutOfMemory` where memory ran out.
     #[cycle(clones)]
     pub fn try_clone(&self, alloc: Global) -> Parsed<Self>
         ensures same { IfOk result (λ c. comparison_view c ≡ comparison_view self.now) }
@@ -179,7 +179,7 @@ impl Comparable {
     ///
     /// # Errors
     ///
-    /// `OutOfMemory` where a growth was refused.
+    /// `OutOfMemory` where memory ran out.
     #[cycle(clones)]
     pub fn try_clone(&self, alloc: Global) -> Parsed<Self>
         ensures same { IfOk result (λ c. comparable_view c ≡ comparable_view self.now) }
@@ -200,7 +200,7 @@ impl SingularQuery {
     ///
     /// # Errors
     ///
-    /// `OutOfMemory` where a growth was refused.
+    /// `OutOfMemory` where memory ran out.
     pub fn try_clone(&self, alloc: Global) -> Parsed<Self>
         ensures same { IfOk result (λ q. singular_view q ≡ singular_view self.now) }
         ensures memory { IfErr result (λ e. e ≡ OutOfMemory) }
@@ -228,7 +228,7 @@ impl SingularQuerySegment {
     ///
     /// # Errors
     ///
-    /// `OutOfMemory` where a growth was refused.
+    /// `OutOfMemory` where memory ran out.
     pub fn try_clone(&self, alloc: Global) -> Parsed<Self>
         ensures same { IfOk result (λ s. step_view s ≡ step_view self.now) }
         ensures memory { IfErr result (λ e. e ≡ OutOfMemory) }
@@ -247,7 +247,7 @@ impl Test {
     ///
     /// # Errors
     ///
-    /// `OutOfMemory` where a growth was refused.
+    /// `OutOfMemory` where memory ran out.
     #[cycle(clones)]
     pub fn try_clone(&self, alloc: Global) -> Parsed<Self>
         ensures same { IfOk result (λ t. test_view t ≡ test_view self.now) }
@@ -269,7 +269,7 @@ impl TestFunction {
     ///
     /// # Errors
     ///
-    /// `OutOfMemory` where a growth was refused.
+    /// `OutOfMemory` where memory ran out.
     #[cycle(clones)]
     pub fn try_clone(&self, alloc: Global) -> Parsed<Self>
         ensures same { IfOk result (λ c. call_view c ≡ call_view self.now) }
@@ -313,7 +313,7 @@ impl FnArg {
     ///
     /// # Errors
     ///
-    /// `OutOfMemory` where a growth was refused.
+    /// `OutOfMemory` where memory ran out.
     #[cycle(clones)]
     pub fn try_clone(&self, alloc: Global) -> Parsed<Self>
         ensures same { IfOk result (λ a. argument_view a ≡ argument_view self.now) }
@@ -332,7 +332,7 @@ impl Literal {
     ///
     /// # Errors
     ///
-    /// `OutOfMemory` where a growth was refused.
+    /// `OutOfMemory` where memory ran out.
     pub fn try_clone(&self, alloc: Global) -> Parsed<Self>
         ensures same { IfOk result (λ l. literal_view l ≡ literal_view self.now) }
         ensures memory { IfErr result (λ e. e ≡ OutOfMemory) }
