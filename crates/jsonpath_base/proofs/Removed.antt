@@ -1,6 +1,7 @@
 -- What removal leaves of a tree, from what it leaves of data.
-use Rattle.std.proofs.Common.{◌≡◌, ℕ, zero, suc, ◌+◌, ◌<◌, length, drop, get_or, add-one, arith, ℤ, List, [], ◌∷◌, map, Bool, true, false, not, ◌||◌, if◌then◌else◌, Option, Some, None, bytes_eq, refl, sym, ap, ap₂, ◌∙◌, rules}
+use Rattle.std.proofs.Common.{◌≡◌, ℕ, suc, ℤ, List, [], ◌∷◌, ◌++◌, map, Bool, true, false, not, ◌||◌, if◌then◌else◌, Option, Some, None, bytes_eq, append_assoc, refl, sym, ap, ap₂, ◌∙◌, rules}
 use Rattle.std.proofs.lemmas.Bool.{and_parts, and_from}
+use Rattle.std.proofs.lemmas.List.{append-nil}
 use Rattle.std.specs.List.{list_any}
 use Rattle.serde_json.specs.Data as json
 use Rattle.serde_json.specs.Data.{Data, Items}
@@ -11,10 +12,11 @@ use Rattle.jsonpath_parser.specs.Location.{name, index, Location}
 use Rattle.jsonpath_base.specs.Tree.{Tree, list, object, Trees, no_trees, tree, Members, no_members, member, pairs, are_distinct, has_distinct_names, trees_distinct, members_distinct}
 use Rattle.jsonpath_base.specs.Values.{value_tree, tree_of, tree_of_number, trees_of, members_of, has_whole_numbers, items_whole, members_whole}
 use Rattle.jsonpath_base.specs.Without as without
-use Rattle.jsonpath_base.specs.Without.{thinned, elements_thinned, is_among, is_location, distinct_count}
-use Rattle.jsonpath_base.specs.inner.Marks.{HasAlso}
+use Rattle.jsonpath_base.specs.Without.{thinned, elements_thinned, is_among, is_location, is_same_step, distinct_count}
+use Rattle.jsonpath_base.specs.inner.Marks.{HasAlso, also, counted_with, set_with}
 use Rattle.jsonpath_base.specs.inner.Thinning.{data_thinned, items_thinned, members_thinned}
 use Rattle.jsonpath_base.proofs.Views.{data_whole}
+use Rattle.jsonpath_base.proofs.Marking.{same_step, step_itself}
 
 -- ---- the tree
 
@@ -149,24 +151,66 @@ whole_thinned gone d h =
 
 -- ---- the marks
 
--- the next place from the end
-pub drop_next : {A B : Type 0} (f : A → B) (xs : List A) (i : ℕ) (x : A) → i < length xs → x ≡ get_or xs i x → drop i (map f xs) ≡ f x ∷ drop (suc i) (map f xs)
-drop_next f [] i x within read = absurd (omega (arith, within))
-drop_next f (y ∷ ys) zero x within read = ap (λ z. f z ∷ map f ys) (sym read)
-drop_next f (y ∷ ys) (suc i) x within read = drop_next f ys i x (omega (arith, within)) read
+same_location : (l m : Location) → is_location l m ≡ true → l ≡ m
+same_location [] [] h = refl
+same_location [] (r ∷ m) h = absurd cc
+same_location (s ∷ l) [] h = absurd cc
+same_location (s ∷ l) (r ∷ m) h = let parts = and_parts (is_same_step s r) (is_location l m) h in ap₂ (λ a b. a ∷ b) (same_step s r parts.0) (same_location l m parts.1)
 
-pub marks_next : (marks after : Location → Bool) (done : List Location) (p : Location) → ((l : Location) → marks l ≡ is_among done l) → HasAlso marks p after → (l : Location) → after l ≡ is_among (p ∷ done) l
-marks_next marks after done p same h l = h.each l ∙ ap (λ b. is_location p l || b) (same l)
+location_itself : (l : Location) → is_location l l ≡ true
+location_itself [] = refl
+location_itself (s ∷ l) = and_from (is_same_step s s) (is_location l l) (step_itself s) (location_itself l)
 
-pub count_new : (marks : Location → Bool) (done : List Location) (p : Location) (n : ℕ) → ((l : Location) → marks l ≡ is_among done l) → true ≡ not (marks p) → n ≡ distinct_count done → n + 1 ≡ distinct_count (p ∷ done)
-count_new marks done p n same fresh h = let new : is_among done p ≡ false = sym (same p) ∙ not_false _ (sym fresh) in rw (new, h, add-one)
-
-pub count_again : (marks : Location → Bool) (done : List Location) (p : Location) (n : ℕ) → ((l : Location) → marks l ≡ is_among done l) → false ≡ not (marks p) → n ≡ distinct_count done → n ≡ distinct_count (p ∷ done)
-count_again marks done p n same fresh h = let again : is_among done p ≡ true = sym (same p) ∙ not_true _ (sym fresh) in rw again h
+with_last : (ls : List Location) (l x : Location) → is_among (ls ++ l ∷ []) x ≡ also l (is_among ls) x
+with_last [] l x = refl
+with_last (m ∷ ls) l x = pick (is_location m x) (is_location l x) _ (is_among ls x) (with_last ls l x)
   where
-    not_true : (b : Bool) → not b ≡ false → b ≡ true
-    not_true true h = refl
-    not_true false h = sym h
+    pick : (a b c d : Bool) → c ≡ (b || d) → (a || c) ≡ (b || (a || d))
+    pick true true c d e = refl
+    pick true false c d e = refl
+    pick false b c d e = e
+
+location_back : (l m : Location) (b : Bool) → is_location l m ≡ b → is_location m l ≡ b
+location_back l m true e = ap (λ x. is_location x l) (sym (same_location l m e)) ∙ location_itself l
+location_back l m false e = differ (is_location m l) refl
+  where
+    differ : (c : Bool) → is_location m l ≡ c → c ≡ false
+    differ true f = sym (location_itself m) ∙ ap (λ x. is_location x m) (same_location m l f) ∙ e
+    differ false f = refl
+
+last_counted : (ls : List Location) (l : Location) → distinct_count (ls ++ l ∷ []) ≡ counted_with l (is_among ls) (distinct_count ls)
+last_counted [] l = refl
+last_counted (m ∷ ls) l = pick (is_location l m) refl (last_counted ls l)
+  where
+    both : (a b : Bool) (n : ℕ) → (if a then (if b then n else suc n) else suc (if b then n else suc n)) ≡ (if b then (if a then n else suc n) else suc (if a then n else suc n))
+    both true true n = refl
+    both true false n = refl
+    both false true n = refl
+    both false false n = refl
+
+    pick : (b : Bool) → is_location l m ≡ b → distinct_count (ls ++ l ∷ []) ≡ counted_with l (is_among ls) (distinct_count ls) → distinct_count (m ∷ ls ++ l ∷ []) ≡ counted_with l (is_among (m ∷ ls)) (distinct_count (m ∷ ls))
+    pick true e more =
+        let same : is_among ls l ≡ is_among ls m = ap (is_among ls) (same_location l m e) in
+        rw (with_last ls l m, e, location_back l m true e, more) (ap (λ c. if c then distinct_count ls else suc (distinct_count ls)) same)
+    pick false e more = rw (with_last ls l m, e, location_back l m false e, more) (both (is_among ls m) (is_among ls l) (distinct_count ls))
+
+set_from : (done ls : List Location) → set_with ls (is_among done) (distinct_count done) ≡ (is_among (done ++ ls), distinct_count (done ++ ls))
+set_from done [] = rw (append-nil done)
+set_from done (l ∷ ls) =
+    let set : also l (is_among done) ≡ is_among (done ++ l ∷ []) = λ i x. sym (with_last done l x) i in
+    ap₂ (λ f n. set_with ls f n) set (sym (last_counted done l)) ∙ set_from (done ++ l ∷ []) ls ∙ ap (λ m. (is_among m, distinct_count m)) (append_assoc done (l ∷ []) ls)
+
+-- locations that are added one after the other are the set of their list, and so many as there are distinct ones
+pub set_of_all : (ls : List Location) → set_with ls (λ l. false) 0 ≡ (is_among ls, distinct_count ls)
+set_of_all ls = set_from [] ls
+
+-- from the empty set on
+pub set_begun : (marks : Location → Bool) (count : ℕ) (ls : List Location) → ((l : Location) → marks l ≡ false) → count ≡ 0 → set_with ls marks count ≡ (is_among ls, distinct_count ls)
+set_begun marks count ls none is = let empty : marks ≡ (λ l. false) = λ i l. none l i in ap₂ (λ f n. set_with ls f n) empty is ∙ set_of_all ls
+
+-- the marks of one location more
+pub marks_next : (old new : Location → Bool) (count next : ℕ) (l : Location) (ls : List Location) → HasAlso old l new → next ≡ counted_with l old count → set_with ls new next ≡ set_with (l ∷ ls) old count
+marks_next old new count next l ls h is = let set : new ≡ also l old = λ i x. h.each x i in ap₂ (λ f n. set_with ls f n) set is
 
 pub without_alike : (marks gone : Location → Bool) → ((l : Location) → marks l ≡ gone l) → (t : Tree) → without.without marks t ≡ without.without gone t
 without_alike marks gone h t = let same : marks ≡ gone = λ i l. h l i in ap (λ g. without.without g t) same

@@ -1,5 +1,5 @@
 -- What each step of removal leaves of data.
-use Rattle.std.proofs.Common.{◌≡◌, ℕ, zero, suc, ◌+◌, ◌<◌, ◌≤◌, List, [], ◌∷◌, ◌++◌, length, take, drop, set, get_or, Bool, true, false, Option, Some, None, nat_eq, bytes_eq, String, Global, Bor, string_bytes, string_cmp, nat_cmp, Less, is_eq, ◌⊎◌, inl, inr, eq-or-lt_of_le, eqb-true, eq-eqb, ne_eqb, add-one, swap, append_assoc, unwrap_or, refl, sym, ap, ap₂, ◌∙◌, arith}
+use Rattle.std.proofs.Common.{◌≡◌, ℕ, zero, suc, ◌+◌, ◌<◌, ◌≤◌, List, [], ◌∷◌, ◌++◌, length, take, drop, set, get_or, Bool, true, false, Option, Some, None, nat_eq, bytes_eq, String, Global, string_bytes, string_cmp, nat_cmp, Less, is_eq, ◌⊎◌, inl, inr, eq-or-lt_of_le, eqb-true, eq-eqb, ne_eqb, add-one, swap, append_assoc, unwrap_or, refl, sym, ap, ap₂, ◌∙◌, arith}
 use Rattle.std.proofs.lemmas.List.{take_more_set, take-set, take-set-le, drop-set-lt, drop_more, drop_all, length-set}
 use Rattle.std.proofs.lemmas.Map.{NonePasses, none_passes_from_lookup}
 use Rattle.std.proofs.lemmas.Map.Text.{is_eq-slice_cmp}
@@ -15,11 +15,9 @@ use Rattle.serde_json.specs.View.{view, items_view, members_view}
 use Rattle.serde_json.specs.declared.value.Value.{Value}
 use Rattle.serde_json.proofs.Views.{Entry}
 use Rattle.jsonpath_parser.specs.Location.{Step, name, index, Location}
-use Rattle.jsonpath_base.specs.inner.Marks.{is_key, key_view, marked, marked_below, HoldsNone}
+use Rattle.jsonpath_base.specs.inner.Marks.{to_member, is_key, marked, marked_below}
 use Rattle.jsonpath_base.specs.inner.Thinning.{data_thinned, items_thinned, members_thinned, thinned_by, thinned_below, sieved}
-use Rattle.jsonpath_base.proofs.Marking.{same_step, HoldsNoneBelow}
-use Rattle.jsonpath_base.specs.declared.marks.Key.{Key}
-use Rattle.jsonpath_base.specs.declared.marks.Key.TheVariants.{Name, Index}
+use Rattle.jsonpath_base.proofs.Marking.{HoldsNoneBelow}
 use Rattle.jsonpath_base.specs.declared.marks.Marks.{Marks}
 
 -- ---- sets that say the same
@@ -63,17 +61,17 @@ mutual
 
 -- ---- by kind
 
-pub array_thinned : (f g : Location → Bool) (d : Data) (ds es : Items) → ((s : Step) (l : Location) → f (s ∷ l) ≡ g (s ∷ l)) → Some ds ≡ as_array d → es ≡ items_thinned f 0 ds → array es ≡ data_thinned g d
+pub array_thinned : (f g : Location → Bool) (d : Data) (ds es : Items) → ((i : ℕ) (l : Location) → f (index i ∷ l) ≡ g (index i ∷ l)) → Some ds ≡ as_array d → es ≡ items_thinned f 0 ds → array es ≡ data_thinned g d
 array_thinned f g null ds es h is e = absurd cc
 array_thinned f g (boolean b) ds es h is e = absurd cc
 array_thinned f g (number n) ds es h is e = absurd cc
 array_thinned f g (string s) ds es h is e = absurd cc
 array_thinned f g (array xs) ds es h is e =
     let same : ds ≡ xs = cc in
-    ap array (e ∙ ap (items_thinned f 0) same ∙ items_alike f g (λ i l. h (index i) l) 0 xs)
+    ap array (e ∙ ap (items_thinned f 0) same ∙ items_alike f g h 0 xs)
 array_thinned f g (object ms) ds es h is e = absurd cc
 
-pub object_thinned : (f g : Location → Bool) (d : Data) (ms es : Members) → ((s : Step) (l : Location) → f (s ∷ l) ≡ g (s ∷ l)) → Some ms ≡ as_object d → es ≡ members_thinned f ms → object es ≡ data_thinned g d
+pub object_thinned : (f g : Location → Bool) (d : Data) (ms es : Members) → ((k : List ℕ) (l : Location) → f (name k ∷ l) ≡ g (name k ∷ l)) → Some ms ≡ as_object d → es ≡ members_thinned f ms → object es ≡ data_thinned g d
 object_thinned f g null ms es h is e = absurd cc
 object_thinned f g (boolean b) ms es h is e = absurd cc
 object_thinned f g (number n) ms es h is e = absurd cc
@@ -81,7 +79,7 @@ object_thinned f g (string s) ms es h is e = absurd cc
 object_thinned f g (array xs) ms es h is e = absurd cc
 object_thinned f g (object xs) ms es h is e =
     let same : ms ≡ xs = cc in
-    ap object (e ∙ ap (members_thinned f) same ∙ members_alike f g (λ k l. h (name k) l) xs)
+    ap object (e ∙ ap (members_thinned f) same ∙ members_alike f g h xs)
 
 -- ---- a list: first below the elements
 
@@ -89,65 +87,61 @@ none_below : (i : ℕ) (ds : Items) → thinned_below [] i ds ≡ ds
 none_below i no_items = refl
 none_below i (item d ds) = ap (item d) (none_below (suc i) ds)
 
--- a name, or an index that is not here, changes nothing
-pub name_below : (k : Bor (List ℕ)) (m : Marks) (es : List (Key × Marks)) (i : ℕ) (ds : Items) → thinned_below ((Name k, m) ∷ es) i ds ≡ thinned_below es i ds
-name_below k m es i no_items = refl
-name_below k m es i (item d ds) = ap (item (thinned_by (lookup (is_key (index i)) es) d)) (name_below k m es (suc i) ds)
-
-past_below : (j : ℕ) (m : Marks) (es : List (Key × Marks)) (i : ℕ) (ds : Items) → j < i → thinned_below ((Index j, m) ∷ es) i ds ≡ thinned_below es i ds
+-- an index that is not here changes nothing
+past_below : (j : ℕ) (m : Marks) (es : List (ℕ × Marks)) (i : ℕ) (ds : Items) → j < i → thinned_below ((j, m) ∷ es) i ds ≡ thinned_below es i ds
 past_below j m es i no_items h = refl
 past_below j m es i (item d ds) h =
     let other : nat_eq i j ≡ false = ne_eqb i j (λ e. omega (arith, h, e)) in
     rw (other, past_below j m es (suc i) ds (omega (arith, h)))
 
 -- what is removed itself may stay as it is until then
-pub here_below : (j : ℕ) (m : Marks) (es : List (Key × Marks)) (i : ℕ) (ds : Items) → lookup (is_key (index j)) es ≡ None → marked m [] ≡ true → thinned_below ((Index j, m) ∷ es) i ds ≡ thinned_below es i ds
+pub here_below : (j : ℕ) (m : Marks) (es : List (ℕ × Marks)) (i : ℕ) (ds : Items) → lookup (is_key index (index j)) es ≡ None → marked m [] ≡ true → thinned_below ((j, m) ∷ es) i ds ≡ thinned_below es i ds
 here_below j m es i no_items none here = refl
 here_below j m es i (item d ds) none here = pick (nat_eq i j) refl (here_below j m es (suc i) ds none here)
   where
-    pick : (b : Bool) → nat_eq i j ≡ b → thinned_below ((Index j, m) ∷ es) (suc i) ds ≡ thinned_below es (suc i) ds → thinned_below ((Index j, m) ∷ es) i (item d ds) ≡ thinned_below es i (item d ds)
+    pick : (b : Bool) → nat_eq i j ≡ b → thinned_below ((j, m) ∷ es) (suc i) ds ≡ thinned_below es (suc i) ds → thinned_below ((j, m) ∷ es) i (item d ds) ≡ thinned_below es i (item d ds)
     pick true e more =
         let same : i ≡ j = eqb-true i j e in
-        let none_here : lookup (is_key (index i)) es ≡ None = ap (λ k. lookup (is_key (index k)) es) same ∙ none in
+        let none_here : lookup (is_key index (index i)) es ≡ None = ap (λ k. lookup (is_key index (index k)) es) same ∙ none in
         rw (e, none_here, here, more)
     pick false e more = rw (e, more)
 
 -- one element more is as its marks say
-pub write_below : (vs : List Value) (n i j : ℕ) (x w : Value) (m : Marks) (es : List (Key × Marks)) → j ≡ i + n → n < length vs → x ≡ get_or vs n x → lookup (is_key (index j)) es ≡ None
-    → marked m [] ≡ false → view w ≡ data_thinned (marked m) (view x) → thinned_below es i (items_view (set vs n w)) ≡ thinned_below ((Index j, m) ∷ es) i (items_view vs)
+pub write_below : (vs : List Value) (n i j : ℕ) (x w : Value) (m : Marks) (es : List (ℕ × Marks)) → j ≡ i + n → n < length vs → x ≡ get_or vs n x → lookup (is_key index (index j)) es ≡ None
+    → marked m [] ≡ false → view w ≡ data_thinned (marked m) (view x) → thinned_below es i (items_view (set vs n w)) ≡ thinned_below ((j, m) ∷ es) i (items_view vs)
 write_below [] n i j x w m es at within read none here made = absurd (omega (arith, within))
 write_below (v ∷ vs) zero i j x w m es at within read none here made =
     let same : i ≡ j = omega (arith, at) in
     let test : nat_eq i j ≡ true = eq-eqb i j same in
-    let none_here : lookup (is_key (index i)) es ≡ None = ap (λ k. lookup (is_key (index k)) es) same ∙ none in
+    let none_here : lookup (is_key index (index i)) es ≡ None = ap (λ k. lookup (is_key index (index k)) es) same ∙ none in
     let is : view w ≡ data_thinned (marked m) (view v) = made ∙ ap (λ y. data_thinned (marked m) (view y)) read in
     rw (test, none_here, here, is, past_below j m es (suc i) (items_view vs) (omega (arith, same)))
 write_below (v ∷ vs) (suc n) i j x w m es at within read none here made =
     let test : nat_eq i j ≡ false = ne_eqb i j (λ e. omega (arith, at, e)) in
-    rw test (ap (item (thinned_by (lookup (is_key (index i)) es) (view v))) (write_below vs n (suc i) j x w m es (omega (arith, at)) (omega (arith, within)) read none here made))
+    rw test (ap (item (thinned_by (lookup (is_key index (index i)) es) (view v))) (write_below vs n (suc i) j x w m es (omega (arith, at)) (omega (arith, within)) read none here made))
 
 -- an index past the end
-pub beyond_below : (vs : List Value) (i j : ℕ) (m : Marks) (es : List (Key × Marks)) → i + length vs ≤ j → thinned_below ((Index j, m) ∷ es) i (items_view vs) ≡ thinned_below es i (items_view vs)
+pub beyond_below : (vs : List Value) (i j : ℕ) (m : Marks) (es : List (ℕ × Marks)) → i + length vs ≤ j → thinned_below ((j, m) ∷ es) i (items_view vs) ≡ thinned_below es i (items_view vs)
 beyond_below [] i j m es h = refl
 beyond_below (v ∷ vs) i j m es h =
     let test : nat_eq i j ≡ false = ne_eqb i j (λ e. omega (arith, h, e)) in
     rw (test, beyond_below vs (suc i) j m es (omega (arith, h)))
 
 -- then the elements
-sieve_one : (o : Option Marks) (d : Data) (es : List (Key × Marks)) (i : ℕ) (ds : Items) → lookup (is_key (index i)) es ≡ o → sieved es (suc i) (thinned_below es (suc i) ds) ≡ items_thinned (marked_below es) (suc i) ds
-    → sieved es i (thinned_below es i (item d ds)) ≡ items_thinned (marked_below es) i (item d ds)
+sieve_one : (o : Option Marks) (d : Data) (es : List (ℕ × Marks)) (i : ℕ) (ds : Items) → lookup (is_key index (index i)) es ≡ o → sieved es (suc i) (thinned_below es (suc i) ds) ≡ items_thinned (marked_below index es) (suc i) ds
+    → sieved es i (thinned_below es i (item d ds)) ≡ items_thinned (marked_below index es) i (item d ds)
 sieve_one None d es i ds e more = rw (e, more, data_kept d)
 sieve_one (Some m) d es i ds e more = pick (marked m []) refl
   where
-    pick : (b : Bool) → marked m [] ≡ b → sieved es i (thinned_below es i (item d ds)) ≡ items_thinned (marked_below es) i (item d ds)
+    pick : (b : Bool) → marked m [] ≡ b → sieved es i (thinned_below es i (item d ds)) ≡ items_thinned (marked_below index es) i (item d ds)
     pick true here = rw (e, here, more)
     pick false here = rw (e, here, more)
 
-sieve_all : (es : List (Key × Marks)) (i : ℕ) (ds : Items) → sieved es i (thinned_below es i ds) ≡ items_thinned (marked_below es) i ds
+sieve_all : (es : List (ℕ × Marks)) (i : ℕ) (ds : Items) → sieved es i (thinned_below es i ds) ≡ items_thinned (marked_below index es) i ds
 sieve_all es i no_items = refl
-sieve_all es i (item d ds) = sieve_one (lookup (is_key (index i)) es) d es i ds refl (sieve_all es (suc i) ds)
+sieve_all es i (item d ds) = sieve_one (lookup (is_key index (index i)) es) d es i ds refl (sieve_all es (suc i) ds)
 
-pub items_end : (es : List (Key × Marks)) (now old new : Items) → thinned_below [] 0 now ≡ thinned_below es 0 old → new ≡ sieved es 0 now → new ≡ items_thinned (marked_below es) 0 old
+pub items_end : (es : List (ℕ × Marks)) (now old new : Items) → thinned_below [] 0 now ≡ thinned_below es 0 old → new ≡ sieved es 0 now → new ≡ items_thinned (marked_below index es) 0 old
 items_end es now old new below is = is ∙ ap (sieved es 0) (sym (none_below 0 now) ∙ below) ∙ sieve_all es 0 old
 
 -- ---- the loop that drops elements
@@ -157,13 +151,13 @@ joined no_items es = es
 joined (item d ds) es = item d (joined ds es)
 
 -- a run of elements that are not held stays
-run_kept : (es : List (Key × Marks)) (end : ℕ) → HoldsNoneBelow es end → (run rest : List Value) (i : ℕ) → i + length run ≡ end → joined (items_view run) (sieved es end (items_view rest)) ≡ sieved es i (items_view (run ++ rest))
+run_kept : (es : List (ℕ × Marks)) (end : ℕ) → HoldsNoneBelow es end → (run rest : List Value) (i : ℕ) → i + length run ≡ end → joined (items_view run) (sieved es end (items_view rest)) ≡ sieved es i (items_view (run ++ rest))
 run_kept es end none [] rest i is = let e : end ≡ i = omega (arith, is) in ap (λ k. sieved es k (items_view rest)) e
 run_kept es end none (x ∷ run) rest i is =
     rw (none.each i (omega (arith, is))) (ap (item (view x)) (run_kept es end none run rest (suc i) (omega (arith, is))))
 
 -- and where such a run is moved to those that were kept before
-pub run_moved : (es : List (Key × Marks)) (end : ℕ) → HoldsNoneBelow es end → (front rest kept later : List Value) (i : ℕ) → front ++ rest ≡ kept ++ later → i + length front ≡ end + length kept → i ≤ end
+pub run_moved : (es : List (ℕ × Marks)) (end : ℕ) → HoldsNoneBelow es end → (front rest kept later : List Value) (i : ℕ) → front ++ rest ≡ kept ++ later → i + length front ≡ end + length kept → i ≤ end
     → joined (items_view front) (sieved es end (items_view rest)) ≡ joined (items_view kept) (sieved es i (items_view later))
 run_moved es end none front rest [] later i same is le = run_kept es end none front rest i (omega (arith, is)) ∙ ap (λ vs. sieved es i (items_view vs)) same
 run_moved es end none [] rest (k ∷ kept) later i same is le = absurd (omega (arith, is, le))
@@ -198,37 +192,37 @@ move_one (d ∷ more) ys kept i le within is =
     ap₂ (λ a b. a ++ b) front back ∙ append_assoc (take kept xs) (get_or xs i d ∷ []) (drop (i + 1) xs) ∙ ap (λ vs. take kept xs ++ vs) (sym (drop_more xs i d within))
 
 -- the marks before an element hold nothing from it on
-past_sieved : (j : ℕ) (m : Marks) (es : List (Key × Marks)) (i : ℕ) (ds : Items) → j < i → sieved ((Index j, m) ∷ es) i ds ≡ sieved es i ds
+past_sieved : (j : ℕ) (m : Marks) (es : List (ℕ × Marks)) (i : ℕ) (ds : Items) → j < i → sieved ((j, m) ∷ es) i ds ≡ sieved es i ds
 past_sieved j m es i no_items h = refl
 past_sieved j m es i (item d ds) h =
     let other : nat_eq i j ≡ false = ne_eqb i j (λ e. omega (arith, h, e)) in
     rw (other, past_sieved j m es (suc i) ds (omega (arith, h)))
 
 -- an element that is held goes
-pub one_gone : (j : ℕ) (m : Marks) (es : List (Key × Marks)) (xs : List Value) → marked m [] ≡ true → j < length xs
-    → sieved es (j + 1) (items_view (drop (j + 1) xs)) ≡ sieved ((Index j, m) ∷ es) j (items_view (drop j xs))
+pub one_gone : (j : ℕ) (m : Marks) (es : List (ℕ × Marks)) (xs : List Value) → marked m [] ≡ true → j < length xs
+    → sieved es (j + 1) (items_view (drop (j + 1) xs)) ≡ sieved ((j, m) ∷ es) j (items_view (drop j xs))
 one_gone j m es [] here within = absurd (omega (arith, within))
 one_gone j m es (d ∷ more) here within =
     let xs = d ∷ more in
     let test : nat_eq j j ≡ true = eq-eqb j j refl in
-    let next : sieved ((Index j, m) ∷ es) j (items_view (drop j xs)) ≡ sieved es (j + 1) (items_view (drop (j + 1) xs)) =
-    ap (λ zs. sieved ((Index j, m) ∷ es) j (items_view zs)) (drop_more xs j d within) ∙ rw (test, here, add-one) (past_sieved j m es (suc j) (items_view (drop (suc j) xs)) (omega arith)) in
+    let next : sieved ((j, m) ∷ es) j (items_view (drop j xs)) ≡ sieved es (j + 1) (items_view (drop (j + 1) xs)) =
+    ap (λ zs. sieved ((j, m) ∷ es) j (items_view zs)) (drop_more xs j d within) ∙ rw (test, here, add-one) (past_sieved j m es (suc j) (items_view (drop (suc j) xs)) (omega arith)) in
     sym next
 
--- a key that holds none of the elements
-pub unheld_sieved : (k : Key) (m : Marks) (es : List (Key × Marks)) (end : ℕ) → HoldsNone k m end → lookup (is_key (key_view k)) es ≡ None
-    → (vs : List Value) (i : ℕ) → i + length vs ≤ end → sieved ((k, m) ∷ es) i (items_view vs) ≡ sieved es i (items_view vs)
-unheld_sieved k m es end none absent [] i le = refl
-unheld_sieved k m es end none absent (v ∷ vs) i le = pick (is_key (index i) k) refl (unheld_sieved k m es end none absent vs (suc i) (omega (arith, le)))
+-- an index past the end, or one that is not held
+pub unheld_sieved : (j : ℕ) (m : Marks) (es : List (ℕ × Marks)) (end : ℕ) → (j < end → marked m [] ≡ false) → lookup (is_key index (index j)) es ≡ None
+    → (vs : List Value) (i : ℕ) → i + length vs ≤ end → sieved ((j, m) ∷ es) i (items_view vs) ≡ sieved es i (items_view vs)
+unheld_sieved j m es end none absent [] i le = refl
+unheld_sieved j m es end none absent (v ∷ vs) i le = pick (nat_eq i j) refl (unheld_sieved j m es end none absent vs (suc i) (omega (arith, le)))
   where
-    pick : (b : Bool) → is_key (index i) k ≡ b → sieved ((k, m) ∷ es) (suc i) (items_view vs) ≡ sieved es (suc i) (items_view vs) → sieved ((k, m) ∷ es) i (items_view (v ∷ vs)) ≡ sieved es i (items_view (v ∷ vs))
+    pick : (b : Bool) → nat_eq i j ≡ b → sieved ((j, m) ∷ es) (suc i) (items_view vs) ≡ sieved es (suc i) (items_view vs) → sieved ((j, m) ∷ es) i (items_view (v ∷ vs)) ≡ sieved es i (items_view (v ∷ vs))
     pick true e more =
-        let same : index i ≡ key_view k = same_step (index i) (key_view k) e in
-        let later : lookup (is_key (index i)) es ≡ None = ap (λ s. lookup (is_key s) es) same ∙ absent in
-        rw (e, later, none.each i (omega (arith, le)) e, more)
+        let same : i ≡ j = eqb-true i j e in
+        let later : lookup (is_key index (index i)) es ≡ None = ap (λ k. lookup (is_key index (index k)) es) same ∙ absent in
+        rw (e, later, none (omega (arith, le, same)), more)
     pick false e more = rw (e, more)
 
-pub none_left : (es : List (Key × Marks)) (xs : List Value) (kept i : ℕ) (all : Items) → length xs ≤ i → joined (items_view (take kept xs)) (sieved es i (items_view (drop i xs))) ≡ all → items_view (take kept xs) ≡ all
+pub none_left : (es : List (ℕ × Marks)) (xs : List Value) (kept i : ℕ) (all : Items) → length xs ≤ i → joined (items_view (take kept xs)) (sieved es i (items_view (drop i xs))) ≡ all → items_view (take kept xs) ≡ all
 none_left es xs kept i all past h = sym (joined_none _) ∙ ap (λ ys. joined (items_view (take kept xs)) (sieved es i (items_view ys))) (sym (drop_all i xs past)) ∙ h
 
 -- ---- objects
@@ -249,73 +243,70 @@ other_name k l h = pick (bytes_eq (string_bytes l) k) refl
     pick false e = refl
 
 -- a member of another name
-member_other : (k : Bor (List ℕ)) (m : Marks) (es : List (Key × Marks)) (l : String Global) → is_entry k.now l ≡ false → (x : Location) → marked_below ((Name k, m) ∷ es) (name (string_bytes l) ∷ x) ≡ marked_below es (name (string_bytes l) ∷ x)
-member_other k m es l h x = rw (other_name k.now l h)
+member_other : (k : String Global) (m : Marks) (es : List (String Global × Marks)) (l : String Global) → is_entry (string_bytes k) l ≡ false → (x : Location) → marked_below to_member ((k, m) ∷ es) (name (string_bytes l) ∷ x) ≡ marked_below to_member es (name (string_bytes l) ∷ x)
+member_other k m es l h x = rw (other_name (string_bytes k) l h)
 
 -- where no member has the name
-others_thinned : (k : Bor (List ℕ)) (m : Marks) (es : List (Key × Marks)) (ms : List Entry) → NonePasses (is_entry k.now) ms
-    → members_thinned (marked_below ((Name k, m) ∷ es)) (members_view ms) ≡ members_thinned (marked_below es) (members_view ms)
+others_thinned : (k : String Global) (m : Marks) (es : List (String Global × Marks)) (ms : List Entry) → NonePasses (is_entry (string_bytes k)) ms
+    → members_thinned (marked_below to_member ((k, m) ∷ es)) (members_view ms) ≡ members_thinned (marked_below to_member es) (members_view ms)
 others_thinned k m es [] h = refl
 others_thinned k m es (e ∷ ms) h =
-    let f = marked_below ((Name k, m) ∷ es) in let g = marked_below es in let n = name (string_bytes e.0) in
+    let f = marked_below to_member ((k, m) ∷ es) in let g = marked_below to_member es in let n = name (string_bytes e.0) in
     let inside : data_thinned (λ x. f (n ∷ x)) (view e.1) ≡ data_thinned (λ x. g (n ∷ x)) (view e.1) = data_alike (λ x. f (n ∷ x)) (λ x. g (n ∷ x)) (λ s x. member_other k m es e.0 h.0 (s ∷ x)) (view e.1) in
     rw (member_other k m es e.0 h.0 [], inside, others_thinned k m es ms h.1)
 
--- an index, or a name that no member has, changes nothing
-pub index_thinned : (i : ℕ) (m : Marks) (es : List (Key × Marks)) (ms : Members) → members_thinned (marked_below ((Index i, m) ∷ es)) ms ≡ members_thinned (marked_below es) ms
-index_thinned i m es ms = members_alike _ _ (λ k l. refl) ms
-
-pub absent_thinned : (k : Bor (List ℕ)) (m : Marks) (es : List (Key × Marks)) (ms : List Entry) → lookup (is_entry k.now) ms ≡ None
-    → members_thinned (marked_below ((Name k, m) ∷ es)) (members_view ms) ≡ members_thinned (marked_below es) (members_view ms)
-absent_thinned k m es ms h = others_thinned k m es ms (none_passes_from_lookup (is_entry k.now) ms h)
+-- a name that no member has changes nothing
+pub absent_thinned : (k : String Global) (m : Marks) (es : List (String Global × Marks)) (ms : List Entry) → lookup (is_entry (string_bytes k)) ms ≡ None
+    → members_thinned (marked_below to_member ((k, m) ∷ es)) (members_view ms) ≡ members_thinned (marked_below to_member es) (members_view ms)
+absent_thinned k m es ms h = others_thinned k m es ms (none_passes_from_lookup (is_entry (string_bytes k)) ms h)
 
 none_after : (k : List ℕ) (e : Entry) (ms : List Entry) → is_entry k e.0 ≡ true → AllByRecursion (λ l. string_cmp e.0 l ≡ Less) (keys_of ms) → NonePasses (is_entry k) ms
 none_after k e [] same h = tt
 none_after k e (f ∷ ms) same h = (ap (λ x. is_eq (slice_cmp nat_cmp x (string_bytes f.0))) (same_name k e.0 same) ∙ ap is_eq h.0, none_after k e ms same h.1)
 
 -- the member goes
-pub removed_thinned : (k : Bor (List ℕ)) (m : Marks) (es : List (Key × Marks)) (ms : List Entry) → lookup (is_entry k.now) (remove_entry (is_entry k.now) ms) ≡ None → marked m [] ≡ true
-    → members_thinned (marked_below es) (members_view (remove_entry (is_entry k.now) ms)) ≡ members_thinned (marked_below ((Name k, m) ∷ es)) (members_view ms)
+pub removed_thinned : (k : String Global) (m : Marks) (es : List (String Global × Marks)) (ms : List Entry) → lookup (is_entry (string_bytes k)) (remove_entry (is_entry (string_bytes k)) ms) ≡ None → marked m [] ≡ true
+    → members_thinned (marked_below to_member es) (members_view (remove_entry (is_entry (string_bytes k)) ms)) ≡ members_thinned (marked_below to_member ((k, m) ∷ es)) (members_view ms)
 removed_thinned k m es [] gone here = refl
-removed_thinned k m es (e ∷ ms) gone here = pick (is_entry k.now e.0) refl (λ later. removed_thinned k m es ms later here)
+removed_thinned k m es (e ∷ ms) gone here = pick (is_entry (string_bytes k) e.0) refl (λ later. removed_thinned k m es ms later here)
   where
-    pick : (b : Bool) → is_entry k.now e.0 ≡ b
-        → (lookup (is_entry k.now) (remove_entry (is_entry k.now) ms) ≡ None → members_thinned (marked_below es) (members_view (remove_entry (is_entry k.now) ms)) ≡ members_thinned (marked_below ((Name k, m) ∷ es)) (members_view ms))
-        → members_thinned (marked_below es) (members_view (remove_entry (is_entry k.now) (e ∷ ms))) ≡ members_thinned (marked_below ((Name k, m) ∷ es)) (members_view (e ∷ ms))
+    pick : (b : Bool) → is_entry (string_bytes k) e.0 ≡ b
+        → (lookup (is_entry (string_bytes k)) (remove_entry (is_entry (string_bytes k)) ms) ≡ None → members_thinned (marked_below to_member es) (members_view (remove_entry (is_entry (string_bytes k)) ms)) ≡ members_thinned (marked_below to_member ((k, m) ∷ es)) (members_view ms))
+        → members_thinned (marked_below to_member es) (members_view (remove_entry (is_entry (string_bytes k)) (e ∷ ms))) ≡ members_thinned (marked_below to_member ((k, m) ∷ es)) (members_view (e ∷ ms))
     pick true same more =
-        let test : bytes_eq (string_bytes e.0) k.now ≡ true = (bytes_eq-Decides (string_bytes e.0) k.now).1 (sym (same_name k.now e.0 same)) in
-        let rest : remove_entry (is_entry k.now) (e ∷ ms) ≡ ms = rw same in
-        let none : lookup (is_entry k.now) ms ≡ None = ap (lookup (is_entry k.now)) (sym rest) ∙ gone in
+        let test : bytes_eq (string_bytes e.0) (string_bytes k) ≡ true = (bytes_eq-Decides (string_bytes e.0) (string_bytes k)).1 (sym (same_name (string_bytes k) e.0 same)) in
+        let rest : remove_entry (is_entry (string_bytes k)) (e ∷ ms) ≡ ms = rw same in
+        let none : lookup (is_entry (string_bytes k)) ms ≡ None = ap (lookup (is_entry (string_bytes k))) (sym rest) ∙ gone in
         rw (same, test, here) (sym (absent_thinned k m es ms none))
     pick false other more =
-        let f = marked_below ((Name k, m) ∷ es) in let g = marked_below es in let n = name (string_bytes e.0) in
+        let f = marked_below to_member ((k, m) ∷ es) in let g = marked_below to_member es in let n = name (string_bytes e.0) in
         let inside : data_thinned (λ x. f (n ∷ x)) (view e.1) ≡ data_thinned (λ x. g (n ∷ x)) (view e.1) = data_alike (λ x. f (n ∷ x)) (λ x. g (n ∷ x)) (λ s x. member_other k m es e.0 other (s ∷ x)) (view e.1) in
-        let rest : remove_entry (is_entry k.now) (e ∷ ms) ≡ e ∷ remove_entry (is_entry k.now) ms = rw other in
-        let later : lookup (is_entry k.now) (remove_entry (is_entry k.now) ms) ≡ None = sym (ap (lookup (is_entry k.now)) rest ∙ rw other) ∙ gone in
+        let rest : remove_entry (is_entry (string_bytes k)) (e ∷ ms) ≡ e ∷ remove_entry (is_entry (string_bytes k)) ms = rw other in
+        let later : lookup (is_entry (string_bytes k)) (remove_entry (is_entry (string_bytes k)) ms) ≡ None = sym (ap (lookup (is_entry (string_bytes k))) rest ∙ rw other) ∙ gone in
         rw (other, member_other k m es e.0 other [], inside, more later)
 
 -- one member more is as its marks say
-pub written_thinned : (k : Bor (List ℕ)) (m : Marks) (es : List (Key × Marks)) (ms : List Entry) (x w : Value) → IsStrictlySortedBy string_cmp (keys_of ms) → lookup (is_entry k.now) ms ≡ Some x
-    → lookup (is_key (name k.now)) es ≡ None → marked m [] ≡ false → view w ≡ data_thinned (marked m) (view x)
-    → members_thinned (marked_below es) (members_view (set_value (is_entry k.now) ms w)) ≡ members_thinned (marked_below ((Name k, m) ∷ es)) (members_view ms)
+pub written_thinned : (k : String Global) (m : Marks) (es : List (String Global × Marks)) (ms : List Entry) (x w : Value) → IsStrictlySortedBy string_cmp (keys_of ms) → lookup (is_entry (string_bytes k)) ms ≡ Some x
+    → lookup (is_key to_member (name (string_bytes k))) es ≡ None → marked m [] ≡ false → view w ≡ data_thinned (marked m) (view x)
+    → members_thinned (marked_below to_member es) (members_view (set_value (is_entry (string_bytes k)) ms w)) ≡ members_thinned (marked_below to_member ((k, m) ∷ es)) (members_view ms)
 unfolding IsStrictlySortedBy
 written_thinned k m es [] x w ordered found none here made = refl
-written_thinned k m es (e ∷ ms) x w ordered found none here made = pick (is_entry k.now e.0) refl (λ later. written_thinned k m es ms x w ordered.1 later none here made)
+written_thinned k m es (e ∷ ms) x w ordered found none here made = pick (is_entry (string_bytes k) e.0) refl (λ later. written_thinned k m es ms x w ordered.1 later none here made)
   where
-    pick : (b : Bool) → is_entry k.now e.0 ≡ b
-        → (lookup (is_entry k.now) ms ≡ Some x → members_thinned (marked_below es) (members_view (set_value (is_entry k.now) ms w)) ≡ members_thinned (marked_below ((Name k, m) ∷ es)) (members_view ms))
-        → members_thinned (marked_below es) (members_view (set_value (is_entry k.now) (e ∷ ms) w)) ≡ members_thinned (marked_below ((Name k, m) ∷ es)) (members_view (e ∷ ms))
+    pick : (b : Bool) → is_entry (string_bytes k) e.0 ≡ b
+        → (lookup (is_entry (string_bytes k)) ms ≡ Some x → members_thinned (marked_below to_member es) (members_view (set_value (is_entry (string_bytes k)) ms w)) ≡ members_thinned (marked_below to_member ((k, m) ∷ es)) (members_view ms))
+        → members_thinned (marked_below to_member es) (members_view (set_value (is_entry (string_bytes k)) (e ∷ ms) w)) ≡ members_thinned (marked_below to_member ((k, m) ∷ es)) (members_view (e ∷ ms))
     pick true same more =
-        let test : bytes_eq (string_bytes e.0) k.now ≡ true = (bytes_eq-Decides (string_bytes e.0) k.now).1 (sym (same_name k.now e.0 same)) in
-        let none_here : lookup (is_key (name (string_bytes e.0))) es ≡ None = ap (λ n. lookup (is_key (name n)) es) (sym (same_name k.now e.0 same)) ∙ none in
+        let test : bytes_eq (string_bytes e.0) (string_bytes k) ≡ true = (bytes_eq-Decides (string_bytes e.0) (string_bytes k)).1 (sym (same_name (string_bytes k) e.0 same)) in
+        let none_here : lookup (is_key to_member (name (string_bytes e.0))) es ≡ None = ap (λ n. lookup (is_key to_member (name n)) es) (sym (same_name (string_bytes k) e.0 same)) ∙ none in
         let first : Some e.1 ≡ Some x = sym (rw same) ∙ found in
         let is : view w ≡ data_thinned (marked m) (view e.1) = made ∙ ap (λ o. data_thinned (marked m) (view (unwrap_or o x))) (sym first) in
-        rw (same, test, none_here, here, data_kept (view w), is) (ap (member (string_bytes e.0) (data_thinned (marked m) (view e.1))) (sym (others_thinned k m es ms (none_after k.now e ms same ordered.0))))
+        rw (same, test, none_here, here, data_kept (view w), is) (ap (member (string_bytes e.0) (data_thinned (marked m) (view e.1))) (sym (others_thinned k m es ms (none_after (string_bytes k) e ms same ordered.0))))
     pick false other more =
-        let f = marked_below ((Name k, m) ∷ es) in let g = marked_below es in let n = name (string_bytes e.0) in
+        let f = marked_below to_member ((k, m) ∷ es) in let g = marked_below to_member es in let n = name (string_bytes e.0) in
         let inside : data_thinned (λ x. f (n ∷ x)) (view e.1) ≡ data_thinned (λ x. g (n ∷ x)) (view e.1) = data_alike (λ x. f (n ∷ x)) (λ x. g (n ∷ x)) (λ s x. member_other k m es e.0 other (s ∷ x)) (view e.1) in
-        let later : lookup (is_entry k.now) ms ≡ Some x = sym (rw other) ∙ found in
+        let later : lookup (is_entry (string_bytes k)) ms ≡ Some x = sym (rw other) ∙ found in
         rw (other, member_other k m es e.0 other [], inside, more later)
 
-pub members_end : (es : List (Key × Marks)) (now old : Members) → members_thinned (marked_below []) now ≡ members_thinned (marked_below es) old → now ≡ members_thinned (marked_below es) old
-members_end es now old h = sym (members_alike (marked_below []) (λ l. false) (λ k l. refl) now ∙ members_kept now) ∙ h
+pub members_end : (es : List (String Global × Marks)) (now old : Members) → members_thinned (marked_below to_member []) now ≡ members_thinned (marked_below to_member es) old → now ≡ members_thinned (marked_below to_member es) old
+members_end es now old h = sym (members_alike (marked_below to_member []) (λ l. false) (λ k l. refl) now ∙ members_kept now) ∙ h

@@ -1,44 +1,40 @@
 //! Sets of locations.
 ghost use Rattle.std.specs.Prelude.{◌≡◌, IfOk, OnOk, not, ◌∷◌, [], false};
+ghost use Rattle.jsonpath_parser.specs.Location as location;
 ghost use Rattle.jsonpath_parser.specs.Location.{Location};
-ghost use Rattle.jsonpath_base.specs.Steps.{step_view, location_view};
-ghost use Rattle.jsonpath_base.specs.inner.Marks.{key_view, marked, marked_below, HasAlso};
+ghost use Rattle.jsonpath_base.specs.Steps.{lent_location};
+ghost use Rattle.jsonpath_base.specs.inner.Marks.{to_member, marked, marked_below, HasAlso};
 
-use crate::step::Step;
+use crate::step::StepRef;
 use std::alloc::{AllocError, Global};
 use std::collections::BTreeMap;
 
-/// A step, lent.
-#[derive(Clone, Copy, Debug, PartialEq, Eq, PartialOrd, Ord)]
-pub enum Key<'s> {
-    Name(&'s str),
-    Index(usize),
-}
-
 /// A set of locations, by their first steps: whether it holds the location with no step, and the rests of those that go on.
 #[derive(Drop)]
-pub struct Marks<'s> {
+pub struct Marks {
     pub here: bool,
-    pub below: BTreeMap<Key<'s>, Marks<'s>>,
+    pub names: BTreeMap<String, Marks>,
+    pub indexes: BTreeMap<usize, Marks>,
 }
 
-impl<'s> Marks<'s> {
+impl Marks {
     /// The empty set.
     pub fn new(alloc: Global) -> Self
         ensures { (l : Location) → marked result l ≡ false }
     {
         Marks {
             here: false,
-            below: BTreeMap::new(alloc),
+            names: BTreeMap::new(alloc),
+            indexes: BTreeMap::new(alloc),
         }
     }
 }
 
 /// Adds a location to the set. The result says whether it is new there.
 #[cycle(mark)]
-pub fn mark<'s>(alloc: Global, marks: &mut Marks<'s>, steps: &'s [Step]) -> Result<bool, AllocError>
-    ensures fresh { IfOk result (λ b. b ≡ not (marked marks.old (location_view steps.now))) }
-    ensures added { OnOk result (HasAlso (marked marks.old) (location_view steps.now) (marked marks.new)) }
+pub fn mark(alloc: Global, marks: &mut Marks, steps: &[StepRef<'_>]) -> Result<bool, AllocError>
+    ensures fresh { IfOk result (λ b. b ≡ not (marked marks.old (lent_location steps.now))) }
+    ensures added { OnOk result (HasAlso (marked marks.old) (lent_location steps.now) (marked marks.new)) }
 {
     match steps.split_first() {
         None => {
@@ -46,35 +42,53 @@ pub fn mark<'s>(alloc: Global, marks: &mut Marks<'s>, steps: &'s [Step]) -> Resu
             marks.here = true;
             Ok(fresh)
         }
-        Some((step, rest)) => mark_below(alloc, &mut marks.below, key_of(step), rest),
+        Some((StepRef::Name(name), rest)) => mark_member(alloc, &mut marks.names, *name, rest),
+        Some((StepRef::Index(index), rest)) => mark_element(
+            alloc,
+            &mut marks.indexes,
+            *index,
+            rest,
+        ),
     }
 }
 
+/// The same, of a location that goes to the member of this name first.
 #[cycle(mark)]
-fn mark_below<'s>(
+fn mark_member(
     alloc: Global,
-    below: &mut BTreeMap<Key<'s>, Marks<'s>>,
-    key: Key<'s>,
-    rest: &'s [Step],
+    below: &mut BTreeMap<String, Marks>,
+    name: &str,
+    rest: &[StepRef<'_>],
 ) -> Result<bool, AllocError>
-    ensures fresh { IfOk result (λ b. b ≡ not (marked_below below.old.entries (key_view key.entry ∷ location_view rest.now))) }
-    ensures added { OnOk result (HasAlso (marked_below below.old.entries) (key_view key.entry ∷ location_view rest.now) (marked_below below.new.entries)) }
+    ensures fresh { IfOk result (λ b. b ≡ not (marked_below to_member below.old.entries (location.name name.now ∷ lent_location rest.now))) }
+    ensures added { OnOk result (HasAlso (marked_below to_member below.old.entries) (location.name name.now ∷ lent_location rest.now) (marked_below to_member below.new.entries)) }
 {
-    if let Some(marks) = below.get_mut(&key) {
+    if let Some(marks) = below.get_mut(name) {
         return mark(alloc, marks, rest);
     }
+    let key = String::from_str(alloc, name)?;
     let mut marks = Marks::new(alloc);
     let fresh = mark(alloc, &mut marks, rest)?;
     below.insert(key, marks)?;
     Ok(fresh)
 }
 
-/// The step.
-fn key_of(step: &Step) -> Key<'_>
-    ensures { key_view result ≡ step_view step.now }
+/// The same, of a location that goes to the element of this index first.
+#[cycle(mark)]
+fn mark_element(
+    alloc: Global,
+    below: &mut BTreeMap<usize, Marks>,
+    index: usize,
+    rest: &[StepRef<'_>],
+) -> Result<bool, AllocError>
+    ensures fresh { IfOk result (λ b. b ≡ not (marked_below location.index below.old.entries (location.index index ∷ lent_location rest.now))) }
+    ensures added { OnOk result (HasAlso (marked_below location.index below.old.entries) (location.index index ∷ lent_location rest.now) (marked_below location.index below.new.entries)) }
 {
-    match step {
-        Step::Name(name) => Key::Name(name.as_str()),
-        Step::Index(index) => Key::Index(*index),
+    if let Some(marks) = below.get_mut(&index) {
+        return mark(alloc, marks, rest);
     }
+    let mut marks = Marks::new(alloc);
+    let fresh = mark(alloc, &mut marks, rest)?;
+    below.insert(index, marks)?;
+    Ok(fresh)
 }

@@ -1,21 +1,73 @@
 //! Removal of locations from a value, all at once.
-ghost use Rattle.std.specs.Prelude.{◌≡◌, ◌<◌, ◌≤◌, ◌-◌, ◌++◌, [], take, drop, length, map, true, IfSome, IfNone, IfOk, IfErr, OnOk, OnErr, IsTrue};
+ghost use Rattle.std.specs.Prelude.{◌≡◌, ◌<◌, ◌≤◌, ◌-◌, ◌++◌, take, drop, length, map, false, IfOk, IfErr, OnOk, OnErr, IsTrue};
 ghost use Rattle.std.specs.Vec.{vec_len};
 ghost use Rattle.serde_json.specs.View.{view, items_view, members_view};
-ghost use Rattle.jsonpath_base.specs.Steps.{location_view};
+ghost use Rattle.jsonpath_parser.specs.Location as location;
+ghost use Rattle.jsonpath_parser.specs.Location.{Location};
+ghost use Rattle.jsonpath_base.specs.Steps.{location_view, lent_location};
 ghost use Rattle.jsonpath_base.specs.Values.{value_tree, value_is_whole};
 ghost use Rattle.jsonpath_base.specs.Without.{without, is_among, distinct_count};
-ghost use Rattle.jsonpath_base.specs.inner.Marks.{marked, marked_below, HoldsNone};
+ghost use Rattle.jsonpath_base.specs.inner.Marks.{to_member, marked, marked_below, counted_with, HasAlso};
 ghost use Rattle.jsonpath_base.specs.inner.Thinning.{data_thinned, items_thinned, members_thinned, sieved};
-ghost use Rattle.jsonpath_base.specs.declared.marks.Key.TheVariants.{Index};
 
-use crate::marks::{Key, Marks, mark};
-use crate::step::Step;
+use crate::marks::{Marks, mark};
+use crate::step::{Step, StepRef};
 use jsonpath_parser::errors::{JsonPathError, Parsed};
 use serde_json::{Map, Value};
 use std::alloc::Global;
 use std::collections::BTreeMap;
 use std::mem;
+
+/// Locations to be removed from a value, and how many distinct ones they are. Each step that several of them begin with is
+/// held once.
+#[derive(Drop)]
+pub struct Removal {
+    pub marks: Marks,
+    pub count: usize,
+}
+
+impl Removal {
+    /// Of no location.
+    pub fn new(alloc: Global) -> Self
+        ensures none { (l : Location) → marked result.marks l ≡ false }
+        ensures count { result.count ≡ 0 }
+    {
+        Removal {
+            marks: Marks::new(alloc),
+            count: 0,
+        }
+    }
+
+    /// Adds the location of these steps. It refuses by `OutOfMemory` alone. Time linear in the steps and in the names that they
+    /// hold, times the logarithm of the locations.
+    pub fn add(&mut self, alloc: Global, steps: &[StepRef<'_>]) -> Parsed<()>
+        ensures added { OnOk result (HasAlso (marked self.old.marks) (lent_location steps.now) (marked self.new.marks)) }
+        ensures count { OnOk result (self.new.count ≡ counted_with (lent_location steps.now) (marked self.old.marks) self.old.count) }
+        ensures memory { IfErr result (λ e. e ≡ JsonPathError.OutOfMemory) }
+    {
+        if mark(alloc, &mut self.marks, steps)? {
+            // No memory holds so many marks that this fails.
+            let Some(count) = self.count.checked_add(1) else {
+                return Err(JsonPathError::OutOfMemory);
+            };
+            self.count = count;
+        }
+        Ok(())
+    }
+
+    /// Removes the locations from the value, all at once and each by its original place. One where nothing is changes nothing;
+    /// where the root is one of them, null is left. It takes no memory.
+    pub fn remove_from(&self, value: &mut Value)
+        ensures removed { value_tree value.new ≡ without (marked self.now.marks) (value_tree value.old) }
+        ensures whole { IsTrue (value_is_whole value.old) → IsTrue (value_is_whole value.new) }
+    {
+        if self.marks.here {
+            drop(mem::replace(value, Value::Null));
+            return;
+        }
+        thin(value, &self.marks);
+    }
+}
 
 /// Removes the values at these locations, all at once and each by its original place, and returns how many distinct
 /// locations there are. One where nothing is counts, and changes nothing; where the root is one of them, null is left.
@@ -30,54 +82,48 @@ pub fn remove_all(alloc: Global, value: &mut Value, places: &[Vec<Step>]) -> Par
     ensures kept { OnErr result (value.new ≡ value.old) }
     ensures memory { IfErr result (λ e. e ≡ JsonPathError.OutOfMemory) }
 {
-    let mut marks = Marks::new(alloc);
-    let mut count = 0;
-    let mut left = places.len();
-    while left > 0 {
-        left -= 1;
-        if mark(alloc, &mut marks, &places[left])? {
-            count += 1;
-        }
+    let mut removal = Removal::new(alloc);
+    for place in places {
+        let steps = lent_steps(alloc, place)?;
+        removal.add(alloc, &steps)?;
     }
-    remove_marked(value, &marks);
-    Ok(count)
+    removal.remove_from(value);
+    Ok(removal.count)
 }
 
-/// Removes what is marked. Where that is the root, null is left.
-fn remove_marked(value: &mut Value, marks: &Marks<'_>)
-    ensures removed { value_tree value.new ≡ without (marked marks.now) (value_tree value.old) }
-    ensures whole { IsTrue (value_is_whole value.old) → IsTrue (value_is_whole value.new) }
+/// The steps, each lent.
+fn lent_steps<'s>(alloc: Global, steps: &'s [Step]) -> Parsed<Vec<StepRef<'s>>>
+    ensures lent { IfOk result (λ v. lent_location v.items ≡ location_view steps.now) }
+    ensures memory { IfErr result (λ e. e ≡ JsonPathError.OutOfMemory) }
 {
-    if marks.here {
-        drop(mem::replace(value, Value::Null));
-        return;
+    let mut lent = Vec::with_capacity(alloc, steps.len())?;
+    for step in steps {
+        lent.push(step.lent())?;
     }
-    thin(value, marks);
+    Ok(lent)
 }
 
 /// Removes what is marked below a value.
 #[cycle(thin)]
-fn thin(value: &mut Value, marks: &Marks<'_>)
+fn thin(value: &mut Value, marks: &Marks)
     ensures { view value.new ≡ data_thinned (marked marks.now) (view value.old) }
 {
     if let Some(items) = value.as_array_mut() {
-        thin_items(items, &marks.below);
+        thin_items(items, &marks.indexes);
     } else if let Some(members) = value.as_object_mut() {
-        thin_members(members, &marks.below);
+        thin_members(members, &marks.names);
     }
 }
 
 /// Removes what is marked in a list: first below its elements, while each stands in its place, then the elements.
 #[cycle(thin)]
-fn thin_items(items: &mut Vec<Value>, marks: &BTreeMap<Key<'_>, Marks<'_>>)
-    ensures { items_view items.new.items ≡ items_thinned (marked_below marks.now.entries) 0 (items_view items.old.items) }
+fn thin_items(items: &mut Vec<Value>, marks: &BTreeMap<usize, Marks>)
+    ensures { items_view items.new.items ≡ items_thinned (marked_below location.index marks.now.entries) 0 (items_view items.old.items) }
 {
-    for (key, below) in marks.iter() {
-        if let Key::Index(index) = key {
-            if !below.here {
-                if let Some(item) = items.get_mut(*index) {
-                    thin(item, below);
-                }
+    for (index, below) in marks.iter() {
+        if !below.here {
+            if let Some(item) = items.get_mut(*index) {
+                thin(item, below);
             }
         }
     }
@@ -86,54 +132,35 @@ fn thin_items(items: &mut Vec<Value>, marks: &BTreeMap<Key<'_>, Marks<'_>>)
 
 /// Removes what is marked in an object.
 #[cycle(thin)]
-fn thin_members(members: &mut Map<String, Value>, marks: &BTreeMap<Key<'_>, Marks<'_>>)
-    ensures { members_view members.new.entries ≡ members_thinned (marked_below marks.now.entries) (members_view members.old.entries) }
+fn thin_members(members: &mut Map<String, Value>, marks: &BTreeMap<String, Marks>)
+    ensures { members_view members.new.entries ≡ members_thinned (marked_below to_member marks.now.entries) (members_view members.old.entries) }
 {
-    for (key, below) in marks.iter() {
-        if let Key::Name(name) = key {
-            if below.here {
-                drop(members.remove(*name));
-            } else if let Some(member) = members.get_mut(*name) {
-                thin(member, below);
-            }
+    for (name, below) in marks.iter() {
+        if below.here {
+            drop(members.remove(name.as_str()));
+        } else if let Some(member) = members.get_mut(name.as_str()) {
+            thin(member, below);
         }
     }
 }
 
 /// Removes the elements that the marks hold. No element is looked up: the marks are gone through in their order, and each
 /// run of elements between two of them is moved by itself.
-fn drop_marked(items: &mut Vec<Value>, marks: &BTreeMap<Key<'_>, Marks<'_>>)
+fn drop_marked(items: &mut Vec<Value>, marks: &BTreeMap<usize, Marks>)
     ensures { items_view items.new.items ≡ sieved marks.now.entries 0 (items_view items.old.items) }
 {
     let length = items.len();
     let mut gone = 0;
     let mut next = 0;
-    for (key, below) in marks.iter() {
-        if let Some(index) = held_index(key, below, length) {
-            move_down(items, gone, next, index);
+    for (index, below) in marks.iter() {
+        if below.here && *index < length {
+            move_down(items, gone, next, *index);
             gone += 1;
-            next = index + 1;
+            next = *index + 1;
         }
     }
     move_down(items, gone, next, length);
     items.truncate(length - gone);
-}
-
-/// The index below this length that a key and the marks below it hold, if they hold one.
-fn held_index(key: &Key<'_>, below: &Marks<'_>, length: usize) -> Option<usize>
-    ensures held { IfSome result (λ i. (key.now ≡ Index i) × (i < length) × (marked below.now [] ≡ true)) }
-    ensures none { IfNone result (HoldsNone key.now below.now length) }
-{
-    match key {
-        Key::Name(_) => None,
-        Key::Index(index) => {
-            if below.here && *index < length {
-                Some(*index)
-            } else {
-                None
-            }
-        }
-    }
 }
 
 /// Moves the elements from `start` up to `end` by this many places to the front, where they take the places of others.

@@ -36,7 +36,7 @@ mod walk;
 mod way;
 
 pub use crate::selection::nodelist::{
-    selected_locations, selected_nodes, selected_paths, selected_values,
+    selected_locations, selected_nodes, selected_paths, selected_removal, selected_values,
 };
 pub use crate::selection::prepared::Prepared;
 pub use crate::selection::runner::Runner;

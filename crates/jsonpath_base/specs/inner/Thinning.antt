@@ -4,7 +4,6 @@ use Rattle.std.specs.Map.{lookup}
 use Rattle.serde_json.specs.Data.{Data, null, boolean, number, string, array, object, Items, no_items, item, Members, no_members, member}
 use Rattle.jsonpath_parser.specs.Location.{name, index, Location}
 use Rattle.jsonpath_base.specs.inner.Marks.{is_key, marked, marked_by}
-use Rattle.jsonpath_base.specs.declared.marks.Key.{Key}
 use Rattle.jsonpath_base.specs.declared.marks.Marks.{Marks}
 
 abbrev mutual
@@ -32,10 +31,10 @@ abbrev pub thinned_by : Option Marks → Data → Data
 thinned_by None d = d
 thinned_by (Some m) d = if marked m [] then d else data_thinned (marked m) d
 
-abbrev pub thinned_below : List (Key × Marks) → ℕ → Items → Items
+abbrev pub thinned_below : List (ℕ × Marks) → ℕ → Items → Items
 thinned_below es i no_items = no_items
-thinned_below es i (item d ds) = item (thinned_by (lookup (is_key (index i)) es) d) (thinned_below es (suc i) ds)
+thinned_below es i (item d ds) = item (thinned_by (lookup (is_key index (index i)) es) d) (thinned_below es (suc i) ds)
 
-abbrev pub sieved : List (Key × Marks) → ℕ → Items → Items
+abbrev pub sieved : List (ℕ × Marks) → ℕ → Items → Items
 sieved es i no_items = no_items
-sieved es i (item d ds) = if marked_by (lookup (is_key (index i)) es) [] then sieved es (suc i) ds else item d (sieved es (suc i) ds)
+sieved es i (item d ds) = if marked_by (lookup (is_key index (index i)) es) [] then sieved es (suc i) ds else item d (sieved es (suc i) ds)

@@ -15,8 +15,7 @@ ghost use Rattle.jsonpath_rust.specs.documents.Patterns.{IsStop, IsQueryRefusal}
 
 use crate::documents::Queried;
 use crate::documents::queryable::Queryable;
-use crate::selection::selected_locations;
-use jsonpath_base::remove_all;
+use crate::selection::selected_removal;
 use jsonpath_parser::errors::JsonPathError;
 use jsonpath_parser::model::JpQuery;
 use jsonpath_parser::{MAX_NESTING_DEPTH, let_go, parse_json_path_within};
@@ -68,8 +67,9 @@ impl Deletable for Value {
 /// Removes all locations that a query text selects in a document, at once and each by its original place, and returns how
 /// many distinct ones there are, those inside other ones counted too. Where the root is selected, null is left.
 ///
-/// All nodes are found, and all memory is taken, before anything is removed. Time as [`js_path_within`], and as
-/// `jsonpath_base::remove_all` of the selected locations.
+/// All nodes are found, and all memory is taken, before anything is removed: a step that many locations begin with is held
+/// once. Time as [`js_path_within`], and n log n in the steps of the locations; in a list that loses elements, each element
+/// behind the first of them is moved once.
 ///
 /// # Errors
 ///
@@ -110,6 +110,7 @@ pub fn delete_selected(alloc: Global, value: &mut Value, query: &JpQuery) -> Que
     ensures whole { IsTrue (value_is_whole value.new) }
     ensures refused { IfErr result (IsStop (query_view query.now) (document_of value_tree set_function value.old)) }
 {
-    let locations = selected_locations(alloc, query, value)?;
-    remove_all(alloc, value, &locations)
+    let removal = selected_removal(alloc, query, value)?;
+    removal.remove_from(value);
+    Ok(removal.count)
 }

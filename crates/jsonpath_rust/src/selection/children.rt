@@ -9,7 +9,8 @@ ghost use Rattle.jsonpath_rust.specs.selection.inner.PlanViews.{segments_in, seg
 ghost use Rattle.jsonpath_rust.specs.selection.inner.Sinks.{Took, seen};
 ghost use Rattle.jsonpath_rust.specs.selection.inner.Keeping.{IsReady, document, kept_of, query_of};
 ghost use Rattle.jsonpath_rust.specs.selection.inner.Standing.{Stands, Returns, AreMembers};
-ghost use Rattle.jsonpath_rust.specs.selection.inner.Walking.{through, node_of, step_of, acted, action_patterns};
+ghost use Rattle.jsonpath_base.specs.Steps.{lent_step, lent_location};
+ghost use Rattle.jsonpath_rust.specs.selection.inner.Walking.{through, node_of, acted, action_patterns};
 
 use crate::documents::halt::Walked;
 use crate::documents::queryable::Queryable;
@@ -18,7 +19,7 @@ use crate::selection::plan::Segment;
 use crate::selection::sink::Sink;
 use crate::selection::trail::Trail;
 use crate::selection::walk::Task;
-use crate::selection::way::StepRef;
+use jsonpath_base::StepRef;
 
 /// A child of the value at hand, and the step that leads to it.
 #[derive(Clone, Copy)]
@@ -122,7 +123,7 @@ impl<'a: 's, 's, T: Queryable> Task<'a, 's, T> {
         requires part { StandIn (query_of self.now) (action_patterns (kept_of self.now) action ++ segments_patterns (segments_in (kept_of self.now) rest.now)) }
         ensures gave { IfOk result (λ b. Took (seen T.tree T.is_whole sink.old)
             (flat_map (through (segments_in (kept_of self.now) rest.now) (document T.tree T.custom self.now))
-            (acted (kept_of self.now) action.entry (document T.tree T.custom self.now) (below (map step_of trail.old.way.steps.items) (step_of child.entry.step) (T.tree child.entry.value.now))))
+            (acted (kept_of self.now) action.entry (document T.tree T.custom self.now) (below (lent_location trail.old.way.steps.items) (lent_step child.entry.step) (T.tree child.entry.value.now))))
             (seen T.tree T.is_whole sink.new) b) }
         ensures returns { OnOk result (Returns T.tree T.is_whole T.custom self.now trail.old trail.new) }
         ensures ready { OnErr result (IsReady T.tree T.is_whole T.custom self.now trail.new.cache) }

@@ -7,12 +7,13 @@ ghost use Rattle.jsonpath_rust.specs.documents.Answer.{IsNodeAt, IsPathAt, IsVal
 ghost use Rattle.jsonpath_rust.specs.documents.Document.{document_of};
 ghost use Rattle.jsonpath_rust.specs.documents.Meaning.{selected};
 ghost use Rattle.jsonpath_rust.specs.documents.Patterns.{IsStop};
+ghost use Rattle.jsonpath_rust.specs.selection.inner.Sinks.{IsRemovalOf};
 
 use crate::documents::queryable::Queryable;
 use crate::documents::{Queried, QueryPath, QueryRef};
 use crate::selection::give::give_nodes;
 use crate::selection::sink::Sink;
-use jsonpath_base::Step;
+use jsonpath_base::{Removal, Step};
 use jsonpath_parser::model::JpQuery;
 use std::alloc::Global;
 
@@ -99,4 +100,22 @@ pub fn selected_locations<T: Queryable>(
     let mut sink = Sink::Locations(Vec::new(alloc));
     let _goes_on = give_nodes(alloc, query, value, &mut sink)?;
     Ok(sink.into_locations(alloc))
+}
+
+/// The locations of the nodes that [`selected_nodes`] returns, to be removed.
+///
+/// # Errors
+///
+/// Those of [`selected_nodes`].
+pub fn selected_removal<T: Queryable>(alloc: Global, query: &JpQuery, value: &T) -> Queried<Removal>
+    requires { IsTrue (T.is_whole value.now) }
+    ensures removal { IfOk result (λ r. IsRemovalOf r (selected (query_view query.now) (document_of T.tree T.custom value.now))) }
+    ensures refused { IfErr result (IsStop (query_view query.now) (document_of T.tree T.custom value.now)) }
+{
+    let mut sink = Sink::Removal(Box::new(alloc, Removal::new(alloc))?);
+    let _goes_on = give_nodes(alloc, query, value, &mut sink)?;
+    match sink.into_removal() {
+        Some(removal) => Ok(Box::into_inner(removal)),
+        None => Ok(Removal::new(alloc)),
+    }
 }

@@ -1,10 +1,11 @@
 //! What is done with the nodes that a walk meets.
 ghost use Rattle.std.specs.Prelude.{◌≡◌, suc, min, ◌∷◌, [], map, option_map, IsTrue, false, IfOk, IfErr, OnOk, string_bytes};
 ghost use Rattle.jsonpath_base.specs.Steps.{location_view};
+ghost use Rattle.jsonpath_base.specs.inner.Marks.{marked};
 ghost use Rattle.jsonpath_rust.specs.declared.documents.halt.Halt.TheVariants.{Memory};
 ghost use Rattle.jsonpath_rust.specs.documents.Answer.{shown, paths_of};
 ghost use Rattle.jsonpath_rust.specs.documents.Node.{Node, root_node};
-ghost use Rattle.jsonpath_rust.specs.selection.inner.Sinks.{Took, seen, seen_only, seen_first, start, add, any_in, count_in, only_in, first_in, nodes_in, nodes_whole, values_in, values_whole, paths_in, locations_in};
+ghost use Rattle.jsonpath_rust.specs.selection.inner.Sinks.{Took, seen, seen_only, seen_first, start, add, any_in, count_in, only_in, first_in, nodes_in, nodes_whole, values_in, values_whole, paths_in, locations_in, removal_in};
 ghost use Rattle.jsonpath_rust.specs.selection.inner.Walking.{node_of};
 
 use crate::documents::halt::Walked;
@@ -12,7 +13,7 @@ use crate::documents::queryable::Queryable;
 use crate::documents::value::GREATEST_COUNT;
 use crate::documents::{QueryPath, QueryRef};
 use crate::selection::way::Way;
-use jsonpath_base::Step;
+use jsonpath_base::{Removal, Step};
 use std::alloc::Global;
 
 /// The only node of a list, if it has one alone.
@@ -47,6 +48,8 @@ pub enum Sink<'a, T> {
     Values(Vec<&'a T>),
     /// Keeps each node's location, with names of its own.
     Locations(Vec<Vec<Step>>),
+    /// Marks each node's location to be removed. It stands in a box, so that the other sinks stay small.
+    Removal(Box<Removal>),
     /// Whether a node came. It stops at the first.
     Any(bool),
     /// How many nodes came, up to [`GREATEST_COUNT`].
@@ -117,6 +120,10 @@ impl<'a, T: Queryable> Sink<'a, T> {
                 locations.push(location)?;
                 Ok(true)
             }
+            Sink::Removal(removal) => {
+                removal.add(alloc, &way.steps)?;
+                Ok(true)
+            }
             Sink::Any(any) => {
                 *any = true;
                 Ok(false)
@@ -176,6 +183,7 @@ impl<'a, T: Queryable> Sink<'a, T> {
             Sink::Paths(_paths) => Vec::new(alloc),
             Sink::Values(_values) => Vec::new(alloc),
             Sink::Locations(_locations) => Vec::new(alloc),
+            Sink::Removal(_removal) => Vec::new(alloc),
             Sink::Any(_any) => Vec::new(alloc),
             Sink::Count(_count) => Vec::new(alloc),
             Sink::Only(_only) => Vec::new(alloc),
@@ -192,6 +200,7 @@ impl<'a, T: Queryable> Sink<'a, T> {
             Sink::Paths(paths) => paths,
             Sink::Values(_values) => Vec::new(alloc),
             Sink::Locations(_locations) => Vec::new(alloc),
+            Sink::Removal(_removal) => Vec::new(alloc),
             Sink::Any(_any) => Vec::new(alloc),
             Sink::Count(_count) => Vec::new(alloc),
             Sink::Only(_only) => Vec::new(alloc),
@@ -208,10 +217,28 @@ impl<'a, T: Queryable> Sink<'a, T> {
             Sink::Paths(_paths) => Vec::new(alloc),
             Sink::Values(_values) => Vec::new(alloc),
             Sink::Locations(locations) => locations,
+            Sink::Removal(_removal) => Vec::new(alloc),
             Sink::Any(_any) => Vec::new(alloc),
             Sink::Count(_count) => Vec::new(alloc),
             Sink::Only(_only) => Vec::new(alloc),
             Sink::First(_first) => Vec::new(alloc),
+        }
+    }
+
+    /// What a `Removal` was given.
+    pub fn into_removal(self) -> Option<Box<Removal>>
+        ensures { option_map (λ r. (marked r.value.marks, r.value.count)) result ≡ removal_in (seen T.tree T.is_whole self.entry) }
+    {
+        match self {
+            Sink::Nodes(_nodes) => None,
+            Sink::Paths(_paths) => None,
+            Sink::Values(_values) => None,
+            Sink::Locations(_locations) => None,
+            Sink::Removal(removal) => Some(removal),
+            Sink::Any(_any) => None,
+            Sink::Count(_count) => None,
+            Sink::Only(_only) => None,
+            Sink::First(_first) => None,
         }
     }
 
@@ -225,6 +252,7 @@ impl<'a, T: Queryable> Sink<'a, T> {
             Sink::Paths(_paths) => Vec::new(alloc),
             Sink::Values(values) => values,
             Sink::Locations(_locations) => Vec::new(alloc),
+            Sink::Removal(_removal) => Vec::new(alloc),
             Sink::Any(_any) => Vec::new(alloc),
             Sink::Count(_count) => Vec::new(alloc),
             Sink::Only(_only) => Vec::new(alloc),
@@ -241,6 +269,7 @@ impl<'a, T: Queryable> Sink<'a, T> {
             Sink::Paths(_paths) => None,
             Sink::Values(_values) => None,
             Sink::Locations(_locations) => None,
+            Sink::Removal(_removal) => None,
             Sink::Any(_any) => None,
             Sink::Count(_count) => None,
             Sink::Only(_only) => None,

@@ -13,7 +13,7 @@ ghost use Rattle.jsonpath_rust.specs.selection.inner.PlanViews.{segments_in, seg
 ghost use Rattle.jsonpath_rust.specs.selection.inner.Sinks.{Took, seen};
 ghost use Rattle.jsonpath_rust.specs.selection.inner.Keeping.{IsReady, document, kept_of, query_of};
 ghost use Rattle.jsonpath_rust.specs.selection.inner.Standing.{Stands, Returns};
-ghost use Rattle.jsonpath_rust.specs.selection.inner.Walking.{through, node_of, step_of, acted};
+ghost use Rattle.jsonpath_rust.specs.selection.inner.Walking.{through, node_of, acted};
 
 use crate::documents::halt::Walked;
 use crate::documents::queryable::Queryable;
@@ -24,7 +24,7 @@ use crate::selection::children::Child;
 use crate::selection::plan::{Plan, Segment, Selector};
 use crate::selection::sink::Sink;
 use crate::selection::trail::Trail;
-use crate::selection::way::StepRef;
+use jsonpath_base::StepRef;
 use jsonpath_base::slice::slice_places;
 use std::alloc::Global;
 

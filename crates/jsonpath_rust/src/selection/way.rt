@@ -1,25 +1,15 @@
 //! The way from the root to the value at hand, and what is spelled of its Normalized Path (RFC 9535, 2.7).
 ghost use Rattle.std.specs.Prelude.{◌≡◌, List, [], ◌∷◌, ◌++◌, length, map, IfOk, IfErr, OnOk, OnErr, string_bytes};
 ghost use Rattle.jsonpath_parser.specs.Normal.{normal, step_text};
-ghost use Rattle.jsonpath_base.specs.Steps.{step_view, location_view};
+ghost use Rattle.jsonpath_base.specs.Steps.{location_view, lent_step, lent_location};
 ghost use Rattle.jsonpath_rust.specs.declared.documents.halt.Halt.TheVariants.{Memory};
-ghost use Rattle.jsonpath_rust.specs.selection.inner.Walking.{step_of};
 ghost use Rattle.jsonpath_rust.specs.selection.inner.Way.{spelled, IsSpelled};
-ghost use Rattle.jsonpath_rust.specs.declared.selection.way.StepRef.{StepRef};
+ghost use Rattle.jsonpath_base.specs.declared.step.StepRef.{StepRef};
 
 use crate::documents::QueryPath;
 use crate::documents::halt::Walked;
-use jsonpath_base::step::{Step, add_index, add_name};
+use jsonpath_base::step::{Step, StepRef, add_index, add_name};
 use std::alloc::Global;
-
-/// One step down, lent by the query or by the document.
-#[derive(Clone, Copy, Debug)]
-pub enum StepRef<'s> {
-    /// To the member of this name.
-    Name(&'s str),
-    /// To this element, counted from 0.
-    Index(usize),
-}
 
 /// The steps from the root to the value at hand. A step is spelled when a node at its end or below is returned, and then
 /// no more while it stands here.
@@ -70,7 +60,7 @@ impl<'s> Way<'s> {
 
     /// The Normalized Path.
     pub fn path(&mut self, alloc: Global) -> Walked<QueryPath>
-        ensures value { IfOk result (λ path. string_bytes path ≡ normal (map step_of self.old.steps.items)) }
+        ensures value { IfOk result (λ path. string_bytes path ≡ normal (lent_location self.old.steps.items)) }
         ensures same { self.new.steps.items ≡ self.old.steps.items }
         ensures memory { IfErr result (λ h. h ≡ Memory) }
     {
@@ -83,25 +73,14 @@ impl<'s> Way<'s> {
 
     /// The location, with names of its own.
     pub fn location(&self, alloc: Global) -> Walked<Vec<Step>>
-        ensures value { IfOk result (λ steps. location_view steps.items ≡ map step_of self.now.steps.items) }
+        ensures value { IfOk result (λ steps. location_view steps.items ≡ lent_location self.now.steps.items) }
         ensures memory { IfErr result (λ h. h ≡ Memory) }
     {
         let mut steps = Vec::with_capacity(alloc, self.steps.len())?;
         for step in &self.steps {
-            steps.push(owned(alloc, *step)?)?;
+            steps.push(step.owned(alloc)?)?;
         }
         Ok(steps)
-    }
-}
-
-/// The step, with a name of its own.
-fn owned(alloc: Global, step: StepRef<'_>) -> Walked<Step>
-    ensures value { IfOk result (λ s. step_view s ≡ step_of step.entry) }
-    ensures memory { IfErr result (λ h. h ≡ Memory) }
-{
-    match step {
-        StepRef::Name(name) => Ok(Step::Name(String::from_str(alloc, name)?)),
-        StepRef::Index(index) => Ok(Step::Index(index)),
     }
 }
 
@@ -131,7 +110,7 @@ fn spell_next(
     text: &mut String,
     starts: &mut Vec<usize>,
 ) -> Walked<()>
-    ensures text { OnOk result (string_bytes text.new ≡ string_bytes text.old ++ step_text (step_of step.entry)) }
+    ensures text { OnOk result (string_bytes text.new ≡ string_bytes text.old ++ step_text (lent_step step.entry)) }
     ensures starts { OnOk result (starts.new.items ≡ starts.old.items ++ length (string_bytes text.old) ∷ []) }
     ensures same_text { OnErr result (string_bytes text.new ≡ string_bytes text.old) }
     ensures same_starts { OnErr result (starts.new.items ≡ starts.old.items) }
@@ -150,7 +129,7 @@ fn spell_next(
 /// Follows a text by a step. Where memory is refused, the text stays as it was.
 #[inline(always)]
 fn add_step(alloc: Global, text: &mut String, step: StepRef<'_>) -> Walked<()>
-    ensures value { OnOk result (string_bytes text.new ≡ string_bytes text.old ++ step_text (step_of step.entry)) }
+    ensures value { OnOk result (string_bytes text.new ≡ string_bytes text.old ++ step_text (lent_step step.entry)) }
     ensures same { OnErr result (string_bytes text.new ≡ string_bytes text.old) }
     ensures memory { IfErr result (λ h. h ≡ Memory) }
 {

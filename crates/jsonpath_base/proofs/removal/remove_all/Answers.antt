@@ -1,48 +1,39 @@
-use Rattle.std.proofs.Common.{◌≡◌, ◌∷◌, suc, ◌-◌, not, drop, map, Vec, Global, sym, ap, ◌∙◌, subst, arith}
-use Rattle.jsonpath_base.specs.Steps.{location_view}
-use Rattle.jsonpath_base.specs.Without.{is_among, distinct_count}
-use Rattle.jsonpath_base.specs.inner.Marks.{marked, HasAlso}
-use Rattle.jsonpath_base.specs.declared.step.Step.{Step}
+use Rattle.std.proofs.Common.{◌≡◌, ◌+◌, ◌∷◌, drop, map, Vec, Global, sym, ap, ◌∙◌}
+use Rattle.std.proofs.lemmas.List.{drop_more, drop_all}
+use Rattle.jsonpath_parser.specs.Location.{Location}
+use Rattle.jsonpath_base.specs.Steps.{location_view, lent_location}
+use Rattle.jsonpath_base.specs.Without.{without}
 use Rattle.jsonpath_base.specs.Values.{value_tree}
-use Rattle.jsonpath_base.proofs.Removed.{drop_next, marks_next, count_new, count_again, without_alike}
+use Rattle.jsonpath_base.specs.inner.Marks.{marked, set_with}
+use Rattle.jsonpath_base.specs.declared.step.Step.{Step}
+use Rattle.jsonpath_base.proofs.Removed.{set_begun, marks_next}
 use Rattle.jsonpath_base.proofs.removal.remove_all.Goals as goal
 
-pub loop-left-preserved-then-branch : goal.loop-left-preserved-then-branch
-loop-left-preserved-then-branch c =
-    let l = c.loop-left in let p = c.index-places-left.result in let places = map (λ (q : Vec Step Global). location_view q.items) c.args.places.now in
-    let done = drop l.left places in
-    let at : l.left ≡ suc (l.left - 1) = omega (arith, c.loop-left-test.true) in
-    let next : drop (l.left - 1) places ≡ location_view p.items ∷ done =
-    drop_next (λ (q : Vec Step Global). location_view q.items) c.args.places.now (l.left - 1) p (omega (arith, c.loop-left-test.true, l.invariant.2)) c.index-places-left.is ∙ ap (λ n. location_view p.items ∷ drop n places) (sym at) in
-    let same : location_view c.deref.result.now ≡ location_view p.items = ap location_view c.deref.ensures.value in
-    let added = subst (λ q. HasAlso (marked l.marks) q (marked c.mark.new.marks)) same c.in_ok-mark.ensures.added in
-    let fresh = sym c.if-branch.true ∙ c.in_ok-mark.ensures.fresh ∙ ap (λ q. not (marked l.marks q)) same in
-    let rest = marks_next (marked l.marks) (marked c.mark.new.marks) done (location_view p.items) l.invariant.0 added in (
-      λ place. rest place ∙ ap (λ d. is_among d place) (sym next),
-      count_new (marked l.marks) done (location_view p.items) l.count l.invariant.0 fresh l.invariant.1 ∙ ap distinct_count (sym next),
-      omega (arith, l.invariant.2),
-      omega (arith, at, l.invariant.3),
-    )
+abbrev place : Vec Step Global → Location
+place p = location_view p.items
 
-pub loop-left-preserved : goal.loop-left-preserved
-loop-left-preserved c =
-    let l = c.loop-left in let p = c.index-places-left.result in let places = map (λ (q : Vec Step Global). location_view q.items) c.args.places.now in
-    let done = drop l.left places in
-    let at : l.left ≡ suc (l.left - 1) = omega (arith, c.loop-left-test.true) in
-    let next : drop (l.left - 1) places ≡ location_view p.items ∷ done =
-    drop_next (λ (q : Vec Step Global). location_view q.items) c.args.places.now (l.left - 1) p (omega (arith, c.loop-left-test.true, l.invariant.2)) c.index-places-left.is ∙ ap (λ n. location_view p.items ∷ drop n places) (sym at) in
-    let same : location_view c.deref.result.now ≡ location_view p.items = ap location_view c.deref.ensures.value in
-    let added = subst (λ q. HasAlso (marked l.marks) q (marked c.mark.new.marks)) same c.in_ok-mark.ensures.added in
-    let again = sym c.if-branch.false ∙ c.in_ok-mark.ensures.fresh ∙ ap (λ q. not (marked l.marks q)) same in
-    let rest = marks_next (marked l.marks) (marked c.mark.new.marks) done (location_view p.items) l.invariant.0 added in (
-      λ place. rest place ∙ ap (λ d. is_among d place) (sym next),
-      count_again (marked l.marks) done (location_view p.items) l.count l.invariant.0 again l.invariant.1 ∙ ap distinct_count (sym next),
-      omega (arith, l.invariant.2),
-      omega (arith, at, l.invariant.3),
-    )
+pub loop-place-init : goal.loop-place-init
+loop-place-init c = set_begun (marked c.new-removal.result.marks) c.new-removal.result.count (map place c.args.places.now) c.new-removal.ensures.none c.new-removal.ensures.count
+
+pub loop-place-preserved : goal.loop-place-preserved
+loop-place-preserved c =
+    let l = c.loop-place in let i = l.place-index in let p = c.place-item.result in let places = c.args.places.now in
+    let next : drop i places ≡ p ∷ drop (i + 1) places =
+    drop_more places i p c.loop-place-test.true ∙ ap (λ x. x ∷ drop (i + 1) places) (sym c.place-item.is) in
+    let at = ap lent_location c.deref-in-loop-place.ensures.value ∙ c.in_ok-steps.ensures.lent ∙ ap location_view c.deref.ensures.value in
+    marks_next (marked l.removal.marks) (marked c.add.new.self.marks) l.removal.count c.add.new.self.count _ (map place (drop (i + 1) places)) c.in_ok-add.ensures.added c.in_ok-add.ensures.count
+    ∙ ap (λ x. set_with (x ∷ map place (drop (i + 1) places)) (marked l.removal.marks) l.removal.count) at
+    ∙ ap (λ xs. set_with (map place xs) (marked l.removal.marks) l.removal.count) (sym next)
+    ∙ l.invariant
 
 pub returns-clause-removed : goal.returns-clause-removed
 returns-clause-removed c =
-    let l = c.loop-left in let places = map (λ (q : Vec Step Global). location_view q.items) c.args.places.now in
-    let none : l.left ≡ 0 = omega (arith, c.loop-left-test.false) in
-    c.remove_marked.ensures.removed ∙ without_alike (marked l.marks) (is_among places) (λ place. l.invariant.0 place ∙ ap (λ n. is_among (drop n places) place) none) (value_tree c.args.value.now)
+    let l = c.loop-place in let places = c.args.places.now in
+    let all = ap (λ xs. set_with (map place xs) (marked l.removal.marks) l.removal.count) (sym (drop_all l.place-index places c.loop-place-test.false)) ∙ l.invariant in
+    c.remove_from.ensures.removed ∙ ap (λ s. without s.0 (value_tree c.args.value.now)) all
+
+pub returns-clause-count : goal.returns-clause-count
+returns-clause-count c =
+    let l = c.loop-place in let places = c.args.places.now in
+    let all = ap (λ xs. set_with (map place xs) (marked l.removal.marks) l.removal.count) (sym (drop_all l.place-index places c.loop-place-test.false)) ∙ l.invariant in
+    ap (λ s. s.1) all

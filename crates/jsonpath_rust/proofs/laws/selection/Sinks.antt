@@ -1,5 +1,5 @@
 -- What a sink has, once it was given nodes.
-use Rattle.std.proofs.Common.{◌≡◌, ℕ, suc, pos, min, ◌+◌, ◌≤◌, List, [], ◌∷◌, ◌++◌, map, length, append-nil, append_assoc, refl, sym, ◌∙◌, ap, arith, Bool, true, false, IsTrue, All, Result, IfOk, Some, None, option_map}
+use Rattle.std.proofs.Common.{◌≡◌, ℕ, suc, pos, min, ◌+◌, ◌≤◌, List, [], ◌∷◌, ◌++◌, map, length, append-nil, append_assoc, refl, sym, ◌∙◌, ap, arith, Bool, true, false, IsTrue, All, Result, IfOk, Some, None, option_map, unwrap_or}
 use Rattle.std.proofs.lemmas.List.Elements.{All-from_recursion}
 use Rattle.std.proofs.lemmas.Result.{IfOk-weaker}
 use Rattle.std.proofs.lemmas.Bool.{false≢true}
@@ -7,10 +7,14 @@ use Rattle.std.specs.List.{AllByRecursion}
 use Rattle.jsonpath_parser.specs.Location.{Location}
 use Rattle.jsonpath_parser.specs.Normal.{normal}
 use Rattle.jsonpath_base.specs.Tree.{Tree, number}
+use Rattle.jsonpath_base.specs.Without.{is_among, distinct_count}
+use Rattle.jsonpath_base.specs.inner.Marks.{marked, also, counted_with, set_with}
+use Rattle.jsonpath_base.specs.declared.removal.Removal.{Removal}
+use Rattle.jsonpath_base.proofs.Removed.{set_begun}
 use Rattle.jsonpath_rust.specs.documents.Node.{Node, has_node}
 use Rattle.jsonpath_rust.specs.documents.Functions.{count_value, count_of, only_value}
 use Rattle.jsonpath_rust.specs.selection.inner.Sinks as sinks
-use Rattle.jsonpath_rust.specs.selection.inner.Sinks.{Seen, nodes, paths, values, locations, any, count, nothing, one, several, first, add, give, full, any_in, only_in, first_in, nodes_in, nodes_whole, paths_in, locations_in, values_in, values_whole, answer_of, Took}
+use Rattle.jsonpath_rust.specs.selection.inner.Sinks.{Seen, nodes, paths, values, locations, removal, any, count, nothing, one, several, first, add, give, full, any_in, only_in, first_in, nodes_in, nodes_whole, paths_in, locations_in, removal_in, values_in, values_whole, answer_of, IsRemovalOf, Took}
 
 pub give-append : (s : Seen) (xs ys : List Node) → give s (xs ++ ys) ≡ give (give s xs) ys
 give-append s [] ys = refl
@@ -21,6 +25,7 @@ add-full (nodes bs ns) n h = absurd (false≢true h)
 add-full (paths ps) n h = absurd (false≢true h)
 add-full (values bs ts) n h = absurd (false≢true h)
 add-full (locations ls) n h = absurd (false≢true h)
+add-full (removal set k) n h = absurd (false≢true h)
 add-full (any b) n h = ap any (sym h)
 add-full (count k) n h = absurd (false≢true h)
 add-full nothing n h = absurd (false≢true h)
@@ -105,6 +110,10 @@ give-locations : (ls : List Location) (ns : List Node) → give (locations ls) n
 give-locations ls [] = ap locations (sym (append-nil ls))
 give-locations ls (n ∷ ns) = give-locations (ls ++ n.location ∷ []) ns ∙ ap locations (append_assoc ls (n.location ∷ []) (map (λ m. m.location) ns))
 
+give-removal : (set : Location → Bool) (k : ℕ) (ns : List Node) → give (removal set k) ns ≡ removal (set_with (map (λ n. n.location) ns) set k).0 (set_with (map (λ n. n.location) ns) set k).1
+give-removal set k [] = refl
+give-removal set k (n ∷ ns) = give-removal (also n.location set) (counted_with n.location set k) ns
+
 pub give-values : (bs : List Bool) (ts : List Tree) (ns : List Node) → give (values bs ts) ns ≡ values (bs ++ map (λ n. true) ns) (ts ++ map (λ n. n.tree) ns)
 give-values bs ts [] = ap (λ x. values x ts) (sym (append-nil bs)) ∙ ap (values (bs ++ [])) (sym (append-nil ts))
 give-values bs ts (n ∷ ns) =
@@ -139,6 +148,25 @@ given_paths f xs z ns h e = ap paths_in (e ∙ ap (λ ys. give (paths (map f ys)
 
 pub given_locations : {X : Type 0} (f : X → Location) (xs : List X) (z : Seen) (ns : List Node) → xs ≡ [] → z ≡ give (locations (map f xs)) ns → locations_in z ≡ map (λ n. n.location) ns
 given_locations f xs z ns h e = ap locations_in (e ∙ ap (λ ys. give (locations (map f ys)) ns) h ∙ give-locations [] ns)
+
+-- what a removal of nothing has, once it was given these nodes
+pub given_removal : (set : Location → Bool) (k : ℕ) (z : Seen) (ns : List Node) → ((l : Location) → set l ≡ false) → k ≡ 0 → z ≡ give (removal set k) ns
+    → removal_in z ≡ Some (is_among (map (λ n. n.location) ns), distinct_count (map (λ n. n.location) ns))
+given_removal set k z ns none is e = ap removal_in (e ∙ give-removal set k ns) ∙ ap Some (set_begun set k (map (λ n. n.location) ns) none is)
+
+-- a removal that was begun with no location is of those of the nodes that it was given
+pub removal_is : (begun r : Removal) (z : Seen) (ns : List Node) → ((l : Location) → marked begun.marks l ≡ false) → begun.count ≡ 0 → z ≡ give (removal (marked begun.marks) begun.count) ns
+    → Some (marked r.marks, r.count) ≡ removal_in z → IsRemovalOf r (map (λ n. n.location) ns)
+removal_is begun r z ns none is e h =
+    let all = h ∙ given_removal (marked begun.marks) begun.count z ns none is e in
+    let both : (marked r.marks, r.count) ≡ (is_among (map (λ n. n.location) ns), distinct_count (map (λ n. n.location) ns)) = ap (λ o. unwrap_or o (marked r.marks, r.count)) all in
+    record { set = ap (λ p. p.0) both; count = ap (λ p. p.1) both }
+
+pub removal_there : {A : Type 0} (begun : Removal) (z : Seen) (ns : List Node) → ((l : Location) → marked begun.marks l ≡ false) → begun.count ≡ 0 → z ≡ give (removal (marked begun.marks) begun.count) ns → None ≡ removal_in z → A
+removal_there begun z ns none is e h = missed _ (h ∙ given_removal (marked begun.marks) begun.count z ns none is e)
+  where
+    missed : {A X : Type 0} (x : X) → None ≡ Some x → A
+    missed x h = absurd cc
 
 pub given_values : {X : Type 0} (w : X → Bool) (f : X → Tree) (xs : List X) (z : Seen) (ns : List Node) → xs ≡ [] → z ≡ give (values (map w xs) (map f xs)) ns → values_in z ≡ map (λ n. n.tree) ns
 given_values w f xs z ns h e = ap values_in (given_to_values w f xs z ns h e)

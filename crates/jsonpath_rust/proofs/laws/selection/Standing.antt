@@ -6,7 +6,7 @@ use Rattle.jsonpath_rust.specs.selection.inner.Standing.{Stands, Returns}
 use Rattle.jsonpath_rust.specs.declared.selection.cache.Cache.{Cache}
 use Rattle.jsonpath_rust.specs.declared.selection.trail.Trail.{Trail}
 use Rattle.jsonpath_rust.specs.declared.selection.walk.Task.{Task}
-use Rattle.jsonpath_rust.specs.declared.selection.way.StepRef.{StepRef}
+use Rattle.jsonpath_base.specs.declared.step.StepRef.{StepRef}
 use Rattle.jsonpath_rust.proofs.laws.selection.Leading.{leads_as}
 
 -- with the same steps in other words

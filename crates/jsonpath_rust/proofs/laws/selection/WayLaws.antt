@@ -6,13 +6,13 @@ use Rattle.std.proofs.lemmas.Str.{IsCharBoundary-before_ascii}
 use Rattle.std.specs.String.Boundary.{IsSplitPoint}
 use Rattle.jsonpath_parser.specs.Location.{Step, name, index}
 use Rattle.jsonpath_parser.specs.Normal.{step_text}
-use Rattle.jsonpath_rust.specs.selection.inner.Walking.{step_of}
+use Rattle.jsonpath_base.specs.Steps.{lent_step}
 use Rattle.jsonpath_rust.specs.selection.inner.Way.{spelled, IsSpelled}
-use Rattle.jsonpath_rust.specs.declared.selection.way.StepRef.{StepRef}
+use Rattle.jsonpath_base.specs.declared.step.StepRef.{StepRef}
 
 spelled-append : (ss ts : List StepRef) → spelled (ss ++ ts) ≡ spelled ss ++ spelled ts
 spelled-append [] ts = refl
-spelled-append (s ∷ ss) ts = ap (λ x. step_text (step_of s) ++ x) (spelled-append ss ts) ∙ sym (append_assoc (step_text (step_of s)) (spelled ss) (spelled ts))
+spelled-append (s ∷ ss) ts = ap (λ x. step_text (lent_step s) ++ x) (spelled-append ss ts) ∙ sym (append_assoc (step_text (lent_step s)) (spelled ss) (spelled ts))
 
 pub at_most_one : {A : Type 0} (o : Option A) → length (option_to_list o) ≤ 1
 at_most_one None = omega arith
@@ -60,7 +60,7 @@ cut_before xs ys bs i e f =
 cut_at : (ss now more : List StepRef) (is bs : List ℕ) (i : ℕ) → ss ≡ now ++ more → length now < length ss → bs ≡ spelled now ++ spelled more → i ≡ length (spelled now) → IsSplitPoint bs i
 cut_at ss now [] is bs i e lt t f = absurd (omega (arith, ap length e, length-append now [], lt))
 cut_at ss now (s ∷ more) is bs i e lt t f =
-    let b = bracket (step_of s) in
+    let b = bracket (lent_step s) in
     cut_before (spelled now) (b.0 ++ spelled more) bs i (t ∙ ap (λ x. spelled now ++ (x ++ spelled more)) b.1) f
 
 pub may_cut : (ss now more : List StepRef) (is was bs : List ℕ) (i : ℕ) → ss ≡ now ++ more → length more ≤ 1 → is ≡ was ++ i ∷ [] → length now < length is → IsSpelled ss is bs → IsSplitPoint bs i
@@ -85,12 +85,12 @@ less_or_last (suc k) (suc n) h = up (less_or_last k n (omega (arith, h)))
     up (inl lt) = inl (omega (arith, lt))
     up (inr e) = inr (ap suc e)
 
-pub spelled_next : (ss : List StepRef) (is bs js cs : List ℕ) (s : StepRef) (n : ℕ) → n ≡ length is → n < length ss → s ≡ get_or ss n s → js ≡ is ++ length bs ∷ [] → cs ≡ bs ++ step_text (step_of s) → IsSpelled ss is bs → IsSpelled ss js cs
+pub spelled_next : (ss : List StepRef) (is bs js cs : List ℕ) (s : StepRef) (n : ℕ) → n ≡ length is → n < length ss → s ≡ get_or ss n s → js ≡ is ++ length bs ∷ [] → cs ≡ bs ++ step_text (lent_step s) → IsSpelled ss is bs → IsSpelled ss js cs
 spelled_next ss is bs js cs s n e lt at f g h =
     let len : length js ≡ length is + 1 = ap length f ∙ length-append is (length bs ∷ []) in
     let front : take (length js) ss ≡ take (length is) ss ++ s ∷ [] = ap (λ k. take k ss) len ∙ take_more ss (length is) s (omega (arith, e, lt)) ∙ ap (λ x. take (length is) ss ++ x ∷ []) (ap (λ k. get_or ss k s) (sym e) ∙ sym at) in
     record {
       within = omega (arith, len, e, lt);
-      text = g ∙ ap (λ x. x ++ step_text (step_of s)) h.text ∙ ap (λ x. spelled (take (length is) ss) ++ x) (sym (append-nil (step_text (step_of s)))) ∙ sym (spelled-append (take (length is) ss) (s ∷ [])) ∙ ap spelled (sym front);
+      text = g ∙ ap (λ x. x ++ step_text (lent_step s)) h.text ∙ ap (λ x. spelled (take (length is) ss) ++ x) (sym (append-nil (step_text (lent_step s)))) ∙ sym (spelled-append (take (length is) ss) (s ∷ [])) ∙ ap spelled (sym front);
       begins = λ k less. ap (λ z. get_or z k 0) f ∙ next_begins ss is bs k h (less_or_last k (length is) (omega (arith, less, len)));
     }

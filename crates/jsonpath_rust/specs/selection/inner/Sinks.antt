@@ -4,6 +4,9 @@ use Rattle.jsonpath_parser.specs.Location.{Location}
 use Rattle.jsonpath_parser.specs.Normal.{normal}
 use Rattle.jsonpath_base.specs.Steps.{location_view}
 use Rattle.jsonpath_base.specs.Tree.{Tree}
+use Rattle.jsonpath_base.specs.Without.{is_among, distinct_count}
+use Rattle.jsonpath_base.specs.inner.Marks.{marked, also, counted_with}
+use Rattle.jsonpath_base.specs.declared.removal.Removal.{Removal}
 use Rattle.jsonpath_rust.specs.documents.Node.{Node}
 use Rattle.jsonpath_rust.specs.documents.Answer.{shown, paths_of}
 use Rattle.jsonpath_rust.specs.declared.selection.sink.Sink.{Sink}
@@ -25,6 +28,7 @@ pub data Seen : Type 0 where
   paths : List (List ℕ) → Seen
   values : List Bool → List Tree → Seen
   locations : List Location → Seen
+  removal : (Location → Bool) → ℕ → Seen
   any : Bool → Seen
   count : ℕ → Seen
   nothing : Seen
@@ -45,6 +49,7 @@ seen tree whole (sink.Nodes refs) = nodes (map (λ r. whole r.val.now) refs.item
 seen tree whole (sink.Paths ps) = paths (paths_of ps.items)
 seen tree whole (sink.Values vs) = values (map (λ v. whole v.now) vs.items) (map (λ v. tree v.now) vs.items)
 seen tree whole (sink.Locations ls) = locations (map (λ l. location_view l.items) ls.items)
+seen tree whole (sink.Removal r) = removal (marked r.value.marks) r.value.count
 seen tree whole (sink.Any b) = any b
 seen tree whole (sink.Count n) = count n
 seen tree whole (sink.Only o) = seen_only tree whole o
@@ -63,6 +68,7 @@ add (nodes bs ns) n = nodes (bs ++ true ∷ []) (ns ++ answer_of n ∷ [])
 add (paths ps) n = paths (ps ++ normal n.location ∷ [])
 add (values bs ts) n = values (bs ++ true ∷ []) (ts ++ n.tree ∷ [])
 add (locations ls) n = locations (ls ++ n.location ∷ [])
+add (removal set k) n = removal (also n.location set) (counted_with n.location set k)
 add (any b) n = any true
 add (count k) n = count (min (suc k) GREATEST_COUNT)
 add nothing n = one true n.tree
@@ -84,6 +90,7 @@ full (nodes bs ns) = false
 full (paths ps) = false
 full (values bs ts) = false
 full (locations ls) = false
+full (removal set k) = false
 full (count k) = false
 full nothing = false
 full (one b t) = false
@@ -118,6 +125,10 @@ abbrev pub locations_in : Seen → List Location
 locations_in (locations ls) = ls
 locations_in _ = []
 
+abbrev pub removal_in : Seen → Option ((Location → Bool) × ℕ)
+removal_in (removal set k) = Some (set, k)
+removal_in _ = None
+
 abbrev pub values_in : Seen → List Tree
 values_in (values bs ts) = ts
 values_in _ = []
@@ -138,3 +149,8 @@ ValuesAreWhole s = All (λ b. IsTrue b) (values_whole s)
 pub record Took (s : Seen) (ns : List Node) (s' : Seen) (goes_on : Bool) : Type 0 where
   pub given : s' ≡ give s ns
   pub stopped : goes_on ≡ false → full s' ≡ true
+
+-- The removal is of these locations.
+pub record IsRemovalOf (r : Removal) (ls : List Location) : Type 0 where
+  pub set : marked r.marks ≡ is_among ls
+  pub count : r.count ≡ distinct_count ls

@@ -8,7 +8,7 @@ use Rattle.jsonpath_rust.specs.declared.selection.cache.Cache.{Cache}
 use Rattle.jsonpath_rust.specs.declared.selection.children.Members.{Members}
 use Rattle.jsonpath_rust.specs.declared.selection.trail.Trail.{Trail}
 use Rattle.jsonpath_rust.specs.declared.selection.walk.Task.{Task}
-use Rattle.jsonpath_rust.specs.declared.selection.way.StepRef.{StepRef}
+use Rattle.jsonpath_base.specs.declared.step.StepRef.{StepRef}
 
 -- At a whole value, no larger than the root, to which these steps lead; and what is kept is right.
 pub record Stands {A : Type 0} (tree : A → Tree) (is_whole : A → Bool) (custom : List ℕ → List Tree → Tree) (task : Task A) (x : A) (steps : List StepRef) (cache : Cache A) : Type 0 where

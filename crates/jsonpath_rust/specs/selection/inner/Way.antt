@@ -1,12 +1,12 @@
 -- What is spelled of a way, for the contracts of the walk alone: the definitions here are no part of what a query means.
-use Rattle.std.specs.Prelude.{◌≡◌, ℕ, ◌<◌, ◌≤◌, List, map, length, take, get_or}
+use Rattle.std.specs.Prelude.{◌≡◌, ℕ, ◌<◌, ◌≤◌, List, length, take, get_or}
 use Rattle.jsonpath_parser.specs.Normal.{steps_text}
-use Rattle.jsonpath_rust.specs.selection.inner.Walking.{step_of}
-use Rattle.jsonpath_rust.specs.declared.selection.way.StepRef.{StepRef}
+use Rattle.jsonpath_base.specs.Steps.{lent_location}
+use Rattle.jsonpath_base.specs.declared.step.StepRef.{StepRef}
 
 -- these steps, as a Normalized Path writes them
 abbrev pub spelled : List StepRef → List ℕ
-spelled steps = steps_text (map step_of steps)
+spelled steps = steps_text (lent_location steps)
 
 -- The text is that of the first steps, of as many as there are starts, and each of them begins at its start.
 pub record IsSpelled (steps : List StepRef) (starts : List ℕ) (bytes : List ℕ) : Type 0 where

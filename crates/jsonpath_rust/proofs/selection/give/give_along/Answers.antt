@@ -3,7 +3,7 @@ use Rattle.jsonpath_rust.specs.declared.selection.plan.Segment.{Segment}
 use Rattle.jsonpath_rust.specs.documents.Document.{document_of}
 use Rattle.jsonpath_rust.specs.selection.inner.PlanViews.{kept_view, segments_in}
 use Rattle.jsonpath_rust.specs.selection.inner.Walking.{through, node_of}
-use Rattle.jsonpath_rust.specs.declared.selection.way.StepRef.{StepRef}
+use Rattle.jsonpath_base.specs.declared.step.StepRef.{StepRef}
 use Rattle.jsonpath_rust.proofs.laws.selection.Entries.{as_many}
 use Rattle.jsonpath_rust.proofs.laws.selection.HaltingLaws.{all_stand}
 use Rattle.jsonpath_rust.proofs.laws.selection.Sinks.{result_as}

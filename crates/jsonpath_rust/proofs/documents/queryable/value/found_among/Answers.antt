@@ -1,4 +1,4 @@
-use Rattle.std.proofs.Common.{◌≡◌, ◌∷◌, false, cond, Some, string_bytes, bytes_eq, IsTrue, sym, ap, ◌∙◌, subst}
+use Rattle.std.proofs.Common.{◌≡◌, false, cond, Some, string_bytes, bytes_eq, IsTrue, sym, ap, ◌∙◌, subst}
 use Rattle.std.specs.List.{AllByRecursion}
 use Rattle.serde_json.specs.View.{members_view}
 use Rattle.jsonpath_base.specs.Tree.{find, pairs}

@@ -23,11 +23,12 @@ use Rattle.jsonpath_rust.specs.documents.Meaning.{picks, all_pick, replaced, ind
 use Rattle.jsonpath_rust.specs.selection.inner.Passing.{action_weight}
 use Rattle.jsonpath_rust.specs.documents.inner.Weight.{segment_weight, selectors_weight, selector_weight, segments_weight, filter_weight, filters_weight, test_weight, comparable_weight, comparison_weight, call_weight, argument_weight, arguments_weight}
 use Rattle.jsonpath_rust.specs.documents.Patterns.{segments_patterns, segment_patterns, selectors_patterns, selector_patterns, filter_patterns, filters_patterns, test_patterns, comparable_patterns, comparison_patterns, call_patterns, argument_patterns, arguments_patterns}
-use Rattle.jsonpath_rust.specs.selection.inner.Walking.{action_patterns, through, node_of, step_of, acted}
+use Rattle.jsonpath_base.specs.Steps.{lent_step, lent_location}
+use Rattle.jsonpath_rust.specs.selection.inner.Walking.{action_patterns, through, node_of, acted}
 use Rattle.jsonpath_rust.specs.selection.inner.Sinks.{seen, give, start}
 use Rattle.jsonpath_rust.specs.selection.inner.Keeping.{document, gave, given_by, kept_of, nodes_or_none, query_of, slot_at, slots_of, value_by}
 use Rattle.jsonpath_rust.specs.selection.inner.Keeping as keeping
-use Rattle.jsonpath_rust.specs.declared.selection.way.StepRef.TheVariants.{Name, Index}
+use Rattle.jsonpath_base.specs.declared.step.StepRef.TheVariants.{Name, Index}
 use Rattle.jsonpath_rust.proofs.laws.selection.Sinks.{took_none, took_as, took_stop, result_as, result_then, true_false}
 use Rattle.jsonpath_rust.proofs.laws.selection.Walks.{down, down_tree, down_same, turn_next, turn_stop, turn_end, selector_turns, element_turns, member_turns, place_next, place_stop, below_more, flat_map-alone, flat_map-filter}
 use Rattle.jsonpath_rust.proofs.laws.selection.Leading.{leads_below, leads_indexed}
@@ -42,7 +43,7 @@ use Rattle.jsonpath_rust.specs.documents.Functions.{length_of, as_value, as_tree
 use Rattle.jsonpath_base.specs.Pattern.{is_entire}
 use Rattle.jsonpath_rust.specs.documents.inner.Operands.{operand_tree, side_tree, arg_trees, AreWhole}
 use Rattle.jsonpath_rust.proofs.laws.selection.NodelistLaws.{through-applied, nodelist-through}
-use Rattle.jsonpath_rust.specs.declared.selection.way.StepRef.{StepRef}
+use Rattle.jsonpath_base.specs.declared.step.StepRef.{StepRef}
 use Rattle.jsonpath_rust.specs.selection.inner.Arguing.{value, nodes, holding, value_held, only_held, count_held, trees_held, truth_held, OnlyIsWhole, HeldAreWhole}
 use Rattle.jsonpath_rust.proofs.laws.selection.Arguing.{as_value_held, as_only_held, as_count_held, as_trees_held, as_truth_held, only_is_whole, held_are_whole}
 use Rattle.jsonpath_rust.specs.selection.inner.Halting.{IsHalt}
@@ -238,7 +239,7 @@ at_child-returns-clause-gave g t c =
     let d = document tree g.T.Queryable.custom c.args.self.now in
     let rest = through (segments_in kept c.args.rest.now) d in
     let x = tree c.args.child.value.now in
-    took_as _ _ _ _ _ (ap (λ q. flat_map rest (acted kept c.args.action d (node_of tree q c.args.child.value.now))) c.in_ok-push.ensures.steps ∙ ap (λ l. flat_map rest (acted kept c.args.action d (record { location = l; tree = x }))) (map-append step_of c.args.trail.now.way.steps.items (c.args.child.step ∷ []))) c.in_ok-goes_on.ensures.gave
+    took_as _ _ _ _ _ (ap (λ q. flat_map rest (acted kept c.args.action d (node_of tree q c.args.child.value.now))) c.in_ok-push.ensures.steps ∙ ap (λ l. flat_map rest (acted kept c.args.action d (record { location = l; tree = x }))) (map-append lent_step c.args.trail.now.way.steps.items (c.args.child.step ∷ []))) c.in_ok-goes_on.ensures.gave
 
 pub each_child-at_child-requires : goal.each_child-at_child-requires
 each_child-at_child-requires g t c κs within =
@@ -271,7 +272,7 @@ each_child-returns-then-not-branch-clause-gave g t c =
     let rest = through (segments_in kept c.args.rest.now) d in
     let act = acted kept c.args.action d in
     let inv = c.loop-i.invariant in
-    let k = took_as _ _ _ _ _ (ap (λ q. flat_map rest (act (below (map step_of q) (index c.loop-i.i) (tree c.value-item.result)))) inv.returns.same) c.in_ok-at_child.ensures.gave in
+    let k = took_as _ _ _ _ _ (ap (λ q. flat_map rest (act (below (lent_location q) (index c.loop-i.i) (tree c.value-item.result)))) inv.returns.same) c.in_ok-at_child.ensures.gave in
     record { given = turn_stop _ _ (element_turns tree n.location rest act) c.deref-value-items.result.now c.loop-i.i c.value-item.result _ _ _ _ c.loop-i-test.true c.value-item.is k c.if-not-branch.true inv.given; stopped = λ _. k.stopped c.if-not-branch.true }
 
 pub each_child-loop-i-preserved : goal.each_child-loop-i-preserved
@@ -283,7 +284,7 @@ each_child-loop-i-preserved g t c =
     let rest = through (segments_in kept c.args.rest.now) d in
     let act = acted kept c.args.action d in
     let inv = c.loop-i.invariant in
-    let k = took_as _ _ _ _ _ (ap (λ q. flat_map rest (act (below (map step_of q) (index c.loop-i.i) (tree c.value-item.result)))) inv.returns.same) c.in_ok-at_child.ensures.gave in
+    let k = took_as _ _ _ _ _ (ap (λ q. flat_map rest (act (below (lent_location q) (index c.loop-i.i) (tree c.value-item.result)))) inv.returns.same) c.in_ok-at_child.ensures.gave in
     record { returns = on inv.returns c.in_ok-at_child.ensures.returns; given = turn_next _ _ (element_turns tree n.location rest act) c.deref-value-items.result.now c.loop-i.i c.value-item.result _ _ _ _ c.loop-i-test.true c.value-item.is k inv.given }
 
 pub each_child-each_member-requires : goal.each_child-each_member-requires
@@ -315,7 +316,7 @@ each_member-returns-then-not-branch-clause-gave g t c =
     let rest = through (segments_in kept c.args.rest.now) d in
     let act = acted kept c.args.action d in
     let inv = c.loop-member.invariant in
-    let k = took_as _ _ _ _ _ (ap (λ q. flat_map rest (act (below (map step_of q) (name c.member-item.result.0.now) (tree c.member-item.result.1.now)))) inv.returns.same) c.in_ok-at_child.ensures.gave in
+    let k = took_as _ _ _ _ _ (ap (λ q. flat_map rest (act (below (lent_location q) (name c.member-item.result.0.now) (tree c.member-item.result.1.now)))) inv.returns.same) c.in_ok-at_child.ensures.gave in
     record { given = turn_stop _ _ (member_turns (λ m. (m.0.now, tree m.1.now)) n.location rest act) c.args.members.now.list.now c.loop-member.member-index c.member-item.result _ _ _ _ c.loop-member-test.true c.member-item.is k c.if-not-branch.true inv.given; stopped = λ _. k.stopped c.if-not-branch.true }
 
 pub each_member-loop-member-preserved : goal.each_member-loop-member-preserved
@@ -327,7 +328,7 @@ each_member-loop-member-preserved g t c =
     let rest = through (segments_in kept c.args.rest.now) d in
     let act = acted kept c.args.action d in
     let inv = c.loop-member.invariant in
-    let k = took_as _ _ _ _ _ (ap (λ q. flat_map rest (act (below (map step_of q) (name c.member-item.result.0.now) (tree c.member-item.result.1.now)))) inv.returns.same) c.in_ok-at_child.ensures.gave in
+    let k = took_as _ _ _ _ _ (ap (λ q. flat_map rest (act (below (lent_location q) (name c.member-item.result.0.now) (tree c.member-item.result.1.now)))) inv.returns.same) c.in_ok-at_child.ensures.gave in
     record { returns = on inv.returns c.in_ok-at_child.ensures.returns; given = turn_next _ _ (member_turns (λ m. (m.0.now, tree m.1.now)) n.location rest act) c.args.members.now.list.now c.loop-member.member-index c.member-item.result _ _ _ _ c.loop-member-test.true c.member-item.is k inv.given }
 
 pub pass-pick-requires : goal.pass-pick-requires
@@ -399,7 +400,7 @@ pick-at_child-requires-in-Some-element g t c κs within =
     let e = ap (selector_view kept) c.in-Index.is ∙ selector_view-Index kept c.in-Index.index in
     let found = c.in-Some-element.ensures in
     let steps = c.args.trail.now.way.steps.items in
-    (down _ _ _ _ _ _ c.decreases (omega (arith, ap selector_weight e)) (omega (arith, found.smaller, c.requires.stands.within)), (within, (record { whole = found.whole; within = omega (arith, found.smaller, c.requires.stands.within); here = leads_indexed steps _ _ _ _ _ (g.met.T.Queryable.distinct c.args.at.now c.requires.stands.whole) c.requires.stands.here (found.value (map step_of steps)); ready = c.requires.stands.ready }, part_right _ _ _ c.requires.part)))
+    (down _ _ _ _ _ _ c.decreases (omega (arith, ap selector_weight e)) (omega (arith, found.smaller, c.requires.stands.within)), (within, (record { whole = found.whole; within = omega (arith, found.smaller, c.requires.stands.within); here = leads_indexed steps _ _ _ _ _ (g.met.T.Queryable.distinct c.args.at.now c.requires.stands.whole) c.requires.stands.here (found.value (lent_location steps)); ready = c.requires.stands.ready }, part_right _ _ _ c.requires.part)))
 
 pub pick-element-requires : goal.pick-element-requires
 pick-element-requires g t c = c.requires.stands.whole
@@ -582,7 +583,7 @@ pick_slice-returns-then-not-branch-clause-gave g t c =
     let inside : position < length items = All-head P position _ (subst (All P) steps inv.below) in
     let x = tree c.index-value.result.now in
     let here = element_at tree n.location n.tree items position c.index-value.result.now some inside c.index-value.ensures in
-    let k = took_as _ _ _ _ _ (ap (λ q. flat_map rest (below (map step_of q) (index position) x ∷ [])) inv.returns.same ∙ ap (flat_map rest) here) c.in_ok-at_child.ensures.gave in
+    let k = took_as _ _ _ _ _ (ap (λ q. flat_map rest (below (lent_location q) (index position) x ∷ [])) inv.returns.same ∙ ap (flat_map rest) here) c.in_ok-at_child.ensures.gave in
     record { given = place_stop rest (λ j. element j n) _ _ position _ _ _ _ steps k c.if-not-branch.true inv.given ∙ ap (λ ns. give (seen tree whole c.args.sink.now) (flat_map rest ns)) (sliced-list tree n items c.args.slice.0 c.args.slice.1 c.args.slice.2 some); stopped = λ _. k.stopped c.if-not-branch.true }
 
 pub pick_slice-loop-position-preserved : goal.pick_slice-loop-position-preserved
@@ -601,7 +602,7 @@ pick_slice-loop-position-preserved g t c =
     let inside : position < length items = All-head P position _ (subst (All P) steps inv.below) in
     let x = tree c.index-value.result.now in
     let here = element_at tree n.location n.tree items position c.index-value.result.now some inside c.index-value.ensures in
-    let k = took_as _ _ _ _ _ (ap (λ q. flat_map rest (below (map step_of q) (index position) x ∷ [])) inv.returns.same ∙ ap (flat_map rest) here) c.in_ok-at_child.ensures.gave in
+    let k = took_as _ _ _ _ _ (ap (λ q. flat_map rest (below (lent_location q) (index position) x ∷ [])) inv.returns.same ∙ ap (flat_map rest) here) c.in_ok-at_child.ensures.gave in
     record { returns = record { same = c.in_ok-at_child.ensures.returns.same ∙ inv.returns.same; ready = c.in_ok-at_child.ensures.returns.ready }; below = All-tail P position _ (subst (All P) steps inv.below); given = place_next rest (λ j. element j n) _ _ position _ _ _ _ steps k inv.given }
 
 pub pick_slice-returns-clause-gave : goal.pick_slice-returns-clause-gave

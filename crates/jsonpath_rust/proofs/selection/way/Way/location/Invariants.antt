@@ -1,8 +1,8 @@
-use Rattle.std.proofs.Common.{◌≡◌, map, take}
+use Rattle.std.proofs.Common.{◌≡◌, take}
 use Rattle.jsonpath_base.specs.Steps.{location_view}
-use Rattle.jsonpath_rust.specs.selection.inner.Walking.{step_of}
+use Rattle.jsonpath_base.specs.Steps.{lent_location}
 use Rattle.jsonpath_rust.proofs.selection.way.Way.location.Given as goal
 
 -- the first steps stand there
 abbrev pub invariant-loop-step : goal.invariant-loop-step
-invariant-loop-step l = location_view l.steps.items ≡ map step_of (take l.step-index l.step-items)
+invariant-loop-step l = location_view l.steps.items ≡ lent_location (take l.step-index l.step-items)

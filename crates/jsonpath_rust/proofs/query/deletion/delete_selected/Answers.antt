@@ -1,0 +1,7 @@
+use Rattle.std.proofs.Common.{ap, ◌∙◌}
+use Rattle.jsonpath_base.specs.Values.{value_tree}
+use Rattle.jsonpath_base.specs.Without.{without}
+use Rattle.jsonpath_rust.proofs.query.deletion.delete_selected.Goals as goal
+
+pub returns-clause-removed : goal.returns-clause-removed
+returns-clause-removed c = c.remove_from.ensures.removed ∙ ap (λ s. without s (value_tree c.args.value.now)) c.in_ok-removal.ensures.removal.set
