@@ -1,4 +1,7 @@
 //! The members of a row.
+ghost use Rattle.std.specs.Prelude.{◌≡◌};
+ghost use Rattle.rows_common.specs.Reading.{limit_of};
+
 use jsonpath_parser::MAX_NESTING_DEPTH;
 use serde_json::Value;
 
@@ -53,7 +56,9 @@ pub enum Depth {
 
 impl Depth {
     /// As a limit.
-    pub fn limit(self) -> usize {
+    pub fn limit(self) -> usize
+        ensures { result ≡ limit_of self }
+    {
         match self {
             Depth::Default => MAX_NESTING_DEPTH,
             Depth::Limit(depth) => depth,

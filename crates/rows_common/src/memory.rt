@@ -1,4 +1,7 @@
 //! Memory, and whether it ran out while a row was asked.
+ghost use Rattle.std.specs.Prelude.{◌≡◌, true, IsTrue};
+ghost use Rattle.std.specs.Result.{result_ok};
+
 use jsonpath_parser::errors::JsonPathError;
 use std::alloc::{AllocError, AllocFailed, Global};
 use std::cell::Cell;
@@ -71,7 +74,9 @@ impl Memory {
     }
 
     /// The value of an answer, or None of a refusal.
-    pub fn ok<T, E: Refusal + Drop>(&self, answer: Result<T, E>) -> Option<T> {
+    pub fn ok<T, E: Refusal + Drop>(&self, answer: Result<T, E>) -> Option<T>
+        ensures { result ≡ result_ok answer }
+    {
         match answer {
             Ok(value) => Some(value),
             Err(error) => {
@@ -83,7 +88,9 @@ impl Memory {
     }
 
     /// Whether the answer is true, and no refusal.
-    pub fn holds<E: Refusal + Drop>(&self, answer: Result<bool, E>) -> bool {
+    pub fn holds<E: Refusal + Drop>(&self, answer: Result<bool, E>) -> bool
+        ensures { IsTrue result → answer ≡ Ok true }
+    {
         self.ok(answer) == Some(true)
     }
 

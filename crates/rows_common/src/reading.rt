@@ -1,8 +1,15 @@
 //! What a query text is read as.
+ghost use Rattle.std.specs.Prelude.{◌≢◌, IfOk};
+ghost use Rattle.jsonpath_parser.specs.Derives.{Derives};
+ghost use Rattle.jsonpath_parser.specs.tree.View.{query_view};
+ghost use Rattle.rows_common.specs.Reading.{limit_of, IsReadSo};
+
 use crate::members::Depth;
 use crate::memory::Memory;
-use jsonpath_parser::errors::JsonPathError;
+use jsonpath_parser::errors::{JsonPathError, Parsed};
+use jsonpath_parser::model::JpQuery;
 use jsonpath_parser::{let_go, parse_json_path, parse_json_path_within};
+use std::alloc::Global;
 
 /// What a text is read as.
 #[derive(Clone, Copy)]
@@ -17,12 +24,10 @@ pub enum Reading {
 }
 
 /// Reads a text, and lets its tree go.
-pub fn read(memory: &Memory, text: &str, depth: Depth) -> Reading {
-    let read = match depth {
-        Depth::Default => parse_json_path(memory.alloc, text),
-        Depth::Limit(depth) => parse_json_path_within(memory.alloc, text, depth),
-    };
-    match read {
+pub fn read(memory: &Memory, text: &str, depth: Depth) -> Reading
+    ensures { IsReadSo (limit_of depth) text.now result }
+{
+    match parsed(memory.alloc, text, depth) {
         Ok(tree) => {
             let_go(tree);
             Reading::Tree
@@ -36,7 +41,19 @@ pub fn read(memory: &Memory, text: &str, depth: Depth) -> Reading {
     }
 }
 
-fn cause_of(error: &JsonPathError) -> Reading {
+/// The query that the text is, by the call that takes this depth.
+fn parsed(alloc: Global, text: &str, depth: Depth) -> Parsed<JpQuery>
+    ensures { IfOk result (λ q. Derives (limit_of depth) text.now (query_view q)) }
+{
+    match depth {
+        Depth::Default => parse_json_path(alloc, text),
+        Depth::Limit(depth) => parse_json_path_within(alloc, text, depth),
+    }
+}
+
+fn cause_of(error: &JsonPathError) -> Reading
+    ensures { result ≢ Reading.Tree }
+{
     match error {
         JsonPathError::PestError(_) => Reading::NoQuery,
         JsonPathError::InvalidNumber(_) => Reading::NoNumber,

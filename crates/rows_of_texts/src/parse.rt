@@ -1,4 +1,7 @@
 //! Rows on query texts: `accepted`, `same_as`, `differs_from`.
+ghost use Rattle.std.specs.Prelude.{ℕ, IsTrue};
+ghost use Rattle.rows_common.specs.Reading.{IsQuery};
+
 use crate::tree::{Comparison, compare};
 use jsonpath_parser::MAX_NESTING_DEPTH;
 use rows_common::Memory;
@@ -35,7 +38,9 @@ fn compared(memory: &Memory, row: &Value, name: &str, query: &str) -> Comparison
 }
 
 /// Whether the text is read, at the row's depth, and where that is the default one also as a depth that is given.
-fn is_accepted(memory: &Memory, row: &Value, query: &str) -> bool {
+fn is_accepted(memory: &Memory, row: &Value, query: &str) -> bool
+    ensures { IsTrue result → (depth : ℕ) × IsQuery depth query.now }
+{
     match (row.get("accepted"), depth_of(row)) {
         (Some(Value::Bool(true)), Some(Depth::Default)) => {
             matches!(read(memory, query, Depth::Default), Reading::Tree)

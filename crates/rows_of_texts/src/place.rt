@@ -1,4 +1,8 @@
 //! Rows on places in values: `at`, `put_at`, `remove_all`.
+ghost use Rattle.std.specs.Prelude.{IsTrue};
+ghost use Rattle.jsonpath_base.specs.Same.{same};
+ghost use Rattle.jsonpath_base.specs.Values.{value_tree};
+
 use jsonpath_base::{Step, at, put_at, remove_all, same, whole};
 use rows_common::Memory;
 use rows_common::members::{list, size};
@@ -61,7 +65,9 @@ fn are_removed(memory: &Memory, value: &Value, locations: &Value, answer: &Value
     Some(held)
 }
 
-fn are_same(value: &Value, wanted: &Value) -> bool {
+fn are_same(value: &Value, wanted: &Value) -> bool
+    ensures { IsTrue result → IsTrue (same (value_tree value.now) (value_tree wanted.now)) }
+{
     whole(value) && whole(wanted) && same(value, wanted)
 }
 
