@@ -1,9 +1,9 @@
-//! Rows on the calls of a document type: `equal`, `extension_custom`.
+//! Rows on the calls of a document type: `equal`, `from_list`, `extension_custom`.
 ghost use Rattle.std.specs.Prelude.{All, IsTrue};
 ghost use Rattle.jsonpath_rust.specs.documents.Args.{arg_value};
 
 use crate::doc::Doc;
-use crate::doc::document::{Document, is_value};
+use crate::doc::document::{Document, document_of, is_value};
 use jsonpath_rust::query::queryable::{Arg, Queryable};
 use rows_common::Memory;
 use rows_common::members::{Types, has_only, list_at, string_at, types_of};
@@ -45,6 +45,7 @@ fn answers_of<T: Document>(
 ) -> bool {
     match (name, arguments) {
         ("equal", [left, right]) => are_equal_so::<T>(memory, left, right, answer),
+        ("from_list", values) => is_listed::<T>(memory, values, answer),
         ("extension_custom", [Value::String(name), values @ ..]) => {
             answers_custom::<T>(memory, name.as_str(), values, answer)
         }
@@ -65,6 +66,17 @@ fn are_equal_so<T: Document>(memory: &Memory, left: &Value, right: &Value, answe
     left.is_whole() && right.is_whole() && answer.as_bool() == Some(left.equal(&right))
 }
 
+fn is_listed<T: Document>(memory: &Memory, values: &[Value], answer: &Value) -> bool {
+    let Some(values) = values_of::<T>(memory, values) else {
+        return false;
+    };
+    are_whole(&values)
+        && match memory.ok(T::from_list(memory.alloc, values)) {
+            Some(list) => memory.holds(is_value(memory.alloc, &list, answer)),
+            None => false,
+        }
+}
+
 fn answers_custom<T: Document>(
     memory: &Memory,
     name: &str,
@@ -74,27 +86,38 @@ fn answers_custom<T: Document>(
     let Some(arguments) = arguments_of::<T>(memory, values) else {
         return false;
     };
-    are_whole(&arguments)
+    are_whole_arguments(&arguments)
         && match memory.ok(T::extension_custom(memory.alloc, name, &arguments)) {
             Some(found) => memory.holds(is_value(memory.alloc, &found, answer)),
             None => false,
         }
 }
 
-/// The values, as arguments of their own; None where one is not whole, or memory ran out.
+/// The documents of the values; None where one is not whole, or memory ran out.
+fn values_of<T: Document>(memory: &Memory, values: &[Value]) -> Option<Vec<T>> {
+    let mut made = Vec::new(memory.alloc);
+    for value in values {
+        memory.ok(made.push(document_of(memory, value)?))?;
+    }
+    Some(made)
+}
+
+/// The same, as arguments of their own.
 fn arguments_of<'v, T: Document>(memory: &Memory, values: &'v [Value]) -> Option<Vec<Arg<'v, T>>> {
     let mut arguments = Vec::new(memory.alloc);
     for value in values {
-        if !value.is_whole() {
-            return None;
-        }
-        let value = memory.ok(T::made(memory.alloc, value))?;
-        memory.ok(arguments.push(Arg::Owned(value)))?;
+        memory.ok(arguments.push(Arg::Owned(document_of(memory, value)?)))?;
     }
     Some(arguments)
 }
 
-fn are_whole<T: Queryable>(arguments: &[Arg<'_, T>]) -> bool
+fn are_whole<T: Queryable>(values: &[T]) -> bool
+    ensures { IsTrue result → All (λ v. IsTrue (T.is_whole v)) values.now }
+{
+    values.iter().all(|value| value.is_whole())
+}
+
+fn are_whole_arguments<T: Queryable>(arguments: &[Arg<'_, T>]) -> bool
     ensures { IsTrue result → All (λ a. IsTrue (T.is_whole (arg_value a))) arguments.now }
 {
     arguments.iter().all(|argument| argument.get().is_whole())

@@ -6,6 +6,7 @@ mod agreement;
 mod custom;
 mod deletion;
 mod doc;
+mod node;
 mod nodes;
 mod query;
 mod reference;

@@ -1,5 +1,5 @@
 //! One row: what it asks is told by its members. One with another member, or without one that it needs, does not hold.
-use crate::{custom, deletion, query, reference, refused, runs, states};
+use crate::{custom, deletion, node, query, reference, refused, runs, states};
 use rows_common::Memory;
 use serde_json::Value;
 
@@ -15,6 +15,8 @@ pub fn holds(memory: &Memory, row: &Value) -> bool {
         runs::holds(memory, row)
     } else if row.get("process").is_some() || row.get("states").is_some() {
         states::holds(memory, row)
+    } else if row.get("node").is_some() {
+        node::holds(memory, row)
     } else if row.get("nodes").is_some() || row.get("paths").is_some() {
         query::holds(memory, row)
     } else {

@@ -1,9 +1,10 @@
-//! Asks the rows on standard input that need no document: on texts and their trees, on trees made by hand, and on calls of
-//! `jsonpath_base`.
+//! Asks the rows on standard input that need no document: on texts and their trees, on trees made by hand, on errors, and on
+//! calls of `jsonpath_base`.
 #![tactic(auto)]
 
 mod built;
 mod call;
+mod error;
 mod maker;
 mod parse;
 mod pattern;

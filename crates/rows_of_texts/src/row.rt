@@ -1,5 +1,5 @@
 //! One row: what it asks is told by its members. One with another member, or without one that it needs, does not hold.
-use crate::{built, call, maker, parse, production};
+use crate::{built, call, error, maker, parse, production};
 use rows_common::Memory;
 use serde_json::Value;
 
@@ -11,6 +11,8 @@ pub fn holds(memory: &Memory, row: &Value) -> bool {
         maker::holds(memory, row)
     } else if row.get("built").is_some() {
         built::holds(memory, row)
+    } else if row.get("error").is_some() {
+        error::holds(memory, row)
     } else if row.get("call").is_some() {
         call::holds(memory, row)
     } else {

@@ -3,6 +3,7 @@ use crate::doc::{Doc, of_value};
 use jsonpath_rust::JsonPath;
 use jsonpath_rust::query::Queried;
 use jsonpath_rust::query::queryable::Queryable;
+use rows_common::Memory;
 use serde_json::Value;
 use std::alloc::Global;
 
@@ -21,6 +22,15 @@ impl Document for Value {
 impl Document for Doc {
     fn made(alloc: Global, value: &Value) -> Queried<Doc> {
         Ok(of_value(alloc, value)?)
+    }
+}
+
+/// The document of a value; None where a number of it is not whole, or memory ran out.
+pub fn document_of<T: Document>(memory: &Memory, value: &Value) -> Option<T> {
+    if value.is_whole() {
+        memory.ok(T::made(memory.alloc, value))
+    } else {
+        None
     }
 }
 

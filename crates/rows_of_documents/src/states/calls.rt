@@ -1,12 +1,13 @@
 //! Rows on the calls of states, of what they hold and of pointers: a call, the contents and the argument that it is asked of,
-//! in a document, and what it answers.
+//! in a document, and what it answers. The other content stands in the same document, or in an `other_document`.
 ghost use Rattle.std.specs.Prelude.{IsTrue, IfSome};
 ghost use Rattle.jsonpath_rust.specs.states.State.{DataIsWhole};
 
+mod mapped;
 mod pointers;
 
 use crate::doc::Doc;
-use crate::doc::document::{Document, is_value};
+use crate::doc::document::{Document, document_of, is_value};
 use crate::states::content::{are_pointers, is_state, state_of, values_of};
 use jsonpath_rust::query::queryable::Queryable;
 use jsonpath_rust::query::state::{Data, State};
@@ -19,7 +20,14 @@ pub fn holds(memory: &Memory, row: &Value) -> bool {
     has_only(
         row,
         &[
-            "states", "document", "state", "other", "argument", "answer", "of",
+            "states",
+            "document",
+            "state",
+            "other_document",
+            "other",
+            "argument",
+            "answer",
+            "of",
         ],
     ) && match types_of(row) {
         Some(Types::Value) => holds_of::<Value>(memory, row),
@@ -29,38 +37,36 @@ pub fn holds(memory: &Memory, row: &Value) -> bool {
     }
 }
 
-/// A row, with its document and the values of the nodes of both its contents.
+/// A row, with the documents of both its contents and the values of their nodes.
 #[derive(Drop)]
 struct Asked<'r, T> {
     row: &'r Value,
     document: &'r T,
     values: &'r [T],
+    other_document: &'r T,
     others: &'r [T],
 }
 
 fn holds_of<T: Document>(memory: &Memory, row: &Value) -> bool {
-    let values = values_at::<T>(memory, row, "state");
-    let others = values_at::<T>(memory, row, "other");
-    match (document_of::<T>(memory, row), values, others) {
-        (Some(document), Some(values), Some(others)) => is_answered(
+    let document = row.get("document").unwrap_or(&Value::Null);
+    let other_document = row.get("other_document").unwrap_or(document);
+    match (
+        document_of::<T>(memory, document),
+        values_at::<T>(memory, row, "state"),
+        document_of::<T>(memory, other_document),
+        values_at::<T>(memory, row, "other"),
+    ) {
+        (Some(document), Some(values), Some(other_document), Some(others)) => is_answered(
             memory,
             &Asked {
                 row,
                 document: &document,
                 values: &values,
+                other_document: &other_document,
                 others: &others,
             },
         ),
         _ => false,
-    }
-}
-
-/// The row's document, null where it has none.
-fn document_of<T: Document>(memory: &Memory, row: &Value) -> Option<T> {
-    match row.get("document") {
-        Some(document) if document.is_whole() => memory.ok(T::made(memory.alloc, document)),
-        Some(_) => None,
-        None => memory.ok(T::made(memory.alloc, &Value::Null)),
     }
 }
 
@@ -84,6 +90,7 @@ fn is_answered<T: Document>(memory: &Memory, asked: &Asked<'_, T>) -> bool {
         "shown" => is_shown(memory, asked, wanted),
         "ok_ref" => is_ok_ref(memory, asked, wanted),
         "ok_val" => is_ok_val(memory, asked, wanted),
+        "flat_map" => mapped::is_answered(memory, asked, wanted),
         "is_internal" => match pointers::given(memory, asked) {
             Some(pointer) => wanted.as_bool() == Some(pointer.is_internal()),
             None => false,
@@ -132,7 +139,7 @@ fn other<'r, T: Document>(memory: &Memory, asked: &Asked<'r, T>) -> Option<State
 {
     state_of(
         memory,
-        asked.document,
+        asked.other_document,
         asked.row.get("other")?,
         asked.others,
     )

@@ -79,6 +79,7 @@ fn is_answered<T: Document>(memory: &Memory, part: &str, text: &str, asked: &Ask
     match part {
         "index" => is_answered_by_query(memory, picks::index(memory, text), asked),
         "slice" => is_answered_by_query(memory, picks::slice(memory, text), asked),
+        "query_of_no_selectors" => is_answered_by_query(memory, picks::nothing(memory), asked),
         "untyped_call" => is_answered_by(memory, untyped::call(memory, text), asked),
         "untyped_comparison" => is_answered_by_query(
             memory,
