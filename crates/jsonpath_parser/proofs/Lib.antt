@@ -18,6 +18,7 @@ pub mod PartLaws
 pub mod PartSelectors
 pub mod Respelling
 pub mod Sound
+pub mod FilterPieces
 pub mod SoundFilters
 pub mod SoundLists
 pub mod SoundParts

@@ -12,38 +12,11 @@ use Rattle.jsonpath_parser.specs.words.inner.ReadingStrings.{string_at}
 use Rattle.jsonpath_parser.specs.tree.Syntax.{number, string, current, root, Filter, or, and, atom, Filters, no_filters, filter_then, group, test, comparison, compare, Comparable, literal, function, singular, relative, absolute, call, Call, custom_call, length_call, value_call, count_call, search_call, match_call, Argument, literal_argument, test_argument, filter_argument, Arguments, no_arguments, argument}
 use Rattle.jsonpath_parser.specs.tree.Typing.{one_argument, two_arguments, call_of, is_table_name}
 use Rattle.jsonpath_parser.proofs.laws.words.Fronts.{skip_split}
+use Rattle.jsonpath_parser.proofs.FilterPieces.{twice_front, marked, marked_others, call_pieces, group_pieces, compared_pieces, within, one_spelled, SpellsTwo, two_spelled}
 use Rattle.jsonpath_parser.proofs.SoundLists.{sound_many, many_some, sound_separated}
 use Rattle.jsonpath_parser.proofs.SoundParts.{bind_ok, map_ok, chosen, at_front, two_front, byte_read, Spelled, same_parts, moved, glue, same_word, word_sound, sound_operator, word_spelled}
 use Rattle.jsonpath_parser.proofs.SoundSegments.{gathered, steps_spelled, sound_logical, sound_all_segments}
 use Rattle.jsonpath_parser.proofs.laws.words.StringSound.{sound_string}
-
--- a byte twice at the front
-twice_front : (b : ℕ) (text : List ℕ) → is_twice b text ≡ true → 0 < b → text ≡ b ∷ b ∷ drop 2 text
-twice_front b text e some = let (here, next) = and_parts _ _ e in two_front text b b here next some some
-
--- the pieces of what stands behind a mark
-marked : (mark text t1 t2 t3 rest b c a : List ℕ) → text ≡ b ++ t1 → t1 ≡ mark ++ t2 → t2 ≡ c ++ t3 → t3 ≡ a ++ rest → text ≡ (b ++ (mark ++ (c ++ a))) ++ rest
-marked mark text t1 t2 t3 rest b c a e1 e2 e3 e4 = rw (e1, e2, e3, e4) (simp append_assoc)
-
--- and others behind them
-marked_others : (mark b c a r : List ℕ) → (b ++ (mark ++ (c ++ a))) ++ r ≡ b ++ (mark ++ (c ++ (a ++ r)))
-marked_others mark b c a r = simp append_assoc
-
--- the pieces of a call
-call_pieces : (called inner t2 t3 t4 rest b a c : List ℕ) → inner ≡ b ++ t2 → t2 ≡ a ++ t3 → t3 ≡ c ++ t4 → t4 ≡ 41 ∷ rest → called ++ (40 ∷ inner) ≡ ((called ++ 40 ∷ []) ++ (b ++ (a ++ (c ++ 41 ∷ [])))) ++ rest
-call_pieces called inner t2 t3 t4 rest b a c e1 e2 e3 e4 = rw (e1, e2, e3, e4) (simp append_assoc)
-
--- the pieces of a group, with what stands before it
-group_pieces : (p text t1 t2 t3 t4 rest b a c : List ℕ) → text ≡ 40 ∷ t1 → t1 ≡ b ++ t2 → t2 ≡ a ++ t3 → t3 ≡ c ++ t4 → t4 ≡ 41 ∷ rest → p ++ text ≡ (p ++ (40 ∷ (b ++ (a ++ (c ++ 41 ∷ []))))) ++ rest
-group_pieces p text t1 t2 t3 t4 rest b a c e e1 e2 e3 e4 = rw (e, e1, e2, e3, e4) (simp append_assoc)
-
--- the pieces of a comparison
-compared_pieces : (a b text t1 t2 rest o c d : List ℕ) → text ≡ o ++ t1 → t1 ≡ c ++ t2 → t2 ≡ d ++ rest → a ++ (b ++ text) ≡ (a ++ (b ++ (o ++ (c ++ d)))) ++ rest
-compared_pieces a b text t1 t2 rest o c d e1 e2 e3 = rw (e1, e2, e3) (simp append_assoc)
-
--- what stands between two texts may be seen as another thing
-within : (P Q : List ℕ → Type 0) (before after text : List ℕ) → ((a : List ℕ) → P a → Q a) → Between before P after text → Between before Q after text
-within P Q before after text f h = let (b, a, c, hb, ha, hc, e) = h in (b, a, c, hb, f a ha, hc, e)
 
 module _ (Number : Option ℤ → List ℕ → Type 0) where
   -- ---- arguments
@@ -121,42 +94,23 @@ module _ (Number : Option ℤ → List ℕ → Type 0) where
 
   -- ---- calls
 
-  -- one argument alone
-  one_spelled : (xs : Arguments) (x : Argument) (a : List ℕ) → one_argument xs ≡ Some x → SpellsArguments Number xs a → SpellsArgument Number x a
-  one_spelled no_arguments x a e h = absurd (cc)
-  one_spelled (argument y no_arguments) x a e h =
-      let (c, d, hc, hd, ec) = h in
-      let k : y ≡ x = cc in
-      subst (λ v. SpellsArgument Number x v) (sym (ec ∙ ap (λ v. c ++ v) hd ∙ append-nil c)) (subst (λ v. SpellsArgument Number v c) k hc)
-  one_spelled (argument y (argument z more)) x a e h = absurd (cc)
-
-  -- two
-  abbrev SpellsTwo : Argument × Argument → List ℕ → Type 0
-  SpellsTwo p text = Then (SpellsArgument Number p.0) (Behind (codes ",") (SpellsArgument Number p.1) IsNothing) text
-
-  two_spelled : (xs : Arguments) (p : Argument × Argument) (a : List ℕ) → two_arguments xs ≡ Some p → SpellsArguments Number xs a → SpellsTwo p a
-  two_spelled no_arguments p a e h = absurd (cc)
-  two_spelled (argument y no_arguments) p a e h = absurd (cc)
-  two_spelled (argument y (argument z no_arguments)) p a e h = let k : ◌≡◌ {A = Argument × Argument} (y, z) p = cc in subst (λ (q : Argument × Argument). SpellsTwo q a) k h
-  two_spelled (argument y (argument z (argument w more))) p a e h = absurd (cc)
-
   -- a call of one argument by its name
   one_call : (make : Argument → Call) (word called : List ℕ) (xs : Arguments) (c : Call) (t : List ℕ)
       → ((x : Argument) (s : List ℕ) → SpellsCalled word (SpellsArgument Number x) s → SpellsCall Number (make x) s)
       → bytes_eq called word ≡ true → option_map make (one_argument xs) ≡ Some c → SpellsCalled called (SpellsArguments Number xs) t → SpellsCall Number c t
   one_call make word called xs c t fits same e h =
       let (x, is, made) = map_ok make (one_argument xs) c e in
-      let its : SpellsCalled called (SpellsArgument Number x) t = within (SpellsArguments Number xs) (SpellsArgument Number x) (called ++ 40 ∷ []) (41 ∷ []) t (λ a ha. one_spelled xs x a is ha) h in
+      let its : SpellsCalled called (SpellsArgument Number x) t = within (SpellsArguments Number xs) (SpellsArgument Number x) (called ++ 40 ∷ []) (41 ∷ []) t (λ a ha. one_spelled Number xs x a is ha) h in
       subst (λ v. SpellsCall Number v t) made (fits x t (subst (λ v. SpellsCalled v (SpellsArgument Number x) t) (same_word called word same) its))
 
   -- and of two
   two_call : (make : Argument × Argument → Call) (word called : List ℕ) (xs : Arguments) (c : Call) (t : List ℕ)
-      → ((p : Argument × Argument) (s : List ℕ) → SpellsCalled word (SpellsTwo p) s → SpellsCall Number (make p) s)
+      → ((p : Argument × Argument) (s : List ℕ) → SpellsCalled word (SpellsTwo Number p) s → SpellsCall Number (make p) s)
       → bytes_eq called word ≡ true → option_map make (two_arguments xs) ≡ Some c → SpellsCalled called (SpellsArguments Number xs) t → SpellsCall Number c t
   two_call make word called xs c t fits same e h =
       let (p, is, made) = map_ok make (two_arguments xs) c e in
-      let its : SpellsCalled called (SpellsTwo p) t = within (SpellsArguments Number xs) (SpellsTwo p) (called ++ 40 ∷ []) (41 ∷ []) t (λ a ha. two_spelled xs p a is ha) h in
-      subst (λ v. SpellsCall Number v t) made (fits p t (subst (λ v. SpellsCalled v (SpellsTwo p) t) (same_word called word same) its))
+      let its : SpellsCalled called (SpellsTwo Number p) t = within (SpellsArguments Number xs) (SpellsTwo Number p) (called ++ 40 ∷ []) (41 ∷ []) t (λ a ha. two_spelled Number xs p a is ha) h in
+      subst (λ v. SpellsCall Number v t) made (fits p t (subst (λ v. SpellsCalled v (SpellsTwo Number p) t) (same_word called word same) its))
 
   -- a name of no function of the table
   custom_name : (called : List ℕ) → bytes_eq called (codes "length") ≡ false → bytes_eq called (codes "value") ≡ false → bytes_eq called (codes "count") ≡ false → bytes_eq called (codes "search") ≡ false → bytes_eq called (codes "match") ≡ false → is_table_name called ≡ false
