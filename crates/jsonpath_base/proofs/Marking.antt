@@ -1,5 +1,5 @@
 -- Marks beside the set of locations that they hold.
-use Rattle.std.proofs.Common.{◌≡◌, ◌≤◌, ◌<◌, ℕ, suc, ◌+◌, List, [], ◌∷◌, map, Bool, true, false, true≢false, cond, ◌&&◌, ◌||◌, Option, Some, None, option_map, Result, Ok, Err, OnOk, Ordering, Less, Equal, Greater, is_eq, nat_cmp, nat_eq, bytes_eq, String, Global, string_bytes, string_cmp, BTreeMap, refl, sym, ap, ◌∙◌, subst, rules, arith, eqb-true, ne_eqb}
+use Rattle.std.proofs.Common.{◌≡◌, ◌≤◌, ◌<◌, ℕ, suc, ◌+◌, List, [], ◌∷◌, map, Bool, true, false, true≢false, cond, ◌&&◌, ◌||◌, Option, Some, None, option_map, Result, Ok, Err, OnOk, Ordering, Less, Equal, Greater, is_eq, nat_cmp, nat_eq, bytes_eq, String, Global, string_bytes, string_cmp, BTreeMap, unwrap_or, refl, sym, ap, ◌∙◌, subst, rules, arith, eqb-true, ne_eqb}
 use Rattle.std.proofs.Math.Dec.{ltb}
 use Rattle.std.proofs.lemmas.Bool.{ltb-true, ltb-false}
 use Rattle.std.proofs.lemmas.Cmp.{ranked}
@@ -179,6 +179,15 @@ by_step to true s t l rest old new o w e was is others h =
     let same : s ≡ t = same_step s t e in
     rw (← same, was, is) (h.each l)
 by_step to false s t l rest old new o w e was is others h = ap (λ x. marked_by x l) (others e)
+
+-- where none are there, empty ones stand for them
+pub marked_or : (o : Option Marks) (empty : Marks) → ((l : Location) → marked empty l ≡ false) → (l : Location) → marked (unwrap_or o empty) l ≡ marked_by o l
+marked_or None empty none l = none l
+marked_or (Some m) empty none l = refl
+
+-- one more location than in the same set in other words
+pub also_alike : (f g : Location → Bool) (at : Location) (new : Location → Bool) → ((l : Location) → f l ≡ g l) → HasAlso g at new → HasAlso f at new
+also_alike f g at new same h = record { each = λ l. h.each l ∙ ap (λ b. is_location at l || b) (sym (same l)) }
 
 -- where the marks below one step are others
 pub also_below : {K : Type 0} (to : K → Step) (old new : List (K × Marks)) (s : Step) (rest : Location) (o : Option Marks) (w : Marks) → lookup (is_key to s) old ≡ o → lookup (is_key to s) new ≡ Some w

@@ -61,6 +61,10 @@ is_found (Some re) text = is_some (find_str re text 0)
 abbrev pub found : Bool → List ℕ → List ℕ → Bool
 found entire pattern text = is_found (pattern_sought entire pattern) text
 
+abbrev pub IsInvalid : JsonPathError → Type 0
+IsInvalid (InvalidJsonPath _) = ⊤
+IsInvalid _ = ⊥
+
 -- why what looks for it cannot be built: memory ran out, or there is something to look for, and `regex` refused it for its size
 abbrev pub IsPatternRefusal : Option Re → JsonPathError → Type 0
 IsPatternRefusal sought OutOfMemory = ⊤

@@ -84,11 +84,6 @@ fn mark_element(
     ensures fresh { IfOk result (λ b. b ≡ not (marked_below location.index below.old.entries (location.index index ∷ lent_location rest.now))) }
     ensures added { OnOk result (HasAlso (marked_below location.index below.old.entries) (location.index index ∷ lent_location rest.now) (marked_below location.index below.new.entries)) }
 {
-    if let Some(marks) = below.get_mut(&index) {
-        return mark(alloc, marks, rest);
-    }
-    let mut marks = Marks::new(alloc);
-    let fresh = mark(alloc, &mut marks, rest)?;
-    below.insert(index, marks)?;
-    Ok(fresh)
+    let marks = below.entry(index)?.or_insert(Marks::new(alloc));
+    mark(alloc, marks, rest)
 }

@@ -1,7 +1,8 @@
 //! The patterns of `match` and `search` (RFC 9535, 2.4.6 and 2.4.7).
 ghost use Rattle.std.specs.Prelude.{◌≡◌, ◌↔◌, ◌++◌, ◌==◌, IsTrue, false, Option, IsSome, is_some, chars, codes, IfOk, IfErr, OnOk, string_bytes, encode_utf8_all};
 ghost use Rattle.regex.specs.Patterns.{Re};
-ghost use Rattle.jsonpath_base.specs.Pattern.{translated, reading, wrapped, is_entire, sought, pattern_sought, found, IsPatternRefusal};
+ghost use Rattle.jsonpath_parser.specs.declared.errors.JsonPathError.TheVariants as error;
+ghost use Rattle.jsonpath_base.specs.Pattern.{translated, reading, wrapped, is_entire, sought, pattern_sought, found, IsInvalid, IsPatternRefusal};
 ghost use Rattle.jsonpath_base.specs.inner.PatternParts.{written, inside_after, escaped_after, FindsSame, MatchesSame};
 
 use jsonpath_parser::errors::{JsonPathError, Parsed};
@@ -198,9 +199,11 @@ fn built(alloc: Global, text: &str) -> Parsed<Option<Regex>>
     }
 }
 
-/// The error for a text that has a reading and is refused.
-fn too_large(alloc: Global) -> JsonPathError
-    ensures { (sought : Option Re) → IsSome sought → IsPatternRefusal sought result }
+/// The error for a pattern that has a reading and is refused for its size: `InvalidJsonPath`, or `OutOfMemory` where there is no
+/// memory for its text.
+pub fn too_large(alloc: Global) -> JsonPathError
+    ensures refused { (sought : Option Re) → IsSome sought → IsPatternRefusal sought result }
+    ensures invalid { (result ≡ error.OutOfMemory → ⊥) → IsInvalid result }
 {
     match String::from_str(alloc, "a pattern is too large") {
         Ok(text) => JsonPathError::InvalidJsonPath(text),
