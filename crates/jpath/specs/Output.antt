@@ -17,7 +17,8 @@ use Rattle.jsonpath_base.specs.Without.{without, is_among, distinct_count}
 use Rattle.jsonpath_base.specs.Values.{tree_of, has_whole_numbers}
 use Rattle.jsonpath_rust.specs.documents.Document.{Document}
 use Rattle.jsonpath_rust.specs.documents.Meaning.{selected}
-use Rattle.jsonpath_rust.specs.documents.Patterns.{IsInvalid, AsksPattern}
+use Rattle.jsonpath_base.specs.Pattern.{IsInvalid}
+use Rattle.jsonpath_rust.specs.documents.Patterns.{segments_patterns, AsksPattern}
 use Rattle.jpath.specs.Json.{json_text}
 use Rattle.jpath.specs.Words.{Asked, asked_by}
 use Rattle.jpath.specs.declared.words.Command.{Command}
@@ -103,7 +104,7 @@ RefusesQuery words e = (a : Asked) × (asked_by words ≡ Some a) × IsRefusal a
 -- node of it is a text that `regex` reads
 abbrev pub AsksPatternOf : List (List ℕ) → Option (List ℕ) → Type 0
 AsksPatternOf words input = (a : Asked) × (q : syntax.Query) × (d : Data) × (asked_by words ≡ Some a) × Derives a.depth a.query q
-    × IfSome input (λ bytes. IsWholeJson bytes d) × AsksPattern q (queried d)
+    × IfSome input (λ bytes. IsWholeJson bytes d) × AsksPattern (segments_patterns q) (queried d)
 
 -- why a query is refused: by the parser; or, with the document read, by `InvalidJsonPath`, and there is such a pattern
 abbrev pub IsFaultOfQuery : List (List ℕ) → Option (List ℕ) → JsonPathError → Type 0

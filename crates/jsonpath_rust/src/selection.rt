@@ -20,6 +20,7 @@ mod give;
 mod lent;
 mod lookup;
 mod nodelist;
+mod onward;
 mod patterns;
 mod plan;
 mod planned;

@@ -5,8 +5,8 @@ use Rattle.jsonpath_parser.specs.tree.Syntax as syntax
 use Rattle.jsonpath_parser.specs.tree.Syntax.{Selector, wildcard, slice, Selectors, no_selectors, selector, Segment, one, several, descendant, Segments, no_segments, segment, Filter, or, and, atom, Filters, no_filters, filter_then, Atom, group, test, comparison, Comparison, compare, Comparable, literal, function, singular, Test, relative, absolute, call, Call, custom_call, length_call, value_call, count_call, search_call, match_call, Argument, literal_argument, test_argument, filter_argument, Arguments, no_arguments, argument, Query}
 use Rattle.jsonpath_parser.specs.Derives.{Derives, IsRefusal}
 use Rattle.jsonpath_parser.specs.declared.errors.JsonPathError.{JsonPathError}
-use Rattle.jsonpath_parser.specs.declared.errors.JsonPathError.TheVariants.{InvalidJsonPath, OutOfMemory}
-use Rattle.jsonpath_base.specs.Pattern.{pattern_sought}
+use Rattle.jsonpath_parser.specs.declared.errors.JsonPathError.TheVariants.{OutOfMemory}
+use Rattle.jsonpath_base.specs.Pattern.{pattern_sought, IsInvalid}
 use Rattle.jsonpath_base.specs.Tree as tree
 use Rattle.jsonpath_base.specs.Tree.{Tree}
 use Rattle.jsonpath_rust.specs.documents.Answer.{IsValueAt}
@@ -86,22 +86,18 @@ abbrev pub IsPattern : Bool → Option Tree → Type 0
 IsPattern entire (Some (tree.text s)) = IsSome (pattern_sought entire s)
 IsPattern entire _ = ⊥
 
--- A pattern that stands in the query, and whose value at some node of the document is a text that `regex` reads.
-pub record AsksPattern (q : Query) (doc : Document) : Type 0 where
+-- One of these patterns has, at some node of the document, a value that is a text which `regex` reads.
+pub record AsksPattern (patterns : List (Bool × Argument)) (doc : Document) : Type 0 where
   pub entire : Bool
   pub pattern : Argument
-  pub stands : Contains (segments_patterns q) (entire, pattern)
+  pub stands : Contains patterns (entire, pattern)
   pub node : Node
   pub here : IsValueAt doc node.location node.tree
   pub read : IsPattern entire (as_value (argued pattern doc node))
 
-abbrev pub IsInvalid : JsonPathError → Type 0
-IsInvalid (InvalidJsonPath _) = Unit {0}
-IsInvalid _ = ⊥
-
--- Memory ran out; or it is `InvalidJsonPath`, and there is such a pattern.
+-- Memory ran out; or it is `InvalidJsonPath`, and a pattern that stands in the query is such a one.
 abbrev pub IsStop : Query → Document → JsonPathError → Type 0
-IsStop q doc e = (e ≡ OutOfMemory → ⊥) → IsInvalid e × AsksPattern q doc
+IsStop q doc e = (e ≡ OutOfMemory → ⊥) → IsInvalid e × AsksPattern (segments_patterns q) doc
 
 -- The text is no query, and refused as none; or it is one, and memory ran out or there is such a pattern.
 abbrev pub IsQueryRefusal : ℕ → List ℕ → Document → JsonPathError → Type 0

@@ -8,7 +8,8 @@ use Rattle.jsonpath_parser.specs.declared.errors.JsonPathError.TheVariants.{OutO
 use Rattle.jsonpath_base.specs.Places.{at}
 use Rattle.jsonpath_base.specs.Tree.{Tree}
 use Rattle.jsonpath_rust.specs.documents.Document.{Document}
-use Rattle.jsonpath_rust.specs.documents.Patterns.{IsPattern, IsInvalid}
+use Rattle.jsonpath_base.specs.Pattern.{IsInvalid}
+use Rattle.jsonpath_rust.specs.documents.Patterns.{IsPattern}
 use Rattle.jsonpath_rust.specs.states.Process.{plain, argument_content}
 use Rattle.jsonpath_rust.specs.states.State.{Content, places, inside}
 

@@ -1,9 +1,10 @@
 //! Why a walk halts. It becomes an error once, where the walk began, so that no step of it carries a text.
 ghost use Rattle.std.specs.Prelude.{◌≡◌};
 ghost use Rattle.jsonpath_parser.specs.declared.errors.JsonPathError.TheVariants as error;
-ghost use Rattle.jsonpath_rust.specs.documents.Patterns.{IsInvalid};
+ghost use Rattle.jsonpath_base.specs.Pattern.{IsInvalid};
 ghost use Rattle.jsonpath_rust.specs.declared.documents.halt.Halt.TheVariants.{Memory, Pattern};
 
+use jsonpath_base::pattern::too_large;
 use jsonpath_parser::errors::JsonPathError;
 use std::alloc::{AllocError, AllocFailed, Global};
 
@@ -29,17 +30,17 @@ impl Halt {
     {
         match self {
             Halt::Memory => JsonPathError::OutOfMemory,
-            Halt::Pattern => invalid(alloc, "a pattern is too large"),
-            Halt::Spent => invalid(alloc, "the query takes too much work"),
+            Halt::Pattern => too_large(alloc),
+            Halt::Spent => too_much_work(alloc),
         }
     }
 }
 
-/// `InvalidJsonPath` with this text.
-fn invalid(alloc: Global, why: &str) -> JsonPathError
+/// The error for a query that took as much work as it may.
+fn too_much_work(alloc: Global) -> JsonPathError
     ensures { (result ≡ error.OutOfMemory → ⊥) → IsInvalid result }
 {
-    match String::from_str(alloc, why) {
+    match String::from_str(alloc, "the query takes too much work") {
         Ok(text) => JsonPathError::InvalidJsonPath(text),
         Err(_) => JsonPathError::OutOfMemory,
     }

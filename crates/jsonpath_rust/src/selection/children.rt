@@ -4,10 +4,10 @@ ghost use Rattle.std.specs.List.{flat_map};
 ghost use Rattle.jsonpath_rust.specs.documents.Node.{below, children, subtree};
 ghost use Rattle.jsonpath_rust.specs.documents.Meaning.{replaced};
 ghost use Rattle.jsonpath_rust.specs.documents.Patterns.{segments_patterns, segment_patterns};
-ghost use Rattle.jsonpath_rust.specs.selection.inner.Halting.{IsHalt, StandIn};
+ghost use Rattle.jsonpath_rust.specs.selection.inner.Halting.{IsHalt};
 ghost use Rattle.jsonpath_rust.specs.selection.inner.PlanViews.{segments_in, segment_view};
 ghost use Rattle.jsonpath_rust.specs.selection.inner.Sinks.{Took, seen};
-ghost use Rattle.jsonpath_rust.specs.selection.inner.Keeping.{IsReady, document, kept_of, query_of};
+ghost use Rattle.jsonpath_rust.specs.selection.inner.Keeping.{IsReady, document, kept_of};
 ghost use Rattle.jsonpath_rust.specs.selection.inner.Standing.{Stands, Returns, AreMembers};
 ghost use Rattle.jsonpath_base.specs.Steps.{lent_step, lent_location};
 ghost use Rattle.jsonpath_rust.specs.selection.inner.Walking.{through, node_of, acted, action_patterns};
@@ -15,6 +15,7 @@ ghost use Rattle.jsonpath_rust.specs.selection.inner.Walking.{through, node_of, 
 use crate::documents::halt::Walked;
 use crate::documents::queryable::Queryable;
 use crate::selection::action::{Action, is_idle, of_each_child, visit_cost};
+use crate::selection::onward::Onward;
 use crate::selection::plan::Segment;
 use crate::selection::sink::Sink;
 use crate::selection::trail::Trail;
@@ -40,28 +41,26 @@ impl<'a: 's, 's, T: Queryable> Task<'a, 's, T> {
     #[cycle(walk)]
     pub fn each_child(
         &self,
-        action: Action<'s>,
-        rest: &'s [Segment],
+        onward: Onward<'s, Action<'s>>,
         at: &'a T,
         trail: &mut Trail<'a, 's, '_, T>,
         sink: &mut Sink<'a, T>,
     ) -> Walked<bool>
-        requires stands { Stands T.tree T.is_whole T.custom self.now at.now trail.old.way.steps.items trail.old.cache }
-        requires part { StandIn (query_of self.now) (action_patterns (kept_of self.now) action ++ segments_patterns (segments_in (kept_of self.now) rest.now)) }
+        requires { Stands T.tree T.is_whole T.custom self.now at.now trail.old.way.steps.items trail.old.cache }
         ensures gave { IfOk result (λ b. Took (seen T.tree T.is_whole sink.old)
-            (flat_map (through (segments_in (kept_of self.now) rest.now) (document T.tree T.custom self.now))
-            (flat_map (acted (kept_of self.now) action.entry (document T.tree T.custom self.now)) (children (node_of T.tree trail.old.way.steps.items at.now))))
+            (flat_map (through (segments_in (kept_of self.now) onward.entry.rest.now) (document T.tree T.custom self.now))
+            (flat_map (acted (kept_of self.now) onward.entry.next (document T.tree T.custom self.now)) (children (node_of T.tree trail.old.way.steps.items at.now))))
             (seen T.tree T.is_whole sink.new) b) }
         ensures returns { OnOk result (Returns T.tree T.is_whole T.custom self.now trail.old trail.new) }
         ensures ready { OnErr result (IsReady T.tree T.is_whole T.custom self.now trail.new.cache) }
-        ensures refused { IfErr result (IsHalt self.now.limit (query_of self.now) (document T.tree T.custom self.now)) }
+        ensures refused { IfErr result (IsHalt self.now.limit (action_patterns (kept_of self.now) onward.entry.next ++ segments_patterns (segments_in (kept_of self.now) onward.entry.rest.now)) (document T.tree T.custom self.now)) }
     {
         if let Some(items) = at.as_array() {
-            let cost = visit_cost(action, items.len());
+            let cost = visit_cost(onward.next, items.len());
             trail.budget.spend(self.limit, cost)?;
             for (i, value) in items.iter().enumerate() {
                 let step = StepRef::Index(i);
-                if !self.at_child(action, rest, Child { step, value }, trail, sink)? {
+                if !self.at_child(onward, Child { step, value }, trail, sink)? {
                     return Ok(false);
                 }
             }
@@ -70,7 +69,7 @@ impl<'a: 's, 's, T: Queryable> Task<'a, 's, T> {
                 of: at,
                 list: &listed,
             };
-            return self.each_member(action, rest, &members, trail, sink);
+            return self.each_member(onward, &members, trail, sink);
         }
         Ok(true)
     }
@@ -79,29 +78,27 @@ impl<'a: 's, 's, T: Queryable> Task<'a, 's, T> {
     #[cycle(walk)]
     fn each_member(
         &self,
-        action: Action<'s>,
-        rest: &'s [Segment],
+        onward: Onward<'s, Action<'s>>,
         members: &Members<'a, '_, T>,
         trail: &mut Trail<'a, 's, '_, T>,
         sink: &mut Sink<'a, T>,
     ) -> Walked<bool>
         requires stands { Stands T.tree T.is_whole T.custom self.now members.now.of.now trail.old.way.steps.items trail.old.cache }
         requires listed { AreMembers T.tree T.is_whole members.now }
-        requires part { StandIn (query_of self.now) (action_patterns (kept_of self.now) action ++ segments_patterns (segments_in (kept_of self.now) rest.now)) }
         ensures gave { IfOk result (λ b. Took (seen T.tree T.is_whole sink.old)
-            (flat_map (through (segments_in (kept_of self.now) rest.now) (document T.tree T.custom self.now))
-            (flat_map (acted (kept_of self.now) action.entry (document T.tree T.custom self.now)) (children (node_of T.tree trail.old.way.steps.items members.now.of.now))))
+            (flat_map (through (segments_in (kept_of self.now) onward.entry.rest.now) (document T.tree T.custom self.now))
+            (flat_map (acted (kept_of self.now) onward.entry.next (document T.tree T.custom self.now)) (children (node_of T.tree trail.old.way.steps.items members.now.of.now))))
             (seen T.tree T.is_whole sink.new) b) }
         ensures returns { OnOk result (Returns T.tree T.is_whole T.custom self.now trail.old trail.new) }
         ensures ready { OnErr result (IsReady T.tree T.is_whole T.custom self.now trail.new.cache) }
-        ensures refused { IfErr result (IsHalt self.now.limit (query_of self.now) (document T.tree T.custom self.now)) }
+        ensures refused { IfErr result (IsHalt self.now.limit (action_patterns (kept_of self.now) onward.entry.next ++ segments_patterns (segments_in (kept_of self.now) onward.entry.rest.now)) (document T.tree T.custom self.now)) }
     {
-        let cost = visit_cost(action, members.list.len());
+        let cost = visit_cost(onward.next, members.list.len());
         trail.budget.spend(self.limit, cost)?;
         for member in members.list {
             let step = StepRef::Name(member.0);
             let value = member.1;
-            if !self.at_child(action, rest, Child { step, value }, trail, sink)? {
+            if !self.at_child(onward, Child { step, value }, trail, sink)? {
                 return Ok(false);
             }
         }
@@ -113,27 +110,25 @@ impl<'a: 's, 's, T: Queryable> Task<'a, 's, T> {
     #[inline(always)]
     pub fn at_child(
         &self,
-        action: Action<'s>,
-        rest: &'s [Segment],
+        onward: Onward<'s, Action<'s>>,
         child: Child<'a, 's, T>,
         trail: &mut Trail<'a, 's, '_, T>,
         sink: &mut Sink<'a, T>,
     ) -> Walked<bool>
-        requires stands { Stands T.tree T.is_whole T.custom self.now child.value.now (trail.old.way.steps.items ++ child.step ∷ []) trail.old.cache }
-        requires part { StandIn (query_of self.now) (action_patterns (kept_of self.now) action ++ segments_patterns (segments_in (kept_of self.now) rest.now)) }
+        requires { Stands T.tree T.is_whole T.custom self.now child.value.now (trail.old.way.steps.items ++ child.step ∷ []) trail.old.cache }
         ensures gave { IfOk result (λ b. Took (seen T.tree T.is_whole sink.old)
-            (flat_map (through (segments_in (kept_of self.now) rest.now) (document T.tree T.custom self.now))
-            (acted (kept_of self.now) action.entry (document T.tree T.custom self.now) (below (lent_location trail.old.way.steps.items) (lent_step child.entry.step) (T.tree child.entry.value.now))))
+            (flat_map (through (segments_in (kept_of self.now) onward.entry.rest.now) (document T.tree T.custom self.now))
+            (acted (kept_of self.now) onward.entry.next (document T.tree T.custom self.now) (below (lent_location trail.old.way.steps.items) (lent_step child.entry.step) (T.tree child.entry.value.now))))
             (seen T.tree T.is_whole sink.new) b) }
         ensures returns { OnOk result (Returns T.tree T.is_whole T.custom self.now trail.old trail.new) }
         ensures ready { OnErr result (IsReady T.tree T.is_whole T.custom self.now trail.new.cache) }
-        ensures refused { IfErr result (IsHalt self.now.limit (query_of self.now) (document T.tree T.custom self.now)) }
+        ensures refused { IfErr result (IsHalt self.now.limit (action_patterns (kept_of self.now) onward.entry.next ++ segments_patterns (segments_in (kept_of self.now) onward.entry.rest.now)) (document T.tree T.custom self.now)) }
     {
-        if is_idle(action, child.value) {
+        if is_idle(onward.next, child.value) {
             return Ok(true);
         }
         trail.way.push(child.step)?;
-        let goes_on = self.act(action, rest, child.value, trail, sink)?;
+        let goes_on = self.act(onward, child.value, trail, sink)?;
         trail.way.pop();
         Ok(goes_on)
     }
@@ -143,23 +138,22 @@ impl<'a: 's, 's, T: Queryable> Task<'a, 's, T> {
     #[inline(always)]
     pub fn act(
         &self,
-        action: Action<'s>,
-        rest: &'s [Segment],
+        onward: Onward<'s, Action<'s>>,
         at: &'a T,
         trail: &mut Trail<'a, 's, '_, T>,
         sink: &mut Sink<'a, T>,
     ) -> Walked<bool>
-        requires stands { Stands T.tree T.is_whole T.custom self.now at.now trail.old.way.steps.items trail.old.cache }
-        requires part { StandIn (query_of self.now) (action_patterns (kept_of self.now) action ++ segments_patterns (segments_in (kept_of self.now) rest.now)) }
+        requires { Stands T.tree T.is_whole T.custom self.now at.now trail.old.way.steps.items trail.old.cache }
         ensures gave { IfOk result (λ b. Took (seen T.tree T.is_whole sink.old)
-            (flat_map (through (segments_in (kept_of self.now) rest.now) (document T.tree T.custom self.now))
-            (acted (kept_of self.now) action.entry (document T.tree T.custom self.now) (node_of T.tree trail.old.way.steps.items at.now)))
+            (flat_map (through (segments_in (kept_of self.now) onward.entry.rest.now) (document T.tree T.custom self.now))
+            (acted (kept_of self.now) onward.entry.next (document T.tree T.custom self.now) (node_of T.tree trail.old.way.steps.items at.now)))
             (seen T.tree T.is_whole sink.new) b) }
         ensures returns { OnOk result (Returns T.tree T.is_whole T.custom self.now trail.old trail.new) }
         ensures ready { OnErr result (IsReady T.tree T.is_whole T.custom self.now trail.new.cache) }
-        ensures refused { IfErr result (IsHalt self.now.limit (query_of self.now) (document T.tree T.custom self.now)) }
+        ensures refused { IfErr result (IsHalt self.now.limit (action_patterns (kept_of self.now) onward.entry.next ++ segments_patterns (segments_in (kept_of self.now) onward.entry.rest.now)) (document T.tree T.custom self.now)) }
     {
-        match action {
+        let rest = onward.rest;
+        match onward.next {
             Action::All => self.go_on(rest, at, trail, sink),
             Action::If(filter) => {
                 if self.filter_holds(filter, at, trail)? {
@@ -168,7 +162,7 @@ impl<'a: 's, 's, T: Queryable> Task<'a, 's, T> {
                     Ok(true)
                 }
             }
-            Action::Below(segment) => self.descend(segment, rest, at, trail, sink),
+            Action::Below(next) => self.descend(Onward { next, rest }, at, trail, sink),
         }
     }
 
@@ -177,39 +171,41 @@ impl<'a: 's, 's, T: Queryable> Task<'a, 's, T> {
     #[cycle(walk)]
     fn descend(
         &self,
-        segment: &'s Segment,
-        rest: &'s [Segment],
+        onward: Onward<'s, &'s Segment>,
         at: &'a T,
         trail: &mut Trail<'a, 's, '_, T>,
         sink: &mut Sink<'a, T>,
     ) -> Walked<bool>
-        requires stands { Stands T.tree T.is_whole T.custom self.now at.now trail.old.way.steps.items trail.old.cache }
-        requires part { StandIn (query_of self.now) (segment_patterns (segment_view (kept_of self.now) segment.now) ++ segments_patterns (segments_in (kept_of self.now) rest.now)) }
+        requires { Stands T.tree T.is_whole T.custom self.now at.now trail.old.way.steps.items trail.old.cache }
         ensures gave { IfOk result (λ b. Took (seen T.tree T.is_whole sink.old)
-            (flat_map (through (segments_in (kept_of self.now) rest.now) (document T.tree T.custom self.now))
-            (flat_map (replaced (segment_view (kept_of self.now) segment.now) (document T.tree T.custom self.now)) (subtree (node_of T.tree trail.old.way.steps.items at.now))))
+            (flat_map (through (segments_in (kept_of self.now) onward.entry.rest.now) (document T.tree T.custom self.now))
+            (flat_map (replaced (segment_view (kept_of self.now) onward.entry.next.now) (document T.tree T.custom self.now)) (subtree (node_of T.tree trail.old.way.steps.items at.now))))
             (seen T.tree T.is_whole sink.new) b) }
         ensures returns { OnOk result (Returns T.tree T.is_whole T.custom self.now trail.old trail.new) }
         ensures ready { OnErr result (IsReady T.tree T.is_whole T.custom self.now trail.new.cache) }
-        ensures refused { IfErr result (IsHalt self.now.limit (query_of self.now) (document T.tree T.custom self.now)) }
+        ensures refused { IfErr result (IsHalt self.now.limit (segment_patterns (segment_view (kept_of self.now) onward.entry.next.now) ++ segments_patterns (segments_in (kept_of self.now) onward.entry.rest.now)) (document T.tree T.custom self.now)) }
     {
-        let further = Action::Below(segment);
-        if let Some(action) = of_each_child(segment) {
+        let rest = onward.rest;
+        let further = Onward {
+            next: Action::Below(onward.next),
+            rest,
+        };
+        if let Some(next) = of_each_child(onward.next) {
             if let Some(listed) = at.as_object(self.alloc)? {
                 let members = Members {
                     of: at,
                     list: &listed,
                 };
-                if !self.each_member(action, rest, &members, trail, sink)? {
+                if !self.each_member(Onward { next, rest }, &members, trail, sink)? {
                     return Ok(false);
                 }
-                return self.each_member(further, rest, &members, trail, sink);
+                return self.each_member(further, &members, trail, sink);
             }
         }
-        if !self.pass(segment, rest, at, trail, sink)? {
+        if !self.pass(onward, at, trail, sink)? {
             return Ok(false);
         }
-        self.each_child(further, rest, at, trail, sink)
+        self.each_child(further, at, trail, sink)
     }
 
     /// The rest from this value on. Where nothing is left the value is taken here, with no call for it.
@@ -222,14 +218,13 @@ impl<'a: 's, 's, T: Queryable> Task<'a, 's, T> {
         trail: &mut Trail<'a, 's, '_, T>,
         sink: &mut Sink<'a, T>,
     ) -> Walked<bool>
-        requires stands { Stands T.tree T.is_whole T.custom self.now at.now trail.old.way.steps.items trail.old.cache }
-        requires part { StandIn (query_of self.now) (segments_patterns (segments_in (kept_of self.now) rest.now)) }
+        requires { Stands T.tree T.is_whole T.custom self.now at.now trail.old.way.steps.items trail.old.cache }
         ensures gave { IfOk result (λ b. Took (seen T.tree T.is_whole sink.old)
             (through (segments_in (kept_of self.now) rest.now) (document T.tree T.custom self.now) (node_of T.tree trail.old.way.steps.items at.now))
             (seen T.tree T.is_whole sink.new) b) }
         ensures returns { OnOk result (Returns T.tree T.is_whole T.custom self.now trail.old trail.new) }
         ensures ready { OnErr result (IsReady T.tree T.is_whole T.custom self.now trail.new.cache) }
-        ensures refused { IfErr result (IsHalt self.now.limit (query_of self.now) (document T.tree T.custom self.now)) }
+        ensures refused { IfErr result (IsHalt self.now.limit (segments_patterns (segments_in (kept_of self.now) rest.now)) (document T.tree T.custom self.now)) }
     {
         match rest.split_first() {
             None => sink.take(self.alloc, at, &mut trail.way),

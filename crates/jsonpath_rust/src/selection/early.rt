@@ -49,17 +49,7 @@ impl<'a: 's, 's, T: Queryable> Task<'a, 's, T> {
         ensures ready { IsReady T.tree T.is_whole T.custom self.now trail.new.cache }
         ensures memory { IfErr result (λ h. h ≡ Memory) }
     {
-        let Some(segments) = self.plan.kept_segments(number, wanted) else {
-            return Ok(());
-        };
-        let task = Task {
-            alloc: self.alloc,
-            plan: self.plan,
-            segments,
-            root: self.root,
-            limit: self.limit,
-        };
-        match task.kept_nodes(number, wanted, trail) {
+        match self.kept_nodes(number, wanted, trail) {
             Ok(_gathered) => Ok(()),
             Err(Halt::Pattern) => Ok(()),
             Err(Halt::Spent) => Ok(()),

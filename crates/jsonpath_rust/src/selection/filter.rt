@@ -6,8 +6,8 @@ ghost use Rattle.jsonpath_rust.specs.documents.Functions.{as_truth};
 ghost use Rattle.jsonpath_rust.specs.documents.Meaning.{holds, some_holds, each_holds, tested, value_of};
 ghost use Rattle.jsonpath_rust.specs.documents.Patterns.{filter_patterns, filters_patterns, comparable_patterns, test_patterns};
 ghost use Rattle.jsonpath_rust.specs.documents.inner.Operands.{operand_tree, operand_is_whole};
-ghost use Rattle.jsonpath_rust.specs.selection.inner.Halting.{IsHalt, StandIn};
-ghost use Rattle.jsonpath_rust.specs.selection.inner.Keeping.{IsReady, document, kept_of, query_of};
+ghost use Rattle.jsonpath_rust.specs.selection.inner.Halting.{IsHalt};
+ghost use Rattle.jsonpath_rust.specs.selection.inner.Keeping.{IsReady, document, kept_of};
 ghost use Rattle.jsonpath_rust.specs.selection.inner.PlanViews.{filter_view, filters_in, nodes_view, side_view};
 ghost use Rattle.jsonpath_rust.specs.selection.inner.Standing.{Stands, Returns};
 ghost use Rattle.jsonpath_rust.specs.selection.inner.Walking.{node_of};
@@ -34,12 +34,11 @@ impl<'a: 's, 's, T: Queryable> Task<'a, 's, T> {
         at: &'a T,
         trail: &mut Trail<'a, 's, '_, T>,
     ) -> Walked<bool>
-        requires stands { Stands T.tree T.is_whole T.custom self.now at.now trail.old.way.steps.items trail.old.cache }
-        requires part { StandIn (query_of self.now) (filter_patterns (filter_view (kept_of self.now) filter.now)) }
+        requires { Stands T.tree T.is_whole T.custom self.now at.now trail.old.way.steps.items trail.old.cache }
         ensures holds { IfOk result (λ b. b ≡ holds (filter_view (kept_of self.now) filter.now) (document T.tree T.custom self.now) (node_of T.tree trail.old.way.steps.items at.now)) }
         ensures returns { OnOk result (Returns T.tree T.is_whole T.custom self.now trail.old trail.new) }
         ensures ready { OnErr result (IsReady T.tree T.is_whole T.custom self.now trail.new.cache) }
-        ensures refused { IfErr result (IsHalt self.now.limit (query_of self.now) (document T.tree T.custom self.now)) }
+        ensures refused { IfErr result (IsHalt self.now.limit (filter_patterns (filter_view (kept_of self.now) filter.now)) (document T.tree T.custom self.now)) }
     {
         match filter {
             Filter::Or(parts) => self.some_holds(parts, at, trail),
@@ -62,12 +61,11 @@ impl<'a: 's, 's, T: Queryable> Task<'a, 's, T> {
         at: &'a T,
         trail: &mut Trail<'a, 's, '_, T>,
     ) -> Walked<bool>
-        requires stands { Stands T.tree T.is_whole T.custom self.now at.now trail.old.way.steps.items trail.old.cache }
-        requires part { StandIn (query_of self.now) (filters_patterns (filters_in (kept_of self.now) parts.now)) }
+        requires { Stands T.tree T.is_whole T.custom self.now at.now trail.old.way.steps.items trail.old.cache }
         ensures holds { IfOk result (λ b. b ≡ some_holds (filters_in (kept_of self.now) parts.now) (document T.tree T.custom self.now) (node_of T.tree trail.old.way.steps.items at.now)) }
         ensures returns { OnOk result (Returns T.tree T.is_whole T.custom self.now trail.old trail.new) }
         ensures ready { OnErr result (IsReady T.tree T.is_whole T.custom self.now trail.new.cache) }
-        ensures refused { IfErr result (IsHalt self.now.limit (query_of self.now) (document T.tree T.custom self.now)) }
+        ensures refused { IfErr result (IsHalt self.now.limit (filters_patterns (filters_in (kept_of self.now) parts.now)) (document T.tree T.custom self.now)) }
     {
         trail.budget.spend(self.limit, parts.len())?;
         for part in parts {
@@ -86,12 +84,11 @@ impl<'a: 's, 's, T: Queryable> Task<'a, 's, T> {
         at: &'a T,
         trail: &mut Trail<'a, 's, '_, T>,
     ) -> Walked<bool>
-        requires stands { Stands T.tree T.is_whole T.custom self.now at.now trail.old.way.steps.items trail.old.cache }
-        requires part { StandIn (query_of self.now) (filters_patterns (filters_in (kept_of self.now) parts.now)) }
+        requires { Stands T.tree T.is_whole T.custom self.now at.now trail.old.way.steps.items trail.old.cache }
         ensures holds { IfOk result (λ b. b ≡ each_holds (filters_in (kept_of self.now) parts.now) (document T.tree T.custom self.now) (node_of T.tree trail.old.way.steps.items at.now)) }
         ensures returns { OnOk result (Returns T.tree T.is_whole T.custom self.now trail.old trail.new) }
         ensures ready { OnErr result (IsReady T.tree T.is_whole T.custom self.now trail.new.cache) }
-        ensures refused { IfErr result (IsHalt self.now.limit (query_of self.now) (document T.tree T.custom self.now)) }
+        ensures refused { IfErr result (IsHalt self.now.limit (filters_patterns (filters_in (kept_of self.now) parts.now)) (document T.tree T.custom self.now)) }
     {
         trail.budget.spend(self.limit, parts.len())?;
         for part in parts {
@@ -106,12 +103,11 @@ impl<'a: 's, 's, T: Queryable> Task<'a, 's, T> {
     #[cycle(walk)]
     #[inline(always)]
     fn exists(&self, nodes: &'s Nodes, at: &'a T, trail: &mut Trail<'a, 's, '_, T>) -> Walked<bool>
-        requires stands { Stands T.tree T.is_whole T.custom self.now at.now trail.old.way.steps.items trail.old.cache }
-        requires part { StandIn (query_of self.now) (test_patterns (nodes_view (kept_of self.now) nodes.now Any)) }
+        requires { Stands T.tree T.is_whole T.custom self.now at.now trail.old.way.steps.items trail.old.cache }
         ensures holds { IfOk result (λ b. b ≡ as_truth (tested (nodes_view (kept_of self.now) nodes.now Any) (document T.tree T.custom self.now) (node_of T.tree trail.old.way.steps.items at.now))) }
         ensures returns { OnOk result (Returns T.tree T.is_whole T.custom self.now trail.old trail.new) }
         ensures ready { OnErr result (IsReady T.tree T.is_whole T.custom self.now trail.new.cache) }
-        ensures refused { IfErr result (IsHalt self.now.limit (query_of self.now) (document T.tree T.custom self.now)) }
+        ensures refused { IfErr result (IsHalt self.now.limit (test_patterns (nodes_view (kept_of self.now) nodes.now Any)) (document T.tree T.custom self.now)) }
     {
         if let Some(there) = is_there(nodes, at) {
             return Ok(there);
@@ -129,14 +125,13 @@ impl<'a: 's, 's, T: Queryable> Task<'a, 's, T> {
         at: &'a T,
         trail: &mut Trail<'a, 's, '_, T>,
     ) -> Walked<bool>
-        requires stands { Stands T.tree T.is_whole T.custom self.now at.now trail.old.way.steps.items trail.old.cache }
-        requires part { StandIn (query_of self.now) (comparable_patterns (side_view (kept_of self.now) sides.0.now) ++ comparable_patterns (side_view (kept_of self.now) sides.1.now)) }
+        requires { Stands T.tree T.is_whole T.custom self.now at.now trail.old.way.steps.items trail.old.cache }
         ensures holds { IfOk result (λ b. b ≡ compares (operator_view operator)
             (value_of (side_view (kept_of self.now) sides.entry.0.now) (document T.tree T.custom self.now) (node_of T.tree trail.old.way.steps.items at.now))
             (value_of (side_view (kept_of self.now) sides.entry.1.now) (document T.tree T.custom self.now) (node_of T.tree trail.old.way.steps.items at.now))) }
         ensures returns { OnOk result (Returns T.tree T.is_whole T.custom self.now trail.old trail.new) }
         ensures ready { OnErr result (IsReady T.tree T.is_whole T.custom self.now trail.new.cache) }
-        ensures refused { IfErr result (IsHalt self.now.limit (query_of self.now) (document T.tree T.custom self.now)) }
+        ensures refused { IfErr result (IsHalt self.now.limit (comparable_patterns (side_view (kept_of self.now) sides.entry.0.now) ++ comparable_patterns (side_view (kept_of self.now) sides.entry.1.now)) (document T.tree T.custom self.now)) }
     {
         if let Some(held) = self.lent_compare(operator, sides, at, &trail.cache) {
             return Ok(held);
@@ -156,13 +151,12 @@ impl<'a: 's, 's, T: Queryable> Task<'a, 's, T> {
         at: &'a T,
         trail: &mut Trail<'a, 's, '_, T>,
     ) -> Walked<Operand<'a, 's, T>>
-        requires stands { Stands T.tree T.is_whole T.custom self.now at.now trail.old.way.steps.items trail.old.cache }
-        requires part { StandIn (query_of self.now) (comparable_patterns (side_view (kept_of self.now) side.now)) }
+        requires { Stands T.tree T.is_whole T.custom self.now at.now trail.old.way.steps.items trail.old.cache }
         ensures value { IfOk result (λ o. operand_tree T.tree o ≡ value_of (side_view (kept_of self.now) side.now) (document T.tree T.custom self.now) (node_of T.tree trail.old.way.steps.items at.now)) }
         ensures whole { IfOk result (λ o. IsTrue (operand_is_whole T.is_whole o)) }
         ensures returns { OnOk result (Returns T.tree T.is_whole T.custom self.now trail.old trail.new) }
         ensures ready { OnErr result (IsReady T.tree T.is_whole T.custom self.now trail.new.cache) }
-        ensures refused { IfErr result (IsHalt self.now.limit (query_of self.now) (document T.tree T.custom self.now)) }
+        ensures refused { IfErr result (IsHalt self.now.limit (comparable_patterns (side_view (kept_of self.now) side.now)) (document T.tree T.custom self.now)) }
     {
         match side {
             Side::Literal(literal) => Ok(Operand::Plain(scalar_of(literal))),

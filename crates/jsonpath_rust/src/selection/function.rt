@@ -7,8 +7,8 @@ ghost use Rattle.jsonpath_rust.specs.documents.Patterns.{call_patterns, argument
 ghost use Rattle.jsonpath_base.specs.Pattern.{is_entire};
 ghost use Rattle.jsonpath_rust.specs.documents.inner.Operands.{operand_tree, operand_is_whole};
 ghost use Rattle.jsonpath_rust.specs.selection.inner.Arguing.{held, holding, IsHeld};
-ghost use Rattle.jsonpath_rust.specs.selection.inner.Halting.{IsHalt, StandIn};
-ghost use Rattle.jsonpath_rust.specs.selection.inner.Keeping.{IsReady, document, kept_of, query_of};
+ghost use Rattle.jsonpath_rust.specs.selection.inner.Halting.{IsHalt};
+ghost use Rattle.jsonpath_rust.specs.selection.inner.Keeping.{IsReady, document, kept_of};
 ghost use Rattle.jsonpath_rust.specs.selection.inner.PlanViews.{argument_view, arguments_in, call_view};
 ghost use Rattle.jsonpath_rust.specs.selection.inner.Standing.{Stands, Returns};
 ghost use Rattle.jsonpath_rust.specs.selection.inner.Walking.{node_of};
@@ -35,13 +35,12 @@ impl<'a: 's, 's, T: Queryable> Task<'a, 's, T> {
         at: &'a T,
         trail: &mut Trail<'a, 's, '_, T>,
     ) -> Walked<Operand<'a, 's, T>>
-        requires stands { Stands T.tree T.is_whole T.custom self.now at.now trail.old.way.steps.items trail.old.cache }
-        requires part { StandIn (query_of self.now) (call_patterns (call_view (kept_of self.now) call.now)) }
+        requires { Stands T.tree T.is_whole T.custom self.now at.now trail.old.way.steps.items trail.old.cache }
         ensures value { IfOk result (λ o. operand_tree T.tree o ≡ answer (call_view (kept_of self.now) call.now) (document T.tree T.custom self.now) (node_of T.tree trail.old.way.steps.items at.now)) }
         ensures whole { IfOk result (λ o. IsTrue (operand_is_whole T.is_whole o)) }
         ensures returns { OnOk result (Returns T.tree T.is_whole T.custom self.now trail.old trail.new) }
         ensures ready { OnErr result (IsReady T.tree T.is_whole T.custom self.now trail.new.cache) }
-        ensures refused { IfErr result (IsHalt self.now.limit (query_of self.now) (document T.tree T.custom self.now)) }
+        ensures refused { IfErr result (IsHalt self.now.limit (call_patterns (call_view (kept_of self.now) call.now)) (document T.tree T.custom self.now)) }
     {
         match call {
             Call::Custom(name, args) => self.custom(name, args, at, trail),
@@ -82,15 +81,14 @@ impl<'a: 's, 's, T: Queryable> Task<'a, 's, T> {
         at: &'a T,
         trail: &mut Trail<'a, 's, '_, T>,
     ) -> Walked<Operand<'a, 's, T>>
-        requires stands { Stands T.tree T.is_whole T.custom self.now at.now trail.old.way.steps.items trail.old.cache }
-        requires part { StandIn (query_of self.now) ((is_entire extent, argument_view (kept_of self.now) args.1.now Only) ∷ (argument_patterns (argument_view (kept_of self.now) args.0.now Only) ++ argument_patterns (argument_view (kept_of self.now) args.1.now Only))) }
+        requires { Stands T.tree T.is_whole T.custom self.now at.now trail.old.way.steps.items trail.old.cache }
         ensures value { IfOk result (λ o. operand_tree T.tree o ≡ Some (truth (is_matched (is_entire extent)
             (as_value (argued (argument_view (kept_of self.now) args.entry.0.now Only) (document T.tree T.custom self.now) (node_of T.tree trail.old.way.steps.items at.now)))
             (as_value (argued (argument_view (kept_of self.now) args.entry.1.now Only) (document T.tree T.custom self.now) (node_of T.tree trail.old.way.steps.items at.now)))))) }
         ensures whole { IfOk result (λ o. IsTrue (operand_is_whole T.is_whole o)) }
         ensures returns { OnOk result (Returns T.tree T.is_whole T.custom self.now trail.old trail.new) }
         ensures ready { OnErr result (IsReady T.tree T.is_whole T.custom self.now trail.new.cache) }
-        ensures refused { IfErr result (IsHalt self.now.limit (query_of self.now) (document T.tree T.custom self.now)) }
+        ensures refused { IfErr result (IsHalt self.now.limit ((is_entire extent, argument_view (kept_of self.now) args.entry.1.now Only) ∷ (argument_patterns (argument_view (kept_of self.now) args.entry.0.now Only) ++ argument_patterns (argument_view (kept_of self.now) args.entry.1.now Only))) (document T.tree T.custom self.now)) }
     {
         let origin = origin_of(args.1);
         let text = self.value(args.0, at, trail)?;
@@ -113,13 +111,12 @@ impl<'a: 's, 's, T: Queryable> Task<'a, 's, T> {
         at: &'a T,
         trail: &mut Trail<'a, 's, '_, T>,
     ) -> Walked<Operand<'a, 's, T>>
-        requires stands { Stands T.tree T.is_whole T.custom self.now at.now trail.old.way.steps.items trail.old.cache }
-        requires part { StandIn (query_of self.now) (arguments_patterns (arguments_in (kept_of self.now) args.now)) }
+        requires { Stands T.tree T.is_whole T.custom self.now at.now trail.old.way.steps.items trail.old.cache }
         ensures value { IfOk result (λ o. operand_tree T.tree o ≡ Some (T.custom (string_bytes name.now) (all_trees (arguments_in (kept_of self.now) args.now) (document T.tree T.custom self.now) (node_of T.tree trail.old.way.steps.items at.now)))) }
         ensures whole { IfOk result (λ o. IsTrue (operand_is_whole T.is_whole o)) }
         ensures returns { OnOk result (Returns T.tree T.is_whole T.custom self.now trail.old trail.new) }
         ensures ready { OnErr result (IsReady T.tree T.is_whole T.custom self.now trail.new.cache) }
-        ensures refused { IfErr result (IsHalt self.now.limit (query_of self.now) (document T.tree T.custom self.now)) }
+        ensures refused { IfErr result (IsHalt self.now.limit (arguments_patterns (arguments_in (kept_of self.now) args.now)) (document T.tree T.custom self.now)) }
     {
         let mut values = Vec::new(self.alloc);
         for arg in args {
@@ -139,13 +136,12 @@ impl<'a: 's, 's, T: Queryable> Task<'a, 's, T> {
         at: &'a T,
         trail: &mut Trail<'a, 's, '_, T>,
     ) -> Walked<Operand<'a, 's, T>>
-        requires stands { Stands T.tree T.is_whole T.custom self.now at.now trail.old.way.steps.items trail.old.cache }
-        requires part { StandIn (query_of self.now) (argument_patterns (argument_view (kept_of self.now) arg.now Only)) }
+        requires { Stands T.tree T.is_whole T.custom self.now at.now trail.old.way.steps.items trail.old.cache }
         ensures value { IfOk result (λ o. operand_tree T.tree o ≡ as_value (argued (argument_view (kept_of self.now) arg.now Only) (document T.tree T.custom self.now) (node_of T.tree trail.old.way.steps.items at.now))) }
         ensures whole { IfOk result (λ o. IsTrue (operand_is_whole T.is_whole o)) }
         ensures returns { OnOk result (Returns T.tree T.is_whole T.custom self.now trail.old trail.new) }
         ensures ready { OnErr result (IsReady T.tree T.is_whole T.custom self.now trail.new.cache) }
-        ensures refused { IfErr result (IsHalt self.now.limit (query_of self.now) (document T.tree T.custom self.now)) }
+        ensures refused { IfErr result (IsHalt self.now.limit (argument_patterns (argument_view (kept_of self.now) arg.now Only)) (document T.tree T.custom self.now)) }
     {
         let argument = self.argument(arg, Wanted::Only, at, trail)?;
         Ok(argument.value(&trail.cache))
@@ -160,13 +156,12 @@ impl<'a: 's, 's, T: Queryable> Task<'a, 's, T> {
         at: &'a T,
         trail: &mut Trail<'a, 's, '_, T>,
     ) -> Walked<Argument<'a, 's, T>>
-        requires stands { Stands T.tree T.is_whole T.custom self.now at.now trail.old.way.steps.items trail.old.cache }
-        requires part { StandIn (query_of self.now) (argument_patterns (argument_view (kept_of self.now) arg.now wanted)) }
+        requires { Stands T.tree T.is_whole T.custom self.now at.now trail.old.way.steps.items trail.old.cache }
         ensures held { IfOk result (λ a. held T.tree T.is_whole trail.new.cache a ≡ holding wanted (argued (argument_view (kept_of self.now) arg.now wanted) (document T.tree T.custom self.now) (node_of T.tree trail.old.way.steps.items at.now))) }
         ensures within { IfOk result (IsHeld T.is_whole) }
         ensures returns { OnOk result (Returns T.tree T.is_whole T.custom self.now trail.old trail.new) }
         ensures ready { OnErr result (IsReady T.tree T.is_whole T.custom self.now trail.new.cache) }
-        ensures refused { IfErr result (IsHalt self.now.limit (query_of self.now) (document T.tree T.custom self.now)) }
+        ensures refused { IfErr result (IsHalt self.now.limit (argument_patterns (argument_view (kept_of self.now) arg.now wanted)) (document T.tree T.custom self.now)) }
     {
         match arg {
             plan::Argument::Literal(literal) => {

@@ -3,7 +3,7 @@ ghost use Rattle.std.specs.Prelude.{◌≡◌, IsTrue, IfOk, IfErr};
 ghost use Rattle.jsonpath_parser.specs.tree.View.{query_view};
 ghost use Rattle.jsonpath_rust.specs.documents.Document.{document_of};
 ghost use Rattle.jsonpath_rust.specs.documents.Meaning.{nodelist};
-ghost use Rattle.jsonpath_rust.specs.documents.Patterns.{IsStop};
+ghost use Rattle.jsonpath_rust.specs.documents.Patterns.{segments_patterns, IsStop};
 ghost use Rattle.jsonpath_rust.specs.selection.inner.Halting.{IsHalt};
 ghost use Rattle.jsonpath_rust.specs.selection.inner.Planned.{plan_view};
 ghost use Rattle.jsonpath_rust.specs.selection.inner.Sinks.{Took, seen};
@@ -85,7 +85,7 @@ pub fn give_requested<'a, 'p, T: Queryable>(
     requires { IsTrue (T.is_whole root.now) }
     ensures gave { IfOk result.0 (λ b. Took (seen T.tree T.is_whole sink.old) (nodelist (plan_view request.entry.plan.now) (document_of T.tree T.custom root.now))
         (seen T.tree T.is_whole sink.new) b) }
-    ensures refused { IfErr result.0 (IsHalt request.entry.budget.limit (plan_view request.entry.plan.now) (document_of T.tree T.custom root.now)) }
+    ensures refused { IfErr result.0 (IsHalt request.entry.budget.limit (segments_patterns (plan_view request.entry.plan.now)) (document_of T.tree T.custom root.now)) }
 {
     let Request {
         plan,
@@ -108,7 +108,7 @@ fn give_from_root<'a: 's, 's, 'p, T: Queryable>(
     requires { IsTrue (T.is_whole root.now) }
     ensures gave { IfOk result.0 (λ b. Took (seen T.tree T.is_whole sink.old) (nodelist (plan_view plan.now) (document_of T.tree T.custom root.now))
         (seen T.tree T.is_whole sink.new) b) }
-    ensures refused { IfErr result.0 (IsHalt means.entry.1.limit (plan_view plan.now) (document_of T.tree T.custom root.now)) }
+    ensures refused { IfErr result.0 (IsHalt means.entry.1.limit (segments_patterns (plan_view plan.now)) (document_of T.tree T.custom root.now)) }
 {
     let (finders, budget) = means;
     let mut trail = Trail {
@@ -133,18 +133,16 @@ fn give_along<'a: 's, 's, T: Queryable>(
     requires { IsTrue (T.is_whole root.now) }
     ensures gave { IfOk result (λ b. Took (seen T.tree T.is_whole sink.old) (nodelist (plan_view plan.now) (document_of T.tree T.custom root.now))
         (seen T.tree T.is_whole sink.new) b) }
-    ensures refused { IfErr result (IsHalt trail.old.budget.limit (plan_view plan.now) (document_of T.tree T.custom root.now)) }
+    ensures refused { IfErr result (IsHalt trail.old.budget.limit (segments_patterns (plan_view plan.now)) (document_of T.tree T.custom root.now)) }
 {
-    let segments = plan.segments.as_slice();
     let task = Task {
         alloc,
         plan,
-        segments,
         root,
         limit: trail.budget.limit,
     };
     let cache = Cache::new(alloc, plan.kept.len())?;
     trail.cache = cache;
     task.work_out_early(trail)?;
-    task.walk(segments, root, trail, sink)
+    task.walk(&plan.segments, root, trail, sink)
 }

@@ -5,8 +5,8 @@ ghost use Rattle.jsonpath_rust.specs.documents.Node.{Node};
 ghost use Rattle.jsonpath_rust.specs.documents.Patterns.{call_patterns, comparison_patterns};
 ghost use Rattle.jsonpath_rust.specs.declared.documents.halt.Halt.TheVariants.{Memory};
 ghost use Rattle.jsonpath_rust.specs.documents.inner.Operands.{operand_tree, operand_is_whole};
-ghost use Rattle.jsonpath_rust.specs.selection.inner.Halting.{IsHalt, StandIn};
-ghost use Rattle.jsonpath_rust.specs.selection.inner.Keeping.{IsReady, document, kept_of, query_of, value_by};
+ghost use Rattle.jsonpath_rust.specs.selection.inner.Halting.{IsHalt};
+ghost use Rattle.jsonpath_rust.specs.selection.inner.Keeping.{IsReady, document, kept_of, value_by};
 ghost use Rattle.jsonpath_rust.specs.selection.inner.PlanViews.{call_at, called_view, comparison_at, part_at, steps_at};
 ghost use Rattle.jsonpath_rust.specs.selection.inner.Standing.{Stands, Returns};
 ghost use Rattle.jsonpath_rust.specs.selection.inner.Walking.{node_of};
@@ -44,7 +44,7 @@ fn again<'a, 's, T: Queryable>(
 impl<'a: 's, 's, T: Queryable> Task<'a, 's, T> {
     /// The value that is kept under this number, if it is worked out.
     fn kept(&self, number: usize, cache: &Cache<'a, 's, T>) -> Walked<Option<Operand<'a, 's, T>>>
-        requires ready { IsReady T.tree T.is_whole T.custom self.now cache.now }
+        requires { IsReady T.tree T.is_whole T.custom self.now cache.now }
         ensures value { IfOk result (λ o. IfSome o (λ v. operand_tree T.tree v ≡ value_by (part_at (kept_of self.now) number) (document T.tree T.custom self.now))) }
         ensures whole { IfOk result (λ o. IfSome o (λ v. IsTrue (operand_is_whole T.is_whole v))) }
         ensures memory { IfErr result (λ h. h ≡ Memory) }
@@ -61,7 +61,7 @@ impl<'a: 's, 's, T: Queryable> Task<'a, 's, T> {
         number: usize,
         cache: &mut Cache<'a, 's, T>,
     ) -> Walked<Operand<'a, 's, T>>
-        requires ready { IsReady T.tree T.is_whole T.custom self.now cache.old }
+        requires { IsReady T.tree T.is_whole T.custom self.now cache.old }
         ensures value { IfOk result (λ o. operand_tree T.tree o ≡ value_at (steps_at (kept_of self.now) number) (T.tree self.now.root.now)) }
         ensures whole { IfOk result (λ o. IsTrue (operand_is_whole T.is_whole o)) }
         ensures ready { IsReady T.tree T.is_whole T.custom self.now cache.new }
@@ -86,13 +86,12 @@ impl<'a: 's, 's, T: Queryable> Task<'a, 's, T> {
         at: &'a T,
         trail: &mut Trail<'a, 's, '_, T>,
     ) -> Walked<Operand<'a, 's, T>>
-        requires stands { Stands T.tree T.is_whole T.custom self.now at.now trail.old.way.steps.items trail.old.cache }
-        requires part { StandIn (query_of self.now) (call_patterns (called_view (kept_of self.now) call.now)) }
+        requires { Stands T.tree T.is_whole T.custom self.now at.now trail.old.way.steps.items trail.old.cache }
         ensures value { IfOk result (λ o. operand_tree T.tree o ≡ answer (called_view (kept_of self.now) call.now) (document T.tree T.custom self.now) (node_of T.tree trail.old.way.steps.items at.now)) }
         ensures whole { IfOk result (λ o. IsTrue (operand_is_whole T.is_whole o)) }
         ensures returns { OnOk result (Returns T.tree T.is_whole T.custom self.now trail.old trail.new) }
         ensures ready { OnErr result (IsReady T.tree T.is_whole T.custom self.now trail.new.cache) }
-        ensures refused { IfErr result (IsHalt self.now.limit (query_of self.now) (document T.tree T.custom self.now)) }
+        ensures refused { IfErr result (IsHalt self.now.limit (call_patterns (called_view (kept_of self.now) call.now)) (document T.tree T.custom self.now)) }
     {
         match call {
             Called::Here(call) => self.answer(call, at, trail),
@@ -107,13 +106,12 @@ impl<'a: 's, 's, T: Queryable> Task<'a, 's, T> {
         number: usize,
         trail: &mut Trail<'a, 's, '_, T>,
     ) -> Walked<Operand<'a, 's, T>>
-        requires part { StandIn (query_of self.now) (call_patterns (call_at (kept_of self.now) number)) }
-        requires ready { IsReady T.tree T.is_whole T.custom self.now trail.old.cache }
+        requires { IsReady T.tree T.is_whole T.custom self.now trail.old.cache }
         ensures value { (n : Node) → IfOk result (λ o. operand_tree T.tree o ≡ answer (call_at (kept_of self.now) number) (document T.tree T.custom self.now) n) }
         ensures whole { IfOk result (λ o. IsTrue (operand_is_whole T.is_whole o)) }
         ensures returns { OnOk result (Returns T.tree T.is_whole T.custom self.now trail.old trail.new) }
         ensures ready { OnErr result (IsReady T.tree T.is_whole T.custom self.now trail.new.cache) }
-        ensures refused { IfErr result (IsHalt self.now.limit (query_of self.now) (document T.tree T.custom self.now)) }
+        ensures refused { IfErr result (IsHalt self.now.limit (call_patterns (call_at (kept_of self.now) number)) (document T.tree T.custom self.now)) }
     {
         let Some(call) = self.plan.kept_call(number) else {
             return Ok(Operand::Absent);
@@ -133,12 +131,11 @@ impl<'a: 's, 's, T: Queryable> Task<'a, 's, T> {
     /// Whether the comparison holds that is kept under this number.
     #[cycle(walk)]
     pub fn kept_comparison(&self, number: usize, trail: &mut Trail<'a, 's, '_, T>) -> Walked<bool>
-        requires part { StandIn (query_of self.now) (comparison_patterns (comparison_at (kept_of self.now) number)) }
-        requires ready { IsReady T.tree T.is_whole T.custom self.now trail.old.cache }
+        requires { IsReady T.tree T.is_whole T.custom self.now trail.old.cache }
         ensures holds { (n : Node) → IfOk result (λ b. b ≡ comparison_holds (comparison_at (kept_of self.now) number) (document T.tree T.custom self.now) n) }
         ensures returns { OnOk result (Returns T.tree T.is_whole T.custom self.now trail.old trail.new) }
         ensures ready { OnErr result (IsReady T.tree T.is_whole T.custom self.now trail.new.cache) }
-        ensures refused { IfErr result (IsHalt self.now.limit (query_of self.now) (document T.tree T.custom self.now)) }
+        ensures refused { IfErr result (IsHalt self.now.limit (comparison_patterns (comparison_at (kept_of self.now) number)) (document T.tree T.custom self.now)) }
     {
         let Some((operator, left, right)) = self.plan.kept_comparison(number) else {
             return Ok(false);

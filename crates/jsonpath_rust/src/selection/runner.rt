@@ -5,7 +5,7 @@ ghost use Rattle.jsonpath_parser.specs.tree.View.{query_view};
 ghost use Rattle.jsonpath_rust.specs.documents.Answer.{IsNodeAt, IsPathAt, IsValueAt, shown, paths_of};
 ghost use Rattle.jsonpath_rust.specs.documents.Document.{document_of};
 ghost use Rattle.jsonpath_rust.specs.documents.Meaning.{selected, nodelist};
-ghost use Rattle.jsonpath_rust.specs.documents.Patterns.{IsStop};
+ghost use Rattle.jsonpath_rust.specs.documents.Patterns.{segments_patterns, IsStop};
 ghost use Rattle.jsonpath_rust.specs.selection.Prepared.{prepared_view, runner_view, IsFirstNode};
 ghost use Rattle.jsonpath_rust.specs.selection.inner.Halting.{IsHalt};
 ghost use Rattle.jsonpath_rust.specs.selection.inner.Sinks.{Took, seen};
@@ -290,7 +290,7 @@ impl<'p> Runner<'p> {
         ensures gave { IfOk result (λ b. Took (seen T.tree T.is_whole sink.old) (nodelist (runner_view self.old) (document_of T.tree T.custom value.now))
             (seen T.tree T.is_whole sink.new) b) }
         ensures same { runner_view self.new ≡ runner_view self.old }
-        ensures refused { IfErr result (IsHalt budget.limit (runner_view self.old) (document_of T.tree T.custom value.now)) }
+        ensures refused { IfErr result (IsHalt budget.limit (segments_patterns (runner_view self.old)) (document_of T.tree T.custom value.now)) }
     {
         let prepared = self.prepared;
         let standing = mem::replace(&mut self.standing, prepared.standing(alloc));

@@ -4,8 +4,8 @@ ghost use Rattle.jsonpath_rust.specs.documents.Meaning.{nodelist, tested};
 ghost use Rattle.jsonpath_rust.specs.documents.Patterns.{segments_patterns, test_patterns};
 ghost use Rattle.jsonpath_rust.specs.selection.inner.Arguing as held;
 ghost use Rattle.jsonpath_rust.specs.selection.inner.Arguing.{holding};
-ghost use Rattle.jsonpath_rust.specs.selection.inner.Halting.{IsHalt, StandIn};
-ghost use Rattle.jsonpath_rust.specs.selection.inner.Keeping.{IsReady, document, gathered, kept_of, query_of};
+ghost use Rattle.jsonpath_rust.specs.selection.inner.Halting.{IsHalt};
+ghost use Rattle.jsonpath_rust.specs.selection.inner.Keeping.{IsReady, document, gathered, kept_of};
 ghost use Rattle.jsonpath_rust.specs.selection.inner.PlanViews.{nodes_view, query_at, segments_in};
 ghost use Rattle.jsonpath_rust.specs.selection.inner.Sinks.{seen, start, give};
 ghost use Rattle.jsonpath_rust.specs.selection.inner.Standing.{Stands, Returns};
@@ -33,12 +33,11 @@ impl<'a: 's, 's, T: Queryable> Task<'a, 's, T> {
         at: &'a T,
         trail: &mut Trail<'a, 's, '_, T>,
     ) -> Walked<Gathered<'a, T>>
-        requires stands { Stands T.tree T.is_whole T.custom self.now at.now trail.old.way.steps.items trail.old.cache }
-        requires part { StandIn (query_of self.now) (test_patterns (nodes_view (kept_of self.now) nodes.now wanted)) }
+        requires { Stands T.tree T.is_whole T.custom self.now at.now trail.old.way.steps.items trail.old.cache }
         ensures held { IfOk result (λ g. held.nodes (gathered T.tree T.is_whole trail.new.cache g) ≡ holding wanted (tested (nodes_view (kept_of self.now) nodes.now wanted) (document T.tree T.custom self.now) (node_of T.tree trail.old.way.steps.items at.now))) }
         ensures returns { OnOk result (Returns T.tree T.is_whole T.custom self.now trail.old trail.new) }
         ensures ready { OnErr result (IsReady T.tree T.is_whole T.custom self.now trail.new.cache) }
-        ensures refused { IfErr result (IsHalt self.now.limit (query_of self.now) (document T.tree T.custom self.now)) }
+        ensures refused { IfErr result (IsHalt self.now.limit (test_patterns (nodes_view (kept_of self.now) nodes.now wanted)) (document T.tree T.custom self.now)) }
     {
         match nodes {
             Nodes::Lookup(steps) => { Ok(Gathered::Own(looked_up(self.alloc, steps, wanted, at)?)) }
@@ -58,12 +57,11 @@ impl<'a: 's, 's, T: Queryable> Task<'a, 's, T> {
         at: &'a T,
         trail: &mut Trail<'a, 's, '_, T>,
     ) -> Walked<Sink<'a, T>>
-        requires stands { Stands T.tree T.is_whole T.custom self.now at.now trail.old.way.steps.items trail.old.cache }
-        requires part { StandIn (query_of self.now) (segments_patterns (segments_in (kept_of self.now) segments.now)) }
+        requires { Stands T.tree T.is_whole T.custom self.now at.now trail.old.way.steps.items trail.old.cache }
         ensures given { IfOk result (λ s. seen T.tree T.is_whole s ≡ give (start wanted) (through (segments_in (kept_of self.now) segments.now) (document T.tree T.custom self.now) (node_of T.tree trail.old.way.steps.items at.now))) }
         ensures returns { OnOk result (Returns T.tree T.is_whole T.custom self.now trail.old trail.new) }
         ensures ready { OnErr result (IsReady T.tree T.is_whole T.custom self.now trail.new.cache) }
-        ensures refused { IfErr result (IsHalt self.now.limit (query_of self.now) (document T.tree T.custom self.now)) }
+        ensures refused { IfErr result (IsHalt self.now.limit (segments_patterns (segments_in (kept_of self.now) segments.now)) (document T.tree T.custom self.now)) }
     {
         if let Some(sink) = short_cut(self.alloc, segments, wanted, at)? {
             return Ok(sink);
@@ -82,12 +80,11 @@ impl<'a: 's, 's, T: Queryable> Task<'a, 's, T> {
         wanted: Wanted,
         trail: &mut Trail<'a, 's, '_, T>,
     ) -> Walked<Gathered<'a, T>>
-        requires part { StandIn (query_of self.now) (segments_patterns (query_at (kept_of self.now) wanted number)) }
-        requires ready { IsReady T.tree T.is_whole T.custom self.now trail.old.cache }
+        requires { IsReady T.tree T.is_whole T.custom self.now trail.old.cache }
         ensures given { IfOk result (λ g. gathered T.tree T.is_whole trail.new.cache g ≡ give (start wanted) (nodelist (query_at (kept_of self.now) wanted number) (document T.tree T.custom self.now))) }
         ensures returns { OnOk result (Returns T.tree T.is_whole T.custom self.now trail.old trail.new) }
         ensures ready { OnErr result (IsReady T.tree T.is_whole T.custom self.now trail.new.cache) }
-        ensures refused { IfErr result (IsHalt self.now.limit (query_of self.now) (document T.tree T.custom self.now)) }
+        ensures refused { IfErr result (IsHalt self.now.limit (segments_patterns (query_at (kept_of self.now) wanted number)) (document T.tree T.custom self.now)) }
     {
         let Some(segments) = self.plan.kept_segments(number, wanted) else {
             return Ok(Gathered::Own(Sink::of_one(self.alloc, wanted, self.root)?));

@@ -8,10 +8,10 @@ ghost use Rattle.std.specs.List.{flat_map};
 ghost use Rattle.jsonpath_rust.specs.documents.Node.{below, children};
 ghost use Rattle.jsonpath_rust.specs.documents.Meaning.{picks, all_pick, replaced, sliced};
 ghost use Rattle.jsonpath_rust.specs.documents.Patterns.{segments_patterns, segment_patterns, selectors_patterns, selector_patterns};
-ghost use Rattle.jsonpath_rust.specs.selection.inner.Halting.{IsHalt, StandIn};
+ghost use Rattle.jsonpath_rust.specs.selection.inner.Halting.{IsHalt};
 ghost use Rattle.jsonpath_rust.specs.selection.inner.PlanViews.{segments_in, segment_view, selectors_in, selector_view};
 ghost use Rattle.jsonpath_rust.specs.selection.inner.Sinks.{Took, seen};
-ghost use Rattle.jsonpath_rust.specs.selection.inner.Keeping.{IsReady, document, kept_of, query_of};
+ghost use Rattle.jsonpath_rust.specs.selection.inner.Keeping.{IsReady, document, kept_of};
 ghost use Rattle.jsonpath_rust.specs.selection.inner.Standing.{Stands, Returns};
 ghost use Rattle.jsonpath_rust.specs.selection.inner.Walking.{through, node_of, acted};
 
@@ -21,6 +21,7 @@ use crate::documents::queryable::children::element;
 use crate::selection::action::Action;
 use crate::selection::budget::Limit;
 use crate::selection::children::Child;
+use crate::selection::onward::Onward;
 use crate::selection::plan::{Plan, Segment, Selector};
 use crate::selection::sink::Sink;
 use crate::selection::trail::Trail;
@@ -28,13 +29,14 @@ use jsonpath_base::StepRef;
 use jsonpath_base::slice::slice_places;
 use std::alloc::Global;
 
+/// Start, end and step of a slice (RFC 9535, 2.3.4).
+type Bounds = (Option<i64>, Option<i64>, Option<i64>);
+
 /// What is asked: a query by its plan, of a document, and whether the work for it is limited.
 #[derive(Drop)]
 pub struct Task<'a, 's, T> {
     pub alloc: Global,
     pub plan: &'s Plan,
-    /// The segments that are asked: those of the plan, or of an entry of it.
-    pub segments: &'s [Segment],
     pub root: &'a T,
     pub limit: Limit,
 }
@@ -50,18 +52,17 @@ impl<'a: 's, 's, T: Queryable> Task<'a, 's, T> {
         trail: &mut Trail<'a, 's, '_, T>,
         sink: &mut Sink<'a, T>,
     ) -> Walked<bool>
-        requires stands { Stands T.tree T.is_whole T.custom self.now at.now trail.old.way.steps.items trail.old.cache }
-        requires part { StandIn (query_of self.now) (segments_patterns (segments_in (kept_of self.now) segments.now)) }
+        requires { Stands T.tree T.is_whole T.custom self.now at.now trail.old.way.steps.items trail.old.cache }
         ensures gave { IfOk result (λ b. Took (seen T.tree T.is_whole sink.old)
             (through (segments_in (kept_of self.now) segments.now) (document T.tree T.custom self.now) (node_of T.tree trail.old.way.steps.items at.now))
             (seen T.tree T.is_whole sink.new) b) }
         ensures returns { OnOk result (Returns T.tree T.is_whole T.custom self.now trail.old trail.new) }
         ensures ready { OnErr result (IsReady T.tree T.is_whole T.custom self.now trail.new.cache) }
-        ensures refused { IfErr result (IsHalt self.now.limit (query_of self.now) (document T.tree T.custom self.now)) }
+        ensures refused { IfErr result (IsHalt self.now.limit (segments_patterns (segments_in (kept_of self.now) segments.now)) (document T.tree T.custom self.now)) }
     {
         match segments.split_first() {
             None => sink.take(self.alloc, at, &mut trail.way),
-            Some((first, rest)) => self.pass(first, rest, at, trail, sink),
+            Some((next, rest)) => self.pass(Onward { next, rest }, at, trail, sink),
         }
     }
 
@@ -70,26 +71,31 @@ impl<'a: 's, 's, T: Queryable> Task<'a, 's, T> {
     #[inline(always)]
     pub fn pass(
         &self,
-        first: &'s Segment,
-        rest: &'s [Segment],
+        onward: Onward<'s, &'s Segment>,
         at: &'a T,
         trail: &mut Trail<'a, 's, '_, T>,
         sink: &mut Sink<'a, T>,
     ) -> Walked<bool>
-        requires stands { Stands T.tree T.is_whole T.custom self.now at.now trail.old.way.steps.items trail.old.cache }
-        requires part { StandIn (query_of self.now) (segment_patterns (segment_view (kept_of self.now) first.now) ++ segments_patterns (segments_in (kept_of self.now) rest.now)) }
+        requires { Stands T.tree T.is_whole T.custom self.now at.now trail.old.way.steps.items trail.old.cache }
         ensures gave { IfOk result (λ b. Took (seen T.tree T.is_whole sink.old)
-            (flat_map (through (segments_in (kept_of self.now) rest.now) (document T.tree T.custom self.now))
-            (replaced (segment_view (kept_of self.now) first.now) (document T.tree T.custom self.now) (node_of T.tree trail.old.way.steps.items at.now)))
+            (flat_map (through (segments_in (kept_of self.now) onward.entry.rest.now) (document T.tree T.custom self.now))
+            (replaced (segment_view (kept_of self.now) onward.entry.next.now) (document T.tree T.custom self.now) (node_of T.tree trail.old.way.steps.items at.now)))
             (seen T.tree T.is_whole sink.new) b) }
         ensures returns { OnOk result (Returns T.tree T.is_whole T.custom self.now trail.old trail.new) }
         ensures ready { OnErr result (IsReady T.tree T.is_whole T.custom self.now trail.new.cache) }
-        ensures refused { IfErr result (IsHalt self.now.limit (query_of self.now) (document T.tree T.custom self.now)) }
+        ensures refused { IfErr result (IsHalt self.now.limit (segment_patterns (segment_view (kept_of self.now) onward.entry.next.now) ++ segments_patterns (segments_in (kept_of self.now) onward.entry.rest.now)) (document T.tree T.custom self.now)) }
     {
-        match first {
-            Segment::Selector(selector) => self.pick(selector, rest, at, trail, sink),
-            Segment::Selectors(selectors) => self.pick_each(selectors, rest, at, trail, sink),
-            Segment::Descendant(inner) => self.act(Action::Below(inner), rest, at, trail, sink),
+        let rest = onward.rest;
+        match onward.next {
+            Segment::Selector(next) => self.pick(Onward { next, rest }, at, trail, sink),
+            Segment::Selectors(selectors) => {
+                let next = selectors.as_slice();
+                self.pick_each(Onward { next, rest }, at, trail, sink)
+            }
+            Segment::Descendant(inner) => {
+                let next = Action::Below(inner);
+                self.act(Onward { next, rest }, at, trail, sink)
+            }
         }
     }
 
@@ -97,25 +103,27 @@ impl<'a: 's, 's, T: Queryable> Task<'a, 's, T> {
     #[cycle(walk)]
     fn pick_each(
         &self,
-        selectors: &'s [Selector],
-        rest: &'s [Segment],
+        onward: Onward<'s, &'s [Selector]>,
         at: &'a T,
         trail: &mut Trail<'a, 's, '_, T>,
         sink: &mut Sink<'a, T>,
     ) -> Walked<bool>
-        requires stands { Stands T.tree T.is_whole T.custom self.now at.now trail.old.way.steps.items trail.old.cache }
-        requires part { StandIn (query_of self.now) (selectors_patterns (selectors_in (kept_of self.now) selectors.now) ++ segments_patterns (segments_in (kept_of self.now) rest.now)) }
+        requires { Stands T.tree T.is_whole T.custom self.now at.now trail.old.way.steps.items trail.old.cache }
         ensures gave { IfOk result (λ b. Took (seen T.tree T.is_whole sink.old)
-            (flat_map (through (segments_in (kept_of self.now) rest.now) (document T.tree T.custom self.now))
-            (all_pick (selectors_in (kept_of self.now) selectors.now) (document T.tree T.custom self.now) (node_of T.tree trail.old.way.steps.items at.now)))
+            (flat_map (through (segments_in (kept_of self.now) onward.entry.rest.now) (document T.tree T.custom self.now))
+            (all_pick (selectors_in (kept_of self.now) onward.entry.next.now) (document T.tree T.custom self.now) (node_of T.tree trail.old.way.steps.items at.now)))
             (seen T.tree T.is_whole sink.new) b) }
         ensures returns { OnOk result (Returns T.tree T.is_whole T.custom self.now trail.old trail.new) }
         ensures ready { OnErr result (IsReady T.tree T.is_whole T.custom self.now trail.new.cache) }
-        ensures refused { IfErr result (IsHalt self.now.limit (query_of self.now) (document T.tree T.custom self.now)) }
+        ensures refused { IfErr result (IsHalt self.now.limit (selectors_patterns (selectors_in (kept_of self.now) onward.entry.next.now) ++ segments_patterns (segments_in (kept_of self.now) onward.entry.rest.now)) (document T.tree T.custom self.now)) }
     {
-        trail.budget.spend(self.limit, selectors.len())?;
-        for selector in selectors {
-            if !self.pick(selector, rest, at, trail, sink)? {
+        trail.budget.spend(self.limit, onward.next.len())?;
+        for selector in onward.next {
+            let one = Onward {
+                next: selector,
+                rest: onward.rest,
+            };
+            if !self.pick(one, at, trail, sink)? {
                 return Ok(false);
             }
         }
@@ -127,73 +135,83 @@ impl<'a: 's, 's, T: Queryable> Task<'a, 's, T> {
     #[inline(always)]
     fn pick(
         &self,
-        selector: &'s Selector,
-        rest: &'s [Segment],
+        onward: Onward<'s, &'s Selector>,
         at: &'a T,
         trail: &mut Trail<'a, 's, '_, T>,
         sink: &mut Sink<'a, T>,
     ) -> Walked<bool>
-        requires stands { Stands T.tree T.is_whole T.custom self.now at.now trail.old.way.steps.items trail.old.cache }
-        requires part { StandIn (query_of self.now) (selector_patterns (selector_view (kept_of self.now) selector.now) ++ segments_patterns (segments_in (kept_of self.now) rest.now)) }
+        requires { Stands T.tree T.is_whole T.custom self.now at.now trail.old.way.steps.items trail.old.cache }
         ensures gave { IfOk result (λ b. Took (seen T.tree T.is_whole sink.old)
-            (flat_map (through (segments_in (kept_of self.now) rest.now) (document T.tree T.custom self.now))
-            (picks (selector_view (kept_of self.now) selector.now) (document T.tree T.custom self.now) (node_of T.tree trail.old.way.steps.items at.now)))
+            (flat_map (through (segments_in (kept_of self.now) onward.entry.rest.now) (document T.tree T.custom self.now))
+            (picks (selector_view (kept_of self.now) onward.entry.next.now) (document T.tree T.custom self.now) (node_of T.tree trail.old.way.steps.items at.now)))
             (seen T.tree T.is_whole sink.new) b) }
         ensures returns { OnOk result (Returns T.tree T.is_whole T.custom self.now trail.old trail.new) }
         ensures ready { OnErr result (IsReady T.tree T.is_whole T.custom self.now trail.new.cache) }
-        ensures refused { IfErr result (IsHalt self.now.limit (query_of self.now) (document T.tree T.custom self.now)) }
+        ensures refused { IfErr result (IsHalt self.now.limit (selector_patterns (selector_view (kept_of self.now) onward.entry.next.now) ++ segments_patterns (segments_in (kept_of self.now) onward.entry.rest.now)) (document T.tree T.custom self.now)) }
     {
-        match selector {
+        let rest = onward.rest;
+        let all = Onward {
+            next: Action::All,
+            rest,
+        };
+        match onward.next {
             Selector::Name(name) => match at.get(name) {
                 Some(value) => {
                     let step = StepRef::Name(name);
-                    self.at_child(Action::All, rest, Child { step, value }, trail, sink)
+                    self.at_child(all, Child { step, value }, trail, sink)
                 }
                 None => Ok(true),
             },
-            Selector::Wildcard => self.each_child(Action::All, rest, at, trail, sink),
+            Selector::Wildcard => self.each_child(all, at, trail, sink),
             Selector::Index(index) => match element(at, *index) {
                 Some((position, value)) => {
                     let step = StepRef::Index(position);
-                    self.at_child(Action::All, rest, Child { step, value }, trail, sink)
+                    self.at_child(all, Child { step, value }, trail, sink)
                 }
                 None => Ok(true),
             },
             Selector::Slice(start, end, step) => {
-                self.pick_slice((*start, *end, *step), rest, at, trail, sink)
+                let next = (*start, *end, *step);
+                self.pick_slice(Onward { next, rest }, at, trail, sink)
             }
-            Selector::Filter(filter) => self.each_child(Action::If(filter), rest, at, trail, sink),
+            Selector::Filter(filter) => {
+                let next = Action::If(filter);
+                self.each_child(Onward { next, rest }, at, trail, sink)
+            }
         }
     }
 
-    /// The rest from each element that a slice of this start, end and step picks, in its order (RFC 9535, 2.3.4).
+    /// The rest from each element that a slice of these bounds picks, in its order (RFC 9535, 2.3.4).
     #[cycle(walk)]
     fn pick_slice(
         &self,
-        slice: (Option<i64>, Option<i64>, Option<i64>),
-        rest: &'s [Segment],
+        onward: Onward<'s, Bounds>,
         at: &'a T,
         trail: &mut Trail<'a, 's, '_, T>,
         sink: &mut Sink<'a, T>,
     ) -> Walked<bool>
-        requires stands { Stands T.tree T.is_whole T.custom self.now at.now trail.old.way.steps.items trail.old.cache }
-        requires part { StandIn (query_of self.now) (segments_patterns (segments_in (kept_of self.now) rest.now)) }
+        requires { Stands T.tree T.is_whole T.custom self.now at.now trail.old.way.steps.items trail.old.cache }
         ensures gave { IfOk result (λ b. Took (seen T.tree T.is_whole sink.old)
-            (flat_map (through (segments_in (kept_of self.now) rest.now) (document T.tree T.custom self.now))
-            (sliced slice.0 slice.1 slice.2 (node_of T.tree trail.old.way.steps.items at.now)))
+            (flat_map (through (segments_in (kept_of self.now) onward.entry.rest.now) (document T.tree T.custom self.now))
+            (sliced onward.entry.next.0 onward.entry.next.1 onward.entry.next.2 (node_of T.tree trail.old.way.steps.items at.now)))
             (seen T.tree T.is_whole sink.new) b) }
         ensures returns { OnOk result (Returns T.tree T.is_whole T.custom self.now trail.old trail.new) }
         ensures ready { OnErr result (IsReady T.tree T.is_whole T.custom self.now trail.new.cache) }
-        ensures refused { IfErr result (IsHalt self.now.limit (query_of self.now) (document T.tree T.custom self.now)) }
+        ensures refused { IfErr result (IsHalt self.now.limit (segments_patterns (segments_in (kept_of self.now) onward.entry.rest.now)) (document T.tree T.custom self.now)) }
     {
         let Some(items) = at.as_array() else {
             return Ok(true);
         };
-        for position in slice_places(slice.0, slice.1, slice.2, items.len()) {
+        let (start, end, step) = onward.next;
+        let all = Onward {
+            next: Action::All,
+            rest: onward.rest,
+        };
+        for position in slice_places(start, end, step, items.len()) {
             trail.budget.spend(self.limit, 1)?;
             let step = StepRef::Index(position);
             let value = &items[position];
-            if !self.at_child(Action::All, rest, Child { step, value }, trail, sink)? {
+            if !self.at_child(all, Child { step, value }, trail, sink)? {
                 return Ok(false);
             }
         }

@@ -1,5 +1,5 @@
--- What stands in a part of a query stands in the query.
-use Rattle.std.proofs.Common.{◌≡◌, ℕ, zero, suc, ◌<◌, List, [], ◌∷◌, ◌++◌, length, get_or, arith, refl, sym, subst, Bool, Option, inl, inr, ◌⊎◌}
+-- A pattern of a part of a query is one of the query, and a halt for it one of the query.
+use Rattle.std.proofs.Common.{◌≡◌, ℕ, zero, suc, ◌<◌, List, [], ◌∷◌, ◌++◌, length, get_or, arith, refl, sym, ◌∙◌, subst, Bool, Option, Result, Ok, Err, IfErr, IsErrAnd, inl, inr, ◌⊎◌}
 use Rattle.std.proofs.lemmas.List.Elements.{Contains-append_left, Contains-append_right, Contains-append_cases}
 use Rattle.std.specs.List.{Contains}
 use Rattle.jsonpath_parser.specs.tree.Syntax.{Argument, Query}
@@ -12,49 +12,67 @@ use Rattle.jsonpath_rust.specs.documents.Functions.{as_value}
 use Rattle.jsonpath_rust.specs.documents.Meaning.{argued}
 use Rattle.jsonpath_rust.specs.documents.Node.{Node}
 use Rattle.jsonpath_rust.specs.documents.Patterns.{segments_patterns, IsPattern, AsksPattern, IsStop}
-use Rattle.jsonpath_rust.specs.selection.inner.Halting.{StandIn}
+use Rattle.jsonpath_rust.specs.declared.documents.halt.Halt.{Halt}
+use Rattle.jsonpath_rust.specs.declared.selection.budget.Limit.{Limit}
+use Rattle.jsonpath_rust.specs.selection.inner.Halting.{IsHalt}
+
+-- ---- more patterns
+
+asked_by : {d : Document} (xs ys : List (Bool × Argument)) → ((p : Bool × Argument) → Contains xs p → Contains ys p) → AsksPattern xs d → AsksPattern ys d
+asked_by xs ys k h = record { entire = h.entire; pattern = h.pattern; stands = k (h.entire, h.pattern) h.stands; node = h.node; here = h.here; read = h.read }
 
 -- the same part in other words
-pub part_as : {X : Type 0} (f : X → List (Bool × Argument)) (q : Query) (x y : X) → x ≡ y → StandIn q (f x) → StandIn q (f y)
-part_as f q x y e h = subst (λ z. StandIn q (f z)) e h
+pub asked_as : {X : Type 0} {d : Document} (f : X → List (Bool × Argument)) (x y : X) → x ≡ y → AsksPattern (f y) d → AsksPattern (f x) d
+asked_as {d = d} f x y e h = subst (λ z. AsksPattern (f z) d) (sym e) h
 
 -- one of two parts
-pub part_left : (q : Query) (xs ys : List (Bool × Argument)) → StandIn q (xs ++ ys) → StandIn q xs
-part_left q xs ys h = record { all = λ p k. h.all p (Contains-append_left xs ys p k) }
+pub asked_left : {d : Document} (xs ys : List (Bool × Argument)) → AsksPattern xs d → AsksPattern (xs ++ ys) d
+asked_left xs ys h = asked_by xs (xs ++ ys) (λ p. Contains-append_left xs ys p) h
 
-pub part_right : (q : Query) (xs ys : List (Bool × Argument)) → StandIn q (xs ++ ys) → StandIn q ys
-part_right q xs ys h = record { all = λ p k. h.all p (Contains-append_right xs ys p k) }
+pub asked_right : {d : Document} (xs ys : List (Bool × Argument)) → AsksPattern ys d → AsksPattern (xs ++ ys) d
+asked_right xs ys h = asked_by ys (xs ++ ys) (λ p. Contains-append_right xs ys p) h
 
--- without the first one
-pub part_rest : (q : Query) (x : Bool × Argument) (xs : List (Bool × Argument)) → StandIn q (x ∷ xs) → StandIn q xs
-part_rest q x xs h = part_right q (x ∷ []) xs h
-
--- and both
-in_both : (q : Query) (p : Bool × Argument) (xs ys : List (Bool × Argument)) → StandIn q xs → StandIn q ys → Contains xs p ⊎ Contains ys p → Contains (segments_patterns q) p
-in_both q p xs ys h k (inl c) = h.all p c
-in_both q p xs ys h k (inr c) = k.all p c
-
-pub part_both : (q : Query) (xs ys : List (Bool × Argument)) → StandIn q xs → StandIn q ys → StandIn q (xs ++ ys)
-part_both q xs ys h k = record { all = λ p c. in_both q p xs ys h k (Contains-append_cases xs ys p c) }
+-- behind the first one
+pub asked_rest : {d : Document} (x : Bool × Argument) (xs : List (Bool × Argument)) → AsksPattern xs d → AsksPattern (x ∷ xs) d
+asked_rest x xs h = asked_right (x ∷ []) xs h
 
 -- one of a list of parts
-pub part_at : {X : Type 0} (f : X → List (Bool × Argument)) (all : List X → List (Bool × Argument)) → ((x : X) (xs : List X) → all (x ∷ xs) ≡ f x ++ all xs) → (q : Query) (xs : List X) (i : ℕ) (x : X) → i < length xs → x ≡ get_or xs i x → StandIn q (all xs) → StandIn q (f x)
-part_at f all more q [] i x h e k = absurd (omega (arith, h))
-part_at f all more q (y ∷ ys) zero x h e k = part_as f q y x (sym e) (part_left q (f y) (all ys) (subst (StandIn q) (more y ys) k))
-part_at f all more q (y ∷ ys) (suc i) x h e k = part_at f all more q ys i x (omega (arith, h)) e (part_right q (f y) (all ys) (subst (StandIn q) (more y ys) k))
+within : {X : Type 0} (f : X → List (Bool × Argument)) (all : List X → List (Bool × Argument)) → ((x : X) (xs : List X) → all (x ∷ xs) ≡ f x ++ all xs) → (xs : List X) (i : ℕ) (x : X) → i < length xs → x ≡ get_or xs i x → (p : Bool × Argument) → Contains (f x) p → Contains (all xs) p
+within f all more [] i x lt e p h = absurd (omega (arith, lt))
+within f all more (y ∷ ys) zero x lt e p h = subst (λ ps. Contains ps p) (sym (more y ys)) (Contains-append_left (f y) (all ys) p (subst (λ z. Contains (f z) p) e h))
+within f all more (y ∷ ys) (suc i) x lt e p h = subst (λ ps. Contains ps p) (sym (more y ys)) (Contains-append_right (f y) (all ys) p (within f all more ys i x (omega (arith, lt)) e p h))
 
--- the whole query
-pub all_stand : (q : Query) → StandIn q (segments_patterns q)
-all_stand q = record { all = λ p c. c }
+pub asked_at : {X : Type 0} {d : Document} (f : X → List (Bool × Argument)) (all : List X → List (Bool × Argument)) → ((x : X) (xs : List X) → all (x ∷ xs) ≡ f x ++ all xs) → (xs : List X) (i : ℕ) (x : X) → i < length xs → x ≡ get_or xs i x → AsksPattern (f x) d → AsksPattern (all xs) d
+asked_at f all more xs i x lt e h = asked_by (f x) (all xs) (within f all more xs i x lt e) h
+
+-- the same, with others behind
+beside : (xs ys zs : List (Bool × Argument)) (p : Bool × Argument) → (Contains xs p → Contains ys p) → Contains xs p ⊎ Contains zs p → Contains (ys ++ zs) p
+beside xs ys zs p k (inl c) = Contains-append_left ys zs p (k c)
+beside xs ys zs p k (inr c) = Contains-append_right ys zs p c
+
+pub asked_at_or : {X : Type 0} {d : Document} (f : X → List (Bool × Argument)) (all : List X → List (Bool × Argument)) → ((x : X) (xs : List X) → all (x ∷ xs) ≡ f x ++ all xs) → (others : List (Bool × Argument)) (xs : List X) (i : ℕ) (x : X) → i < length xs → x ≡ get_or xs i x → AsksPattern (f x ++ others) d → AsksPattern (all xs ++ others) d
+asked_at_or f all more others xs i x lt e h = asked_by (f x ++ others) (all xs ++ others) (λ p c. beside (f x) (all xs) others p (within f all more xs i x lt e p) (Contains-append_cases (f x) others p c)) h
+
+-- ---- halts
+
+-- a halt of a part is one of the whole
+pub halts_as : {A : Type 0} {xs ys : List (Bool × Argument)} {d : Document} (limit : Limit) (r : Result A Halt) → IfErr r (IsHalt limit xs d) → (AsksPattern xs d → AsksPattern ys d) → IfErr r (IsHalt limit ys d)
+halts_as limit (Ok a) h f = tt
+halts_as limit (Err e) h f = λ memory spent. f (h memory spent)
+
+-- of one that a `?` passes on
+pub halts_so : {A : Type 0} {xs ys : List (Bool × Argument)} {d : Document} (limit : Limit) (r : Result A Halt) (e : Halt) → IsErrAnd r (λ y. y ≡ e) → IsHalt limit xs d e → (AsksPattern xs d → AsksPattern ys d) → IfErr r (IsHalt limit ys d)
+halts_so limit (Ok a) e is h f = tt
+halts_so limit (Err y) e is h f = λ memory spent. f (h (λ m. memory (is ∙ m)) (λ s. spent (is ∙ s.0, s.1)))
 
 -- ---- patterns
 
--- the query asks its first pattern at a node
-pub pattern_asked : (q : Query) (doc : Document) (entire : Bool) (asked : Argument) (more : List (Bool × Argument)) (n : Node) (o : Option Tree) → StandIn q ((entire, asked) ∷ more) → IsValueAt doc n.location n.tree → o ≡ as_value (argued asked doc n) → IsPattern entire o → AsksPattern q doc
-pattern_asked q doc entire asked more n o h here e k = record { entire = entire; pattern = asked; stands = h.all (entire, asked) (0, omega arith, refl); node = n; here = here; read = subst (IsPattern entire) e k }
+-- the first pattern is asked at a node
+pub pattern_asked : (d : Document) (entire : Bool) (asked : Argument) (more : List (Bool × Argument)) (n : Node) (o : Option Tree) → IsValueAt d n.location n.tree → o ≡ as_value (argued asked d n) → IsPattern entire o → AsksPattern ((entire, asked) ∷ more) d
+pattern_asked d entire asked more n o here e k = record { entire = entire; pattern = asked; stands = (0, omega arith, refl); node = n; here = here; read = subst (IsPattern entire) e k }
 
 -- a query in which no pattern stands asks none
-none_asked : (q : Query) (doc : Document) → segments_patterns q ≡ [] → AsksPattern q doc → ⊥
+none_asked : (q : Query) (doc : Document) → segments_patterns q ≡ [] → AsksPattern (segments_patterns q) doc → ⊥
 none_asked q doc none asks = by_patterns (segments_patterns q) none asks.stands
   where
     by_patterns : (ps : List (Bool × Argument)) → ps ≡ [] → Contains ps (asks.entire, asks.pattern) → ⊥

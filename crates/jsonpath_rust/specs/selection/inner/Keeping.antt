@@ -1,12 +1,11 @@
 -- What one call of the evaluator keeps, for the contracts of the walk alone: the definitions here are no part of what a query means.
 use Rattle.std.specs.Prelude.{◌≡◌, ℕ, List, map, length, get_or, Bool, true, false, Option, None, Some, option_map, IsTrue, All}
-use Rattle.jsonpath_parser.specs.tree.Syntax.{Query}
 use Rattle.jsonpath_base.specs.Tree.{Tree, truth}
 use Rattle.jsonpath_rust.specs.documents.Document.{Document, document_of}
 use Rattle.jsonpath_rust.specs.documents.Meaning.{nodelist, value_at, answer, comparison_holds}
 use Rattle.jsonpath_rust.specs.documents.Node.{root_node}
 use Rattle.jsonpath_rust.specs.documents.inner.Operands.{operand_tree, operand_is_whole}
-use Rattle.jsonpath_rust.specs.selection.inner.PlanViews.{Kept, KeptPart, kept_view, part_at, segments_in}
+use Rattle.jsonpath_rust.specs.selection.inner.PlanViews.{Kept, KeptPart, kept_view, part_at}
 use Rattle.jsonpath_rust.specs.selection.inner.PlanViews as plan
 use Rattle.jsonpath_rust.specs.selection.inner.Sinks.{Seen, any, seen, start, give}
 use Rattle.jsonpath_rust.specs.declared.selection.cache.Cache.{Cache}
@@ -22,9 +21,6 @@ document tree custom task = document_of tree custom task.root.now
 
 abbrev pub kept_of : {A : Type 0} → Task A → Kept
 kept_of task = kept_view task.plan.now.kept.items
-
-abbrev pub query_of : {A : Type 0} → Task A → Query
-query_of task = segments_in (kept_of task) task.segments.now
 
 -- what an entry gave: what was wanted of nodes, or a value, if there is one, and whether it is whole
 pub data Gave : Type 0 where

@@ -5,7 +5,6 @@ use Rattle.jsonpath_rust.specs.selection.inner.PlanViews.{kept_view, segments_in
 use Rattle.jsonpath_rust.specs.selection.inner.Walking.{through, node_of}
 use Rattle.jsonpath_base.specs.declared.step.StepRef.{StepRef}
 use Rattle.jsonpath_rust.proofs.laws.selection.Entries.{as_many}
-use Rattle.jsonpath_rust.proofs.laws.selection.HaltingLaws.{all_stand}
 use Rattle.jsonpath_rust.proofs.laws.selection.Sinks.{result_as}
 use Rattle.jsonpath_rust.proofs.laws.selection.NodelistLaws.{nodelist-through}
 use Rattle.jsonpath_rust.proofs.laws.selection.Standing.{at_root}
@@ -14,11 +13,8 @@ use Rattle.jsonpath_rust.proofs.selection.give.give_along.Goals as goal
 pub work_out_early-requires : goal.work_out_early-requires
 work_out_early-requires g c = record { root = c.requires; kept = c.in_ok-cache.ensures (kept_view c.args.plan.now.kept.items) (document_of g.T.Queryable.tree g.T.Queryable.custom c.args.root.now) (as_many c.args.plan.now.kept.items c.args.plan.now.settled ∙ (search rules)) }
 
-pub walk-requires-clause-stands : goal.walk-requires-clause-stands
-walk-requires-clause-stands g c = at_root c.in_ok-work_out_early.ensures.way c.in_ok-work_out_early.ensures.ready
-
-pub walk-requires-clause-part : goal.walk-requires-clause-part
-walk-requires-clause-part g c = all_stand _
+pub walk-requires : goal.walk-requires
+walk-requires g c = at_root c.in_ok-work_out_early.ensures.way c.in_ok-work_out_early.ensures.ready
 
 pub returns-clause-gave : goal.returns-clause-gave
 returns-clause-gave g c =
@@ -26,4 +22,4 @@ returns-clause-gave g c =
     let d = document_of tree g.T.Queryable.custom c.args.root.now in
     let kept = kept_view c.args.plan.now.kept.items in
     let at = λ (q : List StepRef) (gs : List Segment). through (segments_in kept gs) d (node_of tree q c.args.root.now) in
-    result_as _ _ _ _ _ (ap (λ q. at q c.as_slice-segments.result.now) c.in_ok-work_out_early.ensures.way ∙ ap (at []) c.as_slice-segments.ensures.value ∙ nodelist-through (segments_in kept c.args.plan.now.segments.items) d) c.walk.ensures.gave
+    result_as _ _ _ _ _ (ap (λ q. at q c.deref.result.now) c.in_ok-work_out_early.ensures.way ∙ ap (at []) c.deref.ensures.value ∙ nodelist-through (segments_in kept c.args.plan.now.segments.items) d) c.walk.ensures.gave

@@ -22,18 +22,18 @@ use Rattle.jsonpath_rust.specs.documents.Node.{below, children, root_node, subtr
 use Rattle.jsonpath_rust.specs.documents.Meaning.{picks, all_pick, replaced, indexed, element, holds, some_holds, each_holds, value_of, value_at, answer, comparison_holds, negated, nodelist, all_trees, argued, tested}
 use Rattle.jsonpath_rust.specs.selection.inner.Passing.{action_weight}
 use Rattle.jsonpath_rust.specs.documents.inner.Weight.{segment_weight, selectors_weight, selector_weight, segments_weight, filter_weight, filters_weight, test_weight, comparable_weight, comparison_weight, call_weight, argument_weight, arguments_weight}
-use Rattle.jsonpath_rust.specs.documents.Patterns.{segments_patterns, segment_patterns, selectors_patterns, selector_patterns, filter_patterns, filters_patterns, test_patterns, comparable_patterns, comparison_patterns, call_patterns, argument_patterns, arguments_patterns}
+use Rattle.jsonpath_rust.specs.documents.Patterns.{segments_patterns, selectors_patterns, selector_patterns, filter_patterns, filters_patterns, comparable_patterns, call_patterns, argument_patterns, arguments_patterns}
 use Rattle.jsonpath_base.specs.Steps.{lent_step, lent_location}
 use Rattle.jsonpath_rust.specs.selection.inner.Walking.{action_patterns, through, node_of, acted}
 use Rattle.jsonpath_rust.specs.selection.inner.Sinks.{seen, give, start}
-use Rattle.jsonpath_rust.specs.selection.inner.Keeping.{document, gave, given_by, kept_of, nodes_or_none, query_of, slot_at, slots_of, value_by}
+use Rattle.jsonpath_rust.specs.selection.inner.Keeping.{document, gave, given_by, kept_of, nodes_or_none, slot_at, slots_of, value_by}
 use Rattle.jsonpath_rust.specs.selection.inner.Keeping as keeping
 use Rattle.jsonpath_base.specs.declared.step.StepRef.TheVariants.{Name, Index}
 use Rattle.jsonpath_rust.proofs.laws.selection.Sinks.{took_none, took_as, took_stop, result_as, result_then, true_false}
 use Rattle.jsonpath_rust.proofs.laws.selection.Walks.{down, down_tree, down_same, turn_next, turn_stop, turn_end, selector_turns, element_turns, member_turns, place_next, place_stop, below_more, flat_map-alone, flat_map-filter}
 use Rattle.jsonpath_rust.proofs.laws.selection.Leading.{leads_below, leads_indexed}
 use Rattle.jsonpath_rust.proofs.laws.documents.NodesAt.{member_there}
-use Rattle.jsonpath_rust.proofs.laws.selection.HaltingLaws.{part_as, part_left, part_right, part_both, part_at, part_rest, pattern_asked}
+use Rattle.jsonpath_rust.proofs.laws.selection.HaltingLaws.{asked_as, asked_left, asked_right, asked_rest, asked_at, asked_at_or, halts_as, halts_so, pattern_asked}
 use Rattle.jsonpath_rust.proofs.laws.documents.Trees.{child_there, all_at, element_size, pair_size, member_size, element_at, sliced-list, named_some, named_none}
 use Rattle.jsonpath_rust.proofs.laws.documents.Parts.{part_of, kept_true, kept_false, some_found, some_next, each_failed, each_next, parts_end, ok_as, ok_through, differs, passed_on, joined_next}
 use Rattle.jsonpath_rust.proofs.laws.selection.Kept.{kept_query, found_there, gave_or_none, of_some, err_is}
@@ -51,31 +51,31 @@ use Rattle.jsonpath_rust.proofs.laws.selection.Standing.{still, stands_as, stays
 use Rattle.jsonpath_rust.proofs.selection.walk.Task.+walk.Goals as goal
 
 pub walk-take-requires : goal.walk-take-requires
-walk-take-requires g t c = c.requires.stands.whole
+walk-take-requires g t c = c.requires.whole
 
 pub act-go_on-requires : goal.act-go_on-requires
 act-go_on-requires g t c κs within =
     let kept = kept_of c.args.self.now in
     let e = ap (action_weight kept) c.in-All.is in
-    (down _ _ _ _ _ _ c.decreases (omega (arith, e)) (omega (arith, c.requires.stands.within)), (within, (c.requires.stands, part_right _ _ _ c.requires.part)))
+    (down _ _ _ _ _ _ c.decreases (omega (arith, e)) (omega (arith, c.requires.within)), (within, c.requires))
 
 pub act-filter_holds-requires : goal.act-filter_holds-requires
 act-filter_holds-requires g t c κs within =
     let kept = kept_of c.args.self.now in
     let e = ap (action_weight kept) c.in-If.is in
-    (down _ _ _ _ _ _ c.decreases (omega (arith, e)) (omega (arith, c.requires.stands.within)), (within, (c.requires.stands, part_as (action_patterns kept) _ _ _ c.in-If.is (part_left _ _ _ c.requires.part))))
+    (down _ _ _ _ _ _ c.decreases (omega (arith, e)) (omega (arith, c.requires.within)), (within, c.requires))
 
 pub act-go_on-requires-then-branch : goal.act-go_on-requires-then-branch
 act-go_on-requires-then-branch g t c κs within =
     let kept = kept_of c.args.self.now in
     let e = ap (action_weight kept) c.in-If.is in
-    (down _ _ _ _ _ _ c.decreases (omega (arith, e)) (omega (arith, c.requires.stands.within)), (within, (still c.requires.stands c.in_ok-filter_holds-in-If.ensures.returns, part_right _ _ _ c.requires.part)))
+    (down _ _ _ _ _ _ c.decreases (omega (arith, e)) (omega (arith, c.requires.within)), (within, still c.requires c.in_ok-filter_holds-in-If.ensures.returns))
 
 pub act-descend-requires : goal.act-descend-requires
 act-descend-requires g t c κs within =
     let kept = kept_of c.args.self.now in
     let e = ap (action_weight kept) c.in-Below.is in
-    (down_same _ _ _ _ _ _ c.decreases (omega (arith, e)) (omega arith), (within, (c.requires.stands, part_as (λ z. action_patterns kept z ++ segments_patterns (segments_in kept c.args.rest.now)) _ _ _ c.in-Below.is c.requires.part)))
+    (down_same _ _ _ _ _ _ c.decreases (omega (arith, e)) (omega arith), (within, c.requires))
 
 pub act-returns-in-All-clause-gave : goal.act-returns-in-All-clause-gave
 act-returns-in-All-clause-gave g t c =
@@ -83,7 +83,7 @@ act-returns-in-All-clause-gave g t c =
     let tree = g.T.Queryable.tree in
     let d = document tree g.T.Queryable.custom c.args.self.now in
     let n = node_of tree c.args.trail.now.way.steps.items c.args.at.now in
-    let rest = through (segments_in kept c.args.rest.now) d in
+    let rest = through (segments_in kept c.args.onward.rest.now) d in
     result_as _ _ _ _ _ (sym (append-nil (rest n)) ∙ ap (λ a. flat_map rest (acted kept a d n)) (sym c.in-All.is)) c.go_on.ensures.gave
 
 pub act-returns-then-branch-clause-gave : goal.act-returns-then-branch-clause-gave
@@ -92,7 +92,7 @@ act-returns-then-branch-clause-gave g t c =
     let tree = g.T.Queryable.tree in
     let d = document tree g.T.Queryable.custom c.args.self.now in
     let n = node_of tree c.args.trail.now.way.steps.items c.args.at.now in
-    let rest = through (segments_in kept c.args.rest.now) d in
+    let rest = through (segments_in kept c.args.onward.rest.now) d in
     let h = c.in_ok-filter_holds-in-If.ensures in
     result_as _ _ _ _ _ (ap (λ q. rest (node_of tree q c.args.at.now)) h.returns.same ∙ kept_true rest (holds (filter_view kept c.in-If.filter.now) d) n (sym h.holds ∙ c.if-branch.true) ∙ ap (λ a. flat_map rest (acted kept a d n)) (sym c.in-If.is)) c.go_on-then-branch.ensures.gave
 
@@ -102,7 +102,7 @@ act-returns-else-branch-clause-gave g t c =
     let tree = g.T.Queryable.tree in
     let d = document tree g.T.Queryable.custom c.args.self.now in
     let n = node_of tree c.args.trail.now.way.steps.items c.args.at.now in
-    let rest = through (segments_in kept c.args.rest.now) d in
+    let rest = through (segments_in kept c.args.onward.rest.now) d in
     let h = c.in_ok-filter_holds-in-If.ensures in
     took_none _ _ (ap (λ a. flat_map rest (acted kept a d n)) c.in-If.is ∙ kept_false rest (holds (filter_view kept c.in-If.filter.now) d) n (sym h.holds ∙ c.if-branch.false))
 
@@ -112,7 +112,7 @@ act-returns-in-Below-clause-gave g t c =
     let tree = g.T.Queryable.tree in
     let d = document tree g.T.Queryable.custom c.args.self.now in
     let n = node_of tree c.args.trail.now.way.steps.items c.args.at.now in
-    let rest = through (segments_in kept c.args.rest.now) d in
+    let rest = through (segments_in kept c.args.onward.rest.now) d in
     result_as _ _ _ _ _ (ap (λ a. flat_map rest (acted kept a d n)) (sym c.in-Below.is)) c.descend.ensures.gave
 
 pub descend-each_member-requires : goal.descend-each_member-requires
@@ -121,18 +121,15 @@ descend-each_member-requires g t c κs within =
     let tree = g.T.Queryable.tree in
     let P : List _ → Type 0 = All (λ m. IsTrue (g.T.Queryable.is_whole m.1.now)) in
     let first = c.in-Some.ensures kept in (
-      down _ _ _ _ _ _ c.decreases (omega (arith, first.lighter)) (omega (arith, c.requires.stands.within)),
+      down _ _ _ _ _ _ c.decreases (omega (arith, first.lighter)) (omega (arith, c.requires.within)),
       (
         within,
         (
-          c.requires.stands,
-          (
-            record {
-              list = ap (λ xs. Some (map (λ m. (m.0.now, tree m.1.now)) xs)) c.deref.ensures.value ∙ rw c.in-Some-2.is at (c.in_ok-listed.ensures.value c.requires.stands.whole);
-              whole = subst P (sym c.deref.ensures.value) (rw c.in-Some-2.is at (c.in_ok-listed.ensures.whole c.requires.stands.whole));
-            },
-            part_as (λ ps. ps ++ segments_patterns (segments_in kept c.args.rest.now)) _ _ _ (sym first.patterns) c.requires.part,
-          ),
+          c.requires,
+          record {
+            list = ap (λ xs. Some (map (λ m. (m.0.now, tree m.1.now)) xs)) c.deref.ensures.value ∙ rw c.in-Some-2.is at (c.in_ok-listed.ensures.value c.requires.whole);
+            whole = subst P (sym c.deref.ensures.value) (rw c.in-Some-2.is at (c.in_ok-listed.ensures.whole c.requires.whole));
+          },
         ),
       ),
     )
@@ -145,14 +142,11 @@ descend-each_member-requires-in-Some-2 g t c κs within =
       (
         within,
         (
-          still c.requires.stands c.in_ok-each_member.ensures.returns,
-          (
-            record {
-              list = ap (λ xs. Some (map (λ m. (m.0.now, tree m.1.now)) xs)) c.deref.ensures.value ∙ rw c.in-Some-2.is at (c.in_ok-listed.ensures.value c.requires.stands.whole);
-              whole = subst P (sym c.deref.ensures.value) (rw c.in-Some-2.is at (c.in_ok-listed.ensures.whole c.requires.stands.whole));
-            },
-            c.requires.part,
-          ),
+          still c.requires c.in_ok-each_member.ensures.returns,
+          record {
+            list = ap (λ xs. Some (map (λ m. (m.0.now, tree m.1.now)) xs)) c.deref.ensures.value ∙ rw c.in-Some-2.is at (c.in_ok-listed.ensures.value c.requires.whole);
+            whole = subst P (sym c.deref.ensures.value) (rw c.in-Some-2.is at (c.in_ok-listed.ensures.whole c.requires.whole));
+          },
         ),
       ),
     )
@@ -163,9 +157,9 @@ descend-returns-in-Some-2-clause-gave g t c =
     let tree = g.T.Queryable.tree in
     let d = document tree g.T.Queryable.custom c.args.self.now in
     let n = node_of tree c.args.trail.now.way.steps.items c.args.at.now in
-    let rest = through (segments_in kept c.args.rest.now) d in
-    let h = replaced (segment_view kept c.args.segment.now) d in
-    let here = flat_map rest (flat_map (acted kept c.in-Some.action d) (children n)) in
+    let rest = through (segments_in kept c.args.onward.rest.now) d in
+    let h = replaced (segment_view kept c.args.onward.next.now) d in
+    let here = flat_map rest (flat_map (acted kept c.in-Some.next d) (children n)) in
     let further = flat_map rest (flat_map (λ m. flat_map h (subtree m)) (children n)) in
     let same = ap (λ q. here ++ flat_map rest (flat_map (λ m. flat_map h (subtree m)) (children (node_of tree q c.args.at.now)))) c.in_ok-each_member.ensures.returns.same in
     let makes = ap (λ ns. flat_map rest ns ++ further) ((c.in-Some.ensures kept).makes d n) in
@@ -173,10 +167,10 @@ descend-returns-in-Some-2-clause-gave g t c =
 
 pub descend-pass-requires : goal.descend-pass-requires
 descend-pass-requires g t c κs within =
-    (down _ _ _ _ _ _ c.decreases (omega arith) (omega (arith, c.requires.stands.within)), (within, (c.requires.stands, c.requires.part)))
+    (down _ _ _ _ _ _ c.decreases (omega arith) (omega (arith, c.requires.within)), (within, c.requires))
 
 pub descend-each_child-requires : goal.descend-each_child-requires
-descend-each_child-requires g t c κs within = (down_tree _ _ _ _ _ c.decreases (omega arith), (within, (still c.requires.stands c.in_ok-pass.ensures.returns, c.requires.part)))
+descend-each_child-requires g t c κs within = (down_tree _ _ _ _ _ c.decreases (omega arith), (within, still c.requires c.in_ok-pass.ensures.returns))
 
 pub descend-returns-clause-gave : goal.descend-returns-clause-gave
 descend-returns-clause-gave g t c =
@@ -184,8 +178,8 @@ descend-returns-clause-gave g t c =
     let tree = g.T.Queryable.tree in
     let d = document tree g.T.Queryable.custom c.args.self.now in
     let n = node_of tree c.args.trail.now.way.steps.items c.args.at.now in
-    let rest = through (segments_in kept c.args.rest.now) d in
-    let h = replaced (segment_view kept c.args.segment.now) d in
+    let rest = through (segments_in kept c.args.onward.rest.now) d in
+    let h = replaced (segment_view kept c.args.onward.next.now) d in
     let here = flat_map rest (h n) in
     let same = ap (λ q. here ++ flat_map rest (flat_map (λ m. flat_map h (subtree m)) (children (node_of tree q c.args.at.now)))) c.in_ok-pass.ensures.returns.same in
     result_then _ _ _ _ _ _ _ _ (same ∙ below_more rest h n.location n.tree) c.in_ok-pass.ensures.gave c.each_child.ensures.gave
@@ -196,8 +190,8 @@ descend-returns-then-not-branch-clause-gave g t c =
     let tree = g.T.Queryable.tree in
     let d = document tree g.T.Queryable.custom c.args.self.now in
     let n = node_of tree c.args.trail.now.way.steps.items c.args.at.now in
-    let rest = through (segments_in kept c.args.rest.now) d in
-    let h = replaced (segment_view kept c.args.segment.now) d in
+    let rest = through (segments_in kept c.args.onward.rest.now) d in
+    let h = replaced (segment_view kept c.args.onward.next.now) d in
     let further = flat_map rest (flat_map (λ m. flat_map h (subtree m)) (children n)) in
     let makes = ap (λ ns. flat_map rest ns ++ further) ((c.in-Some.ensures kept).makes d n) in
     took_stop _ _ _ _ _ _ _ (makes ∙ below_more rest h n.location n.tree) c.in_ok-each_member.ensures.gave c.if-not-branch.true
@@ -208,49 +202,49 @@ descend-returns-then-not-branch-2-clause-gave g t c =
     let tree = g.T.Queryable.tree in
     let d = document tree g.T.Queryable.custom c.args.self.now in
     let n = node_of tree c.args.trail.now.way.steps.items c.args.at.now in
-    let rest = through (segments_in kept c.args.rest.now) d in
-    let h = replaced (segment_view kept c.args.segment.now) d in
+    let rest = through (segments_in kept c.args.onward.rest.now) d in
+    let h = replaced (segment_view kept c.args.onward.next.now) d in
     took_stop _ _ _ _ _ _ _ (below_more rest h n.location n.tree) c.in_ok-pass.ensures.gave c.if-not-branch-2.true
 
 pub go_on-take-requires : goal.go_on-take-requires
-go_on-take-requires g t c = c.requires.stands.whole
+go_on-take-requires g t c = c.requires.whole
 
 pub go_on-walk-requires : goal.go_on-walk-requires
-go_on-walk-requires g t c κs within = (down_tree _ _ _ _ _ c.decreases (omega arith), (within, (c.requires.stands, c.requires.part)))
+go_on-walk-requires g t c κs within = (down_tree _ _ _ _ _ c.decreases (omega arith), (within, c.requires))
 
 pub at_child-is_idle-requires : goal.at_child-is_idle-requires
-at_child-is_idle-requires g t c = c.requires.stands.whole
+at_child-is_idle-requires g t c = c.requires.whole
 
 pub at_child-returns-then-is_idle-clause-gave : goal.at_child-returns-then-is_idle-clause-gave
 at_child-returns-then-is_idle-clause-gave g t c =
     let kept = kept_of c.args.self.now in
     let tree = g.T.Queryable.tree in
     let d = document tree g.T.Queryable.custom c.args.self.now in
-    let rest = through (segments_in kept c.args.rest.now) d in
+    let rest = through (segments_in kept c.args.onward.rest.now) d in
     took_none _ _ (ap (flat_map rest) (c.is_idle.ensures c.if-is_idle.true kept d _))
 
 pub at_child-act-requires : goal.at_child-act-requires
-at_child-act-requires g t c κs within = (down_tree _ _ _ _ _ c.decreases (omega arith), (within, (stands_as c.in_ok-push.ensures.steps c.requires.stands, c.requires.part)))
+at_child-act-requires g t c κs within = (down_tree _ _ _ _ _ c.decreases (omega arith), (within, stands_as c.in_ok-push.ensures.steps c.requires))
 
 pub at_child-returns-clause-gave : goal.at_child-returns-clause-gave
 at_child-returns-clause-gave g t c =
     let kept = kept_of c.args.self.now in
     let tree = g.T.Queryable.tree in
     let d = document tree g.T.Queryable.custom c.args.self.now in
-    let rest = through (segments_in kept c.args.rest.now) d in
+    let rest = through (segments_in kept c.args.onward.rest.now) d in
     let x = tree c.args.child.value.now in
-    took_as _ _ _ _ _ (ap (λ q. flat_map rest (acted kept c.args.action d (node_of tree q c.args.child.value.now))) c.in_ok-push.ensures.steps ∙ ap (λ l. flat_map rest (acted kept c.args.action d (record { location = l; tree = x }))) (map-append lent_step c.args.trail.now.way.steps.items (c.args.child.step ∷ []))) c.in_ok-goes_on.ensures.gave
+    took_as _ _ _ _ _ (ap (λ q. flat_map rest (acted kept c.args.onward.next d (node_of tree q c.args.child.value.now))) c.in_ok-push.ensures.steps ∙ ap (λ l. flat_map rest (acted kept c.args.onward.next d (record { location = l; tree = x }))) (map-append lent_step c.args.trail.now.way.steps.items (c.args.child.step ∷ []))) c.in_ok-goes_on.ensures.gave
 
 pub each_child-at_child-requires : goal.each_child-at_child-requires
 each_child-at_child-requires g t c κs within =
     let tree = g.T.Queryable.tree in
     let items = c.deref-value-items.result.now in
     let P : List _ → Type 0 = All (λ x. IsTrue (g.T.Queryable.is_whole x)) in
-    let some = ap (λ xs. Some (map tree xs)) c.deref-value-items.ensures.value ∙ c.in-Some.ensures.value c.requires.stands.whole in
-    let whole = subst P (sym c.deref-value-items.ensures.value) (c.in-Some.ensures.whole c.requires.stands.whole) in
+    let some = ap (λ xs. Some (map tree xs)) c.deref-value-items.ensures.value ∙ c.in-Some.ensures.value c.requires.whole in
+    let whole = subst P (sym c.deref-value-items.ensures.value) (c.in-Some.ensures.whole c.requires.whole) in
     let s = element_size tree (tree c.args.at.now) items c.loop-i.i c.value-item.result some c.loop-i-test.true c.value-item.is in
-    let was = still c.requires.stands c.loop-i.invariant.returns in
-    (down_tree _ _ _ _ _ c.decreases (omega (arith, s)), (within, (record { whole = all_at (λ x. IsTrue (g.T.Queryable.is_whole x)) items c.loop-i.i c.value-item.result whole c.loop-i-test.true c.value-item.is; within = omega (arith, s, c.requires.stands.within); here = leads_below c.loop-i.trail.way.steps.items (Index c.loop-i.i) (tree c.args.self.now.root.now) _ _ was.here (child_there tree (tree c.args.at.now) items c.loop-i.i c.value-item.result some c.loop-i-test.true c.value-item.is); ready = was.ready }, c.requires.part)))
+    let was = still c.requires c.loop-i.invariant.returns in
+    (down_tree _ _ _ _ _ c.decreases (omega (arith, s)), (within, record { whole = all_at (λ x. IsTrue (g.T.Queryable.is_whole x)) items c.loop-i.i c.value-item.result whole c.loop-i-test.true c.value-item.is; within = omega (arith, s, c.requires.within); here = leads_below c.loop-i.trail.way.steps.items (Index c.loop-i.i) (tree c.args.self.now.root.now) _ _ was.here (child_there tree (tree c.args.at.now) items c.loop-i.i c.value-item.result some c.loop-i-test.true c.value-item.is); ready = was.ready }))
 
 pub each_member-at_child-requires : goal.each_member-at_child-requires
 each_member-at_child-requires g t c κs within =
@@ -261,7 +255,7 @@ each_member-at_child-requires g t c κs within =
     let s = pair_size (λ m. (m.0.now, tree m.1.now)) (tree c.args.members.now.of.now) items c.loop-member.member-index c.member-item.result some c.loop-member-test.true c.member-item.is in
     let was = still c.requires.stands c.loop-member.invariant.returns in
     let there = member_there (λ m. (m.0.now, tree m.1.now)) (tree c.args.members.now.of.now) items c.loop-member.member-index c.member-item.result (g.met.T.Queryable.distinct c.args.members.now.of.now c.requires.stands.whole) some c.loop-member-test.true c.member-item.is in
-    (down_tree _ _ _ _ _ c.decreases (omega (arith, s)), (within, (record { whole = all_at (λ m. IsTrue (g.T.Queryable.is_whole m.1.now)) items c.loop-member.member-index c.member-item.result whole c.loop-member-test.true c.member-item.is; within = omega (arith, s, c.requires.stands.within); here = leads_below c.loop-member.trail.way.steps.items (Name c.member-item.result.0) (tree c.args.self.now.root.now) _ _ was.here there; ready = was.ready }, c.requires.part)))
+    (down_tree _ _ _ _ _ c.decreases (omega (arith, s)), (within, record { whole = all_at (λ m. IsTrue (g.T.Queryable.is_whole m.1.now)) items c.loop-member.member-index c.member-item.result whole c.loop-member-test.true c.member-item.is; within = omega (arith, s, c.requires.stands.within); here = leads_below c.loop-member.trail.way.steps.items (Name c.member-item.result.0) (tree c.args.self.now.root.now) _ _ was.here there; ready = was.ready }))
 
 pub each_child-returns-then-not-branch-clause-gave : goal.each_child-returns-then-not-branch-clause-gave
 each_child-returns-then-not-branch-clause-gave g t c =
@@ -269,8 +263,8 @@ each_child-returns-then-not-branch-clause-gave g t c =
     let tree = g.T.Queryable.tree in
     let d = document tree g.T.Queryable.custom c.args.self.now in
     let n = node_of tree c.args.trail.now.way.steps.items c.args.at.now in
-    let rest = through (segments_in kept c.args.rest.now) d in
-    let act = acted kept c.args.action d in
+    let rest = through (segments_in kept c.args.onward.rest.now) d in
+    let act = acted kept c.args.onward.next d in
     let inv = c.loop-i.invariant in
     let k = took_as _ _ _ _ _ (ap (λ q. flat_map rest (act (below (lent_location q) (index c.loop-i.i) (tree c.value-item.result)))) inv.returns.same) c.in_ok-at_child.ensures.gave in
     record { given = turn_stop _ _ (element_turns tree n.location rest act) c.deref-value-items.result.now c.loop-i.i c.value-item.result _ _ _ _ c.loop-i-test.true c.value-item.is k c.if-not-branch.true inv.given; stopped = λ _. k.stopped c.if-not-branch.true }
@@ -281,8 +275,8 @@ each_child-loop-i-preserved g t c =
     let tree = g.T.Queryable.tree in
     let d = document tree g.T.Queryable.custom c.args.self.now in
     let n = node_of tree c.args.trail.now.way.steps.items c.args.at.now in
-    let rest = through (segments_in kept c.args.rest.now) d in
-    let act = acted kept c.args.action d in
+    let rest = through (segments_in kept c.args.onward.rest.now) d in
+    let act = acted kept c.args.onward.next d in
     let inv = c.loop-i.invariant in
     let k = took_as _ _ _ _ _ (ap (λ q. flat_map rest (act (below (lent_location q) (index c.loop-i.i) (tree c.value-item.result)))) inv.returns.same) c.in_ok-at_child.ensures.gave in
     record { returns = on inv.returns c.in_ok-at_child.ensures.returns; given = turn_next _ _ (element_turns tree n.location rest act) c.deref-value-items.result.now c.loop-i.i c.value-item.result _ _ _ _ c.loop-i-test.true c.value-item.is k inv.given }
@@ -295,14 +289,11 @@ each_child-each_member-requires g t c κs within =
       (
         within,
         (
-          c.requires.stands,
-          (
-            record {
-              list = ap (λ xs. Some (map (λ m. (m.0.now, tree m.1.now)) xs)) c.deref.ensures.value ∙ rw c.in-Some-2.is at (c.in_ok-listed.ensures.value c.requires.stands.whole);
-              whole = subst P (sym c.deref.ensures.value) (rw c.in-Some-2.is at (c.in_ok-listed.ensures.whole c.requires.stands.whole));
-            },
-            c.requires.part,
-          ),
+          c.requires,
+          record {
+            list = ap (λ xs. Some (map (λ m. (m.0.now, tree m.1.now)) xs)) c.deref.ensures.value ∙ rw c.in-Some-2.is at (c.in_ok-listed.ensures.value c.requires.whole);
+            whole = subst P (sym c.deref.ensures.value) (rw c.in-Some-2.is at (c.in_ok-listed.ensures.whole c.requires.whole));
+          },
         ),
       ),
     )
@@ -313,8 +304,8 @@ each_member-returns-then-not-branch-clause-gave g t c =
     let tree = g.T.Queryable.tree in
     let d = document tree g.T.Queryable.custom c.args.self.now in
     let n = node_of tree c.args.trail.now.way.steps.items c.args.members.now.of.now in
-    let rest = through (segments_in kept c.args.rest.now) d in
-    let act = acted kept c.args.action d in
+    let rest = through (segments_in kept c.args.onward.rest.now) d in
+    let act = acted kept c.args.onward.next d in
     let inv = c.loop-member.invariant in
     let k = took_as _ _ _ _ _ (ap (λ q. flat_map rest (act (below (lent_location q) (name c.member-item.result.0.now) (tree c.member-item.result.1.now)))) inv.returns.same) c.in_ok-at_child.ensures.gave in
     record { given = turn_stop _ _ (member_turns (λ m. (m.0.now, tree m.1.now)) n.location rest act) c.args.members.now.list.now c.loop-member.member-index c.member-item.result _ _ _ _ c.loop-member-test.true c.member-item.is k c.if-not-branch.true inv.given; stopped = λ _. k.stopped c.if-not-branch.true }
@@ -325,8 +316,8 @@ each_member-loop-member-preserved g t c =
     let tree = g.T.Queryable.tree in
     let d = document tree g.T.Queryable.custom c.args.self.now in
     let n = node_of tree c.args.trail.now.way.steps.items c.args.members.now.of.now in
-    let rest = through (segments_in kept c.args.rest.now) d in
-    let act = acted kept c.args.action d in
+    let rest = through (segments_in kept c.args.onward.rest.now) d in
+    let act = acted kept c.args.onward.next d in
     let inv = c.loop-member.invariant in
     let k = took_as _ _ _ _ _ (ap (λ q. flat_map rest (act (below (lent_location q) (name c.member-item.result.0.now) (tree c.member-item.result.1.now)))) inv.returns.same) c.in_ok-at_child.ensures.gave in
     record { returns = on inv.returns c.in_ok-at_child.ensures.returns; given = turn_next _ _ (member_turns (λ m. (m.0.now, tree m.1.now)) n.location rest act) c.args.members.now.list.now c.loop-member.member-index c.member-item.result _ _ _ _ c.loop-member-test.true c.member-item.is k inv.given }
@@ -334,20 +325,20 @@ each_member-loop-member-preserved g t c =
 pub pass-pick-requires : goal.pass-pick-requires
 pass-pick-requires g t c κs within =
     let kept = kept_of c.args.self.now in
-    let e = ap (segment_view kept) c.in-Selector.is ∙ segment_view-Selector kept c.in-Selector.selector in
-    (down _ _ _ _ _ _ c.decreases (omega (arith, ap segment_weight e)) (omega (arith, c.requires.stands.within)), (within, (c.requires.stands, part_as (λ z. segment_patterns z ++ segments_patterns (segments_in kept c.args.rest.now)) _ _ _ e c.requires.part)))
+    let e = ap (segment_view kept) c.in-Selector.is ∙ segment_view-Selector kept c.in-Selector.next in
+    (down _ _ _ _ _ _ c.decreases (omega (arith, ap segment_weight e)) (omega (arith, c.requires.within)), (within, c.requires))
 
 pub pass-pick_each-requires : goal.pass-pick_each-requires
 pass-pick_each-requires g t c κs within =
     let kept = kept_of c.args.self.now in
     let e = ap (segment_view kept) c.in-Selectors.is ∙ segment_view-Selectors kept c.in-Selectors.selectors in
-    (down _ _ _ _ _ _ c.decreases (omega (arith, ap segment_weight e, ap (λ (xs : List Selector). selectors_weight (selectors_in kept xs)) c.deref.ensures.value)) (omega (arith, c.requires.stands.within)), (within, (c.requires.stands, part_as (λ (xs : List Selector). selectors_patterns (selectors_in kept xs) ++ segments_patterns (segments_in kept c.args.rest.now)) _ _ _ (sym c.deref.ensures.value) (part_as (λ z. segment_patterns z ++ segments_patterns (segments_in kept c.args.rest.now)) _ _ _ e c.requires.part))))
+    (down _ _ _ _ _ _ c.decreases (omega (arith, ap segment_weight e, ap (λ (xs : List Selector). selectors_weight (selectors_in kept xs)) c.as_slice-next.ensures.value)) (omega (arith, c.requires.within)), (within, c.requires))
 
 pub pass-act-requires : goal.pass-act-requires
 pass-act-requires g t c κs within =
     let kept = kept_of c.args.self.now in
     let e = ap (segment_view kept) c.in-Descendant.is ∙ segment_view-Descendant kept c.in-Descendant.inner in
-    (down _ _ _ _ _ _ c.decreases (omega (arith, ap segment_weight e, ap (λ (x : Segment). segment_weight (segment_view kept x)) c.deref-in-Descendant.ensures)) (omega (arith, c.requires.stands.within)), (within, (c.requires.stands, part_as (λ (x : Segment). segment_patterns (segment_view kept x) ++ segments_patterns (segments_in kept c.args.rest.now)) _ _ _ (sym c.deref-in-Descendant.ensures) (part_as (λ z. segment_patterns z ++ segments_patterns (segments_in kept c.args.rest.now)) _ _ _ e c.requires.part))))
+    (down _ _ _ _ _ _ c.decreases (omega (arith, ap segment_weight e, ap (λ (x : Segment). segment_weight (segment_view kept x)) c.deref.ensures)) (omega (arith, c.requires.within)), (within, c.requires))
 
 pub pass-returns-in-Selector-clause-gave : goal.pass-returns-in-Selector-clause-gave
 pass-returns-in-Selector-clause-gave g t c =
@@ -355,8 +346,8 @@ pass-returns-in-Selector-clause-gave g t c =
     let tree = g.T.Queryable.tree in
     let d = document tree g.T.Queryable.custom c.args.self.now in
     let n = node_of tree c.args.trail.now.way.steps.items c.args.at.now in
-    let rest = through (segments_in kept c.args.rest.now) d in
-    let e = ap (segment_view kept) c.in-Selector.is ∙ segment_view-Selector kept c.in-Selector.selector in
+    let rest = through (segments_in kept c.args.onward.rest.now) d in
+    let e = ap (segment_view kept) c.in-Selector.is ∙ segment_view-Selector kept c.in-Selector.next in
     result_as _ _ _ _ _ (ap (flat_map rest) (sym (ap (λ s. replaced s d n) e))) c.pick.ensures.gave
 
 pub pass-returns-in-Selectors-clause-gave : goal.pass-returns-in-Selectors-clause-gave
@@ -365,9 +356,9 @@ pass-returns-in-Selectors-clause-gave g t c =
     let tree = g.T.Queryable.tree in
     let d = document tree g.T.Queryable.custom c.args.self.now in
     let n = node_of tree c.args.trail.now.way.steps.items c.args.at.now in
-    let rest = through (segments_in kept c.args.rest.now) d in
+    let rest = through (segments_in kept c.args.onward.rest.now) d in
     let e = ap (segment_view kept) c.in-Selectors.is ∙ segment_view-Selectors kept c.in-Selectors.selectors in
-    result_as _ _ _ _ _ (ap (flat_map rest) (ap (λ (ss : List Selector). all_pick (selectors_in kept ss) d n) c.deref.ensures.value ∙ sym (ap (λ s. replaced s d n) e))) c.pick_each.ensures.gave
+    result_as _ _ _ _ _ (ap (flat_map rest) (ap (λ (ss : List Selector). all_pick (selectors_in kept ss) d n) c.as_slice-next.ensures.value ∙ sym (ap (λ s. replaced s d n) e))) c.pick_each.ensures.gave
 
 pub pass-returns-in-Descendant-clause-gave : goal.pass-returns-in-Descendant-clause-gave
 pass-returns-in-Descendant-clause-gave g t c =
@@ -375,24 +366,24 @@ pass-returns-in-Descendant-clause-gave g t c =
     let tree = g.T.Queryable.tree in
     let d = document tree g.T.Queryable.custom c.args.self.now in
     let n = node_of tree c.args.trail.now.way.steps.items c.args.at.now in
-    let rest = through (segments_in kept c.args.rest.now) d in
+    let rest = through (segments_in kept c.args.onward.rest.now) d in
     let e = ap (segment_view kept) c.in-Descendant.is ∙ segment_view-Descendant kept c.in-Descendant.inner in
-    result_as _ _ _ _ _ (ap (flat_map rest) (ap (λ (s : Segment). flat_map (replaced (segment_view kept s) d) (subtree n)) c.deref-in-Descendant.ensures ∙ sym (ap (λ s. replaced s d n) e))) c.act.ensures.gave
+    result_as _ _ _ _ _ (ap (flat_map rest) (ap (λ (s : Segment). flat_map (replaced (segment_view kept s) d) (subtree n)) c.deref.ensures ∙ sym (ap (λ s. replaced s d n) e))) c.act.ensures.gave
 
 pub pick-at_child-requires : goal.pick-at_child-requires
 pick-at_child-requires g t c κs within =
     let kept = kept_of c.args.self.now in
     let tree = g.T.Queryable.tree in
-    let s = member_size c.deref.result.now (tree c.args.at.now) (tree c.in-Some.value.now) (c.in-Some.ensures.value c.requires.stands.whole) in
+    let s = member_size c.deref.result.now (tree c.args.at.now) (tree c.in-Some.value.now) (c.in-Some.ensures.value c.requires.whole) in
     let e = ap (selector_view kept) c.in-Name.is ∙ selector_view-Name kept c.in-Name.name in
-    let there = ap (λ q. get q (tree c.args.at.now)) (c.deref-in-Some.ensures ∙ sym c.deref.ensures) ∙ sym (c.in-Some.ensures.value c.requires.stands.whole) in
-    (down _ _ _ _ _ _ c.decreases (omega (arith, ap selector_weight e)) (omega (arith, s, c.requires.stands.within)), (within, (record { whole = c.in-Some.ensures.whole c.requires.stands.whole; within = omega (arith, s, c.requires.stands.within); here = leads_below c.args.trail.now.way.steps.items (Name c.deref-in-Some.result) (tree c.args.self.now.root.now) _ _ c.requires.stands.here there; ready = c.requires.stands.ready }, part_right _ _ _ c.requires.part)))
+    let there = ap (λ q. get q (tree c.args.at.now)) (c.deref-in-Some.ensures ∙ sym c.deref.ensures) ∙ sym (c.in-Some.ensures.value c.requires.whole) in
+    (down _ _ _ _ _ _ c.decreases (omega (arith, ap selector_weight e)) (omega (arith, s, c.requires.within)), (within, record { whole = c.in-Some.ensures.whole c.requires.whole; within = omega (arith, s, c.requires.within); here = leads_below c.args.trail.now.way.steps.items (Name c.deref-in-Some.result) (tree c.args.self.now.root.now) _ _ c.requires.here there; ready = c.requires.ready }))
 
 pub pick-each_child-requires : goal.pick-each_child-requires
 pick-each_child-requires g t c κs within =
     let kept = kept_of c.args.self.now in
     let e = ap (selector_view kept) c.in-Wildcard.is ∙ selector_view-Wildcard kept in
-    (down _ _ _ _ _ _ c.decreases (omega (arith, ap selector_weight e)) (omega (arith, c.requires.stands.within)), (within, (c.requires.stands, part_right _ _ _ c.requires.part)))
+    (down _ _ _ _ _ _ c.decreases (omega (arith, ap selector_weight e)) (omega (arith, c.requires.within)), (within, c.requires))
 
 pub pick-at_child-requires-in-Some-element : goal.pick-at_child-requires-in-Some-element
 pick-at_child-requires-in-Some-element g t c κs within =
@@ -400,22 +391,22 @@ pick-at_child-requires-in-Some-element g t c κs within =
     let e = ap (selector_view kept) c.in-Index.is ∙ selector_view-Index kept c.in-Index.index in
     let found = c.in-Some-element.ensures in
     let steps = c.args.trail.now.way.steps.items in
-    (down _ _ _ _ _ _ c.decreases (omega (arith, ap selector_weight e)) (omega (arith, found.smaller, c.requires.stands.within)), (within, (record { whole = found.whole; within = omega (arith, found.smaller, c.requires.stands.within); here = leads_indexed steps _ _ _ _ _ (g.met.T.Queryable.distinct c.args.at.now c.requires.stands.whole) c.requires.stands.here (found.value (lent_location steps)); ready = c.requires.stands.ready }, part_right _ _ _ c.requires.part)))
+    (down _ _ _ _ _ _ c.decreases (omega (arith, ap selector_weight e)) (omega (arith, found.smaller, c.requires.within)), (within, record { whole = found.whole; within = omega (arith, found.smaller, c.requires.within); here = leads_indexed steps _ _ _ _ _ (g.met.T.Queryable.distinct c.args.at.now c.requires.whole) c.requires.here (found.value (lent_location steps)); ready = c.requires.ready }))
 
 pub pick-element-requires : goal.pick-element-requires
-pick-element-requires g t c = c.requires.stands.whole
+pick-element-requires g t c = c.requires.whole
 
 pub pick-pick_slice-requires : goal.pick-pick_slice-requires
 pick-pick_slice-requires g t c κs within =
     let kept = kept_of c.args.self.now in
     let e = ap (selector_view kept) c.in-Slice.is ∙ selector_view-Slice kept c.in-Slice.start c.in-Slice.end c.in-Slice.step in
-    (down _ _ _ _ _ _ c.decreases (omega (arith, ap selector_weight e)) (omega (arith, c.requires.stands.within)), (within, (c.requires.stands, part_right _ _ _ c.requires.part)))
+    (down _ _ _ _ _ _ c.decreases (omega (arith, ap selector_weight e)) (omega (arith, c.requires.within)), (within, c.requires))
 
 pub pick-each_child-requires-in-Filter : goal.pick-each_child-requires-in-Filter
 pick-each_child-requires-in-Filter g t c κs within =
     let kept = kept_of c.args.self.now in
     let e = ap (selector_view kept) c.in-Filter.is ∙ selector_view-Filter kept c.in-Filter.filter in
-    (down _ _ _ _ _ _ c.decreases (omega (arith, ap selector_weight e)) (omega (arith, c.requires.stands.within)), (within, (c.requires.stands, part_as (λ z. selector_patterns z ++ segments_patterns (segments_in kept c.args.rest.now)) _ _ _ e c.requires.part)))
+    (down _ _ _ _ _ _ c.decreases (omega (arith, ap selector_weight e)) (omega (arith, c.requires.within)), (within, c.requires))
 
 pub pick-returns-in-Some-clause-gave : goal.pick-returns-in-Some-clause-gave
 pick-returns-in-Some-clause-gave g t c =
@@ -423,11 +414,11 @@ pick-returns-in-Some-clause-gave g t c =
     let tree = g.T.Queryable.tree in
     let d = document tree g.T.Queryable.custom c.args.self.now in
     let n = node_of tree c.args.trail.now.way.steps.items c.args.at.now in
-    let rest = through (segments_in kept c.args.rest.now) d in
+    let rest = through (segments_in kept c.args.onward.rest.now) d in
     let e = ap (selector_view kept) c.in-Name.is ∙ selector_view-Name kept c.in-Name.name in
     let k = string_bytes c.in-Name.name in
     let x = tree c.in-Some.value.now in
-    let h = c.in-Some.ensures.value c.requires.stands.whole ∙ ap (λ q. get q n.tree) c.deref.ensures in
+    let h = c.in-Some.ensures.value c.requires.whole ∙ ap (λ q. get q n.tree) c.deref.ensures in
     result_as _ _ _ _ _ (ap (flat_map rest) (ap (λ q. below n.location (name q) x ∷ []) c.deref-in-Some.ensures ∙ named_some n.location k n.tree x h ∙ sym (ap (λ s. picks s d n) e))) c.at_child.ensures.gave
 
 pub pick-returns-in-None-clause-gave : goal.pick-returns-in-None-clause-gave
@@ -436,9 +427,9 @@ pick-returns-in-None-clause-gave g t c =
     let tree = g.T.Queryable.tree in
     let d = document tree g.T.Queryable.custom c.args.self.now in
     let n = node_of tree c.args.trail.now.way.steps.items c.args.at.now in
-    let rest = through (segments_in kept c.args.rest.now) d in
+    let rest = through (segments_in kept c.args.onward.rest.now) d in
     let e = ap (selector_view kept) c.in-Name.is ∙ selector_view-Name kept c.in-Name.name in
-    let h = c.in-None.ensures.value c.requires.stands.whole ∙ ap (λ q. get q n.tree) c.deref.ensures in
+    let h = c.in-None.ensures.value c.requires.whole ∙ ap (λ q. get q n.tree) c.deref.ensures in
     took_none _ _ (ap (flat_map rest) (ap (λ s. picks s d n) e ∙ named_none n.location (string_bytes c.in-Name.name) n.tree h))
 
 pub pick-returns-in-Wildcard-clause-gave : goal.pick-returns-in-Wildcard-clause-gave
@@ -447,7 +438,7 @@ pick-returns-in-Wildcard-clause-gave g t c =
     let tree = g.T.Queryable.tree in
     let d = document tree g.T.Queryable.custom c.args.self.now in
     let n = node_of tree c.args.trail.now.way.steps.items c.args.at.now in
-    let rest = through (segments_in kept c.args.rest.now) d in
+    let rest = through (segments_in kept c.args.onward.rest.now) d in
     let e = ap (selector_view kept) c.in-Wildcard.is ∙ selector_view-Wildcard kept in
     result_as _ _ _ _ _ (ap (flat_map rest) (flat_map-alone (children n) ∙ sym (ap (λ s. picks s d n) e))) c.each_child.ensures.gave
 
@@ -457,7 +448,7 @@ pick-returns-in-Some-element-clause-gave g t c =
     let tree = g.T.Queryable.tree in
     let d = document tree g.T.Queryable.custom c.args.self.now in
     let n = node_of tree c.args.trail.now.way.steps.items c.args.at.now in
-    let rest = through (segments_in kept c.args.rest.now) d in
+    let rest = through (segments_in kept c.args.onward.rest.now) d in
     let e = ap (selector_view kept) c.in-Index.is ∙ selector_view-Index kept c.in-Index.index in
     let fits : SFits w64 c.in-Index.index = search rules in
     let z = to_z-of_z w64 c.in-Index.index fits in
@@ -469,7 +460,7 @@ pick-returns-in-None-element-clause-gave g t c =
     let tree = g.T.Queryable.tree in
     let d = document tree g.T.Queryable.custom c.args.self.now in
     let n = node_of tree c.args.trail.now.way.steps.items c.args.at.now in
-    let rest = through (segments_in kept c.args.rest.now) d in
+    let rest = through (segments_in kept c.args.onward.rest.now) d in
     let e = ap (selector_view kept) c.in-Index.is ∙ selector_view-Index kept c.in-Index.index in
     let fits : SFits w64 c.in-Index.index = search rules in
     let z = to_z-of_z w64 c.in-Index.index fits in
@@ -481,7 +472,7 @@ pick-returns-in-Slice-clause-gave g t c =
     let tree = g.T.Queryable.tree in
     let d = document tree g.T.Queryable.custom c.args.self.now in
     let n = node_of tree c.args.trail.now.way.steps.items c.args.at.now in
-    let rest = through (segments_in kept c.args.rest.now) d in
+    let rest = through (segments_in kept c.args.onward.rest.now) d in
     let e = ap (selector_view kept) c.in-Slice.is ∙ selector_view-Slice kept c.in-Slice.start c.in-Slice.end c.in-Slice.step in
     result_as _ _ _ _ _ (ap (flat_map rest) (sym (ap (λ s. picks s d n) e))) c.pick_slice.ensures.gave
 
@@ -491,15 +482,15 @@ pick-returns-in-Filter-clause-gave g t c =
     let tree = g.T.Queryable.tree in
     let d = document tree g.T.Queryable.custom c.args.self.now in
     let n = node_of tree c.args.trail.now.way.steps.items c.args.at.now in
-    let rest = through (segments_in kept c.args.rest.now) d in
+    let rest = through (segments_in kept c.args.onward.rest.now) d in
     let e = ap (selector_view kept) c.in-Filter.is ∙ selector_view-Filter kept c.in-Filter.filter in
     result_as _ _ _ _ _ (ap (flat_map rest) (flat_map-filter (holds (filter_view kept c.in-Filter.filter) d) (children n) ∙ sym (ap (λ s. picks s d n) e))) c.each_child-in-Filter.ensures.gave
 
 pub pick_each-pick-requires : goal.pick_each-pick-requires
 pick_each-pick-requires g t c κs within =
     let kept = kept_of c.args.self.now in
-    let w = part_of (λ (x : Selector). selector_weight (selector_view kept x)) (λ xs. selectors_weight (selectors_in kept xs)) (λ x xs. refl) c.args.selectors.now c.loop-selector.selector-index c.selector-item.result c.loop-selector-test.true c.selector-item.is in
-    (down _ _ _ _ _ _ c.decreases (omega (arith, w)) (omega (arith, c.requires.stands.within)), (within, (still c.requires.stands c.loop-selector.invariant.returns, part_both _ _ _ (part_at (λ (x : Selector). selector_patterns (selector_view kept x)) (λ xs. selectors_patterns (selectors_in kept xs)) (λ x xs. refl) _ c.args.selectors.now c.loop-selector.selector-index c.selector-item.result c.loop-selector-test.true c.selector-item.is (part_left _ _ _ c.requires.part)) (part_right _ _ _ c.requires.part))))
+    let w = part_of (λ (x : Selector). selector_weight (selector_view kept x)) (λ xs. selectors_weight (selectors_in kept xs)) (λ x xs. refl) c.args.onward.next.now c.loop-selector.selector-index c.selector-item.result c.loop-selector-test.true c.selector-item.is in
+    (down _ _ _ _ _ _ c.decreases (omega (arith, w)) (omega (arith, c.requires.within)), (within, still c.requires c.loop-selector.invariant.returns))
 
 pub pick_each-returns-then-not-branch-clause-gave : goal.pick_each-returns-then-not-branch-clause-gave
 pick_each-returns-then-not-branch-clause-gave g t c =
@@ -507,10 +498,10 @@ pick_each-returns-then-not-branch-clause-gave g t c =
     let tree = g.T.Queryable.tree in
     let d = document tree g.T.Queryable.custom c.args.self.now in
     let n = node_of tree c.args.trail.now.way.steps.items c.args.at.now in
-    let rest = through (segments_in kept c.args.rest.now) d in
+    let rest = through (segments_in kept c.args.onward.rest.now) d in
     let inv = c.loop-selector.invariant in
     let k = took_as _ _ _ _ _ (ap (λ q. flat_map rest (picks (selector_view kept c.selector-item.result) d (node_of tree q c.args.at.now))) inv.returns.same) c.in_ok-pick.ensures.gave in
-    record { given = turn_stop _ _ (selector_turns kept d n rest) c.args.selectors.now c.loop-selector.selector-index c.selector-item.result _ _ _ _ c.loop-selector-test.true c.selector-item.is k c.if-not-branch.true inv.given; stopped = λ _. k.stopped c.if-not-branch.true }
+    record { given = turn_stop _ _ (selector_turns kept d n rest) c.args.onward.next.now c.loop-selector.selector-index c.selector-item.result _ _ _ _ c.loop-selector-test.true c.selector-item.is k c.if-not-branch.true inv.given; stopped = λ _. k.stopped c.if-not-branch.true }
 
 pub pick_each-loop-selector-preserved : goal.pick_each-loop-selector-preserved
 pick_each-loop-selector-preserved g t c =
@@ -518,10 +509,10 @@ pick_each-loop-selector-preserved g t c =
     let tree = g.T.Queryable.tree in
     let d = document tree g.T.Queryable.custom c.args.self.now in
     let n = node_of tree c.args.trail.now.way.steps.items c.args.at.now in
-    let rest = through (segments_in kept c.args.rest.now) d in
+    let rest = through (segments_in kept c.args.onward.rest.now) d in
     let inv = c.loop-selector.invariant in
     let k = took_as _ _ _ _ _ (ap (λ q. flat_map rest (picks (selector_view kept c.selector-item.result) d (node_of tree q c.args.at.now))) inv.returns.same) c.in_ok-pick.ensures.gave in
-    record { returns = on inv.returns c.in_ok-pick.ensures.returns; given = turn_next _ _ (selector_turns kept d n rest) c.args.selectors.now c.loop-selector.selector-index c.selector-item.result _ _ _ _ c.loop-selector-test.true c.selector-item.is k inv.given }
+    record { returns = on inv.returns c.in_ok-pick.ensures.returns; given = turn_next _ _ (selector_turns kept d n rest) c.args.onward.next.now c.loop-selector.selector-index c.selector-item.result _ _ _ _ c.loop-selector-test.true c.selector-item.is k inv.given }
 
 pub pick_each-returns-clause-gave : goal.pick_each-returns-clause-gave
 pick_each-returns-clause-gave g t c =
@@ -529,8 +520,8 @@ pick_each-returns-clause-gave g t c =
     let tree = g.T.Queryable.tree in
     let d = document tree g.T.Queryable.custom c.args.self.now in
     let n = node_of tree c.args.trail.now.way.steps.items c.args.at.now in
-    let rest = through (segments_in kept c.args.rest.now) d in
-    record { given = turn_end _ _ (selector_turns kept d n rest) c.args.selectors.now c.loop-selector.selector-index _ _ c.loop-selector-test.false c.loop-selector.invariant.given; stopped = λ h. true_false h }
+    let rest = through (segments_in kept c.args.onward.rest.now) d in
+    record { given = turn_end _ _ (selector_turns kept d n rest) c.args.onward.next.now c.loop-selector.selector-index _ _ c.loop-selector-test.false c.loop-selector.invariant.given; stopped = λ h. true_false h }
 
 pub pick_slice-returns-in_default-clause-gave : goal.pick_slice-returns-in_default-clause-gave
 pick_slice-returns-in_default-clause-gave g t c =
@@ -538,22 +529,22 @@ pick_slice-returns-in_default-clause-gave g t c =
     let tree = g.T.Queryable.tree in
     let d = document tree g.T.Queryable.custom c.args.self.now in
     let n = node_of tree c.args.trail.now.way.steps.items c.args.at.now in
-    let rest = through (segments_in kept c.args.rest.now) d in
-    let h = c.in_default.ensures.value c.requires.stands.whole in
-    took_none _ _ (ap (λ o. flat_map rest (flat_map (λ ts. flat_map (λ k. element k n) (slice_of c.args.slice.0 c.args.slice.1 c.args.slice.2 (length ts))) (option_to_list o))) (sym h))
+    let rest = through (segments_in kept c.args.onward.rest.now) d in
+    let h = c.in_default.ensures.value c.requires.whole in
+    took_none _ _ (ap (λ o. flat_map rest (flat_map (λ ts. flat_map (λ k. element k n) (slice_of c.args.onward.next.0 c.args.onward.next.1 c.args.onward.next.2 (length ts))) (option_to_list o))) (sym h))
 
 pub pick_slice-at_child-requires : goal.pick_slice-at_child-requires
 pick_slice-at_child-requires g t c κs within =
     let tree = g.T.Queryable.tree in
     let items = c.in-Some.items.now.items in
-    let some = c.in-Some.ensures.value c.requires.stands.whole in
+    let some = c.in-Some.ensures.value c.requires.whole in
     let inv = c.loop-position.invariant in
     let position = c.in-Some-position.position in
     let P : ℕ → Type 0 = λ i. i < length items in
     let inside : position < length items = All-head P position _ (subst (All P) c.in-Some-position.ensures.steps inv.below) in
     let s = element_size tree (tree c.args.at.now) items position c.index-value.result.now some inside c.index-value.ensures in
-    let was = still c.requires.stands inv.returns in
-    (down _ _ _ _ _ _ c.decreases (omega arith) (omega (arith, s, c.requires.stands.within)), (within, (record { whole = all_at (λ x. IsTrue (g.T.Queryable.is_whole x)) items position c.index-value.result.now (c.in-Some.ensures.whole c.requires.stands.whole) inside c.index-value.ensures; within = omega (arith, s, c.requires.stands.within); here = leads_below c.loop-position.trail.way.steps.items (Index position) (tree c.args.self.now.root.now) _ _ was.here (child_there tree (tree c.args.at.now) items position c.index-value.result.now some inside c.index-value.ensures); ready = was.ready }, c.requires.part)))
+    let was = still c.requires inv.returns in
+    (down _ _ _ _ _ _ c.decreases (omega arith) (omega (arith, s, c.requires.within)), (within, record { whole = all_at (λ x. IsTrue (g.T.Queryable.is_whole x)) items position c.index-value.result.now (c.in-Some.ensures.whole c.requires.whole) inside c.index-value.ensures; within = omega (arith, s, c.requires.within); here = leads_below c.loop-position.trail.way.steps.items (Index position) (tree c.args.self.now.root.now) _ _ was.here (child_there tree (tree c.args.at.now) items position c.index-value.result.now some inside c.index-value.ensures); ready = was.ready }))
 
 pub pick_slice-index-value-requires : goal.pick_slice-index-value-requires
 pick_slice-index-value-requires g t c =
@@ -573,9 +564,9 @@ pick_slice-returns-then-not-branch-clause-gave g t c =
     let custom = g.T.Queryable.custom in
     let d = document tree custom c.args.self.now in
     let n = node_of tree c.args.trail.now.way.steps.items c.args.at.now in
-    let rest = through (segments_in kept c.args.rest.now) d in
+    let rest = through (segments_in kept c.args.onward.rest.now) d in
     let items = c.in-Some.items.now.items in
-    let some = c.in-Some.ensures.value c.requires.stands.whole in
+    let some = c.in-Some.ensures.value c.requires.whole in
     let inv = c.loop-position.invariant in
     let position = c.in-Some-position.position in
     let steps = c.in-Some-position.ensures.steps in
@@ -584,7 +575,7 @@ pick_slice-returns-then-not-branch-clause-gave g t c =
     let x = tree c.index-value.result.now in
     let here = element_at tree n.location n.tree items position c.index-value.result.now some inside c.index-value.ensures in
     let k = took_as _ _ _ _ _ (ap (λ q. flat_map rest (below (lent_location q) (index position) x ∷ [])) inv.returns.same ∙ ap (flat_map rest) here) c.in_ok-at_child.ensures.gave in
-    record { given = place_stop rest (λ j. element j n) _ _ position _ _ _ _ steps k c.if-not-branch.true inv.given ∙ ap (λ ns. give (seen tree whole c.args.sink.now) (flat_map rest ns)) (sliced-list tree n items c.args.slice.0 c.args.slice.1 c.args.slice.2 some); stopped = λ _. k.stopped c.if-not-branch.true }
+    record { given = place_stop rest (λ j. element j n) _ _ position _ _ _ _ steps k c.if-not-branch.true inv.given ∙ ap (λ ns. give (seen tree whole c.args.sink.now) (flat_map rest ns)) (sliced-list tree n items c.args.onward.next.0 c.args.onward.next.1 c.args.onward.next.2 some); stopped = λ _. k.stopped c.if-not-branch.true }
 
 pub pick_slice-loop-position-preserved : goal.pick_slice-loop-position-preserved
 pick_slice-loop-position-preserved g t c =
@@ -592,9 +583,9 @@ pick_slice-loop-position-preserved g t c =
     let tree = g.T.Queryable.tree in
     let d = document tree g.T.Queryable.custom c.args.self.now in
     let n = node_of tree c.args.trail.now.way.steps.items c.args.at.now in
-    let rest = through (segments_in kept c.args.rest.now) d in
+    let rest = through (segments_in kept c.args.onward.rest.now) d in
     let items = c.in-Some.items.now.items in
-    let some = c.in-Some.ensures.value c.requires.stands.whole in
+    let some = c.in-Some.ensures.value c.requires.whole in
     let inv = c.loop-position.invariant in
     let position = c.in-Some-position.position in
     let steps = c.in-Some-position.ensures.steps in
@@ -613,11 +604,11 @@ pick_slice-returns-clause-gave g t c =
     let custom = g.T.Queryable.custom in
     let d = document tree custom c.args.self.now in
     let n = node_of tree c.args.trail.now.way.steps.items c.args.at.now in
-    let rest = through (segments_in kept c.args.rest.now) d in
+    let rest = through (segments_in kept c.args.onward.rest.now) d in
     let items = c.in-Some.items.now.items in
-    let some = c.in-Some.ensures.value c.requires.stands.whole in
+    let some = c.in-Some.ensures.value c.requires.whole in
     let inv = c.loop-position.invariant in
-    record { given = ap (λ is. give (seen tree whole c.loop-position.sink) (flat_map rest (flat_map (λ j. element j n) is))) (sym c.in-None.ensures.steps.0) ∙ inv.given ∙ ap (λ ns. give (seen tree whole c.args.sink.now) (flat_map rest ns)) (sliced-list tree n items c.args.slice.0 c.args.slice.1 c.args.slice.2 some); stopped = λ h. true_false h }
+    record { given = ap (λ is. give (seen tree whole c.loop-position.sink) (flat_map rest (flat_map (λ j. element j n) is))) (sym c.in-None.ensures.steps.0) ∙ inv.given ∙ ap (λ ns. give (seen tree whole c.args.sink.now) (flat_map rest ns)) (sliced-list tree n items c.args.onward.next.0 c.args.onward.next.1 c.args.onward.next.2 some); stopped = λ h. true_false h }
 
 pub at_child-returns-clause-returns : goal.at_child-returns-clause-returns
 at_child-returns-clause-returns g t c =
@@ -634,7 +625,7 @@ pub some_holds-filter_holds-requires : goal.some_holds-filter_holds-requires
 some_holds-filter_holds-requires g t c κs within =
     let kept = kept_of c.args.self.now in
     let w = part_of (λ (x : Filter). filter_weight (filter_view kept x)) (λ xs. filters_weight (filters_in kept xs)) (λ x xs. refl) c.args.parts.now c.loop-part.part-index c.part-item.result c.loop-part-test.true c.part-item.is in
-    (down _ _ _ _ _ _ c.decreases (omega (arith, w)) (omega (arith, c.requires.stands.within)), (within, (still c.requires.stands c.loop-part.invariant.returns, part_at (λ (x : Filter). filter_patterns (filter_view kept x)) (λ xs. filters_patterns (filters_in kept xs)) (λ x xs. refl) _ c.args.parts.now c.loop-part.part-index c.part-item.result c.loop-part-test.true c.part-item.is c.requires.part)))
+    (down _ _ _ _ _ _ c.decreases (omega (arith, w)) (omega (arith, c.requires.within)), (within, still c.requires c.loop-part.invariant.returns))
 
 pub some_holds-returns-then-branch-clause-holds : goal.some_holds-returns-then-branch-clause-holds
 some_holds-returns-then-branch-clause-holds g t c =
@@ -670,7 +661,7 @@ pub each_holds-filter_holds-requires : goal.each_holds-filter_holds-requires
 each_holds-filter_holds-requires g t c κs within =
     let kept = kept_of c.args.self.now in
     let w = part_of (λ (x : Filter). filter_weight (filter_view kept x)) (λ xs. filters_weight (filters_in kept xs)) (λ x xs. refl) c.args.parts.now c.loop-part.part-index c.part-item.result c.loop-part-test.true c.part-item.is in
-    (down _ _ _ _ _ _ c.decreases (omega (arith, w)) (omega (arith, c.requires.stands.within)), (within, (still c.requires.stands c.loop-part.invariant.returns, part_at (λ (x : Filter). filter_patterns (filter_view kept x)) (λ xs. filters_patterns (filters_in kept xs)) (λ x xs. refl) _ c.args.parts.now c.loop-part.part-index c.part-item.result c.loop-part-test.true c.part-item.is c.requires.part)))
+    (down _ _ _ _ _ _ c.decreases (omega (arith, w)) (omega (arith, c.requires.within)), (within, still c.requires c.loop-part.invariant.returns))
 
 pub each_holds-returns-then-not-branch-clause-holds : goal.each_holds-returns-then-not-branch-clause-holds
 each_holds-returns-then-not-branch-clause-holds g t c =
@@ -706,7 +697,7 @@ pub custom-argument-requires : goal.custom-argument-requires
 custom-argument-requires g t c κs within =
     let kept = kept_of c.args.self.now in
     let w = part_of (λ (x : Argument). argument_weight (argument_view kept x Values)) (λ xs. arguments_weight (arguments_in kept xs)) (λ x xs. refl) c.args.args.now c.loop-arg.arg-index c.arg-item.result c.loop-arg-test.true c.arg-item.is in
-    (down _ _ _ _ _ _ c.decreases (omega (arith, w)) (omega (arith, c.requires.stands.within)), (within, (still c.requires.stands c.loop-arg.invariant.returns, part_at (λ (x : Argument). argument_patterns (argument_view kept x Values)) (λ xs. arguments_patterns (arguments_in kept xs)) (λ x xs. refl) _ c.args.args.now c.loop-arg.arg-index c.arg-item.result c.loop-arg-test.true c.arg-item.is c.requires.part)))
+    (down _ _ _ _ _ _ c.decreases (omega (arith, w)) (omega (arith, c.requires.within)), (within, still c.requires c.loop-arg.invariant.returns))
 
 pub custom-push_to-requires-clause-within : goal.custom-push_to-requires-clause-within
 custom-push_to-requires-clause-within g t c = c.in_ok-argument.ensures.within
@@ -729,7 +720,7 @@ custom-loop-arg-init g t c =
     let d = document tree g.T.Queryable.custom c.args.self.now in
     let n = node_of tree c.args.trail.now.way.steps.items c.args.at.now in
     let whole = g.T.Queryable.is_whole in
-    record { returns = stays c.requires.stands.ready; trees = ap (λ xs. arg_trees tree xs ++ all_trees (arguments_in kept c.args.args.now) d n) c.new-values.ensures.items; whole = subst (AreWhole whole) (sym c.new-values.ensures.items) (All-nil _) }
+    record { returns = stays c.requires.ready; trees = ap (λ xs. arg_trees tree xs ++ all_trees (arguments_in kept c.args.args.now) d n) c.new-values.ensures.items; whole = subst (AreWhole whole) (sym c.new-values.ensures.items) (All-nil _) }
 
 pub custom-loop-arg-preserved : goal.custom-loop-arg-preserved
 custom-loop-arg-preserved g t c =
@@ -758,7 +749,7 @@ custom-returns-clause-value g t c =
     ap (λ x. Some x) (c.in_ok-extension_custom.ensures.value ∙ ap (λ k. custom k (arg_trees tree c.deref-3.result.now)) c.deref-2.ensures ∙ ap (λ xs. custom nm (arg_trees tree xs)) c.deref-3.ensures.value ∙ ap (custom nm) end)
 
 pub gather-walk-requires : goal.gather-walk-requires
-gather-walk-requires g t c κs within = (down _ _ _ _ _ _ c.decreases (omega arith) (omega (arith, c.requires.stands.within)), (within, (c.requires.stands, c.requires.part)))
+gather-walk-requires g t c κs within = (down _ _ _ _ _ _ c.decreases (omega arith) (omega (arith, c.requires.within)), (within, c.requires))
 
 pub gather-returns-in-Some-clause-given : goal.gather-returns-in-Some-clause-given
 gather-returns-in-Some-clause-given g t c =
@@ -781,31 +772,31 @@ pub filter_holds-some_holds-requires : goal.filter_holds-some_holds-requires
 filter_holds-some_holds-requires g t c κs within =
     let kept = kept_of c.args.self.now in
     let e = ap (filter_view kept) c.in-Or.is ∙ filter_view-Or kept c.in-Or.parts in
-    (down _ _ _ _ _ _ c.decreases (omega (arith, ap filter_weight e, ap (λ (xs : List Filter). filters_weight (filters_in kept xs)) c.deref.ensures.value)) (omega (arith, c.requires.stands.within)), (within, (c.requires.stands, part_as (λ (xs : List Filter). filters_patterns (filters_in kept xs)) _ _ _ (sym c.deref.ensures.value) (part_as filter_patterns _ _ _ e c.requires.part))))
+    (down _ _ _ _ _ _ c.decreases (omega (arith, ap filter_weight e, ap (λ (xs : List Filter). filters_weight (filters_in kept xs)) c.deref.ensures.value)) (omega (arith, c.requires.within)), (within, c.requires))
 
 pub filter_holds-each_holds-requires : goal.filter_holds-each_holds-requires
 filter_holds-each_holds-requires g t c κs within =
     let kept = kept_of c.args.self.now in
     let e = ap (filter_view kept) c.in-And.is ∙ filter_view-And kept c.in-And.parts in
-    (down _ _ _ _ _ _ c.decreases (omega (arith, ap filter_weight e, ap (λ (xs : List Filter). filters_weight (filters_in kept xs)) c.deref-in-And.ensures.value)) (omega (arith, c.requires.stands.within)), (within, (c.requires.stands, part_as (λ (xs : List Filter). filters_patterns (filters_in kept xs)) _ _ _ (sym c.deref-in-And.ensures.value) (part_as filter_patterns _ _ _ e c.requires.part))))
+    (down _ _ _ _ _ _ c.decreases (omega (arith, ap filter_weight e, ap (λ (xs : List Filter). filters_weight (filters_in kept xs)) c.deref-in-And.ensures.value)) (omega (arith, c.requires.within)), (within, c.requires))
 
 pub filter_holds-filter_holds-requires : goal.filter_holds-filter_holds-requires
 filter_holds-filter_holds-requires g t c κs within =
     let kept = kept_of c.args.self.now in
     let e = ap (filter_view kept) c.in-Group.is ∙ filter_view-Group kept c.in-Group.expr c.in-Group.not in
-    (down _ _ _ _ _ _ c.decreases (omega (arith, ap filter_weight e, ap (λ (x : Filter). filter_weight (filter_view kept x)) c.deref-in-Group.ensures)) (omega (arith, c.requires.stands.within)), (within, (c.requires.stands, part_as (λ (x : Filter). filter_patterns (filter_view kept x)) _ _ _ (sym c.deref-in-Group.ensures) (part_as filter_patterns _ _ _ e c.requires.part))))
+    (down _ _ _ _ _ _ c.decreases (omega (arith, ap filter_weight e, ap (λ (x : Filter). filter_weight (filter_view kept x)) c.deref-in-Group.ensures)) (omega (arith, c.requires.within)), (within, c.requires))
 
 pub filter_holds-exists-requires : goal.filter_holds-exists-requires
 filter_holds-exists-requires g t c κs within =
     let kept = kept_of c.args.self.now in
     let e = ap (filter_view kept) c.in-Exists.is ∙ filter_view-Exists kept c.in-Exists.nodes c.in-Exists.not in
-    (down _ _ _ _ _ _ c.decreases (omega (arith, ap filter_weight e)) (omega (arith, c.requires.stands.within)), (within, (c.requires.stands, part_as filter_patterns _ _ _ e c.requires.part)))
+    (down _ _ _ _ _ _ c.decreases (omega (arith, ap filter_weight e)) (omega (arith, c.requires.within)), (within, c.requires))
 
 pub filter_holds-called-requires : goal.filter_holds-called-requires
 filter_holds-called-requires g t c κs within =
     let kept = kept_of c.args.self.now in
     let e = ap (filter_view kept) c.in-Call.is ∙ filter_view-Call kept c.in-Call.call c.in-Call.not in
-    (down _ _ _ _ _ _ c.decreases (omega (arith, ap filter_weight e)) (omega arith), (within, (c.requires.stands, part_as filter_patterns _ _ _ e c.requires.part)))
+    (down _ _ _ _ _ _ c.decreases (omega (arith, ap filter_weight e)) (omega arith), (within, c.requires))
 
 pub filter_holds-is_true-requires : goal.filter_holds-is_true-requires
 filter_holds-is_true-requires g t c = c.in_ok-called-in-Call.ensures.whole
@@ -814,13 +805,13 @@ pub filter_holds-comparison_holds-requires : goal.filter_holds-comparison_holds-
 filter_holds-comparison_holds-requires g t c κs within =
     let kept = kept_of c.args.self.now in
     let e = ap (filter_view kept) c.in-Comparison.is ∙ filter_view-Comparison kept _ _ _ in
-    (down _ _ _ _ _ _ c.decreases (omega (arith, ap filter_weight e)) (omega (arith, c.requires.stands.within)), (within, (c.requires.stands, part_as filter_patterns _ _ _ e c.requires.part)))
+    (down _ _ _ _ _ _ c.decreases (omega (arith, ap filter_weight e)) (omega (arith, c.requires.within)), (within, c.requires))
 
 pub filter_holds-kept_comparison-requires : goal.filter_holds-kept_comparison-requires
 filter_holds-kept_comparison-requires g t c κs within =
     let kept = kept_of c.args.self.now in
     let e = ap (filter_view kept) c.in-Kept.is ∙ filter_view-Kept kept c.in-Kept.number in
-    (down _ _ _ _ _ _ c.decreases (omega (arith, ap filter_weight e)) (omega arith), (within, (part_as filter_patterns _ _ _ e c.requires.part, c.requires.stands.ready)))
+    (down _ _ _ _ _ _ c.decreases (omega (arith, ap filter_weight e)) (omega arith), (within, c.requires.ready))
 
 pub filter_holds-returns-in-Or-clause-holds : goal.filter_holds-returns-in-Or-clause-holds
 filter_holds-returns-in-Or-clause-holds g t c =
@@ -887,10 +878,10 @@ filter_holds-returns-in-Kept-clause-holds g t c =
     ok_as _ _ _ (sym (ap (λ f. holds f d n) e)) (c.kept_comparison.ensures.holds n)
 
 pub exists-is_there-requires : goal.exists-is_there-requires
-exists-is_there-requires g t c = c.requires.stands.whole
+exists-is_there-requires g t c = c.requires.whole
 
 pub exists-nodes-requires : goal.exists-nodes-requires
-exists-nodes-requires g t c κs within = (down_tree _ _ _ _ _ c.decreases (omega arith), (within, (c.requires.stands, c.requires.part)))
+exists-nodes-requires g t c κs within = (down_tree _ _ _ _ _ c.decreases (omega arith), (within, c.requires))
 
 pub exists-returns-in-Some-clause-holds : goal.exists-returns-in-Some-clause-holds
 exists-returns-in-Some-clause-holds g t c =
@@ -909,18 +900,18 @@ exists-returns-clause-holds g t c =
     c.has_any.ensures ∙ ap truth_held c.in_ok-gathered.ensures.held ∙ as_truth_held (tested (nodes_view kept c.args.nodes.now Any) d n)
 
 pub comparison_holds-lent_compare-requires-clause-ready : goal.comparison_holds-lent_compare-requires-clause-ready
-comparison_holds-lent_compare-requires-clause-ready g t c = c.requires.stands.ready
+comparison_holds-lent_compare-requires-clause-ready g t c = c.requires.ready
 
 pub comparison_holds-lent_compare-requires-clause-whole : goal.comparison_holds-lent_compare-requires-clause-whole
-comparison_holds-lent_compare-requires-clause-whole g t c = c.requires.stands.whole
+comparison_holds-lent_compare-requires-clause-whole g t c = c.requires.whole
 
 pub comparison_holds-side-requires : goal.comparison_holds-side-requires
 comparison_holds-side-requires g t c κs within =
-    (down _ _ _ _ _ _ c.decreases (omega arith) (omega (arith, c.requires.stands.within)), (within, (c.requires.stands, part_left _ _ _ c.requires.part)))
+    (down _ _ _ _ _ _ c.decreases (omega arith) (omega (arith, c.requires.within)), (within, c.requires))
 
 pub comparison_holds-side-requires-2 : goal.comparison_holds-side-requires-2
 comparison_holds-side-requires-2 g t c κs within =
-    (down _ _ _ _ _ _ c.decreases (omega arith) (omega (arith, c.requires.stands.within)), (within, (still c.requires.stands c.in_ok-left.ensures.returns, part_right _ _ _ c.requires.part)))
+    (down _ _ _ _ _ _ c.decreases (omega arith) (omega (arith, c.requires.within)), (within, still c.requires c.in_ok-left.ensures.returns))
 
 pub comparison_holds-returns-in-Some-clause-holds : goal.comparison_holds-returns-in-Some-clause-holds
 comparison_holds-returns-in-Some-clause-holds g t c =
@@ -950,13 +941,13 @@ pub side-called-requires : goal.side-called-requires
 side-called-requires g t c κs within =
     let kept = kept_of c.args.self.now in
     let e = ap (side_view kept) c.in-Call.is ∙ side_view-Call kept c.in-Call.call in
-    (down _ _ _ _ _ _ c.decreases (omega (arith, ap comparable_weight e)) (omega arith), (within, (c.requires.stands, part_as comparable_patterns _ _ _ e c.requires.part)))
+    (down _ _ _ _ _ _ c.decreases (omega (arith, ap comparable_weight e)) (omega arith), (within, c.requires))
 
 pub side-value_at-requires : goal.side-value_at-requires
-side-value_at-requires g t c = c.requires.stands.whole
+side-value_at-requires g t c = c.requires.whole
 
 pub side-kept_value-requires : goal.side-kept_value-requires
-side-kept_value-requires g t c = record { ready = c.requires.stands.ready }
+side-kept_value-requires g t c = c.requires.ready
 
 pub side-lent-requires : goal.side-lent-requires
 side-lent-requires g t c = c.value_at.ensures.whole
@@ -1004,13 +995,13 @@ pub answer-custom-requires : goal.answer-custom-requires
 answer-custom-requires g t c κs within =
     let kept = kept_of c.args.self.now in
     let e = ap (call_view kept) c.in-Custom.is ∙ called kept c.in-Custom.name c.in-Custom.args in
-    (down _ _ _ _ _ _ c.decreases (omega (arith, ap call_weight e, ap (λ (xs : List Argument). arguments_weight (arguments_in kept xs)) c.deref.ensures.value)) (omega (arith, c.requires.stands.within)), (within, (c.requires.stands, part_as (λ (xs : List Argument). arguments_patterns (arguments_in kept xs)) _ _ _ (sym c.deref.ensures.value) (part_as call_patterns _ _ _ e c.requires.part))))
+    (down _ _ _ _ _ _ c.decreases (omega (arith, ap call_weight e, ap (λ (xs : List Argument). arguments_weight (arguments_in kept xs)) c.deref.ensures.value)) (omega (arith, c.requires.within)), (within, c.requires))
 
 pub answer-value-requires : goal.answer-value-requires
 answer-value-requires g t c κs within =
     let kept = kept_of c.args.self.now in
     let e = ap (call_view kept) c.in-Length.is ∙ call_view-Length kept c.in-Length.arg in
-    (down _ _ _ _ _ _ c.decreases (omega (arith, ap call_weight e)) (omega (arith, c.requires.stands.within)), (within, (c.requires.stands, part_as call_patterns _ _ _ e c.requires.part)))
+    (down _ _ _ _ _ _ c.decreases (omega (arith, ap call_weight e)) (omega (arith, c.requires.within)), (within, c.requires))
 
 pub answer-length-requires : goal.answer-length-requires
 answer-length-requires g t c = c.in_ok-value-in-Length.ensures.whole
@@ -1019,13 +1010,13 @@ pub answer-argument-requires : goal.answer-argument-requires
 answer-argument-requires g t c κs within =
     let kept = kept_of c.args.self.now in
     let e = ap (call_view kept) c.in-Value.is ∙ call_view-Value kept c.in-Value.arg in
-    (down _ _ _ _ _ _ c.decreases (omega (arith, ap call_weight e)) (omega (arith, c.requires.stands.within)), (within, (c.requires.stands, part_as call_patterns _ _ _ e c.requires.part)))
+    (down _ _ _ _ _ _ c.decreases (omega (arith, ap call_weight e)) (omega (arith, c.requires.within)), (within, c.requires))
 
 pub answer-argument-requires-in-Count : goal.answer-argument-requires-in-Count
 answer-argument-requires-in-Count g t c κs within =
     let kept = kept_of c.args.self.now in
     let e = ap (call_view kept) c.in-Count.is ∙ call_view-Count kept c.in-Count.arg in
-    (down _ _ _ _ _ _ c.decreases (omega (arith, ap call_weight e)) (omega (arith, c.requires.stands.within)), (within, (c.requires.stands, part_as call_patterns _ _ _ e c.requires.part)))
+    (down _ _ _ _ _ _ c.decreases (omega (arith, ap call_weight e)) (omega (arith, c.requires.within)), (within, c.requires))
 
 pub answer-only-requires-clause-within : goal.answer-only-requires-clause-within
 answer-only-requires-clause-within g t c = c.in_ok-argument-in-Value.ensures.within
@@ -1045,13 +1036,13 @@ pub answer-match_or_search-requires : goal.answer-match_or_search-requires
 answer-match_or_search-requires g t c κs within =
     let kept = kept_of c.args.self.now in
     let e = ap (call_view kept) c.in-Search.is ∙ call_view-Search kept c.in-Search.text c.in-Search.pattern in
-    (down _ _ _ _ _ _ c.decreases (omega (arith, ap call_weight e)) (omega (arith, c.requires.stands.within)), (within, (c.requires.stands, part_as call_patterns _ _ _ e c.requires.part)))
+    (down _ _ _ _ _ _ c.decreases (omega (arith, ap call_weight e)) (omega (arith, c.requires.within)), (within, c.requires))
 
 pub answer-match_or_search-requires-in-Match : goal.answer-match_or_search-requires-in-Match
 answer-match_or_search-requires-in-Match g t c κs within =
     let kept = kept_of c.args.self.now in
     let e = ap (call_view kept) c.in-Match.is ∙ call_view-Match kept c.in-Match.text c.in-Match.pattern in
-    (down _ _ _ _ _ _ c.decreases (omega (arith, ap call_weight e)) (omega (arith, c.requires.stands.within)), (within, (c.requires.stands, part_as call_patterns _ _ _ e c.requires.part)))
+    (down _ _ _ _ _ _ c.decreases (omega (arith, ap call_weight e)) (omega (arith, c.requires.within)), (within, c.requires))
 
 pub answer-returns-in-Custom-clause-value : goal.answer-returns-in-Custom-clause-value
 answer-returns-in-Custom-clause-value g t c =
@@ -1109,10 +1100,10 @@ answer-returns-in-Match-clause-value g t c =
     ok_through _ (operand_tree tree) _ _ (sym (ap (λ f. answer f d n) e)) c.match_or_search-in-Match.ensures.value
 
 pub match_or_search-value-requires : goal.match_or_search-value-requires
-match_or_search-value-requires g t c κs within = (down _ _ _ _ _ _ c.decreases (omega arith) (omega (arith, c.requires.stands.within)), (within, (c.requires.stands, part_left _ _ _ (part_rest _ _ _ c.requires.part))))
+match_or_search-value-requires g t c κs within = (down _ _ _ _ _ _ c.decreases (omega arith) (omega (arith, c.requires.within)), (within, c.requires))
 
 pub match_or_search-value-requires-2 : goal.match_or_search-value-requires-2
-match_or_search-value-requires-2 g t c κs within = (down _ _ _ _ _ _ c.decreases (omega arith) (omega (arith, c.requires.stands.within)), (within, (still c.requires.stands c.in_ok-text.ensures.returns, part_right _ _ _ (part_rest _ _ _ c.requires.part))))
+match_or_search-value-requires-2 g t c κs within = (down _ _ _ _ _ _ c.decreases (omega arith) (omega (arith, c.requires.within)), (within, still c.requires c.in_ok-text.ensures.returns))
 
 pub match_or_search-is_matched-requires-clause-text : goal.match_or_search-is_matched-requires-clause-text
 match_or_search-is_matched-requires-clause-text g t c = c.in_ok-text.ensures.whole
@@ -1147,12 +1138,13 @@ match_or_search-returns-in_err-found-clause-refused g t c =
     let d = document tree g.T.Queryable.custom c.args.self.now in
     let n = node_of tree c.args.trail.now.way.steps.items c.args.at.now in
     let pattern = c.in_ok-pattern.ensures.value ∙ ap (λ q. as_value (argued (argument_view kept c.args.args.1.now Only) d (node_of tree q c.args.at.now))) c.in_ok-text.ensures.returns.same in
-    let q = query_of c.args.self.now in
-    let why : IsHalt c.args.self.now.limit q d c.in_err-found.field-0.0 = λ h spent. pattern_asked q d (is_entire c.args.extent) (argument_view kept c.args.args.1.now Only) _ n _ c.requires.part c.requires.stands.here pattern (c.in_err-found.ensures.refused h) in
-    passed_on c.from_residual-in_err-found.result _ (IsHalt c.args.self.now.limit q d) c.from_residual-in_err-found.ensures.1 (λ y e. subst (IsHalt c.args.self.now.limit q d) (sym e) why)
+    let asked = argument_view kept c.args.args.1.now Only in
+    let more = argument_patterns (argument_view kept c.args.args.0.now Only) ++ argument_patterns asked in
+    let why : IsHalt c.args.self.now.limit ((is_entire c.args.extent, asked) ∷ more) d c.in_err-found.field-0.0 = λ memory spent. pattern_asked d (is_entire c.args.extent) asked more n _ c.requires.here pattern (c.in_err-found.ensures.refused memory) in
+    halts_so _ _ _ c.from_residual-in_err-found.ensures.1 why (λ h. h)
 
 pub value-argument-requires : goal.value-argument-requires
-value-argument-requires g t c κs within = (down_tree _ _ _ _ _ c.decreases (omega arith), (within, (c.requires.stands, c.requires.part)))
+value-argument-requires g t c κs within = (down_tree _ _ _ _ _ c.decreases (omega arith), (within, c.requires))
 
 pub value-value-requires-clause-within : goal.value-value-requires-clause-within
 value-value-requires-clause-within g t c = c.in_ok-argument.ensures.within
@@ -1177,19 +1169,19 @@ pub argument-nodes-requires : goal.argument-nodes-requires
 argument-nodes-requires g t c κs within =
     let kept = kept_of c.args.self.now in
     let e = ap (λ a. argument_view kept a c.args.wanted) c.in-Nodes.is ∙ argument_view-Nodes kept c.in-Nodes.nodes c.args.wanted in
-    (down _ _ _ _ _ _ c.decreases (omega (arith, ap argument_weight e)) (omega (arith, c.requires.stands.within)), (within, (c.requires.stands, part_as argument_patterns _ _ _ e c.requires.part)))
+    (down _ _ _ _ _ _ c.decreases (omega (arith, ap argument_weight e)) (omega (arith, c.requires.within)), (within, c.requires))
 
 pub argument-called-requires : goal.argument-called-requires
 argument-called-requires g t c κs within =
     let kept = kept_of c.args.self.now in
     let e = ap (λ a. argument_view kept a c.args.wanted) c.in-Call.is ∙ argument_view-Call kept c.in-Call.call c.args.wanted in
-    (down _ _ _ _ _ _ c.decreases (omega (arith, ap argument_weight e)) (omega arith), (within, (c.requires.stands, part_as argument_patterns _ _ _ e c.requires.part)))
+    (down _ _ _ _ _ _ c.decreases (omega (arith, ap argument_weight e)) (omega arith), (within, c.requires))
 
 pub argument-filter_holds-requires : goal.argument-filter_holds-requires
 argument-filter_holds-requires g t c κs within =
     let kept = kept_of c.args.self.now in
     let e = ap (λ a. argument_view kept a c.args.wanted) c.in-Filter.is ∙ argument_view-Filter kept c.in-Filter.filter c.args.wanted in
-    (down _ _ _ _ _ _ c.decreases (omega (arith, ap argument_weight e)) (omega (arith, c.requires.stands.within)), (within, (c.requires.stands, part_as argument_patterns _ _ _ e c.requires.part)))
+    (down _ _ _ _ _ _ c.decreases (omega (arith, ap argument_weight e)) (omega (arith, c.requires.within)), (within, c.requires))
 
 pub argument-returns-in-Literal-clause-held : goal.argument-returns-in-Literal-clause-held
 argument-returns-in-Literal-clause-held g t c =
@@ -1240,19 +1232,19 @@ argument-returns-in_ok-truth-in-Filter-clause-held g t c =
     ap (λ b. value (Some (truth b))) c.in_ok-truth-in-Filter.ensures.holds ∙ sym (ap (λ a. holding c.args.wanted (argued a d n)) e)
 
 pub nodes-looked_up-requires : goal.nodes-looked_up-requires
-nodes-looked_up-requires g t c = c.requires.stands.whole
+nodes-looked_up-requires g t c = c.requires.whole
 
 pub nodes-gather-requires : goal.nodes-gather-requires
 nodes-gather-requires g t c κs within =
     let kept = kept_of c.args.self.now in
     let e = ap (λ ns. nodes_view kept ns c.args.wanted) c.in-Walk.is ∙ nodes_view-Walk kept c.in-Walk.segments c.args.wanted in
-    (down _ _ _ _ _ _ c.decreases (omega (arith, ap test_weight e, ap (λ (xs : List Segment). segments_weight (segments_in kept xs)) c.deref-in-Walk.ensures.value)) (omega (arith, c.requires.stands.within)), (within, (c.requires.stands, part_as (λ (xs : List Segment). segments_patterns (segments_in kept xs)) _ _ _ (sym c.deref-in-Walk.ensures.value) (part_as test_patterns _ _ _ e c.requires.part))))
+    (down _ _ _ _ _ _ c.decreases (omega (arith, ap test_weight e, ap (λ (xs : List Segment). segments_weight (segments_in kept xs)) c.deref-in-Walk.ensures.value)) (omega (arith, c.requires.within)), (within, c.requires))
 
 pub nodes-kept_nodes-requires : goal.nodes-kept_nodes-requires
 nodes-kept_nodes-requires g t c κs within =
     let kept = kept_of c.args.self.now in
     let e = ap (λ ns. nodes_view kept ns c.args.wanted) c.in-Kept.is ∙ nodes_view-Kept kept c.in-Kept.number c.args.wanted in
-    (down _ _ _ _ _ _ c.decreases (omega (arith, ap test_weight e)) (omega (arith, c.requires.stands.within)), (within, (part_as test_patterns _ _ _ e c.requires.part, c.requires.stands.ready)))
+    (down _ _ _ _ _ _ c.decreases (omega (arith, ap test_weight e)) (omega (arith, c.requires.within)), (within, c.requires.ready))
 
 pub nodes-returns-in_ok-looked_up-in-Lookup-clause-held : goal.nodes-returns-in_ok-looked_up-in-Lookup-clause-held
 nodes-returns-in_ok-looked_up-in-Lookup-clause-held g t c =
@@ -1284,14 +1276,14 @@ nodes-returns-in-Kept-clause-held g t c =
     IfOk-weaker c.kept_nodes.result _ _ (λ g h. ap nodes h ∙ sym (ap (λ q. holding c.args.wanted (tested q d n)) e)) c.kept_nodes.ensures.given
 
 pub kept_nodes-of_one-requires : goal.kept_nodes-of_one-requires
-kept_nodes-of_one-requires g t c = c.requires.ready.root
+kept_nodes-of_one-requires g t c = c.requires.root
 
 pub kept_nodes-gather-requires : goal.kept_nodes-gather-requires
 kept_nodes-gather-requires g t c κs within =
     let kept = kept_of c.args.self.now in
     let e = kept_query kept c.args.number c.args.wanted _ c.in-Some.ensures.part in
-    let root = at_root (ap (λ w. w.steps.items) c.replace-here.ensures.after ∙ c.new-root.ensures) c.requires.ready in
-    (down _ _ _ _ _ _ c.decreases (omega (arith, ap segments_weight e)) (omega arith), (within, (root, part_as segments_patterns _ _ _ e c.requires.part)))
+    let root = at_root (ap (λ w. w.steps.items) c.replace-here.ensures.after ∙ c.new-root.ensures) c.requires in
+    (down _ _ _ _ _ _ c.decreases (omega (arith, ap segments_weight e)) (omega arith), (within, root))
 
 pub kept_nodes-keep-requires : goal.kept_nodes-keep-requires
 kept_nodes-keep-requires g t c = subst (λ k. c.args.number < k) (sym c.in_ok-nodes.ensures.returns.ready.kept.room) c.in-Some.ensures.within
@@ -1309,10 +1301,10 @@ kept_nodes-returns-then-is_some-clause-given g t c =
     let d = document tree g.T.Queryable.custom c.args.self.now in
     let slot = slot_at tree whole (slots_of c.args.trail.now.cache) c.args.number in
     let there : slot ≡ Some (gave_or_none slot) = found_there (λ s. gave tree whole s.now) c.get.result slot c.get.ensures (sym c.is_some.ensures ∙ c.if-is_some.true) in
-    ap nodes_or_none there ∙ ap (λ s. nodes_or_none (Some s)) (c.requires.ready.kept.right c.args.number _ there ∙ ap (λ p. given_by p d) c.in-Some.ensures.part) ∙ ap (λ q. give (start c.args.wanted) (nodelist q d)) (sym (kept_query kept c.args.number c.args.wanted _ c.in-Some.ensures.part))
+    ap nodes_or_none there ∙ ap (λ s. nodes_or_none (Some s)) (c.requires.kept.right c.args.number _ there ∙ ap (λ p. given_by p d) c.in-Some.ensures.part) ∙ ap (λ q. give (start c.args.wanted) (nodelist q d)) (sym (kept_query kept c.args.number c.args.wanted _ c.in-Some.ensures.part))
 
 pub kept_nodes-returns-then-is_some-clause-returns : goal.kept_nodes-returns-then-is_some-clause-returns
-kept_nodes-returns-then-is_some-clause-returns g t c = stays c.requires.ready
+kept_nodes-returns-then-is_some-clause-returns g t c = stays c.requires
 
 pub kept_nodes-returns-clause-given : goal.kept_nodes-returns-clause-given
 kept_nodes-returns-clause-given g t c =
@@ -1333,19 +1325,19 @@ kept_nodes-returns-clause-returns g t c =
     let at = λ (q : List StepRef). through gs d (node_of tree q c.args.self.now.root.now) in
     let all = ap at (ap (λ w. w.steps.items) c.replace-here.ensures.after ∙ c.new-root.ensures) ∙ nodelist-through gs d in
     let given = ap keeping.nodes (c.in_ok-nodes.ensures.given ∙ ap (give (start c.args.wanted)) all) ∙ sym (ap (λ p. given_by p d) c.in-Some.ensures.part) in
-    record { same = ap (λ w. w.steps.items) c.replace-here.ensures.value; ready = record { root = c.requires.ready.root; kept = c.keep.ensures.right kept d given c.in_ok-nodes.ensures.returns.ready.kept } }
+    record { same = ap (λ w. w.steps.items) c.replace-here.ensures.value; ready = record { root = c.requires.root; kept = c.keep.ensures.right kept d given c.in_ok-nodes.ensures.returns.ready.kept } }
 
 pub called-answer-requires : goal.called-answer-requires
 called-answer-requires g t c κs within =
     let kept = kept_of c.args.self.now in
     let e = ap (called_view kept) c.in-Here.is ∙ called_view-Here kept c.in-Here.call ∙ ap (call_view kept) (sym c.deref.ensures) in
-    (down_same _ _ _ _ _ _ c.decreases (sym (ap call_weight e)) (omega (arith, c.requires.stands.within)), (within, (c.requires.stands, part_as call_patterns _ _ _ e c.requires.part)))
+    (down_same _ _ _ _ _ _ c.decreases (sym (ap call_weight e)) (omega (arith, c.requires.within)), (within, c.requires))
 
 pub called-kept_answer-requires : goal.called-kept_answer-requires
 called-kept_answer-requires g t c κs within =
     let kept = kept_of c.args.self.now in
     let e = ap (called_view kept) c.in-Kept.is ∙ called_view-Kept kept c.in-Kept.number in
-    (down_same _ _ _ _ _ _ c.decreases (sym (ap call_weight e)) (omega arith), (within, (part_as call_patterns _ _ _ e c.requires.part, c.requires.stands.ready)))
+    (down_same _ _ _ _ _ _ c.decreases (sym (ap call_weight e)) (omega arith), (within, c.requires.ready))
 
 pub called-returns-in-Here-clause-value : goal.called-returns-in-Here-clause-value
 called-returns-in-Here-clause-value g t c =
@@ -1368,8 +1360,8 @@ called-returns-in-Kept-clause-value g t c =
 pub kept_answer-answer-requires : goal.kept_answer-answer-requires
 kept_answer-answer-requires g t c κs within =
     let e = ap call_in c.in-Some.ensures.part in
-    let root = at_root (ap (λ w. w.steps.items) c.replace-here.ensures.after ∙ c.new-root.ensures) c.requires.ready in
-    (down_same _ _ _ _ _ _ c.decreases (sym (ap call_weight e)) (omega arith), (within, (root, part_as call_patterns _ _ _ e c.requires.part)))
+    let root = at_root (ap (λ w. w.steps.items) c.replace-here.ensures.after ∙ c.new-root.ensures) c.requires in
+    (down_same _ _ _ _ _ _ c.decreases (sym (ap call_weight e)) (omega arith), (within, root))
 
 pub kept_answer-keep-requires : goal.kept_answer-keep-requires
 kept_answer-keep-requires g t c = subst (λ k. c.args.number < k) (sym c.in_ok-given.ensures.returns.ready.kept.room) c.in-Some.ensures.within
@@ -1401,13 +1393,13 @@ kept_answer-returns-clause-returns g t c =
     let d = document tree g.T.Queryable.custom c.args.self.now in
     let top = ap (λ (q : List StepRef). node_of tree q c.args.self.now.root.now) (ap (λ w. w.steps.items) c.replace-here.ensures.after ∙ c.new-root.ensures) in
     let given = answer_kept _ _ d _ _ _ c.in-Some.ensures.part top c.in_ok-given.ensures.whole c.in_ok-given.ensures.value in
-    record { same = ap (λ w. w.steps.items) c.replace-here.ensures.value; ready = record { root = c.requires.ready.root; kept = c.keep.ensures.right kept d given c.in_ok-given.ensures.returns.ready.kept } }
+    record { same = ap (λ w. w.steps.items) c.replace-here.ensures.value; ready = record { root = c.requires.root; kept = c.keep.ensures.right kept d given c.in_ok-given.ensures.returns.ready.kept } }
 
 pub kept_comparison-comparison_holds-requires : goal.kept_comparison-comparison_holds-requires
 kept_comparison-comparison_holds-requires g t c κs within =
     let e = ap comparison_in c.in-Some.ensures.part in
-    let root = at_root (ap (λ w. w.steps.items) c.replace-here.ensures.after ∙ c.new-root.ensures) c.requires.ready in
-    (down_same _ _ _ _ _ _ c.decreases (sym (ap comparison_weight e)) (omega arith), (within, (root, part_as comparison_patterns _ _ _ e c.requires.part)))
+    let root = at_root (ap (λ w. w.steps.items) c.replace-here.ensures.after ∙ c.new-root.ensures) c.requires in
+    (down_same _ _ _ _ _ _ c.decreases (sym (ap comparison_weight e)) (omega arith), (within, root))
 
 pub kept_comparison-keep-requires : goal.kept_comparison-keep-requires
 kept_comparison-keep-requires g t c = subst (λ k. c.args.number < k) (sym c.in_ok-held.ensures.returns.ready.kept.room) c.in-Some.ensures.within
@@ -1439,4 +1431,79 @@ kept_comparison-returns-clause-returns g t c =
     let d = document tree g.T.Queryable.custom c.args.self.now in
     let top = ap (λ (q : List StepRef). node_of tree q c.args.self.now.root.now) (ap (λ w. w.steps.items) c.replace-here.ensures.after ∙ c.new-root.ensures) in
     let given = comparison_kept _ _ d _ _ c.in-Some.ensures.part top c.in_ok-held.ensures.holds in
-    record { same = ap (λ w. w.steps.items) c.replace-here.ensures.value; ready = record { root = c.requires.ready.root; kept = c.keep.ensures.right kept d given c.in_ok-held.ensures.returns.ready.kept } }
+    record { same = ap (λ w. w.steps.items) c.replace-here.ensures.value; ready = record { root = c.requires.root; kept = c.keep.ensures.right kept d given c.in_ok-held.ensures.returns.ready.kept } }
+
+-- ---- why it halts
+
+pub act-returns-in_err-filter_holds-in-If-clause-refused : goal.act-returns-in_err-filter_holds-in-If-clause-refused
+act-returns-in_err-filter_holds-in-If-clause-refused g t c =
+    let kept = kept_of c.args.self.now in
+    halts_so _ _ _ c.from_residual.ensures.1 c.in_err-filter_holds-in-If.ensures.refused (λ h. asked_left (action_patterns kept c.args.onward.next) (segments_patterns (segments_in kept c.args.onward.rest.now)) (asked_as (action_patterns kept) _ _ c.in-If.is h))
+
+pub act-returns-then-branch-clause-refused : goal.act-returns-then-branch-clause-refused
+act-returns-then-branch-clause-refused g t c =
+    let kept = kept_of c.args.self.now in
+    halts_as _ _ c.go_on-then-branch.ensures.refused (λ h. asked_right (action_patterns kept c.args.onward.next) (segments_patterns (segments_in kept c.args.onward.rest.now)) h)
+
+pub pick_each-returns-in_err-pick-clause-refused : goal.pick_each-returns-in_err-pick-clause-refused
+pick_each-returns-in_err-pick-clause-refused g t c =
+    let kept = kept_of c.args.self.now in
+    let others = segments_patterns (segments_in kept c.args.onward.rest.now) in
+    halts_so _ _ _ c.from_residual-in_err-pick.ensures.1 c.in_err-pick.ensures.refused (λ h. asked_at_or (λ (x : Selector). selector_patterns (selector_view kept x)) (λ xs. selectors_patterns (selectors_in kept xs)) (λ x xs. refl) others c.args.onward.next.now c.loop-selector.selector-index c.selector-item.result c.loop-selector-test.true c.selector-item.is h)
+
+pub some_holds-returns-in_err-filter_holds-clause-refused : goal.some_holds-returns-in_err-filter_holds-clause-refused
+some_holds-returns-in_err-filter_holds-clause-refused g t c =
+    let kept = kept_of c.args.self.now in
+    halts_so _ _ _ c.from_residual-in_err-filter_holds.ensures.1 c.in_err-filter_holds.ensures.refused (λ h. asked_at (λ (x : Filter). filter_patterns (filter_view kept x)) (λ xs. filters_patterns (filters_in kept xs)) (λ x xs. refl) c.args.parts.now c.loop-part.part-index c.part-item.result c.loop-part-test.true c.part-item.is h)
+
+pub each_holds-returns-in_err-filter_holds-clause-refused : goal.each_holds-returns-in_err-filter_holds-clause-refused
+each_holds-returns-in_err-filter_holds-clause-refused g t c =
+    let kept = kept_of c.args.self.now in
+    halts_so _ _ _ c.from_residual-in_err-filter_holds.ensures.1 c.in_err-filter_holds.ensures.refused (λ h. asked_at (λ (x : Filter). filter_patterns (filter_view kept x)) (λ xs. filters_patterns (filters_in kept xs)) (λ x xs. refl) c.args.parts.now c.loop-part.part-index c.part-item.result c.loop-part-test.true c.part-item.is h)
+
+pub comparison_holds-returns-in_err-left-clause-refused : goal.comparison_holds-returns-in_err-left-clause-refused
+comparison_holds-returns-in_err-left-clause-refused g t c =
+    let kept = kept_of c.args.self.now in
+    halts_so _ _ _ c.from_residual.ensures.1 c.in_err-left.ensures.refused (λ h. asked_left (comparable_patterns (side_view kept c.args.sides.0.now)) (comparable_patterns (side_view kept c.args.sides.1.now)) h)
+
+pub comparison_holds-returns-in_err-right-clause-refused : goal.comparison_holds-returns-in_err-right-clause-refused
+comparison_holds-returns-in_err-right-clause-refused g t c =
+    let kept = kept_of c.args.self.now in
+    halts_so _ _ _ c.from_residual-in_err-right.ensures.1 c.in_err-right.ensures.refused (λ h. asked_right (comparable_patterns (side_view kept c.args.sides.0.now)) (comparable_patterns (side_view kept c.args.sides.1.now)) h)
+
+pub answer-returns-in-Custom-clause-refused : goal.answer-returns-in-Custom-clause-refused
+answer-returns-in-Custom-clause-refused g t c =
+    let kept = kept_of c.args.self.now in
+    let e = ap (call_view kept) c.in-Custom.is ∙ called kept c.in-Custom.name c.in-Custom.args in
+    halts_as _ _ c.custom.ensures.refused (λ h. asked_as call_patterns _ _ e (asked_as (λ (xs : List Argument). arguments_patterns (arguments_in kept xs)) _ _ (sym c.deref.ensures.value) h))
+
+pub match_or_search-returns-in_err-text-clause-refused : goal.match_or_search-returns-in_err-text-clause-refused
+match_or_search-returns-in_err-text-clause-refused g t c =
+    let kept = kept_of c.args.self.now in
+    let text = argument_view kept c.args.args.0.now Only in
+    let pattern = argument_view kept c.args.args.1.now Only in
+    halts_so _ _ _ c.from_residual.ensures.1 c.in_err-text.ensures.refused (λ h. asked_rest (is_entire c.args.extent, pattern) _ (asked_left (argument_patterns text) (argument_patterns pattern) h))
+
+pub match_or_search-returns-in_err-pattern-clause-refused : goal.match_or_search-returns-in_err-pattern-clause-refused
+match_or_search-returns-in_err-pattern-clause-refused g t c =
+    let kept = kept_of c.args.self.now in
+    let text = argument_view kept c.args.args.0.now Only in
+    let pattern = argument_view kept c.args.args.1.now Only in
+    halts_so _ _ _ c.from_residual-in_err-pattern.ensures.1 c.in_err-pattern.ensures.refused (λ h. asked_rest (is_entire c.args.extent, pattern) _ (asked_right (argument_patterns text) (argument_patterns pattern) h))
+
+pub custom-returns-in_err-argument-clause-refused : goal.custom-returns-in_err-argument-clause-refused
+custom-returns-in_err-argument-clause-refused g t c =
+    let kept = kept_of c.args.self.now in
+    halts_so _ _ _ c.from_residual.ensures.1 c.in_err-argument.ensures.refused (λ h. asked_at (λ (x : Argument). argument_patterns (argument_view kept x Values)) (λ xs. arguments_patterns (arguments_in kept xs)) (λ x xs. refl) c.args.args.now c.loop-arg.arg-index c.arg-item.result c.loop-arg-test.true c.arg-item.is h)
+
+pub custom-returns-in_err-cost-clause-refused : goal.custom-returns-in_err-cost-clause-refused
+custom-returns-in_err-cost-clause-refused g t c =
+    let d = document g.T.Queryable.tree g.T.Queryable.custom c.args.self.now in
+    let ps = arguments_patterns (arguments_in (kept_of c.args.self.now) c.args.args.now) in
+    passed_on c.from_residual-in_err-cost.result _ (IsHalt c.args.self.now.limit ps d) c.from_residual-in_err-cost.ensures.1 (λ y e. λ memory spent. absurd (memory (e ∙ c.in_err-cost.ensures)))
+
+pub custom-returns-in_err-extension_custom-clause-refused : goal.custom-returns-in_err-extension_custom-clause-refused
+custom-returns-in_err-extension_custom-clause-refused g t c =
+    let d = document g.T.Queryable.tree g.T.Queryable.custom c.args.self.now in
+    let ps = arguments_patterns (arguments_in (kept_of c.args.self.now) c.args.args.now) in
+    passed_on c.from_residual-in_err-extension_custom.result _ (IsHalt c.args.self.now.limit ps d) c.from_residual-in_err-extension_custom.ensures.1 (λ y e. λ memory spent. absurd (memory (e c.in_err-extension_custom.ensures.memory)))

@@ -21,31 +21,31 @@ abbrev pub decreases-walk : goal.decreases-walk
 decreases-walk g l = let tree = g.T.Queryable.tree in work (segments_weight (segments_in (kept_of l.self.now) l.segments.now) + 1) (size (tree l.self.now.root.now)) (5 * size (tree l.at.now))
 
 abbrev pub decreases-pass : goal.decreases-pass
-decreases-pass g l = let tree = g.T.Queryable.tree in work (segment_weight (segment_view (kept_of l.self.now) l.first.now) + segments_weight (segments_in (kept_of l.self.now) l.rest.now)) (size (tree l.self.now.root.now)) (5 * size (tree l.at.now))
+decreases-pass g l = let tree = g.T.Queryable.tree in work (segment_weight (segment_view (kept_of l.self.now) l.onward.next.now) + segments_weight (segments_in (kept_of l.self.now) l.onward.rest.now)) (size (tree l.self.now.root.now)) (5 * size (tree l.at.now))
 
 abbrev pub decreases-pick_each : goal.decreases-pick_each
-decreases-pick_each g l = let tree = g.T.Queryable.tree in work (selectors_weight (selectors_in (kept_of l.self.now) l.selectors.now) + 1 + segments_weight (segments_in (kept_of l.self.now) l.rest.now)) (size (tree l.self.now.root.now)) (5 * size (tree l.at.now))
+decreases-pick_each g l = let tree = g.T.Queryable.tree in work (selectors_weight (selectors_in (kept_of l.self.now) l.onward.next.now) + 1 + segments_weight (segments_in (kept_of l.self.now) l.onward.rest.now)) (size (tree l.self.now.root.now)) (5 * size (tree l.at.now))
 
 abbrev pub decreases-pick : goal.decreases-pick
-decreases-pick g l = let tree = g.T.Queryable.tree in work (selector_weight (selector_view (kept_of l.self.now) l.selector.now) + segments_weight (segments_in (kept_of l.self.now) l.rest.now)) (size (tree l.self.now.root.now)) (5 * size (tree l.at.now))
+decreases-pick g l = let tree = g.T.Queryable.tree in work (selector_weight (selector_view (kept_of l.self.now) l.onward.next.now) + segments_weight (segments_in (kept_of l.self.now) l.onward.rest.now)) (size (tree l.self.now.root.now)) (5 * size (tree l.at.now))
 
 abbrev pub decreases-pick_slice : goal.decreases-pick_slice
-decreases-pick_slice g l = let tree = g.T.Queryable.tree in work (segments_weight (segments_in (kept_of l.self.now) l.rest.now) + 3) (size (tree l.self.now.root.now)) (5 * size (tree l.at.now))
+decreases-pick_slice g l = let tree = g.T.Queryable.tree in work (segments_weight (segments_in (kept_of l.self.now) l.onward.rest.now) + 3) (size (tree l.self.now.root.now)) (5 * size (tree l.at.now))
 
 abbrev pub decreases-each_child : goal.decreases-each_child
-decreases-each_child g l = let tree = g.T.Queryable.tree in work (action_weight (kept_of l.self.now) l.action + segments_weight (segments_in (kept_of l.self.now) l.rest.now)) (size (tree l.self.now.root.now)) (5 * size (tree l.at.now) + 1)
+decreases-each_child g l = let tree = g.T.Queryable.tree in work (action_weight (kept_of l.self.now) l.onward.next + segments_weight (segments_in (kept_of l.self.now) l.onward.rest.now)) (size (tree l.self.now.root.now)) (5 * size (tree l.at.now) + 1)
 
 abbrev pub decreases-each_member : goal.decreases-each_member
-decreases-each_member g l = let tree = g.T.Queryable.tree in work (action_weight (kept_of l.self.now) l.action + segments_weight (segments_in (kept_of l.self.now) l.rest.now)) (size (tree l.self.now.root.now)) (5 * size (tree l.members.now.of.now))
+decreases-each_member g l = let tree = g.T.Queryable.tree in work (action_weight (kept_of l.self.now) l.onward.next + segments_weight (segments_in (kept_of l.self.now) l.onward.rest.now)) (size (tree l.self.now.root.now)) (5 * size (tree l.members.now.of.now))
 
 abbrev pub decreases-descend : goal.decreases-descend
-decreases-descend g l = let tree = g.T.Queryable.tree in work (segment_weight (segment_view (kept_of l.self.now) l.segment.now) + 1 + segments_weight (segments_in (kept_of l.self.now) l.rest.now)) (size (tree l.self.now.root.now)) (5 * size (tree l.at.now) + 2)
+decreases-descend g l = let tree = g.T.Queryable.tree in work (segment_weight (segment_view (kept_of l.self.now) l.onward.next.now) + 1 + segments_weight (segments_in (kept_of l.self.now) l.onward.rest.now)) (size (tree l.self.now.root.now)) (5 * size (tree l.at.now) + 2)
 
 abbrev pub decreases-at_child : goal.decreases-at_child
-decreases-at_child g l = let tree = g.T.Queryable.tree in work (action_weight (kept_of l.self.now) l.action + segments_weight (segments_in (kept_of l.self.now) l.rest.now)) (size (tree l.self.now.root.now)) (5 * size (tree l.child.value.now) + 4)
+decreases-at_child g l = let tree = g.T.Queryable.tree in work (action_weight (kept_of l.self.now) l.onward.next + segments_weight (segments_in (kept_of l.self.now) l.onward.rest.now)) (size (tree l.self.now.root.now)) (5 * size (tree l.child.value.now) + 4)
 
 abbrev pub decreases-act : goal.decreases-act
-decreases-act g l = let tree = g.T.Queryable.tree in work (action_weight (kept_of l.self.now) l.action + segments_weight (segments_in (kept_of l.self.now) l.rest.now)) (size (tree l.self.now.root.now)) (5 * size (tree l.at.now) + 3)
+decreases-act g l = let tree = g.T.Queryable.tree in work (action_weight (kept_of l.self.now) l.onward.next + segments_weight (segments_in (kept_of l.self.now) l.onward.rest.now)) (size (tree l.self.now.root.now)) (5 * size (tree l.at.now) + 3)
 
 abbrev pub decreases-go_on : goal.decreases-go_on
 decreases-go_on g l = let tree = g.T.Queryable.tree in work (segments_weight (segments_in (kept_of l.self.now) l.rest.now) + 1) (size (tree l.self.now.root.now)) (5 * size (tree l.at.now) + 1)
@@ -108,10 +108,10 @@ invariant-pick_each-loop-selector g l =
     let whole = g.T.Queryable.is_whole in
     let d = document tree g.T.Queryable.custom l.self in
     let n = node_of tree l.initial.trail.way.steps.items l.at in
-    let rest = through (segments_in (kept_of l.self) l.rest) d in
+    let rest = through (segments_in (kept_of l.self) l.onward.rest.now) d in
     record {
       returns : Returns tree whole g.T.Queryable.custom l.self l.initial.trail l.trail;
-      given : give (seen tree whole l.sink) (flat_map rest (all_pick (selectors_in (kept_of l.self) (drop l.selector-index l.selectors)) d n)) ≡ give (seen tree whole l.initial.sink) (flat_map rest (all_pick (selectors_in (kept_of l.self) l.selectors) d n));
+      given : give (seen tree whole l.sink) (flat_map rest (all_pick (selectors_in (kept_of l.self) (drop l.selector-index l.selector-items)) d n)) ≡ give (seen tree whole l.initial.sink) (flat_map rest (all_pick (selectors_in (kept_of l.self) l.onward.next.now) d n));
     }
 
 abbrev pub invariant-pick_slice-loop-position : goal.invariant-pick_slice-loop-position
@@ -120,11 +120,11 @@ invariant-pick_slice-loop-position g l =
     let whole = g.T.Queryable.is_whole in
     let d = document tree g.T.Queryable.custom l.self in
     let n = node_of tree l.initial.trail.way.steps.items l.at in
-    let rest = through (segments_in (kept_of l.self) l.rest) d in
+    let rest = through (segments_in (kept_of l.self) l.onward.rest.now) d in
     record {
       returns : Returns tree whole g.T.Queryable.custom l.self l.initial.trail l.trail;
       below : All (λ i. i < length l.items.items) (places_left l.position-iterator);
-      given : give (seen tree whole l.sink) (flat_map rest (flat_map (λ k. element k n) (places_left l.position-iterator))) ≡ give (seen tree whole l.initial.sink) (flat_map rest (flat_map (λ k. element k n) (slice_of l.fn.slice.0 l.fn.slice.1 l.fn.slice.2 (length l.items.items))));
+      given : give (seen tree whole l.sink) (flat_map rest (flat_map (λ k. element k n) (places_left l.position-iterator))) ≡ give (seen tree whole l.initial.sink) (flat_map rest (flat_map (λ k. element k n) (slice_of l.onward.next.0 l.onward.next.1 l.onward.next.2 (length l.items.items))));
     }
 
 abbrev pub invariant-each_child-loop-i : goal.invariant-each_child-loop-i
@@ -133,10 +133,10 @@ invariant-each_child-loop-i g l =
     let whole = g.T.Queryable.is_whole in
     let d = document tree g.T.Queryable.custom l.self in
     let n = node_of tree l.initial.trail.way.steps.items l.at in
-    let rest = through (segments_in (kept_of l.self) l.rest) d in
+    let rest = through (segments_in (kept_of l.self) l.onward.rest.now) d in
     record {
       returns : Returns tree whole g.T.Queryable.custom l.self l.initial.trail l.trail;
-      given : give (seen tree whole l.sink) (flat_map rest (flat_map (acted (kept_of l.self) l.action d) (element_nodes n.location l.i (map tree (drop l.i l.value-items))))) ≡ give (seen tree whole l.initial.sink) (flat_map rest (flat_map (acted (kept_of l.self) l.action d) (children n)));
+      given : give (seen tree whole l.sink) (flat_map rest (flat_map (acted (kept_of l.self) l.onward.next d) (element_nodes n.location l.i (map tree (drop l.i l.value-items))))) ≡ give (seen tree whole l.initial.sink) (flat_map rest (flat_map (acted (kept_of l.self) l.onward.next d) (children n)));
     }
 
 abbrev pub invariant-each_member-loop-member : goal.invariant-each_member-loop-member
@@ -145,10 +145,10 @@ invariant-each_member-loop-member g l =
     let whole = g.T.Queryable.is_whole in
     let d = document tree g.T.Queryable.custom l.self in
     let n = node_of tree l.initial.trail.way.steps.items l.members.of.now in
-    let rest = through (segments_in (kept_of l.self) l.rest) d in
+    let rest = through (segments_in (kept_of l.self) l.onward.rest.now) d in
     record {
       returns : Returns tree whole g.T.Queryable.custom l.self l.initial.trail l.trail;
-      given : give (seen tree whole l.sink) (flat_map rest (flat_map (acted (kept_of l.self) l.action d) (member_nodes n.location (map (λ m. (m.0.now, tree m.1.now)) (drop l.member-index l.member-items))))) ≡ give (seen tree whole l.initial.sink) (flat_map rest (flat_map (acted (kept_of l.self) l.action d) (children n)));
+      given : give (seen tree whole l.sink) (flat_map rest (flat_map (acted (kept_of l.self) l.onward.next d) (member_nodes n.location (map (λ m. (m.0.now, tree m.1.now)) (drop l.member-index l.member-items))))) ≡ give (seen tree whole l.initial.sink) (flat_map rest (flat_map (acted (kept_of l.self) l.onward.next d) (children n)));
     }
 
 -- the parts that are left decide

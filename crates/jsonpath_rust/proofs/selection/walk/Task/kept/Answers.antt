@@ -10,7 +10,7 @@ again-requires g c =
     let whole = g.T.Queryable.is_whole in
     let d = document tree g.T.Queryable.custom c.args.self.now in
     let there = sym c.get.ensures ∙ ap (option_map (λ s. gave tree whole s.now)) c.in-Some-Value.is ∙ ap (λ x. Some (gave tree whole x)) c.in-Some-Value.field-0-is in
-    let both = value_given (part_at (kept_of c.args.self.now) c.args.number) d _ _ (c.requires.ready.kept.right c.args.number _ there) in
+    let both = value_given (part_at (kept_of c.args.self.now) c.args.number) d _ _ (c.requires.kept.right c.args.number _ there) in
     both.0
 
 pub returns-in_ok-again-in-Some-Value-clause-value : goal.returns-in_ok-again-in-Some-Value-clause-value
@@ -19,5 +19,5 @@ returns-in_ok-again-in-Some-Value-clause-value g c =
     let whole = g.T.Queryable.is_whole in
     let d = document tree g.T.Queryable.custom c.args.self.now in
     let there = sym c.get.ensures ∙ ap (option_map (λ s. gave tree whole s.now)) c.in-Some-Value.is ∙ ap (λ x. Some (gave tree whole x)) c.in-Some-Value.field-0-is in
-    let both = value_given (part_at (kept_of c.args.self.now) c.args.number) d _ _ (c.requires.ready.kept.right c.args.number _ there) in
+    let both = value_given (part_at (kept_of c.args.self.now) c.args.number) d _ _ (c.requires.kept.right c.args.number _ there) in
     c.in_ok-again-in-Some-Value.ensures.value ∙ both.1
