@@ -32,15 +32,6 @@ fn is_as_made(memory: &Memory, name: &str, cursor: &mut Cursor<'_>) -> bool {
         "segments" => are_same(memory, segments(alloc, cursor), queries::segments(alloc)),
         "child_segment" => are_same(memory, child_segment(alloc, cursor), queries::child(alloc)),
         "segment" => are_same(memory, segment(alloc, cursor), queries::descendant(alloc)),
-        "selector" => are_same(memory, selector(alloc, cursor), filters::selector(alloc)),
-        "function_expr" => are_same(memory, function_expr(alloc, cursor), filters::call(alloc)),
-        "test" => are_same(memory, test(alloc, cursor), filters::test(alloc)),
-        "logical_expr" => are_same(memory, logical_expr(alloc, cursor), filters::some(alloc)),
-        "logical_expr_and" => are_same(
-            memory,
-            logical_expr_and(alloc, cursor),
-            filters::every(alloc),
-        ),
         "singular_query_segments" => {
             are_same(
                 memory,
@@ -57,6 +48,24 @@ fn is_as_made(memory: &Memory, name: &str, cursor: &mut Cursor<'_>) -> bool {
             memory,
             singular_query(alloc, cursor),
             queries::singular(alloc),
+        ),
+        _ => is_part_as_made(memory, name, cursor),
+    }
+}
+
+/// The same, for a selector and what stands in a filter.
+fn is_part_as_made(memory: &Memory, name: &str, cursor: &mut Cursor<'_>) -> bool {
+    let alloc = memory.alloc;
+    let text = cursor.text();
+    match name {
+        "selector" => are_same(memory, selector(alloc, cursor), filters::selector(alloc)),
+        "function_expr" => are_same(memory, function_expr(alloc, cursor), filters::call(alloc)),
+        "test" => are_same(memory, test(alloc, cursor), filters::test(alloc)),
+        "logical_expr" => are_same(memory, logical_expr(alloc, cursor), filters::some(alloc)),
+        "logical_expr_and" => are_same(
+            memory,
+            logical_expr_and(alloc, cursor),
+            filters::every(alloc),
         ),
         "comp_expr" => are_same(memory, comp_expr(alloc, cursor), filters::comparison(alloc)),
         "literal" => are_same(

@@ -1,5 +1,5 @@
 //! First steps: a document is queried, read at a place, and changed.
-ghost use Rattle.std.specs.Prelude.{◌≡◌, codes, IsTrue, IfOk, OnErr};
+ghost use Rattle.std.specs.Prelude.{◌≡◌, codes, false, Ok, IsTrue, IfOk, OnErr};
 ghost use Rattle.jsonpath_rust.specs.SetFunctions.{set_function};
 ghost use Rattle.jsonpath_rust.specs.base.Values.{value_tree, value_is_whole};
 ghost use Rattle.jsonpath_rust.specs.Deleting.{Deletes};
@@ -14,8 +14,9 @@ use std::alloc::Global;
 
 /// Deletes the dear books of a store, and returns how many they were.
 pub fn delete_dear(alloc: Global, store: &mut Value) -> Result<usize, JsonPathError>
-    // Of a store of whole numbers exactly what this query selects is removed.
+    // Of a store of whole numbers exactly what this query selects is removed; any other stays as it was.
     ensures deleted { IsTrue (value_is_whole store.old) → IfOk result (Deletes 128 (codes "$.book[?@.price >= 10]") (document_of value_tree set_function store.old) (value_tree store.new)) }
+    ensures untouched { value_is_whole store.old ≡ false → (store.new ≡ store.old) × (result ≡ Ok 0) }
 
     // A refused call leaves the store as it was.
     ensures kept { OnErr result (store.new ≡ store.old) }

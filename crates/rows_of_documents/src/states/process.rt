@@ -118,18 +118,6 @@ fn is_read_and_answered<T: Document>(
         ),
         "segment" => is_answered_by(memory, memory.ok(segment(memory.alloc, cursor)), asked),
         "selector" => is_answered_by(memory, memory.ok(selector(memory.alloc, cursor)), asked),
-        "logical_expr" => is_answered_by(
-            memory,
-            memory.ok(logical_expr(memory.alloc, cursor)),
-            asked,
-        ),
-        "filter_atom" => is_answered_by(
-            memory,
-            memory.ok(filter_atom(memory.alloc, cursor)),
-            asked,
-        ),
-        "comp_expr" => is_answered_by(memory, memory.ok(comp_expr(memory.alloc, cursor)), asked),
-        "comparable" => is_answered_by(memory, memory.ok(comparable(memory.alloc, cursor)), asked),
         "singular_query" => is_answered_by(
             memory,
             memory.ok(singular_query(memory.alloc, cursor)),
@@ -143,6 +131,30 @@ fn is_read_and_answered<T: Document>(
             )
         }
         "step" => is_answered_by(memory, step(memory, cursor), asked),
+        _ => is_filter_read_and_answered(memory, part, cursor, asked),
+    }
+}
+
+/// The same, for what stands in a filter.
+fn is_filter_read_and_answered<T: Document>(
+    memory: &Memory,
+    part: &str,
+    cursor: &mut Cursor<'_>,
+    asked: &Asked<'_, T>,
+) -> bool {
+    match part {
+        "logical_expr" => is_answered_by(
+            memory,
+            memory.ok(logical_expr(memory.alloc, cursor)),
+            asked,
+        ),
+        "filter_atom" => is_answered_by(
+            memory,
+            memory.ok(filter_atom(memory.alloc, cursor)),
+            asked,
+        ),
+        "comp_expr" => is_answered_by(memory, memory.ok(comp_expr(memory.alloc, cursor)), asked),
+        "comparable" => is_answered_by(memory, memory.ok(comparable(memory.alloc, cursor)), asked),
         "literal" => is_answered_by(memory, memory.ok(literal(memory.alloc, cursor)), asked),
         "test" => is_answered_by(memory, memory.ok(test(memory.alloc, cursor)), asked),
         "function_expr" => is_answered_by(
