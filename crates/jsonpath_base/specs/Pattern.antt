@@ -61,6 +61,7 @@ is_found (Some re) text = is_some (find_str re text 0)
 abbrev pub found : Bool → List ℕ → List ℕ → Bool
 found entire pattern text = is_found (pattern_sought entire pattern) text
 
+-- the error is `InvalidJsonPath`, of whatever text
 abbrev pub IsInvalid : JsonPathError → Type 0
 IsInvalid (InvalidJsonPath _) = ⊤
 IsInvalid _ = ⊥

@@ -2,7 +2,7 @@
 ghost use Rattle.std.specs.Prelude.{◌≡◌, IfSome, IsTrue, option_map, is_some};
 ghost use Rattle.jsonpath_base.specs.Places as places;
 ghost use Rattle.jsonpath_base.specs.Put.{put, PutIsSeenAbove, PutIsThere, PutLeavesTheRest};
-ghost use Rattle.jsonpath_base.specs.Steps.{location_view, step_view};
+ghost use Rattle.jsonpath_base.specs.Steps.{location_view, owned_step};
 ghost use Rattle.jsonpath_base.specs.Values.{value_tree, value_is_whole};
 
 use crate::step::Step;
@@ -27,7 +27,7 @@ pub fn at<'v>(value: &'v Value, steps: &[Step]) -> Option<&'v Value>
 
 /// The child that a step leads to, or None.
 fn child<'v>(value: &'v Value, step: &Step) -> Option<&'v Value>
-    ensures value { option_map (λ v. value_tree v.now) result ≡ places.child (step_view step.now) (value_tree value.now) }
+    ensures value { option_map (λ v. value_tree v.now) result ≡ places.child (owned_step step.now) (value_tree value.now) }
     ensures whole { IsTrue (value_is_whole value.now) → IfSome result (λ v. IsTrue (value_is_whole v.now)) }
 {
     match step {

@@ -13,8 +13,8 @@ use Rattle.uses.specs.declared.script.Edit.{Edit}
 use Rattle.uses.specs.declared.script.Edit.TheVariants.{Delete, Replace}
 
 -- the document that a tree of a `Value` is
-abbrev pub document : Tree → Document
-document t = record { root = t; custom = set_function }
+abbrev pub value_document : Tree → Document
+value_document t = record { root = t; custom = set_function }
 
 -- the value that an edit brings is whole
 abbrev pub IsWholeEdit : Edit → Type 0
@@ -22,31 +22,31 @@ IsWholeEdit (Delete path) = Unit {0}
 IsWholeEdit (Replace path new) = IsTrue (value_is_whole new)
 
 -- whether an edit found something to remove or to replace in a tree, and the tree that it leaves
-abbrev pub Makes : Edit → Tree → Bool → Tree → Type 0
-Makes (Delete path) t found u = (n : ℕ) × Deletes 128 (string_bytes path) (document t) u n × (found ≡ nat_lt 0 n)
-Makes (Replace path new) t found u = IsReplaced (string_bytes path) (document t) (value_tree new) found u
+abbrev pub Leaves : Edit → Tree → Bool → Tree → Type 0
+Leaves (Delete path) t found u = (n : ℕ) × Deletes 128 (string_bytes path) (value_document t) u n × (found ≡ nat_lt 0 n)
+Leaves (Replace path new) t found u = IsReplaced (string_bytes path) (value_document t) (value_tree new) found u
 
 -- why an edit of a tree is refused
 abbrev pub IsEditRefusal : Edit → Tree → JsonPathError → Type 0
-IsEditRefusal (Delete path) t e = IsQueryRefusal 128 (string_bytes path) (document t) e
+IsEditRefusal (Delete path) t e = IsQueryRefusal 128 (string_bytes path) (value_document t) e
 IsEditRefusal (Replace path new) t e = e ≡ OutOfMemory
 
 -- Each edit in turn, made of what those before it leave, finds something; the last leaves this tree.
-abbrev pub AllMake : List Edit → Tree → Tree → Type 0
-AllMake [] t u = u ≡ t
-AllMake (e ∷ es) t u = (m : Tree) × Makes e t true m × AllMake es m u
+abbrev pub AllLeave : List Edit → Tree → Tree → Type 0
+AllLeave [] t u = u ≡ t
+AllLeave (e ∷ es) t u = (m : Tree) × Leaves e t true m × AllLeave es m u
 
 -- The edits before this index find something each. The one there is so, of what they leave.
 pub record IsReached (edits : List Edit) (t : Tree) (index : ℕ) (IsSo : Edit → Tree → Type 0) : Type 0 where
   pub between : Tree
-  pub before : AllMake (take index edits) t between
+  pub before : AllLeave (take index edits) t between
   pub edit : Edit
   pub there : slice_get edits index ≡ Some edit
   pub is_so : IsSo edit between
 
 -- it finds nothing to remove or to replace
 abbrev pub FindsNothing : Edit → Tree → Type 0
-FindsNothing e t = (u : Tree) × Makes e t false u
+FindsNothing e t = (u : Tree) × Leaves e t false u
 
 -- One of the edits is refused so.
 pub record IsRefusedIn (edits : List Edit) (t : Tree) (e : JsonPathError) : Type 0 where

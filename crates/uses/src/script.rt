@@ -2,7 +2,7 @@
 ghost use Rattle.std.specs.Prelude.{◌≡◌, ◌⊎◌, All, IsTrue, IfOk, IfErr, IfSome, IfNone, OnErr};
 ghost use Rattle.jsonpath_rust.specs.JsonPathError.TheVariants.{OutOfMemory};
 ghost use Rattle.jsonpath_rust.specs.base.Values.{value_tree, value_is_whole};
-ghost use Rattle.uses.specs.Script.{AllMake, FindsNothing, IsEditRefusal, IsReached, IsRefusedIn, IsWholeEdit, Makes};
+ghost use Rattle.uses.specs.Script.{AllLeave, FindsNothing, IsEditRefusal, IsReached, IsRefusedIn, IsWholeEdit, Leaves};
 
 use jsonpath_rust::query::queryable::{Deletable, Queryable};
 use jsonpath_rust::query::{Queried, replace_by_path};
@@ -34,7 +34,7 @@ pub enum Edit {
 pub fn apply_edits(alloc: Global, edits: &[Edit], document: &mut Value) -> Queried<Option<usize>>
     requires whole_edits { All IsWholeEdit edits.now }
     requires whole_document { IsTrue (value_is_whole document.old) }
-    ensures made { IfOk result (λ o. IfNone o (AllMake edits.now (value_tree document.old) (value_tree document.new))) }
+    ensures made { IfOk result (λ o. IfNone o (AllLeave edits.now (value_tree document.old) (value_tree document.new))) }
     ensures stuck { IfOk result (λ o. IfSome o (λ i. IsReached edits.now (value_tree document.old) i FindsNothing)) }
     ensures unchanged { IfOk result (λ o. IfSome o (λ i. document.new ≡ document.old)) }
     ensures kept { OnErr result (document.new ≡ document.old) }
@@ -55,7 +55,7 @@ pub fn apply_edits(alloc: Global, edits: &[Edit], document: &mut Value) -> Queri
 fn make_each(alloc: Global, edits: &[Edit], document: &mut Value) -> Queried<Option<usize>>
     requires whole_edits { All IsWholeEdit edits.now }
     requires whole_document { IsTrue (value_is_whole document.old) }
-    ensures made { IfOk result (λ o. IfNone o (AllMake edits.now (value_tree document.old) (value_tree document.new))) }
+    ensures made { IfOk result (λ o. IfNone o (AllLeave edits.now (value_tree document.old) (value_tree document.new))) }
     ensures stuck { IfOk result (λ o. IfSome o (λ i. IsReached edits.now (value_tree document.old) i FindsNothing)) }
     ensures whole { IsTrue (value_is_whole document.new) }
     ensures refused { IfErr result (IsRefusedIn edits.now (value_tree document.old)) }
@@ -72,7 +72,7 @@ fn make_each(alloc: Global, edits: &[Edit], document: &mut Value) -> Queried<Opt
 fn make(alloc: Global, edit: &Edit, document: &mut Value) -> Queried<bool>
     requires whole_edit { IsWholeEdit edit.now }
     requires whole_document { IsTrue (value_is_whole document.old) }
-    ensures made { IfOk result (λ found. Makes edit.now (value_tree document.old) found (value_tree document.new)) }
+    ensures made { IfOk result (λ found. Leaves edit.now (value_tree document.old) found (value_tree document.new)) }
     ensures whole { IsTrue (value_is_whole document.new) }
     ensures refused { IfErr result (IsEditRefusal edit.now (value_tree document.old)) }
 {

@@ -15,7 +15,7 @@ use Rattle.serde_json.specs.declared.value.Value.{Value, Array, Object}
 use Rattle.jsonpath_parser.specs.Location as location
 use Rattle.jsonpath_parser.specs.Location.{Location}
 use Rattle.jsonpath_base.specs.Put.{put}
-use Rattle.jsonpath_base.specs.Steps.{step_view}
+use Rattle.jsonpath_base.specs.Steps.{owned_step}
 use Rattle.jsonpath_base.specs.Values.{value_tree}
 use Rattle.jsonpath_base.specs.declared.step.Step.{Step}
 use Rattle.jsonpath_base.specs.declared.step.Step.TheVariants.{Name, Index}
@@ -39,7 +39,7 @@ name_in (Some (Name n)) = string_bytes n
 name_in _ = []
 
 abbrev pub step_in : Option Step → location.Step
-step_in (Some s) = step_view s
+step_in (Some s) = owned_step s
 step_in None = location.index 0
 
 -- where the steps that are left lead

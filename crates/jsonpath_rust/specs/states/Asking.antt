@@ -11,11 +11,11 @@ use Rattle.jsonpath_rust.specs.documents.Document.{Document}
 use Rattle.jsonpath_base.specs.Pattern.{IsInvalid}
 use Rattle.jsonpath_rust.specs.documents.Patterns.{IsPattern}
 use Rattle.jsonpath_rust.specs.states.Process.{plain, argument_content}
-use Rattle.jsonpath_rust.specs.states.State.{Content, places, inside}
+use Rattle.jsonpath_rust.specs.states.State.{Content, targets, inside}
 
 -- the trees in which the nodes of a state lie: that of the document, and those of its nodes
 abbrev pub tops : Document → Content → List Tree
-tops d c = d.root ∷ map (λ p. p.tree) (places c)
+tops d c = d.root ∷ map (λ p. p.tree) (targets c)
 
 -- It is a value in the document or in a node of the state, by itself.
 pub record IsBelow (d : Document) (c s : Content) : Type 0 where

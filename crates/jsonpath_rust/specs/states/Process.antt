@@ -10,7 +10,7 @@ use Rattle.jsonpath_rust.specs.documents.Comparing.{is_below}
 use Rattle.jsonpath_rust.specs.documents.Document.{Document}
 use Rattle.jsonpath_rust.specs.documents.Functions.{length_of, count_value, is_matched, is_true}
 use Rattle.jsonpath_rust.specs.documents.Meaning.{literal_tree, negated}
-use Rattle.jsonpath_rust.specs.states.State.{Place, Content, ref, refs, value, nothing, places, mapped, reduced, named_from, indexed_from, children_from, sliced_from, parents_from, kept_from, root_content, places_same}
+use Rattle.jsonpath_rust.specs.states.State.{Target, Content, ref, refs, value, nothing, targets, mapped, reduced, named_from, indexed_from, children_from, sliced_from, parents_from, kept_from, root_content, targets_same}
 
 -- the value that it is or points to
 abbrev pub plain : Content → Option Tree
@@ -27,9 +27,9 @@ lists_same (t ∷ ts) (u ∷ us) = same t u && lists_same ts us
 lists_same _ _ = false
 
 -- a list is the same as nodes whose values are its elements, in order
-abbrev pub lists_places : Tree → List Place → Bool
-lists_places (list ts) ps = lists_same (elements ts) (map (λ p. p.tree) ps)
-lists_places _ ps = false
+abbrev pub lists_targets : Tree → List Target → Bool
+lists_targets (list ts) ps = lists_same (elements ts) (map (λ p. p.tree) ps)
+lists_targets _ ps = false
 
 abbrev pub values_same : Option Tree → Option Tree → Bool
 values_same (Some t) (Some u) = same t u
@@ -37,8 +37,8 @@ values_same _ _ = false
 
 -- nodes and nodes by their values and paths; a node and nodes as a list and its elements, and not the other way round
 abbrev pub contents_equal : Content → Content → Bool
-contents_equal (refs ps) (refs qs) = places_same ps qs
-contents_equal (ref p) (refs qs) = lists_places p.tree qs
+contents_equal (refs ps) (refs qs) = targets_same ps qs
+contents_equal (ref p) (refs qs) = lists_targets p.tree qs
 contents_equal nothing nothing = true
 contents_equal a b = values_same (plain a) (plain b)
 
@@ -89,13 +89,13 @@ abbrev pub is_truth : Content → Bool
 is_truth (value t) = is_true (Some t)
 is_truth _ = false
 
-abbrev pub has_place : List Place → Bool
-has_place [] = false
-has_place (p ∷ ps) = true
+abbrev pub has_target : List Target → Bool
+has_target [] = false
+has_target (p ∷ ps) = true
 
 -- a call that answers a truth answers it, turned round behind `!`; what else is tested exists or not
 abbrev pub test_truth : Bool → Bool → Content → Content
-test_truth turn false c = value (truth (negated turn (has_place (places c))))
+test_truth turn false c = value (truth (negated turn (has_target (targets c))))
 test_truth true true c = value (truth (not (is_truth c)))
 test_truth false true c = c
 
@@ -127,7 +127,7 @@ abbrev mutual
   selector_content (syntax.Selector.filter f) d c = mapped (kept_from (holds_at f d)) c
 
   -- each selector at a node, joined from the left behind what there is
-  pub joined_from : Selectors → Document → Content → Place → Content
+  pub joined_from : Selectors → Document → Content → Target → Content
   joined_from no_selectors d c p = c
   joined_from (selector s ss) d c p = joined_from ss d (reduced c (selector_content s d (ref p))) p
 

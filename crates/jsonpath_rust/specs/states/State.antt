@@ -13,26 +13,26 @@ use Rattle.jsonpath_rust.specs.declared.states.state.data.Data.TheVariants.{Ref,
 use Rattle.jsonpath_rust.specs.declared.states.state.pointer.Pointer.{Pointer}
 
 -- a pointer: the text of its path, any text at all, and the tree of its value
-pub record Place : Type 0 where
+pub record Target : Type 0 where
   pub path : List ℕ
   pub tree : Tree
 
 -- a `Data`
 pub data Content : Type 0 where
-  ref : Place → Content
-  refs : List Place → Content
+  ref : Target → Content
+  refs : List Target → Content
   value : Tree → Content
   nothing : Content
 
-abbrev pub place_of : {A : Type 0} → (A → Tree) → Pointer A → Place
-place_of tree p = record { path = string_bytes p.path; tree = tree p.inner.now }
+abbrev pub target_of : {A : Type 0} → (A → Tree) → Pointer A → Target
+target_of tree p = record { path = string_bytes p.path; tree = tree p.inner.now }
 
-abbrev pub places_of : {A : Type 0} → (A → Tree) → List (Pointer A) → List Place
-places_of tree ps = map (place_of tree) ps
+abbrev pub targets_of : {A : Type 0} → (A → Tree) → List (Pointer A) → List Target
+targets_of tree ps = map (target_of tree) ps
 
 abbrev pub content_of : {A : Type 0} → (A → Tree) → Data A → Content
-content_of tree (Ref p) = ref (place_of tree p)
-content_of tree (Refs ps) = refs (places_of tree ps.items)
+content_of tree (Ref p) = ref (target_of tree p)
+content_of tree (Refs ps) = refs (targets_of tree ps.items)
 content_of tree (Value v) = value (tree v)
 content_of tree Nothing = nothing
 
@@ -48,11 +48,11 @@ DataIsWhole whole Nothing = Unit {0}
 
 -- ---- its nodes
 
-abbrev pub places : Content → List Place
-places (ref p) = p ∷ []
-places (refs ps) = ps
-places (value t) = []
-places nothing = []
+abbrev pub targets : Content → List Target
+targets (ref p) = p ∷ []
+targets (refs ps) = ps
+targets (value t) = []
+targets nothing = []
 
 abbrev pub pointers : {A : Type 0} → Data A → List (Pointer A)
 pointers (Ref p) = p ∷ []
@@ -76,23 +76,23 @@ ok_value Nothing = None
 
 -- ---- equality: of one kind, with values that are the same and paths of equal text
 
-abbrev pub places_same : List Place → List Place → Bool
-places_same [] [] = true
-places_same (p ∷ ps) (q ∷ qs) = (same p.tree q.tree && bytes_eq p.path q.path) && places_same ps qs
-places_same _ _ = false
+abbrev pub targets_same : List Target → List Target → Bool
+targets_same [] [] = true
+targets_same (p ∷ ps) (q ∷ qs) = (same p.tree q.tree && bytes_eq p.path q.path) && targets_same ps qs
+targets_same _ _ = false
 
 abbrev pub contents_same : Content → Content → Bool
 contents_same (ref p) (ref q) = same p.tree q.tree && bytes_eq p.path q.path
-contents_same (refs ps) (refs qs) = places_same ps qs
+contents_same (refs ps) (refs qs) = targets_same ps qs
 contents_same (value t) (value u) = same t u
 contents_same nothing nothing = true
 contents_same _ _ = false
 
 -- ---- `flat_map`: what is made at a node; of several nodes, the nodes of what is made at each, in order; and else nothing
 
-abbrev pub mapped : (Place → Content) → Content → Content
+abbrev pub mapped : (Target → Content) → Content → Content
 mapped f (ref p) = f p
-mapped f (refs ps) = refs (flat_map (λ p. places (f p)) ps)
+mapped f (refs ps) = refs (flat_map (λ p. targets (f p)) ps)
 mapped f (value t) = nothing
 mapped f nothing = nothing
 
@@ -139,24 +139,24 @@ reduced _ _ = nothing
 
 -- ---- what is found from a pointer: nodes below its value, the steps to each behind the pointer's path
 
-abbrev pub under : List ℕ → Node → Place
+abbrev pub under : List ℕ → Node → Target
 under path n = record { path = path ++ steps_text n.location; tree = n.tree }
 
-abbrev pub found_from : Place → (Node → List Node) → List Place
+abbrev pub found_from : Target → (Node → List Node) → List Target
 found_from p f = map (under p.path) (f (root_node p.tree))
 
 -- the first, where there is one
-abbrev pub only : List Place → Content
+abbrev pub only : List Target → Content
 only [] = nothing
 only (p ∷ ps) = ref p
 
 -- all, where there is one
-abbrev pub some : List Place → Content
+abbrev pub some : List Target → Content
 some [] = nothing
 some (p ∷ ps) = refs (p ∷ ps)
 
 -- all, perhaps none, where the value is a list
-abbrev pub in_list : Tree → List Place → Content
+abbrev pub in_list : Tree → List Target → Content
 in_list (list ts) ps = refs ps
 in_list _ ps = nothing
 
@@ -166,27 +166,27 @@ has_parts (object ms) = true
 has_parts _ = false
 
 -- all, perhaps none, where the value is a list or an object
-abbrev pub in_parts : Bool → List Place → Content
+abbrev pub in_parts : Bool → List Target → Content
 in_parts true ps = refs ps
 in_parts false ps = nothing
 
-abbrev pub named_from : List ℕ → Place → Content
+abbrev pub named_from : List ℕ → Target → Content
 named_from k p = only (found_from p (named k))
 
-abbrev pub indexed_from : ℤ → Place → Content
+abbrev pub indexed_from : ℤ → Target → Content
 indexed_from i p = only (found_from p (indexed i))
 
-abbrev pub children_from : Place → Content
+abbrev pub children_from : Target → Content
 children_from p = some (found_from p children)
 
-abbrev pub sliced_from : Option ℤ → Option ℤ → Option ℤ → Place → Content
+abbrev pub sliced_from : Option ℤ → Option ℤ → Option ℤ → Target → Content
 sliced_from start end step p = in_list p.tree (found_from p (sliced start end step))
 
 -- the lists and objects there and below, each before those below it
-abbrev pub parents_in : Place → List Place
+abbrev pub parents_in : Target → List Target
 parents_in p = filter (λ q. has_parts q.tree) (found_from p subtree)
 
-abbrev pub parents_from : Place → Content
+abbrev pub parents_from : Target → Content
 parents_from p = in_parts (has_parts p.tree) (parents_in p)
 
 -- a value by itself, with the empty path
@@ -194,7 +194,7 @@ abbrev pub inside : Tree → Content
 inside t = ref (record { path = []; tree = t })
 
 -- the children at which the test holds, each asked by itself
-abbrev pub kept_from : (Content → Bool) → Place → Content
+abbrev pub kept_from : (Content → Bool) → Target → Content
 kept_from holds p = in_parts (has_parts p.tree) (filter (λ q. holds (inside q.tree)) (found_from p children))
 
 -- the document itself, at `$`

@@ -14,7 +14,7 @@ ghost use Rattle.jsonpath_base.specs.Values.{value_tree, value_is_whole};
 ghost use Rattle.jsonpath_rust.specs.documents.Document.{document_of};
 ghost use Rattle.jsonpath_rust.specs.documents.Referring.{IsReference, IsReferred, IsReplaced, IsPut};
 ghost use Rattle.jsonpath_rust.specs.documents.inner.Following as following;
-ghost use Rattle.jsonpath_rust.specs.documents.inner.Following.{followed, step_to, child_view, place_view};
+ghost use Rattle.jsonpath_rust.specs.documents.inner.Following.{followed, step_to, child_view, referent_view};
 ghost use Rattle.jsonpath_rust.specs.documents.inner.Parts.{segments_in};
 
 use crate::documents::Queried;
@@ -35,7 +35,7 @@ struct Child<'v> {
 
 /// A value in a document, and the steps to it from the root.
 #[derive(Drop)]
-struct Place<'v> {
+struct Referent<'v> {
     steps: Vec<Step>,
     value: &'v Value,
 }
@@ -66,8 +66,8 @@ pub fn referred<'v>(alloc: Global, value: &'v Value, path: &str) -> Queried<Opti
     ensures whole { IsTrue (value_is_whole value.now) → IfOk result (λ o. IfSome o (λ v. IsTrue (value_is_whole v.now))) }
     ensures memory { IfErr result (λ e. e ≡ OutOfMemory) }
 {
-    match place_of(alloc, value, path)? {
-        Some(place) => Ok(Some(place.value)),
+    match referent_of(alloc, value, path)? {
+        Some(referent) => Ok(Some(referent.value)),
         None => Ok(None),
     }
 }
@@ -78,14 +78,14 @@ pub fn steps_of(alloc: Global, value: &Value, path: &str) -> Queried<Option<Vec<
     ensures there { IfOk result (λ o. IfSome o (λ v. IsSome (places.at (location_view v.items) (value_tree value.now)))) }
     ensures memory { IfErr result (λ e. e ≡ OutOfMemory) }
 {
-    match place_of(alloc, value, path)? {
-        Some(place) => Ok(Some(place.steps)),
+    match referent_of(alloc, value, path)? {
+        Some(referent) => Ok(Some(referent.steps)),
         None => Ok(None),
     }
 }
 
 /// That value and the steps to it.
-fn place_of<'v>(alloc: Global, value: &'v Value, path: &str) -> Queried<Option<Place<'v>>>
+fn referent_of<'v>(alloc: Global, value: &'v Value, path: &str) -> Queried<Option<Referent<'v>>>
     ensures means { IfOk result (λ o. IsReference path.now (document_of value_tree set_function value.now) (option_map (λ p. location_view p.steps.items) o)) }
     ensures there { IfOk result (λ o. IfSome o (λ p. places.at (location_view p.steps.items) (value_tree value.now) ≡ Some (value_tree p.value.now))) }
     ensures whole { IsTrue (value_is_whole value.now) → IfOk result (λ o. IfSome o (λ p. IsTrue (value_is_whole p.value.now))) }
@@ -93,9 +93,9 @@ fn place_of<'v>(alloc: Global, value: &'v Value, path: &str) -> Queried<Option<P
 {
     match parse_json_path(alloc, path) {
         Ok(query) => {
-            let place = follow(alloc, &query.segments, value);
+            let referent = follow(alloc, &query.segments, value);
             let_go(query);
-            place
+            referent
         }
         Err(JsonPathError::OutOfMemory) => Err(JsonPathError::OutOfMemory),
         Err(_) => Ok(None),
@@ -103,8 +103,8 @@ fn place_of<'v>(alloc: Global, value: &'v Value, path: &str) -> Queried<Option<P
 }
 
 /// Where the segments lead, if each of them leads to one child.
-fn follow<'v>(alloc: Global, segments: &[Segment], root: &'v Value) -> Queried<Option<Place<'v>>>
-    ensures value { IfOk result (λ o. option_map place_view o ≡ followed (segments_in segments.now) [] (value_tree root.now)) }
+fn follow<'v>(alloc: Global, segments: &[Segment], root: &'v Value) -> Queried<Option<Referent<'v>>>
+    ensures value { IfOk result (λ o. option_map referent_view o ≡ followed (segments_in segments.now) [] (value_tree root.now)) }
     ensures whole { IsTrue (value_is_whole root.now) → IfOk result (λ o. IfSome o (λ p. IsTrue (value_is_whole p.value.now))) }
     ensures memory { IfErr result (λ e. e ≡ OutOfMemory) }
 {
@@ -118,7 +118,7 @@ fn follow<'v>(alloc: Global, segments: &[Segment], root: &'v Value) -> Queried<O
         steps.push(child.step)?;
         value = child.value;
     }
-    Ok(Some(Place { steps, value }))
+    Ok(Some(Referent { steps, value }))
 }
 
 /// The child that a segment of one name or one index leads to.
@@ -127,7 +127,7 @@ fn segment_child<'v>(
     segment: &Segment,
     value: &'v Value,
 ) -> Queried<Option<Child<'v>>>
-    ensures value { IfOk result (λ o. option_map child_view o ≡ following.segment_step (segment_view segment.now) (value_tree value.now)) }
+    ensures value { IfOk result (λ o. option_map child_view o ≡ following.segment_child (segment_view segment.now) (value_tree value.now)) }
     ensures whole { IsTrue (value_is_whole value.now) → IfOk result (λ o. IfSome o (λ c. IsTrue (value_is_whole c.value.now))) }
     ensures memory { IfErr result (λ e. e ≡ OutOfMemory) }
 {
@@ -143,7 +143,7 @@ fn selector_child<'v>(
     selector: &Selector,
     value: &'v Value,
 ) -> Queried<Option<Child<'v>>>
-    ensures value { IfOk result (λ o. option_map child_view o ≡ following.selector_step (selector_view selector.now) (value_tree value.now)) }
+    ensures value { IfOk result (λ o. option_map child_view o ≡ following.selector_child (selector_view selector.now) (value_tree value.now)) }
     ensures whole { IsTrue (value_is_whole value.now) → IfOk result (λ o. IfSome o (λ c. IsTrue (value_is_whole c.value.now))) }
     ensures memory { IfErr result (λ e. e ≡ OutOfMemory) }
 {

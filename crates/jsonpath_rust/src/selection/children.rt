@@ -5,7 +5,7 @@ ghost use Rattle.jsonpath_rust.specs.documents.Node.{below, children, subtree};
 ghost use Rattle.jsonpath_rust.specs.documents.Meaning.{replaced};
 ghost use Rattle.jsonpath_rust.specs.documents.Patterns.{segments_patterns, segment_patterns};
 ghost use Rattle.jsonpath_rust.specs.selection.inner.Halting.{IsHalt};
-ghost use Rattle.jsonpath_rust.specs.selection.inner.PlanViews.{segments_in, segment_view};
+ghost use Rattle.jsonpath_rust.specs.selection.inner.PlanViews.{segments_meant, segment_view};
 ghost use Rattle.jsonpath_rust.specs.selection.inner.Sinks.{Took, seen};
 ghost use Rattle.jsonpath_rust.specs.selection.inner.Keeping.{IsReady, document, kept_of};
 ghost use Rattle.jsonpath_rust.specs.selection.inner.Standing.{Stands, Returns, AreMembers};
@@ -48,12 +48,12 @@ impl<'a: 's, 's, T: Queryable> Task<'a, 's, T> {
     ) -> Walked<bool>
         requires { Stands T.tree T.is_whole T.custom self.now at.now trail.old.way.steps.items trail.old.cache }
         ensures gave { IfOk result (λ b. Took (seen T.tree T.is_whole sink.old)
-            (flat_map (through (segments_in (kept_of self.now) onward.entry.rest.now) (document T.tree T.custom self.now))
+            (flat_map (through (segments_meant (kept_of self.now) onward.entry.rest.now) (document T.tree T.custom self.now))
             (flat_map (acted (kept_of self.now) onward.entry.next (document T.tree T.custom self.now)) (children (node_of T.tree trail.old.way.steps.items at.now))))
             (seen T.tree T.is_whole sink.new) b) }
         ensures returns { OnOk result (Returns T.tree T.is_whole T.custom self.now trail.old trail.new) }
         ensures ready { OnErr result (IsReady T.tree T.is_whole T.custom self.now trail.new.cache) }
-        ensures refused { IfErr result (IsHalt self.now.limit (action_patterns (kept_of self.now) onward.entry.next ++ segments_patterns (segments_in (kept_of self.now) onward.entry.rest.now)) (document T.tree T.custom self.now)) }
+        ensures refused { IfErr result (IsHalt self.now.limit (action_patterns (kept_of self.now) onward.entry.next ++ segments_patterns (segments_meant (kept_of self.now) onward.entry.rest.now)) (document T.tree T.custom self.now)) }
     {
         if let Some(items) = at.as_array() {
             let cost = visit_cost(onward.next, items.len());
@@ -86,12 +86,12 @@ impl<'a: 's, 's, T: Queryable> Task<'a, 's, T> {
         requires stands { Stands T.tree T.is_whole T.custom self.now members.now.of.now trail.old.way.steps.items trail.old.cache }
         requires listed { AreMembers T.tree T.is_whole members.now }
         ensures gave { IfOk result (λ b. Took (seen T.tree T.is_whole sink.old)
-            (flat_map (through (segments_in (kept_of self.now) onward.entry.rest.now) (document T.tree T.custom self.now))
+            (flat_map (through (segments_meant (kept_of self.now) onward.entry.rest.now) (document T.tree T.custom self.now))
             (flat_map (acted (kept_of self.now) onward.entry.next (document T.tree T.custom self.now)) (children (node_of T.tree trail.old.way.steps.items members.now.of.now))))
             (seen T.tree T.is_whole sink.new) b) }
         ensures returns { OnOk result (Returns T.tree T.is_whole T.custom self.now trail.old trail.new) }
         ensures ready { OnErr result (IsReady T.tree T.is_whole T.custom self.now trail.new.cache) }
-        ensures refused { IfErr result (IsHalt self.now.limit (action_patterns (kept_of self.now) onward.entry.next ++ segments_patterns (segments_in (kept_of self.now) onward.entry.rest.now)) (document T.tree T.custom self.now)) }
+        ensures refused { IfErr result (IsHalt self.now.limit (action_patterns (kept_of self.now) onward.entry.next ++ segments_patterns (segments_meant (kept_of self.now) onward.entry.rest.now)) (document T.tree T.custom self.now)) }
     {
         let cost = visit_cost(onward.next, members.list.len());
         trail.budget.spend(self.limit, cost)?;
@@ -117,12 +117,12 @@ impl<'a: 's, 's, T: Queryable> Task<'a, 's, T> {
     ) -> Walked<bool>
         requires { Stands T.tree T.is_whole T.custom self.now child.value.now (trail.old.way.steps.items ++ child.step ∷ []) trail.old.cache }
         ensures gave { IfOk result (λ b. Took (seen T.tree T.is_whole sink.old)
-            (flat_map (through (segments_in (kept_of self.now) onward.entry.rest.now) (document T.tree T.custom self.now))
+            (flat_map (through (segments_meant (kept_of self.now) onward.entry.rest.now) (document T.tree T.custom self.now))
             (acted (kept_of self.now) onward.entry.next (document T.tree T.custom self.now) (below (lent_location trail.old.way.steps.items) (lent_step child.entry.step) (T.tree child.entry.value.now))))
             (seen T.tree T.is_whole sink.new) b) }
         ensures returns { OnOk result (Returns T.tree T.is_whole T.custom self.now trail.old trail.new) }
         ensures ready { OnErr result (IsReady T.tree T.is_whole T.custom self.now trail.new.cache) }
-        ensures refused { IfErr result (IsHalt self.now.limit (action_patterns (kept_of self.now) onward.entry.next ++ segments_patterns (segments_in (kept_of self.now) onward.entry.rest.now)) (document T.tree T.custom self.now)) }
+        ensures refused { IfErr result (IsHalt self.now.limit (action_patterns (kept_of self.now) onward.entry.next ++ segments_patterns (segments_meant (kept_of self.now) onward.entry.rest.now)) (document T.tree T.custom self.now)) }
     {
         if is_idle(onward.next, child.value) {
             return Ok(true);
@@ -145,12 +145,12 @@ impl<'a: 's, 's, T: Queryable> Task<'a, 's, T> {
     ) -> Walked<bool>
         requires { Stands T.tree T.is_whole T.custom self.now at.now trail.old.way.steps.items trail.old.cache }
         ensures gave { IfOk result (λ b. Took (seen T.tree T.is_whole sink.old)
-            (flat_map (through (segments_in (kept_of self.now) onward.entry.rest.now) (document T.tree T.custom self.now))
+            (flat_map (through (segments_meant (kept_of self.now) onward.entry.rest.now) (document T.tree T.custom self.now))
             (acted (kept_of self.now) onward.entry.next (document T.tree T.custom self.now) (node_of T.tree trail.old.way.steps.items at.now)))
             (seen T.tree T.is_whole sink.new) b) }
         ensures returns { OnOk result (Returns T.tree T.is_whole T.custom self.now trail.old trail.new) }
         ensures ready { OnErr result (IsReady T.tree T.is_whole T.custom self.now trail.new.cache) }
-        ensures refused { IfErr result (IsHalt self.now.limit (action_patterns (kept_of self.now) onward.entry.next ++ segments_patterns (segments_in (kept_of self.now) onward.entry.rest.now)) (document T.tree T.custom self.now)) }
+        ensures refused { IfErr result (IsHalt self.now.limit (action_patterns (kept_of self.now) onward.entry.next ++ segments_patterns (segments_meant (kept_of self.now) onward.entry.rest.now)) (document T.tree T.custom self.now)) }
     {
         let rest = onward.rest;
         match onward.next {
@@ -178,12 +178,12 @@ impl<'a: 's, 's, T: Queryable> Task<'a, 's, T> {
     ) -> Walked<bool>
         requires { Stands T.tree T.is_whole T.custom self.now at.now trail.old.way.steps.items trail.old.cache }
         ensures gave { IfOk result (λ b. Took (seen T.tree T.is_whole sink.old)
-            (flat_map (through (segments_in (kept_of self.now) onward.entry.rest.now) (document T.tree T.custom self.now))
+            (flat_map (through (segments_meant (kept_of self.now) onward.entry.rest.now) (document T.tree T.custom self.now))
             (flat_map (replaced (segment_view (kept_of self.now) onward.entry.next.now) (document T.tree T.custom self.now)) (subtree (node_of T.tree trail.old.way.steps.items at.now))))
             (seen T.tree T.is_whole sink.new) b) }
         ensures returns { OnOk result (Returns T.tree T.is_whole T.custom self.now trail.old trail.new) }
         ensures ready { OnErr result (IsReady T.tree T.is_whole T.custom self.now trail.new.cache) }
-        ensures refused { IfErr result (IsHalt self.now.limit (segment_patterns (segment_view (kept_of self.now) onward.entry.next.now) ++ segments_patterns (segments_in (kept_of self.now) onward.entry.rest.now)) (document T.tree T.custom self.now)) }
+        ensures refused { IfErr result (IsHalt self.now.limit (segment_patterns (segment_view (kept_of self.now) onward.entry.next.now) ++ segments_patterns (segments_meant (kept_of self.now) onward.entry.rest.now)) (document T.tree T.custom self.now)) }
     {
         let rest = onward.rest;
         let further = Onward {
@@ -220,11 +220,11 @@ impl<'a: 's, 's, T: Queryable> Task<'a, 's, T> {
     ) -> Walked<bool>
         requires { Stands T.tree T.is_whole T.custom self.now at.now trail.old.way.steps.items trail.old.cache }
         ensures gave { IfOk result (λ b. Took (seen T.tree T.is_whole sink.old)
-            (through (segments_in (kept_of self.now) rest.now) (document T.tree T.custom self.now) (node_of T.tree trail.old.way.steps.items at.now))
+            (through (segments_meant (kept_of self.now) rest.now) (document T.tree T.custom self.now) (node_of T.tree trail.old.way.steps.items at.now))
             (seen T.tree T.is_whole sink.new) b) }
         ensures returns { OnOk result (Returns T.tree T.is_whole T.custom self.now trail.old trail.new) }
         ensures ready { OnErr result (IsReady T.tree T.is_whole T.custom self.now trail.new.cache) }
-        ensures refused { IfErr result (IsHalt self.now.limit (segments_patterns (segments_in (kept_of self.now) rest.now)) (document T.tree T.custom self.now)) }
+        ensures refused { IfErr result (IsHalt self.now.limit (segments_patterns (segments_meant (kept_of self.now) rest.now)) (document T.tree T.custom self.now)) }
     {
         match rest.split_first() {
             None => sink.take(self.alloc, at, &mut trail.way),

@@ -7,7 +7,7 @@ ghost use Rattle.jsonpath_rust.specs.documents.Functions.{as_nodes, as_truth, as
 ghost use Rattle.jsonpath_rust.specs.documents.Meaning.{answer, tested};
 ghost use Rattle.jsonpath_rust.specs.documents.Node.{Node};
 ghost use Rattle.jsonpath_rust.specs.documents.inner.Operands.{side_tree, side_is_whole};
-ghost use Rattle.jsonpath_rust.specs.selection.inner.PlanViews.{Kept, argument_view, call_view, nodes_view, segments_in};
+ghost use Rattle.jsonpath_rust.specs.selection.inner.PlanViews.{Kept, argument_view, call_view, nodes_view, segments_meant};
 ghost use Rattle.jsonpath_rust.specs.selection.inner.Walking.{through};
 ghost use Rattle.jsonpath_rust.specs.declared.selection.sink.Wanted.{Wanted};
 ghost use Rattle.jsonpath_rust.specs.declared.selection.sink.Wanted.TheVariants.{Any, Count, Only};
@@ -126,7 +126,7 @@ pub fn is_there<T: Queryable>(nodes: &Nodes, at: &T) -> Option<bool>
 /// How many nodes the segments lead to, where that takes neither a walk nor memory.
 pub fn followed_count<T: Queryable>(segments: &[Segment], at: &T) -> Option<usize>
     requires { IsTrue (T.is_whole at.now) }
-    ensures { (kept : Kept) (d : Document) (n : Node) → n.tree ≡ T.tree at.now → IfSome result (λ k. k ≡ length (through (segments_in kept segments.now) d n)) }
+    ensures { (kept : Kept) (d : Document) (n : Node) → n.tree ≡ T.tree at.now → IfSome result (λ k. k ≡ length (through (segments_meant kept segments.now) d n)) }
 {
     match follow(segments, at) {
         Followed::To(_value) => Some(1),

@@ -8,7 +8,7 @@ ghost use Rattle.jsonpath_rust.specs.documents.Patterns.{filter_patterns, filter
 ghost use Rattle.jsonpath_rust.specs.documents.inner.Operands.{operand_tree, operand_is_whole};
 ghost use Rattle.jsonpath_rust.specs.selection.inner.Halting.{IsHalt};
 ghost use Rattle.jsonpath_rust.specs.selection.inner.Keeping.{IsReady, document, kept_of};
-ghost use Rattle.jsonpath_rust.specs.selection.inner.PlanViews.{filter_view, filters_in, nodes_view, side_view};
+ghost use Rattle.jsonpath_rust.specs.selection.inner.PlanViews.{filter_view, filters_meant, nodes_view, side_view};
 ghost use Rattle.jsonpath_rust.specs.selection.inner.Standing.{Stands, Returns};
 ghost use Rattle.jsonpath_rust.specs.selection.inner.Walking.{node_of};
 ghost use Rattle.jsonpath_rust.specs.declared.selection.sink.Wanted.TheVariants.{Any};
@@ -62,10 +62,10 @@ impl<'a: 's, 's, T: Queryable> Task<'a, 's, T> {
         trail: &mut Trail<'a, 's, '_, T>,
     ) -> Walked<bool>
         requires { Stands T.tree T.is_whole T.custom self.now at.now trail.old.way.steps.items trail.old.cache }
-        ensures holds { IfOk result (λ b. b ≡ some_holds (filters_in (kept_of self.now) parts.now) (document T.tree T.custom self.now) (node_of T.tree trail.old.way.steps.items at.now)) }
+        ensures holds { IfOk result (λ b. b ≡ some_holds (filters_meant (kept_of self.now) parts.now) (document T.tree T.custom self.now) (node_of T.tree trail.old.way.steps.items at.now)) }
         ensures returns { OnOk result (Returns T.tree T.is_whole T.custom self.now trail.old trail.new) }
         ensures ready { OnErr result (IsReady T.tree T.is_whole T.custom self.now trail.new.cache) }
-        ensures refused { IfErr result (IsHalt self.now.limit (filters_patterns (filters_in (kept_of self.now) parts.now)) (document T.tree T.custom self.now)) }
+        ensures refused { IfErr result (IsHalt self.now.limit (filters_patterns (filters_meant (kept_of self.now) parts.now)) (document T.tree T.custom self.now)) }
     {
         trail.budget.spend(self.limit, parts.len())?;
         for part in parts {
@@ -85,10 +85,10 @@ impl<'a: 's, 's, T: Queryable> Task<'a, 's, T> {
         trail: &mut Trail<'a, 's, '_, T>,
     ) -> Walked<bool>
         requires { Stands T.tree T.is_whole T.custom self.now at.now trail.old.way.steps.items trail.old.cache }
-        ensures holds { IfOk result (λ b. b ≡ each_holds (filters_in (kept_of self.now) parts.now) (document T.tree T.custom self.now) (node_of T.tree trail.old.way.steps.items at.now)) }
+        ensures holds { IfOk result (λ b. b ≡ each_holds (filters_meant (kept_of self.now) parts.now) (document T.tree T.custom self.now) (node_of T.tree trail.old.way.steps.items at.now)) }
         ensures returns { OnOk result (Returns T.tree T.is_whole T.custom self.now trail.old trail.new) }
         ensures ready { OnErr result (IsReady T.tree T.is_whole T.custom self.now trail.new.cache) }
-        ensures refused { IfErr result (IsHalt self.now.limit (filters_patterns (filters_in (kept_of self.now) parts.now)) (document T.tree T.custom self.now)) }
+        ensures refused { IfErr result (IsHalt self.now.limit (filters_patterns (filters_meant (kept_of self.now) parts.now)) (document T.tree T.custom self.now)) }
     {
         trail.budget.spend(self.limit, parts.len())?;
         for part in parts {

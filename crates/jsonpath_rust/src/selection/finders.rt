@@ -1,11 +1,10 @@
 //! What asks patterns (RFC 9535, 2.4.6 and 2.4.7). One that stands in the query is built when it is first asked, unless an
 //! earlier call has built it, and is then kept with what asks it, at its number.
 ghost use Rattle.std.specs.Prelude.{◌≡◌, IsTrue, IfOk, IfErr, IfSome};
-ghost use Rattle.jsonpath_base.specs.Pattern.{pattern_sought, found, IsPatternRefusal};
+ghost use Rattle.jsonpath_base.specs.Pattern.{is_entire, pattern_sought, found, IsPatternRefusal};
 ghost use Rattle.jsonpath_rust.specs.documents.Functions.{is_matched};
 ghost use Rattle.jsonpath_rust.specs.documents.Patterns.{IsPattern};
 ghost use Rattle.jsonpath_rust.specs.declared.documents.halt.Halt.TheVariants.{Memory};
-ghost use Rattle.jsonpath_base.specs.Pattern.{is_entire};
 ghost use Rattle.jsonpath_rust.specs.documents.inner.Operands.{operand_tree, operand_is_whole};
 
 use crate::documents::halt::Walked;

@@ -9,7 +9,7 @@ ghost use Rattle.jsonpath_rust.specs.documents.inner.Operands.{operand_tree, ope
 ghost use Rattle.jsonpath_rust.specs.selection.inner.Arguing.{held, holding, IsHeld};
 ghost use Rattle.jsonpath_rust.specs.selection.inner.Halting.{IsHalt};
 ghost use Rattle.jsonpath_rust.specs.selection.inner.Keeping.{IsReady, document, kept_of};
-ghost use Rattle.jsonpath_rust.specs.selection.inner.PlanViews.{argument_view, arguments_in, call_view};
+ghost use Rattle.jsonpath_rust.specs.selection.inner.PlanViews.{argument_view, arguments_meant, call_view};
 ghost use Rattle.jsonpath_rust.specs.selection.inner.Standing.{Stands, Returns};
 ghost use Rattle.jsonpath_rust.specs.selection.inner.Walking.{node_of};
 ghost use Rattle.jsonpath_rust.specs.declared.selection.sink.Wanted.TheVariants.{Only};
@@ -112,11 +112,11 @@ impl<'a: 's, 's, T: Queryable> Task<'a, 's, T> {
         trail: &mut Trail<'a, 's, '_, T>,
     ) -> Walked<Operand<'a, 's, T>>
         requires { Stands T.tree T.is_whole T.custom self.now at.now trail.old.way.steps.items trail.old.cache }
-        ensures value { IfOk result (λ o. operand_tree T.tree o ≡ Some (T.custom (string_bytes name.now) (all_trees (arguments_in (kept_of self.now) args.now) (document T.tree T.custom self.now) (node_of T.tree trail.old.way.steps.items at.now)))) }
+        ensures value { IfOk result (λ o. operand_tree T.tree o ≡ Some (T.custom (string_bytes name.now) (all_trees (arguments_meant (kept_of self.now) args.now) (document T.tree T.custom self.now) (node_of T.tree trail.old.way.steps.items at.now)))) }
         ensures whole { IfOk result (λ o. IsTrue (operand_is_whole T.is_whole o)) }
         ensures returns { OnOk result (Returns T.tree T.is_whole T.custom self.now trail.old trail.new) }
         ensures ready { OnErr result (IsReady T.tree T.is_whole T.custom self.now trail.new.cache) }
-        ensures refused { IfErr result (IsHalt self.now.limit (arguments_patterns (arguments_in (kept_of self.now) args.now)) (document T.tree T.custom self.now)) }
+        ensures refused { IfErr result (IsHalt self.now.limit (arguments_patterns (arguments_meant (kept_of self.now) args.now)) (document T.tree T.custom self.now)) }
     {
         let mut values = Vec::new(self.alloc);
         for arg in args {

@@ -6,7 +6,7 @@ ghost use Rattle.jsonpath_rust.specs.documents.Meaning.{nodelist};
 ghost use Rattle.jsonpath_rust.specs.documents.Patterns.{segments_patterns, IsStop};
 ghost use Rattle.jsonpath_rust.specs.selection.inner.Halting.{IsHalt};
 ghost use Rattle.jsonpath_rust.specs.selection.inner.Planned.{plan_view};
-ghost use Rattle.jsonpath_rust.specs.selection.inner.Sinks.{Took, seen};
+ghost use Rattle.jsonpath_rust.specs.selection.inner.Sinks.{Took, give, seen};
 
 use crate::documents::Queried;
 use crate::documents::halt::Walked;
@@ -31,8 +31,29 @@ pub struct Request<'s, 'p> {
     pub budget: Budget,
 }
 
-/// Gives to the sink the nodes of a query on a document. The result says whether to go on.
+/// The sink, given the nodes of a query on a document.
 pub fn give_nodes<'a, T: Queryable>(
+    alloc: Global,
+    query: &JpQuery,
+    root: &'a T,
+    sink: Sink<'a, T>,
+) -> Queried<Sink<'a, T>>
+    requires { IsTrue (T.is_whole root.now) }
+    ensures gave { IfOk result (λ s. seen T.tree T.is_whole s ≡ give (seen T.tree T.is_whole sink.entry) (nodelist (query_view query.now) (document_of T.tree T.custom root.now))) }
+    ensures refused { IfErr result (IsStop (query_view query.now) (document_of T.tree T.custom root.now)) }
+{
+    let mut sink = sink;
+    match give_planned(alloc, query, root, &mut sink) {
+        Ok(_goes_on) => Ok(sink),
+        Err(error) => {
+            drop(sink);
+            Err(error)
+        }
+    }
+}
+
+/// Gives to the sink the nodes of a query on a document. The result says whether to go on.
+fn give_planned<'a, T: Queryable>(
     alloc: Global,
     query: &JpQuery,
     root: &'a T,

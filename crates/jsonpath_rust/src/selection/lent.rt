@@ -5,8 +5,7 @@
 //! pattern that is asked again and again gets one at last, and there are few of them, however many patterns a document has. Of
 //! the others the few that were asked last are kept built, with no finder.
 ghost use Rattle.std.specs.Prelude.{◌≡◌, IfOk, IfErr, IfSome};
-ghost use Rattle.jsonpath_base.specs.Pattern.{pattern_sought, found, IsPatternRefusal};
-ghost use Rattle.jsonpath_base.specs.Pattern.{is_entire};
+ghost use Rattle.jsonpath_base.specs.Pattern.{is_entire, pattern_sought, found, IsPatternRefusal};
 
 use crate::selection::finders::Asked;
 use crate::selection::patterns::{LentPlaces, Place};

@@ -4,7 +4,7 @@ ghost use Rattle.std.specs.Prelude.{◌≡◌, length, IsTrue, IfOk, IfErr, IfSo
 ghost use Rattle.jsonpath_parser.specs.tree.Syntax.{one};
 ghost use Rattle.jsonpath_rust.specs.declared.documents.halt.Halt.TheVariants.{Memory};
 ghost use Rattle.jsonpath_rust.specs.documents.Node.{children, root_node};
-ghost use Rattle.jsonpath_rust.specs.selection.inner.PlanViews.{Kept, segment_view, segments_in, selector_view};
+ghost use Rattle.jsonpath_rust.specs.selection.inner.PlanViews.{Kept, segment_view, segments_meant, selector_view};
 ghost use Rattle.jsonpath_rust.specs.selection.inner.Lookup.{Leads, LeadsOn, IsWholeThere, GivesThrough, GivesSoMany};
 
 use crate::documents::halt::Walked;
@@ -37,7 +37,7 @@ pub fn short_cut<'a, T: Queryable>(
     at: &'a T,
 ) -> Walked<Option<Sink<'a, T>>>
     requires { IsTrue (T.is_whole at.now) }
-    ensures given { (kept : Kept) → IfOk result (λ o. IfSome o (GivesThrough T.tree T.is_whole wanted (segments_in kept segments.now) (T.tree at.now))) }
+    ensures given { (kept : Kept) → IfOk result (λ o. IfSome o (GivesThrough T.tree T.is_whole wanted (segments_meant kept segments.now) (T.tree at.now))) }
     ensures memory { IfErr result (λ h. h ≡ Memory) }
 {
     match follow(segments, at) {
@@ -87,7 +87,7 @@ fn child_count<T: Queryable>(alloc: Global, parent: &T) -> Walked<usize>
 /// Where the segments lead.
 pub fn follow<'a, T: Queryable>(segments: &[Segment], at: &'a T) -> Followed<'a, T>
     requires { IsTrue (T.is_whole at.now) }
-    ensures leads { (kept : Kept) → Leads T.tree (segments_in kept segments.now) (T.tree at.now) result }
+    ensures leads { (kept : Kept) → Leads T.tree (segments_meant kept segments.now) (T.tree at.now) result }
     ensures whole { IsWholeThere T.is_whole result }
 {
     match segments.split_first() {

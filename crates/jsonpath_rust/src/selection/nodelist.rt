@@ -37,8 +37,7 @@ pub fn selected_nodes<'a, T: Queryable>(
     ensures whole { IfOk result (λ v. All (λ r. IsTrue (T.is_whole r.val.now)) v.items) }
     ensures refused { IfErr result (IsStop (query_view query.now) (document_of T.tree T.custom value.now)) }
 {
-    let mut sink = Sink::Nodes(Vec::new(alloc));
-    let _goes_on = give_nodes(alloc, query, value, &mut sink)?;
+    let sink = give_nodes(alloc, query, value, Sink::Nodes(Vec::new(alloc)))?;
     Ok(sink.into_nodes(alloc))
 }
 
@@ -58,8 +57,7 @@ pub fn selected_values<'a, T: Queryable>(
     ensures whole { IfOk result (λ v. All (λ x. IsTrue (T.is_whole x.now)) v.items) }
     ensures refused { IfErr result (IsStop (query_view query.now) (document_of T.tree T.custom value.now)) }
 {
-    let mut sink = Sink::Values(Vec::new(alloc));
-    let _goes_on = give_nodes(alloc, query, value, &mut sink)?;
+    let sink = give_nodes(alloc, query, value, Sink::Values(Vec::new(alloc)))?;
     Ok(sink.into_values(alloc))
 }
 
@@ -78,8 +76,7 @@ pub fn selected_paths<T: Queryable>(
         (selected (query_view query.now) (document_of T.tree T.custom value.now)) (paths_of v.items)) }
     ensures refused { IfErr result (IsStop (query_view query.now) (document_of T.tree T.custom value.now)) }
 {
-    let mut sink = Sink::Paths(Vec::new(alloc));
-    let _goes_on = give_nodes(alloc, query, value, &mut sink)?;
+    let sink = give_nodes(alloc, query, value, Sink::Paths(Vec::new(alloc)))?;
     Ok(sink.into_paths(alloc))
 }
 
@@ -97,8 +94,7 @@ pub fn selected_locations<T: Queryable>(
     ensures locations { IfOk result (λ v. map (λ l. location_view l.items) v.items ≡ selected (query_view query.now) (document_of T.tree T.custom value.now)) }
     ensures refused { IfErr result (IsStop (query_view query.now) (document_of T.tree T.custom value.now)) }
 {
-    let mut sink = Sink::Locations(Vec::new(alloc));
-    let _goes_on = give_nodes(alloc, query, value, &mut sink)?;
+    let sink = give_nodes(alloc, query, value, Sink::Locations(Vec::new(alloc)))?;
     Ok(sink.into_locations(alloc))
 }
 
@@ -112,8 +108,8 @@ pub fn selected_removal<T: Queryable>(alloc: Global, query: &JpQuery, value: &T)
     ensures removal { IfOk result (λ r. IsRemovalOf r (selected (query_view query.now) (document_of T.tree T.custom value.now))) }
     ensures refused { IfErr result (IsStop (query_view query.now) (document_of T.tree T.custom value.now)) }
 {
-    let mut sink = Sink::Removal(Box::new(alloc, Removal::new(alloc))?);
-    let _goes_on = give_nodes(alloc, query, value, &mut sink)?;
+    let begun = Sink::Removal(Box::new(alloc, Removal::new(alloc))?);
+    let sink = give_nodes(alloc, query, value, begun)?;
     match sink.into_removal() {
         Some(removal) => Ok(Box::into_inner(removal)),
         None => Ok(Removal::new(alloc)),

@@ -1,7 +1,6 @@
 //! Patterns that come from the document and are kept built with no finder, as long as they are among those asked last.
 ghost use Rattle.std.specs.Prelude.{◌≡◌, IfOk, IfErr};
-ghost use Rattle.jsonpath_base.specs.Pattern.{pattern_sought, found, IsPatternRefusal};
-ghost use Rattle.jsonpath_base.specs.Pattern.{is_entire};
+ghost use Rattle.jsonpath_base.specs.Pattern.{is_entire, pattern_sought, found, IsPatternRefusal};
 
 use crate::selection::finders::Asked;
 use jsonpath_base::pattern::{Pattern, found};

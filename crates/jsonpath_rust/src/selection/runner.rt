@@ -8,7 +8,7 @@ ghost use Rattle.jsonpath_rust.specs.documents.Meaning.{selected, nodelist};
 ghost use Rattle.jsonpath_rust.specs.documents.Patterns.{segments_patterns, IsStop};
 ghost use Rattle.jsonpath_rust.specs.selection.Prepared.{prepared_view, runner_view, IsFirstNode};
 ghost use Rattle.jsonpath_rust.specs.selection.inner.Halting.{IsHalt};
-ghost use Rattle.jsonpath_rust.specs.selection.inner.Sinks.{Took, seen};
+ghost use Rattle.jsonpath_rust.specs.selection.inner.Sinks.{Took, give, seen};
 
 use crate::documents::halt::{Halt, Walked};
 use crate::documents::queryable::Queryable;
@@ -73,8 +73,7 @@ impl<'p> Runner<'p> {
         ensures same { runner_view self.new ≡ runner_view self.old }
         ensures refused { IfErr result (IsStop (runner_view self.old) (document_of T.tree T.custom value.now)) }
     {
-        let mut sink = Sink::Nodes(Vec::new(alloc));
-        let _goes_on = self.give_all(alloc, value, &mut sink)?;
+        let sink = self.give_all(alloc, value, Sink::Nodes(Vec::new(alloc)))?;
         Ok(sink.into_nodes(alloc))
     }
 
@@ -87,8 +86,7 @@ impl<'p> Runner<'p> {
         ensures same { runner_view self.new ≡ runner_view self.old }
         ensures refused { IfErr result (IsStop (runner_view self.old) (document_of T.tree T.custom value.now)) }
     {
-        let mut sink = Sink::Values(Vec::new(alloc));
-        let _goes_on = self.give_all(alloc, value, &mut sink)?;
+        let sink = self.give_all(alloc, value, Sink::Values(Vec::new(alloc)))?;
         Ok(sink.into_values(alloc))
     }
 
@@ -100,8 +98,7 @@ impl<'p> Runner<'p> {
         ensures same { runner_view self.new ≡ runner_view self.old }
         ensures refused { IfErr result (IsStop (runner_view self.old) (document_of T.tree T.custom value.now)) }
     {
-        let mut sink = Sink::Paths(Vec::new(alloc));
-        let _goes_on = self.give_all(alloc, value, &mut sink)?;
+        let sink = self.give_all(alloc, value, Sink::Paths(Vec::new(alloc)))?;
         Ok(sink.into_paths(alloc))
     }
 
@@ -118,8 +115,7 @@ impl<'p> Runner<'p> {
         ensures same { runner_view self.new ≡ runner_view self.old }
         ensures refused { IfErr result (IsStop (runner_view self.old) (document_of T.tree T.custom value.now)) }
     {
-        let mut sink = Sink::First(None);
-        let _goes_on = self.give_all(alloc, value, &mut sink)?;
+        let sink = self.give_all(alloc, value, Sink::First(None))?;
         Ok(sink.into_first())
     }
 
@@ -130,9 +126,8 @@ impl<'p> Runner<'p> {
         ensures same { runner_view self.new ≡ runner_view self.old }
         ensures refused { IfErr result (IsStop (runner_view self.old) (document_of T.tree T.custom value.now)) }
     {
-        let mut sink = Sink::Any(false);
-        let _goes_on = self.give_all(alloc, value, &mut sink)?;
-        Ok(sink.has_any())
+        let sink = self.give_all(alloc, value, Sink::Any(false))?;
+        Ok(sink.into_any())
     }
 
     /// The same as [`Runner::nodes`], or None where so many units of work are not enough.
@@ -149,9 +144,8 @@ impl<'p> Runner<'p> {
         ensures same { runner_view self.new ≡ runner_view self.old }
         ensures refused { IfErr result (IsStop (runner_view self.old) (document_of T.tree T.custom value.now)) }
     {
-        let mut sink = Sink::Nodes(Vec::new(alloc));
-        match self.give_limited(alloc, units, value, &mut sink)? {
-            Some(_goes_on) => Ok(Some(sink.into_nodes(alloc))),
+        match self.give_limited(alloc, units, value, Sink::Nodes(Vec::new(alloc)))? {
+            Some(sink) => Ok(Some(sink.into_nodes(alloc))),
             None => Ok(None),
         }
     }
@@ -170,9 +164,8 @@ impl<'p> Runner<'p> {
         ensures same { runner_view self.new ≡ runner_view self.old }
         ensures refused { IfErr result (IsStop (runner_view self.old) (document_of T.tree T.custom value.now)) }
     {
-        let mut sink = Sink::Values(Vec::new(alloc));
-        match self.give_limited(alloc, units, value, &mut sink)? {
-            Some(_goes_on) => Ok(Some(sink.into_values(alloc))),
+        match self.give_limited(alloc, units, value, Sink::Values(Vec::new(alloc)))? {
+            Some(sink) => Ok(Some(sink.into_values(alloc))),
             None => Ok(None),
         }
     }
@@ -190,9 +183,8 @@ impl<'p> Runner<'p> {
         ensures same { runner_view self.new ≡ runner_view self.old }
         ensures refused { IfErr result (IsStop (runner_view self.old) (document_of T.tree T.custom value.now)) }
     {
-        let mut sink = Sink::Paths(Vec::new(alloc));
-        match self.give_limited(alloc, units, value, &mut sink)? {
-            Some(_goes_on) => Ok(Some(sink.into_paths(alloc))),
+        match self.give_limited(alloc, units, value, Sink::Paths(Vec::new(alloc)))? {
+            Some(sink) => Ok(Some(sink.into_paths(alloc))),
             None => Ok(None),
         }
     }
@@ -211,9 +203,8 @@ impl<'p> Runner<'p> {
         ensures same { runner_view self.new ≡ runner_view self.old }
         ensures refused { IfErr result (IsStop (runner_view self.old) (document_of T.tree T.custom value.now)) }
     {
-        let mut sink = Sink::First(None);
-        match self.give_limited(alloc, units, value, &mut sink)? {
-            Some(_goes_on) => Ok(Some(sink.into_first())),
+        match self.give_limited(alloc, units, value, Sink::First(None))? {
+            Some(sink) => Ok(Some(sink.into_first())),
             None => Ok(None),
         }
     }
@@ -230,51 +221,59 @@ impl<'p> Runner<'p> {
         ensures same { runner_view self.new ≡ runner_view self.old }
         ensures refused { IfErr result (IsStop (runner_view self.old) (document_of T.tree T.custom value.now)) }
     {
-        let mut sink = Sink::Any(false);
-        match self.give_limited(alloc, units, value, &mut sink)? {
-            Some(_goes_on) => Ok(Some(sink.has_any())),
+        match self.give_limited(alloc, units, value, Sink::Any(false))? {
+            Some(sink) => Ok(Some(sink.into_any())),
             None => Ok(None),
         }
     }
 
-    /// Gives the nodes to the sink, for any amount of work. The result says whether to go on.
+    /// The sink, given the nodes, for any amount of work.
     fn give_all<'a, T: Queryable>(
         &mut self,
         alloc: Global,
         value: &'a T,
-        sink: &mut Sink<'a, T>,
-    ) -> Queried<bool>
+        sink: Sink<'a, T>,
+    ) -> Queried<Sink<'a, T>>
         requires { IsTrue (T.is_whole value.now) }
-        ensures gave { IfOk result (λ b. Took (seen T.tree T.is_whole sink.old) (nodelist (runner_view self.old) (document_of T.tree T.custom value.now))
-            (seen T.tree T.is_whole sink.new) b) }
+        ensures gave { IfOk result (λ s. seen T.tree T.is_whole s ≡ give (seen T.tree T.is_whole sink.entry) (nodelist (runner_view self.old) (document_of T.tree T.custom value.now))) }
         ensures same { runner_view self.new ≡ runner_view self.old }
         ensures refused { IfErr result (IsStop (runner_view self.old) (document_of T.tree T.custom value.now)) }
     {
-        match self.give(alloc, Budget::unlimited(), value, sink) {
-            Ok(goes_on) => Ok(goes_on),
-            Err(halt) => Err(halt.told(alloc)),
+        let mut sink = sink;
+        match self.give(alloc, Budget::unlimited(), value, &mut sink) {
+            Ok(_goes_on) => Ok(sink),
+            Err(halt) => {
+                drop(sink);
+                Err(halt.told(alloc))
+            }
         }
     }
 
-    /// Gives the nodes to the sink, for so many units of work; None where these are not enough.
+    /// The sink, given the nodes, for so many units of work; None where these are not enough.
     fn give_limited<'a, T: Queryable>(
         &mut self,
         alloc: Global,
         units: usize,
         value: &'a T,
-        sink: &mut Sink<'a, T>,
-    ) -> Queried<Option<bool>>
+        sink: Sink<'a, T>,
+    ) -> Queried<Option<Sink<'a, T>>>
         requires { IsTrue (T.is_whole value.now) }
-        ensures gave { IfOk result (λ o. IfSome o (λ b. Took (seen T.tree T.is_whole sink.old) (nodelist (runner_view self.old) (document_of T.tree T.custom value.now))
-            (seen T.tree T.is_whole sink.new) b)) }
+        ensures gave { IfOk result (λ o. IfSome o (λ s. seen T.tree T.is_whole s ≡ give (seen T.tree T.is_whole sink.entry) (nodelist (runner_view self.old) (document_of T.tree T.custom value.now)))) }
         ensures same { runner_view self.new ≡ runner_view self.old }
         ensures refused { IfErr result (IsStop (runner_view self.old) (document_of T.tree T.custom value.now)) }
     {
-        match self.give(alloc, Budget::of(units), value, sink) {
-            Ok(goes_on) => Ok(Some(goes_on)),
-            Err(Halt::Spent) => Ok(None),
-            Err(Halt::Memory) => Err(Halt::Memory.told(alloc)),
-            Err(Halt::Pattern) => Err(Halt::Pattern.told(alloc)),
+        let mut sink = sink;
+        let given = self.give(alloc, Budget::of(units), value, &mut sink);
+        match given {
+            Ok(_goes_on) => Ok(Some(sink)),
+            Err(halt) => {
+                drop(sink);
+                match halt {
+                    Halt::Spent => Ok(None),
+                    Halt::Memory => Err(Halt::Memory.told(alloc)),
+                    Halt::Pattern => Err(Halt::Pattern.told(alloc)),
+                }
+            }
         }
     }
 

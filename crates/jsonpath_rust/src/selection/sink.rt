@@ -151,6 +151,15 @@ impl<'a, T: Queryable> Sink<'a, T> {
         }
     }
 
+    /// Whether an `Any` was given a node. The sink is freed.
+    pub fn into_any(self) -> bool
+        ensures { result ≡ any_in (seen T.tree T.is_whole self.entry) }
+    {
+        let any = self.has_any();
+        drop(self);
+        any
+    }
+
     /// How many nodes a `Count` was given.
     #[inline(always)]
     pub fn counted(&self) -> usize
@@ -180,14 +189,10 @@ impl<'a, T: Queryable> Sink<'a, T> {
     {
         match self {
             Sink::Nodes(nodes) => nodes,
-            Sink::Paths(_paths) => Vec::new(alloc),
-            Sink::Values(_values) => Vec::new(alloc),
-            Sink::Locations(_locations) => Vec::new(alloc),
-            Sink::Removal(_removal) => Vec::new(alloc),
-            Sink::Any(_any) => Vec::new(alloc),
-            Sink::Count(_count) => Vec::new(alloc),
-            Sink::Only(_only) => Vec::new(alloc),
-            Sink::First(_first) => Vec::new(alloc),
+            other => {
+                drop(other);
+                Vec::new(alloc)
+            }
         }
     }
 
@@ -196,15 +201,11 @@ impl<'a, T: Queryable> Sink<'a, T> {
         ensures { paths_of result.items ≡ paths_in (seen T.tree T.is_whole self.entry) }
     {
         match self {
-            Sink::Nodes(_nodes) => Vec::new(alloc),
             Sink::Paths(paths) => paths,
-            Sink::Values(_values) => Vec::new(alloc),
-            Sink::Locations(_locations) => Vec::new(alloc),
-            Sink::Removal(_removal) => Vec::new(alloc),
-            Sink::Any(_any) => Vec::new(alloc),
-            Sink::Count(_count) => Vec::new(alloc),
-            Sink::Only(_only) => Vec::new(alloc),
-            Sink::First(_first) => Vec::new(alloc),
+            other => {
+                drop(other);
+                Vec::new(alloc)
+            }
         }
     }
 
@@ -213,15 +214,11 @@ impl<'a, T: Queryable> Sink<'a, T> {
         ensures { map (λ l. location_view l.items) result.items ≡ locations_in (seen T.tree T.is_whole self.entry) }
     {
         match self {
-            Sink::Nodes(_nodes) => Vec::new(alloc),
-            Sink::Paths(_paths) => Vec::new(alloc),
-            Sink::Values(_values) => Vec::new(alloc),
             Sink::Locations(locations) => locations,
-            Sink::Removal(_removal) => Vec::new(alloc),
-            Sink::Any(_any) => Vec::new(alloc),
-            Sink::Count(_count) => Vec::new(alloc),
-            Sink::Only(_only) => Vec::new(alloc),
-            Sink::First(_first) => Vec::new(alloc),
+            other => {
+                drop(other);
+                Vec::new(alloc)
+            }
         }
     }
 
@@ -230,15 +227,11 @@ impl<'a, T: Queryable> Sink<'a, T> {
         ensures { option_map (λ r. (marked r.value.marks, r.value.count)) result ≡ removal_in (seen T.tree T.is_whole self.entry) }
     {
         match self {
-            Sink::Nodes(_nodes) => None,
-            Sink::Paths(_paths) => None,
-            Sink::Values(_values) => None,
-            Sink::Locations(_locations) => None,
             Sink::Removal(removal) => Some(removal),
-            Sink::Any(_any) => None,
-            Sink::Count(_count) => None,
-            Sink::Only(_only) => None,
-            Sink::First(_first) => None,
+            other => {
+                drop(other);
+                None
+            }
         }
     }
 
@@ -248,15 +241,11 @@ impl<'a, T: Queryable> Sink<'a, T> {
         ensures whole { map (λ v. T.is_whole v.now) result.items ≡ values_whole (seen T.tree T.is_whole self.entry) }
     {
         match self {
-            Sink::Nodes(_nodes) => Vec::new(alloc),
-            Sink::Paths(_paths) => Vec::new(alloc),
             Sink::Values(values) => values,
-            Sink::Locations(_locations) => Vec::new(alloc),
-            Sink::Removal(_removal) => Vec::new(alloc),
-            Sink::Any(_any) => Vec::new(alloc),
-            Sink::Count(_count) => Vec::new(alloc),
-            Sink::Only(_only) => Vec::new(alloc),
-            Sink::First(_first) => Vec::new(alloc),
+            other => {
+                drop(other);
+                Vec::new(alloc)
+            }
         }
     }
 
@@ -265,15 +254,11 @@ impl<'a, T: Queryable> Sink<'a, T> {
         ensures { option_map (λ r. (T.is_whole r.val.now, (string_bytes r.path, T.tree r.val.now))) result ≡ first_in (seen T.tree T.is_whole self.entry) }
     {
         match self {
-            Sink::Nodes(_nodes) => None,
-            Sink::Paths(_paths) => None,
-            Sink::Values(_values) => None,
-            Sink::Locations(_locations) => None,
-            Sink::Removal(_removal) => None,
-            Sink::Any(_any) => None,
-            Sink::Count(_count) => None,
-            Sink::Only(_only) => None,
             Sink::First(first) => first,
+            other => {
+                drop(other);
+                None
+            }
         }
     }
 }

@@ -6,7 +6,7 @@ ghost use Rattle.jsonpath_rust.specs.selection.inner.Arguing as held;
 ghost use Rattle.jsonpath_rust.specs.selection.inner.Arguing.{holding};
 ghost use Rattle.jsonpath_rust.specs.selection.inner.Halting.{IsHalt};
 ghost use Rattle.jsonpath_rust.specs.selection.inner.Keeping.{IsReady, document, gathered, kept_of};
-ghost use Rattle.jsonpath_rust.specs.selection.inner.PlanViews.{nodes_view, query_at, segments_in};
+ghost use Rattle.jsonpath_rust.specs.selection.inner.PlanViews.{nodes_view, query_at, segments_meant};
 ghost use Rattle.jsonpath_rust.specs.selection.inner.Sinks.{seen, start, give};
 ghost use Rattle.jsonpath_rust.specs.selection.inner.Standing.{Stands, Returns};
 ghost use Rattle.jsonpath_rust.specs.selection.inner.Walking.{node_of, through};
@@ -58,10 +58,10 @@ impl<'a: 's, 's, T: Queryable> Task<'a, 's, T> {
         trail: &mut Trail<'a, 's, '_, T>,
     ) -> Walked<Sink<'a, T>>
         requires { Stands T.tree T.is_whole T.custom self.now at.now trail.old.way.steps.items trail.old.cache }
-        ensures given { IfOk result (λ s. seen T.tree T.is_whole s ≡ give (start wanted) (through (segments_in (kept_of self.now) segments.now) (document T.tree T.custom self.now) (node_of T.tree trail.old.way.steps.items at.now))) }
+        ensures given { IfOk result (λ s. seen T.tree T.is_whole s ≡ give (start wanted) (through (segments_meant (kept_of self.now) segments.now) (document T.tree T.custom self.now) (node_of T.tree trail.old.way.steps.items at.now))) }
         ensures returns { OnOk result (Returns T.tree T.is_whole T.custom self.now trail.old trail.new) }
         ensures ready { OnErr result (IsReady T.tree T.is_whole T.custom self.now trail.new.cache) }
-        ensures refused { IfErr result (IsHalt self.now.limit (segments_patterns (segments_in (kept_of self.now) segments.now)) (document T.tree T.custom self.now)) }
+        ensures refused { IfErr result (IsHalt self.now.limit (segments_patterns (segments_meant (kept_of self.now) segments.now)) (document T.tree T.custom self.now)) }
     {
         if let Some(sink) = short_cut(self.alloc, segments, wanted, at)? {
             return Ok(sink);

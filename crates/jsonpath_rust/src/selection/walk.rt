@@ -9,7 +9,7 @@ ghost use Rattle.jsonpath_rust.specs.documents.Node.{below, children};
 ghost use Rattle.jsonpath_rust.specs.documents.Meaning.{picks, all_pick, replaced, sliced};
 ghost use Rattle.jsonpath_rust.specs.documents.Patterns.{segments_patterns, segment_patterns, selectors_patterns, selector_patterns};
 ghost use Rattle.jsonpath_rust.specs.selection.inner.Halting.{IsHalt};
-ghost use Rattle.jsonpath_rust.specs.selection.inner.PlanViews.{segments_in, segment_view, selectors_in, selector_view};
+ghost use Rattle.jsonpath_rust.specs.selection.inner.PlanViews.{segments_meant, segment_view, selectors_meant, selector_view};
 ghost use Rattle.jsonpath_rust.specs.selection.inner.Sinks.{Took, seen};
 ghost use Rattle.jsonpath_rust.specs.selection.inner.Keeping.{IsReady, document, kept_of};
 ghost use Rattle.jsonpath_rust.specs.selection.inner.Standing.{Stands, Returns};
@@ -54,11 +54,11 @@ impl<'a: 's, 's, T: Queryable> Task<'a, 's, T> {
     ) -> Walked<bool>
         requires { Stands T.tree T.is_whole T.custom self.now at.now trail.old.way.steps.items trail.old.cache }
         ensures gave { IfOk result (λ b. Took (seen T.tree T.is_whole sink.old)
-            (through (segments_in (kept_of self.now) segments.now) (document T.tree T.custom self.now) (node_of T.tree trail.old.way.steps.items at.now))
+            (through (segments_meant (kept_of self.now) segments.now) (document T.tree T.custom self.now) (node_of T.tree trail.old.way.steps.items at.now))
             (seen T.tree T.is_whole sink.new) b) }
         ensures returns { OnOk result (Returns T.tree T.is_whole T.custom self.now trail.old trail.new) }
         ensures ready { OnErr result (IsReady T.tree T.is_whole T.custom self.now trail.new.cache) }
-        ensures refused { IfErr result (IsHalt self.now.limit (segments_patterns (segments_in (kept_of self.now) segments.now)) (document T.tree T.custom self.now)) }
+        ensures refused { IfErr result (IsHalt self.now.limit (segments_patterns (segments_meant (kept_of self.now) segments.now)) (document T.tree T.custom self.now)) }
     {
         match segments.split_first() {
             None => sink.take(self.alloc, at, &mut trail.way),
@@ -78,12 +78,12 @@ impl<'a: 's, 's, T: Queryable> Task<'a, 's, T> {
     ) -> Walked<bool>
         requires { Stands T.tree T.is_whole T.custom self.now at.now trail.old.way.steps.items trail.old.cache }
         ensures gave { IfOk result (λ b. Took (seen T.tree T.is_whole sink.old)
-            (flat_map (through (segments_in (kept_of self.now) onward.entry.rest.now) (document T.tree T.custom self.now))
+            (flat_map (through (segments_meant (kept_of self.now) onward.entry.rest.now) (document T.tree T.custom self.now))
             (replaced (segment_view (kept_of self.now) onward.entry.next.now) (document T.tree T.custom self.now) (node_of T.tree trail.old.way.steps.items at.now)))
             (seen T.tree T.is_whole sink.new) b) }
         ensures returns { OnOk result (Returns T.tree T.is_whole T.custom self.now trail.old trail.new) }
         ensures ready { OnErr result (IsReady T.tree T.is_whole T.custom self.now trail.new.cache) }
-        ensures refused { IfErr result (IsHalt self.now.limit (segment_patterns (segment_view (kept_of self.now) onward.entry.next.now) ++ segments_patterns (segments_in (kept_of self.now) onward.entry.rest.now)) (document T.tree T.custom self.now)) }
+        ensures refused { IfErr result (IsHalt self.now.limit (segment_patterns (segment_view (kept_of self.now) onward.entry.next.now) ++ segments_patterns (segments_meant (kept_of self.now) onward.entry.rest.now)) (document T.tree T.custom self.now)) }
     {
         let rest = onward.rest;
         match onward.next {
@@ -110,12 +110,12 @@ impl<'a: 's, 's, T: Queryable> Task<'a, 's, T> {
     ) -> Walked<bool>
         requires { Stands T.tree T.is_whole T.custom self.now at.now trail.old.way.steps.items trail.old.cache }
         ensures gave { IfOk result (λ b. Took (seen T.tree T.is_whole sink.old)
-            (flat_map (through (segments_in (kept_of self.now) onward.entry.rest.now) (document T.tree T.custom self.now))
-            (all_pick (selectors_in (kept_of self.now) onward.entry.next.now) (document T.tree T.custom self.now) (node_of T.tree trail.old.way.steps.items at.now)))
+            (flat_map (through (segments_meant (kept_of self.now) onward.entry.rest.now) (document T.tree T.custom self.now))
+            (all_pick (selectors_meant (kept_of self.now) onward.entry.next.now) (document T.tree T.custom self.now) (node_of T.tree trail.old.way.steps.items at.now)))
             (seen T.tree T.is_whole sink.new) b) }
         ensures returns { OnOk result (Returns T.tree T.is_whole T.custom self.now trail.old trail.new) }
         ensures ready { OnErr result (IsReady T.tree T.is_whole T.custom self.now trail.new.cache) }
-        ensures refused { IfErr result (IsHalt self.now.limit (selectors_patterns (selectors_in (kept_of self.now) onward.entry.next.now) ++ segments_patterns (segments_in (kept_of self.now) onward.entry.rest.now)) (document T.tree T.custom self.now)) }
+        ensures refused { IfErr result (IsHalt self.now.limit (selectors_patterns (selectors_meant (kept_of self.now) onward.entry.next.now) ++ segments_patterns (segments_meant (kept_of self.now) onward.entry.rest.now)) (document T.tree T.custom self.now)) }
     {
         trail.budget.spend(self.limit, onward.next.len())?;
         for selector in onward.next {
@@ -142,12 +142,12 @@ impl<'a: 's, 's, T: Queryable> Task<'a, 's, T> {
     ) -> Walked<bool>
         requires { Stands T.tree T.is_whole T.custom self.now at.now trail.old.way.steps.items trail.old.cache }
         ensures gave { IfOk result (λ b. Took (seen T.tree T.is_whole sink.old)
-            (flat_map (through (segments_in (kept_of self.now) onward.entry.rest.now) (document T.tree T.custom self.now))
+            (flat_map (through (segments_meant (kept_of self.now) onward.entry.rest.now) (document T.tree T.custom self.now))
             (picks (selector_view (kept_of self.now) onward.entry.next.now) (document T.tree T.custom self.now) (node_of T.tree trail.old.way.steps.items at.now)))
             (seen T.tree T.is_whole sink.new) b) }
         ensures returns { OnOk result (Returns T.tree T.is_whole T.custom self.now trail.old trail.new) }
         ensures ready { OnErr result (IsReady T.tree T.is_whole T.custom self.now trail.new.cache) }
-        ensures refused { IfErr result (IsHalt self.now.limit (selector_patterns (selector_view (kept_of self.now) onward.entry.next.now) ++ segments_patterns (segments_in (kept_of self.now) onward.entry.rest.now)) (document T.tree T.custom self.now)) }
+        ensures refused { IfErr result (IsHalt self.now.limit (selector_patterns (selector_view (kept_of self.now) onward.entry.next.now) ++ segments_patterns (segments_meant (kept_of self.now) onward.entry.rest.now)) (document T.tree T.custom self.now)) }
     {
         let rest = onward.rest;
         let all = Onward {
@@ -192,12 +192,12 @@ impl<'a: 's, 's, T: Queryable> Task<'a, 's, T> {
     ) -> Walked<bool>
         requires { Stands T.tree T.is_whole T.custom self.now at.now trail.old.way.steps.items trail.old.cache }
         ensures gave { IfOk result (λ b. Took (seen T.tree T.is_whole sink.old)
-            (flat_map (through (segments_in (kept_of self.now) onward.entry.rest.now) (document T.tree T.custom self.now))
+            (flat_map (through (segments_meant (kept_of self.now) onward.entry.rest.now) (document T.tree T.custom self.now))
             (sliced onward.entry.next.0 onward.entry.next.1 onward.entry.next.2 (node_of T.tree trail.old.way.steps.items at.now)))
             (seen T.tree T.is_whole sink.new) b) }
         ensures returns { OnOk result (Returns T.tree T.is_whole T.custom self.now trail.old trail.new) }
         ensures ready { OnErr result (IsReady T.tree T.is_whole T.custom self.now trail.new.cache) }
-        ensures refused { IfErr result (IsHalt self.now.limit (segments_patterns (segments_in (kept_of self.now) onward.entry.rest.now)) (document T.tree T.custom self.now)) }
+        ensures refused { IfErr result (IsHalt self.now.limit (segments_patterns (segments_meant (kept_of self.now) onward.entry.rest.now)) (document T.tree T.custom self.now)) }
     {
         let Some(items) = at.as_array() else {
             return Ok(true);

@@ -19,7 +19,7 @@ use crate::states::evaluate::filters::{
     argument_data, atom_data, call_data, comparable_data, comparison_data, test_data,
 };
 use crate::states::evaluate::segments::{
-    Part, each_place, segment_data, segments_data, selector_data,
+    Part, each_target, segment_data, segments_data, selector_data,
 };
 use crate::states::evaluate::singular::{singular_data, step_data, steps_data};
 use crate::states::evaluate::value::literal_data;
@@ -55,12 +55,15 @@ pub trait Query {
         ensures refused { IfErr result (IsProcessStop (patterns self.now) (document_of T.tree T.custom state.entry.root.now) (content_of T.tree state.entry.content)) };
 }
 
+/// The state of the result, or a refusal.
+type Answered<'a, T> = Queried<State<'a, T>>;
+
 /// The state of what was returned, or what a caller is told.
 fn answered<'a, T: Queryable>(
     alloc: Global,
     answer: Walked<Data<'a, T>>,
     root: &'a T,
-) -> Queried<State<'a, T>>
+) -> Answered<'a, T>
     ensures content { (c : Content) → IfOk answer.entry (λ d. content_of T.tree d ≡ c) → IfOk result (λ s. content_of T.tree s.content ≡ c) }
     ensures root { IfOk result (λ s. s.root.now ≡ root.now) }
     ensures whole { IfOk answer.entry (λ d. DataIsWhole T.is_whole d) → IfOk result (λ s. DataIsWhole T.is_whole s.content) }
@@ -80,11 +83,7 @@ impl Query for JpQuery {
 
     ghost patterns = { λ q. segments_patterns (query_view q) };
 
-    fn process<'a, T: Queryable>(
-        &self,
-        alloc: Global,
-        state: State<'a, T>,
-    ) -> Queried<State<'a, T>> {
+    fn process<'a, T: Queryable>(&self, alloc: Global, state: State<'a, T>) -> Answered<'a, T> {
         let State { content, root } = state;
         answered(
             alloc,
@@ -100,11 +99,7 @@ impl Query for Vec<Segment> {
 
     ghost patterns = { λ q. segments_patterns (segments_view q) };
 
-    fn process<'a, T: Queryable>(
-        &self,
-        alloc: Global,
-        state: State<'a, T>,
-    ) -> Queried<State<'a, T>> {
+    fn process<'a, T: Queryable>(&self, alloc: Global, state: State<'a, T>) -> Answered<'a, T> {
         let State { content, root } = state;
         answered(alloc, segments_data(alloc, self, content, root), root)
     }
@@ -116,11 +111,7 @@ impl Query for Segment {
 
     ghost patterns = { λ q. segment_patterns (segment_view q) };
 
-    fn process<'a, T: Queryable>(
-        &self,
-        alloc: Global,
-        state: State<'a, T>,
-    ) -> Queried<State<'a, T>> {
+    fn process<'a, T: Queryable>(&self, alloc: Global, state: State<'a, T>) -> Answered<'a, T> {
         let State { content, root } = state;
         answered(alloc, segment_data(alloc, self, content, root), root)
     }
@@ -132,11 +123,7 @@ impl Query for Selector {
 
     ghost patterns = { λ q. selector_patterns (selector_view q) };
 
-    fn process<'a, T: Queryable>(
-        &self,
-        alloc: Global,
-        state: State<'a, T>,
-    ) -> Queried<State<'a, T>> {
+    fn process<'a, T: Queryable>(&self, alloc: Global, state: State<'a, T>) -> Answered<'a, T> {
         let State { content, root } = state;
         answered(alloc, selector_data(alloc, self, content, root), root)
     }
@@ -148,15 +135,11 @@ impl Query for Filter {
 
     ghost patterns = { λ q. filter_patterns (filter_view q) };
 
-    fn process<'a, T: Queryable>(
-        &self,
-        alloc: Global,
-        state: State<'a, T>,
-    ) -> Queried<State<'a, T>> {
+    fn process<'a, T: Queryable>(&self, alloc: Global, state: State<'a, T>) -> Answered<'a, T> {
         let State { content, root } = state;
         answered(
             alloc,
-            each_place(alloc, Part::Kept(self), content, root),
+            each_target(alloc, Part::Kept(self), content, root),
             root,
         )
     }
@@ -168,11 +151,7 @@ impl Query for FilterAtom {
 
     ghost patterns = { λ q. atom_patterns (atom_view q) };
 
-    fn process<'a, T: Queryable>(
-        &self,
-        alloc: Global,
-        state: State<'a, T>,
-    ) -> Queried<State<'a, T>> {
+    fn process<'a, T: Queryable>(&self, alloc: Global, state: State<'a, T>) -> Answered<'a, T> {
         let State { content, root } = state;
         answered(alloc, atom_data(alloc, self, &content, root), root)
     }
@@ -184,11 +163,7 @@ impl Query for Comparison {
 
     ghost patterns = { λ q. comparison_patterns (comparison_view q) };
 
-    fn process<'a, T: Queryable>(
-        &self,
-        alloc: Global,
-        state: State<'a, T>,
-    ) -> Queried<State<'a, T>> {
+    fn process<'a, T: Queryable>(&self, alloc: Global, state: State<'a, T>) -> Answered<'a, T> {
         let State { content, root } = state;
         answered(alloc, comparison_data(alloc, self, &content, root), root)
     }
@@ -200,11 +175,7 @@ impl Query for Comparable {
 
     ghost patterns = { λ q. comparable_patterns (comparable_view q) };
 
-    fn process<'a, T: Queryable>(
-        &self,
-        alloc: Global,
-        state: State<'a, T>,
-    ) -> Queried<State<'a, T>> {
+    fn process<'a, T: Queryable>(&self, alloc: Global, state: State<'a, T>) -> Answered<'a, T> {
         let State { content, root } = state;
         answered(alloc, comparable_data(alloc, self, &content, root), root)
     }
@@ -216,11 +187,7 @@ impl Query for SingularQuery {
 
     ghost patterns = { λ q. [] };
 
-    fn process<'a, T: Queryable>(
-        &self,
-        alloc: Global,
-        state: State<'a, T>,
-    ) -> Queried<State<'a, T>> {
+    fn process<'a, T: Queryable>(&self, alloc: Global, state: State<'a, T>) -> Answered<'a, T> {
         let State { content, root } = state;
         let answer = singular_data(alloc, self, &content, root)?;
         Ok(State {
@@ -236,11 +203,7 @@ impl Query for SingularQuerySegment {
 
     ghost patterns = { λ q. [] };
 
-    fn process<'a, T: Queryable>(
-        &self,
-        alloc: Global,
-        state: State<'a, T>,
-    ) -> Queried<State<'a, T>> {
+    fn process<'a, T: Queryable>(&self, alloc: Global, state: State<'a, T>) -> Answered<'a, T> {
         let State { content, root } = state;
         let answer = step_data(alloc, self, content)?;
         Ok(State {
@@ -256,11 +219,7 @@ impl Query for Vec<SingularQuerySegment> {
 
     ghost patterns = { λ q. [] };
 
-    fn process<'a, T: Queryable>(
-        &self,
-        alloc: Global,
-        state: State<'a, T>,
-    ) -> Queried<State<'a, T>> {
+    fn process<'a, T: Queryable>(&self, alloc: Global, state: State<'a, T>) -> Answered<'a, T> {
         let State { content, root } = state;
         let answer = steps_data(alloc, self, content)?;
         Ok(State {
@@ -276,11 +235,7 @@ impl Query for Literal {
 
     ghost patterns = { λ q. [] };
 
-    fn process<'a, T: Queryable>(
-        &self,
-        alloc: Global,
-        state: State<'a, T>,
-    ) -> Queried<State<'a, T>> {
+    fn process<'a, T: Queryable>(&self, alloc: Global, state: State<'a, T>) -> Answered<'a, T> {
         let State {
             content: _content,
             root,
@@ -295,11 +250,7 @@ impl Query for Test {
 
     ghost patterns = { λ q. test_patterns (test_view q) };
 
-    fn process<'a, T: Queryable>(
-        &self,
-        alloc: Global,
-        state: State<'a, T>,
-    ) -> Queried<State<'a, T>> {
+    fn process<'a, T: Queryable>(&self, alloc: Global, state: State<'a, T>) -> Answered<'a, T> {
         let State { content, root } = state;
         answered(alloc, test_data(alloc, self, &content, root), root)
     }
@@ -311,11 +262,7 @@ impl Query for TestFunction {
 
     ghost patterns = { λ q. call_patterns (call_view q) };
 
-    fn process<'a, T: Queryable>(
-        &self,
-        alloc: Global,
-        state: State<'a, T>,
-    ) -> Queried<State<'a, T>> {
+    fn process<'a, T: Queryable>(&self, alloc: Global, state: State<'a, T>) -> Answered<'a, T> {
         let State { content, root } = state;
         answered(alloc, call_data(alloc, self, &content, root), root)
     }
@@ -327,11 +274,7 @@ impl Query for FnArg {
 
     ghost patterns = { λ q. argument_patterns (argument_view q) };
 
-    fn process<'a, T: Queryable>(
-        &self,
-        alloc: Global,
-        state: State<'a, T>,
-    ) -> Queried<State<'a, T>> {
+    fn process<'a, T: Queryable>(&self, alloc: Global, state: State<'a, T>) -> Answered<'a, T> {
         let State { content, root } = state;
         answered(alloc, argument_data(alloc, self, &content, root), root)
     }

@@ -7,7 +7,7 @@ ghost use Rattle.jsonpath_rust.specs.documents.Document.{document_of};
 ghost use Rattle.jsonpath_rust.specs.states.Asking.{IsProcessStop};
 ghost use Rattle.jsonpath_rust.specs.documents.Patterns.{segments_patterns};
 ghost use Rattle.jsonpath_rust.specs.states.Process.{segments_content};
-ghost use Rattle.jsonpath_rust.specs.states.State.{places, places_of, root_content, PointersAreWhole};
+ghost use Rattle.jsonpath_rust.specs.states.State.{targets, targets_of, root_content, PointersAreWhole};
 
 use crate::documents::queryable::Queryable;
 use crate::documents::{Queried, QueryRef};
@@ -61,7 +61,7 @@ fn pointers_from_root<'a, T: Queryable>(
     root: &'a T,
 ) -> Queried<Vec<Pointer<'a, T>>>
     requires { IsTrue (T.is_whole root.now) }
-    ensures places { IfOk result (λ v. places_of T.tree v.items ≡ places (segments_content (query_view query.now) (document_of T.tree T.custom root.now) (root_content (document_of T.tree T.custom root.now)))) }
+    ensures targets { IfOk result (λ v. targets_of T.tree v.items ≡ targets (segments_content (query_view query.now) (document_of T.tree T.custom root.now) (root_content (document_of T.tree T.custom root.now)))) }
     ensures whole { IfOk result (λ v. PointersAreWhole T.is_whole v.items) }
     ensures refused { IfErr result (IsProcessStop (segments_patterns (query_view query.now)) (document_of T.tree T.custom root.now) (root_content (document_of T.tree T.custom root.now))) }
 {

@@ -1,7 +1,7 @@
 //! What one name or one index finds from a pointer (RFC 9535, 2.3.1 and 2.3.3).
 ghost use Rattle.std.specs.Prelude.{◌≡◌, IsTrue, IfOk, IfErr};
 ghost use Rattle.jsonpath_parser.specs.declared.errors.JsonPathError.TheVariants.{OutOfMemory};
-ghost use Rattle.jsonpath_rust.specs.states.State.{named_from, indexed_from, place_of, content_of, DataIsWhole};
+ghost use Rattle.jsonpath_rust.specs.states.State.{named_from, indexed_from, target_of, content_of, DataIsWhole};
 
 use crate::documents::Queried;
 use crate::documents::queryable::Queryable;
@@ -17,7 +17,7 @@ pub fn process_key<'a, T: Queryable>(
     key: &str,
 ) -> Queried<Data<'a, T>>
     requires { IsTrue (T.is_whole pointer.inner.now) }
-    ensures value { IfOk result (λ d. content_of T.tree d ≡ named_from key.now (place_of T.tree pointer.entry)) }
+    ensures value { IfOk result (λ d. content_of T.tree d ≡ named_from key.now (target_of T.tree pointer.entry)) }
     ensures whole { IfOk result (λ d. DataIsWhole T.is_whole d) }
     ensures memory { IfErr result (λ e. e ≡ OutOfMemory) }
 {
@@ -32,7 +32,7 @@ pub fn process_index<'a, T: Queryable>(
     idx: &i64,
 ) -> Queried<Data<'a, T>>
     requires { IsTrue (T.is_whole pointer.inner.now) }
-    ensures value { IfOk result (λ d. content_of T.tree d ≡ indexed_from idx.now (place_of T.tree pointer.entry)) }
+    ensures value { IfOk result (λ d. content_of T.tree d ≡ indexed_from idx.now (target_of T.tree pointer.entry)) }
     ensures whole { IfOk result (λ d. DataIsWhole T.is_whole d) }
     ensures memory { IfErr result (λ e. e ≡ OutOfMemory) }
 {

@@ -16,8 +16,8 @@ use Rattle.jsonpath_rust.specs.documents.Document.{Document}
 use Rattle.jsonpath_rust.specs.documents.Meaning.{element_of, element, replaced, all_applied, selected}
 use Rattle.jsonpath_rust.specs.documents.Node.{Node, below}
 use Rattle.jsonpath_rust.specs.documents.Referring.{IsReference}
-use Rattle.jsonpath_rust.specs.documents.inner.Following.{step_to, element_step, segment_step, followed, place_view}
-use Rattle.jsonpath_rust.specs.declared.documents.reference.Place.{Place}
+use Rattle.jsonpath_rust.specs.documents.inner.Following.{step_to, element_step, segment_child, followed, referent_view}
+use Rattle.jsonpath_rust.specs.declared.documents.reference.Referent.{Referent}
 use Rattle.jsonpath_rust.proofs.laws.documents.NodesAt.{at-below}
 use Rattle.jsonpath_rust.proofs.laws.documents.Trees.{child_there}
 
@@ -40,7 +40,7 @@ element_stepped : (l : Location) (t : Tree) (o : Option ℕ) → flat_map (λ k.
 element_stepped l t None = refl
 element_stepped l t (Some k) = append-nil (element k (node_at l t)) ∙ stepped_to l (index k) (child (index k) t)
 
-replaced_by_step : (g : Segment) (d : Document) (l : Location) (t : Tree) → is_step g ≡ true → replaced g d (node_at l t) ≡ nodes_below l (segment_step g t)
+replaced_by_step : (g : Segment) (d : Document) (l : Location) (t : Tree) → is_step g ≡ true → replaced g d (node_at l t) ≡ nodes_below l (segment_child g t)
 replaced_by_step (one (syntax.Selector.name k)) d l t h = stepped_to l (name k) (child (name k) t)
 replaced_by_step (one (syntax.Selector.index i)) d l t h = element_stepped l t (option_and_then (λ ts. element_of i (length ts)) (as_list t))
 replaced_by_step (one syntax.Selector.wildcard) d l t h = absurd (false≢true h)
@@ -50,7 +50,7 @@ replaced_by_step (several ss) d l t h = absurd (false≢true h)
 replaced_by_step (descendant g) d l t h = absurd (false≢true h)
 
 -- what is followed is one name or one index
-step_is_step : (g : Segment) (t : Tree) (p : Step × Tree) → segment_step g t ≡ Some p → is_step g ≡ true
+step_is_step : (g : Segment) (t : Tree) (p : Step × Tree) → segment_child g t ≡ Some p → is_step g ≡ true
 step_is_step (one (syntax.Selector.name k)) t p e = refl
 step_is_step (one (syntax.Selector.index i)) t p e = refl
 step_is_step (one syntax.Selector.wildcard) t p e = absurd cc
@@ -68,7 +68,7 @@ element_child t None p e = absurd cc
 element_child t (Some k) p e = stepped_child (index k) t (child (index k) t) p refl e
 
 -- it leads to a child
-step_child : (g : Segment) (t : Tree) (p : Step × Tree) → segment_step g t ≡ Some p → child p.0 t ≡ Some p.1
+step_child : (g : Segment) (t : Tree) (p : Step × Tree) → segment_child g t ≡ Some p → child p.0 t ≡ Some p.1
 step_child (one (syntax.Selector.name k)) t p e = stepped_child (name k) t (child (name k) t) p refl e
 step_child (one (syntax.Selector.index i)) t p e = element_child t (option_and_then (λ ts. element_of i (length ts)) (as_list t)) p e
 step_child (one syntax.Selector.wildcard) t p e = absurd cc
@@ -95,12 +95,12 @@ applied_followed : (gs : Segments) (d : Document) (l : Location) (t : Tree) → 
 applied_followed no_segments d l t h = refl
 applied_followed (segment g gs) d l t h =
     let parts = and_parts (is_step g) (is_singular gs) h in
-    ap (all_applied gs d) (append-nil (replaced g d (node_at l t)) ∙ replaced_by_step g d l t parts.0) ∙ applied_behind gs d l (segment_step g t) (λ m u. applied_followed gs d m u parts.1)
+    ap (all_applied gs d) (append-nil (replaced g d (node_at l t)) ∙ replaced_by_step g d l t parts.0) ∙ applied_behind gs d l (segment_child g t) (λ m u. applied_followed gs d m u parts.1)
 
 abbrev IsLed : Segments → Tree → Location × Tree → Type 0
 IsLed gs doc p = IsTrue (is_singular gs) × (at p.0 doc ≡ Some p.1)
 
-led_by : (g : Segment) (gs : Segments) (doc : Tree) (l : Location) (t : Tree) (o : Option (Step × Tree)) (p : Location × Tree) → at l doc ≡ Some t → segment_step g t ≡ o
+led_by : (g : Segment) (gs : Segments) (doc : Tree) (l : Location) (t : Tree) (o : Option (Step × Tree)) (p : Location × Tree) → at l doc ≡ Some t → segment_child g t ≡ o
     → ((m : Location) (u : Tree) → at m doc ≡ Some u → followed gs m u ≡ Some p → IsLed gs doc p) → option_and_then (λ q. followed gs (l ++ q.0 ∷ []) q.1) o ≡ Some p → IsLed (segment g gs) doc p
 led_by g gs doc l t None p here is more e = absurd cc
 led_by g gs doc l t (Some q) p here is more e =
@@ -109,7 +109,7 @@ led_by g gs doc l t (Some q) p here is more e =
 
 led : (gs : Segments) (doc : Tree) (l : Location) (t : Tree) (p : Location × Tree) → at l doc ≡ Some t → followed gs l t ≡ Some p → IsLed gs doc p
 led no_segments doc l t p here e = let same : (l, t) ≡ p = cc in (refl, subst (λ q. at q.0 doc ≡ Some q.1) same here)
-led (segment g gs) doc l t p here e = led_by g gs doc l t (segment_step g t) p here refl (λ m u. led gs doc m u p) e
+led (segment g gs) doc l t p here e = led_by g gs doc l t (segment_child g t) p here refl (λ m u. led gs doc m u p) e
 
 -- ---- what a text means
 
@@ -137,17 +137,17 @@ meant_by text doc q (Some p) is derived only =
     }
 
 -- the place to which its segments lead is at that location
-pub means_place : {E : Type 0} (text : List ℕ) (doc : Document) (q : Query) (gs : Segments) (r : Result (Option Place) E) → q ≡ gs → Derives 128 text q → Only text q
-    → IfOk r (λ o. option_map place_view o ≡ followed gs [] doc.root) → IfOk r (λ o. IsReference text doc (option_map (λ p. location_view p.steps.items) o))
-means_place text doc q gs (Err e) same derived only h = tt
-means_place text doc q gs (Ok None) same derived only h = meant_by text doc q None (ap (λ x. followed x [] doc.root) same ∙ sym h) derived only
-means_place text doc q gs (Ok (Some p)) same derived only h = meant_by text doc q (Some (place_view p)) (ap (λ x. followed x [] doc.root) same ∙ sym h) derived only
+pub means_referent : {E : Type 0} (text : List ℕ) (doc : Document) (q : Query) (gs : Segments) (r : Result (Option Referent) E) → q ≡ gs → Derives 128 text q → Only text q
+    → IfOk r (λ o. option_map referent_view o ≡ followed gs [] doc.root) → IfOk r (λ o. IsReference text doc (option_map (λ p. location_view p.steps.items) o))
+means_referent text doc q gs (Err e) same derived only h = tt
+means_referent text doc q gs (Ok None) same derived only h = meant_by text doc q None (ap (λ x. followed x [] doc.root) same ∙ sym h) derived only
+means_referent text doc q gs (Ok (Some p)) same derived only h = meant_by text doc q (Some (referent_view p)) (ap (λ x. followed x [] doc.root) same ∙ sym h) derived only
 
 -- and its value stands there
-pub stands_there : {E : Type 0} (gs : Segments) (doc : Tree) (r : Result (Option Place) E) → IfOk r (λ o. option_map place_view o ≡ followed gs [] doc) → IfOk r (λ o. IfSome o (λ p. at (location_view p.steps.items) doc ≡ Some (value_tree p.value.now)))
+pub stands_there : {E : Type 0} (gs : Segments) (doc : Tree) (r : Result (Option Referent) E) → IfOk r (λ o. option_map referent_view o ≡ followed gs [] doc) → IfOk r (λ o. IfSome o (λ p. at (location_view p.steps.items) doc ≡ Some (value_tree p.value.now)))
 stands_there gs doc (Err e) h = tt
 stands_there gs doc (Ok None) h = tt
-stands_there gs doc (Ok (Some p)) h = (led gs doc [] doc (place_view p) refl (sym h)).1
+stands_there gs doc (Ok (Some p)) h = (led gs doc [] doc (referent_view p) refl (sym h)).1
 
 -- ---- one step in a value
 

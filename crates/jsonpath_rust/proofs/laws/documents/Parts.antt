@@ -1,17 +1,23 @@
 -- Lists of parts of a query: each part is no more than all, and what a loop over them finds.
 use Rattle.std.proofs.Common.{◌≡◌, ℕ, zero, suc, ◌+◌, ◌<◌, ◌≤◌, List, [], ◌∷◌, ◌++◌, length, get_or, drop, drop-cons, add-one, append_assoc, append-nil, refl, sym, ◌∙◌, ap, subst, arith, Bool, true, false, not, cond, filter, ◌||◌, ◌&&◌, Result, Ok, Err, IfOk, IfErr, All}
 use Rattle.std.specs.Bool.{beq}
-use Rattle.std.specs.List.{flat_map}
+use Rattle.std.specs.List.{flat_map, Contains}
 use Rattle.std.specs.Result.{IsErrAnd}
 use Rattle.jsonpath_rust.specs.documents.Node.{Node}
 use Rattle.jsonpath_rust.specs.documents.Meaning.{negated}
 use Rattle.std.proofs.lemmas.List.{at_drop_all}
-use Rattle.std.proofs.lemmas.List.Elements.{All-append, All-cons, All-nil}
+use Rattle.std.proofs.lemmas.List.Elements.{All-append, All-cons, All-nil, Contains-append_left, Contains-append_right}
 
 pub part_of : {X : Type 0} (f : X → ℕ) (all : List X → ℕ) → ((x : X) (xs : List X) → all (x ∷ xs) ≡ f x + all xs) → (xs : List X) (i : ℕ) (x : X) → i < length xs → x ≡ get_or xs i x → f x ≤ all xs
 part_of f all more [] i x h e = absurd (omega (arith, h))
 part_of f all more (y ∷ ys) zero x h e = omega (arith, ap f e, more y ys)
 part_of f all more (y ∷ ys) (suc i) x h e = omega (arith, part_of f all more ys i x (omega (arith, h)) e, more y ys)
+
+-- what stands in a part stands in all of them
+pub contains_part : {X Y : Type 0} (f : X → List Y) (all : List X → List Y) → ((x : X) (xs : List X) → all (x ∷ xs) ≡ f x ++ all xs) → (xs : List X) (i : ℕ) (x : X) → i < length xs → x ≡ get_or xs i x → (y : Y) → Contains (f x) y → Contains (all xs) y
+contains_part f all more [] i x h e y c = absurd (omega (arith, h))
+contains_part f all more (z ∷ zs) zero x h e y c = subst (λ ys. Contains ys y) (sym (more z zs)) (Contains-append_left (f z) (all zs) y (subst (λ w. Contains (f w) y) e c))
+contains_part f all more (z ∷ zs) (suc i) x h e y c = subst (λ ys. Contains ys y) (sym (more z zs)) (Contains-append_right (f z) (all zs) y (contains_part f all more zs i x (omega (arith, h)) e y c))
 
 -- the list from the i-th element on
 from_here : {X Y : Type 0} (F : List X → Y) (xs : List X) (i : ℕ) (x : X) → i < length xs → x ≡ get_or xs i x → F (drop i xs) ≡ F (x ∷ drop (i + 1) xs)

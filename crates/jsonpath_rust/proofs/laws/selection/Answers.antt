@@ -12,11 +12,11 @@ use Rattle.jsonpath_rust.specs.documents.Node.{Node}
 use Rattle.jsonpath_rust.specs.documents.Meaning.{nodelist, selected}
 use Rattle.jsonpath_rust.specs.documents.Answer.{IsNodeAt, IsPathAt, IsValueAt}
 use Rattle.jsonpath_rust.specs.selection.Prepared.{IsFirstNode}
-use Rattle.jsonpath_rust.specs.selection.inner.Sinks.{any, first, any_in, first_in, give, answer_of}
+use Rattle.jsonpath_rust.specs.selection.inner.Sinks.{any, first, any_in, first_in, give, path_and_tree}
 use Rattle.jsonpath_rust.proofs.laws.documents.NodesAt.{nodes_at}
 use Rattle.jsonpath_rust.proofs.laws.selection.Sinks.{any_given, only_first}
 
-nodes_zipped : (doc : Document) (ns : List Node) → AllByRecursion (λ n. at n.location doc.root ≡ Some n.tree) ns → AllZip (IsNodeAt doc) (map (λ n. n.location) ns) (map answer_of ns)
+nodes_zipped : (doc : Document) (ns : List Node) → AllByRecursion (λ n. at n.location doc.root ≡ Some n.tree) ns → AllZip (IsNodeAt doc) (map (λ n. n.location) ns) (map path_and_tree ns)
 nodes_zipped doc [] h = tt
 nodes_zipped doc (n ∷ ns) h = (((refl, only_path n.location), h.0), nodes_zipped doc ns h.1)
 
@@ -29,7 +29,7 @@ values_zipped doc [] h = tt
 values_zipped doc (n ∷ ns) h = (h.0, values_zipped doc ns h.1)
 
 -- the answered list, where it shows the nodelist
-pub nodes_answered : (q : Query) (doc : Document) (answer : List (List ℕ × Tree)) → IsTrue (has_distinct_names doc.root) → answer ≡ map answer_of (nodelist q doc) → AllZip (IsNodeAt doc) (selected q doc) answer
+pub nodes_answered : (q : Query) (doc : Document) (answer : List (List ℕ × Tree)) → IsTrue (has_distinct_names doc.root) → answer ≡ map path_and_tree (nodelist q doc) → AllZip (IsNodeAt doc) (selected q doc) answer
 nodes_answered q doc answer distinct e = subst (AllZip (IsNodeAt doc) (selected q doc)) (sym e) (nodes_zipped doc (nodelist q doc) (nodes_at q doc distinct))
 
 pub paths_answered : (q : Query) (doc : Document) (answer : List (List ℕ)) → answer ≡ map (λ n. normal n.location) (nodelist q doc) → AllZip (IsPathAt doc) (selected q doc) answer
@@ -43,7 +43,7 @@ values_answered q doc answer distinct e = subst (AllZip (IsValueAt doc) (selecte
 first_there : (q : Query) (doc : Document) (b : Bool) (answer : List ℕ × Tree) (ns : List Node) → nodelist q doc ≡ ns → AllByRecursion (λ n. at n.location doc.root ≡ Some n.tree) ns → Some (b, answer) ≡ first_in (give (first None) ns) → IsFirstNode q doc answer
 first_there q doc b answer [] e h k = absurd cc
 first_there q doc b answer (n ∷ ns) e h k =
-    let same : ◌≡◌ {A = Bool × (List ℕ × Tree)} (b, answer) (true, answer_of n) = cc (k ∙ only_first n ns) in
+    let same : ◌≡◌ {A = Bool × (List ℕ × Tree)} (b, answer) (true, path_and_tree n) = cc (k ∙ only_first n ns) in
     record {
       location = n.location;
       rest = map (λ m. m.location) ns;
@@ -58,7 +58,7 @@ none_there (n ∷ ns) k = absurd (cc (k ∙ only_first n ns))
 first_whole : (b : Bool) (answer : List ℕ × Tree) (ns : List Node) → Some (b, answer) ≡ first_in (give (first None) ns) → IsTrue b
 first_whole b answer [] k = absurd cc
 first_whole b answer (n ∷ ns) k =
-    let same : ◌≡◌ {A = Bool × (List ℕ × Tree)} (b, answer) (true, answer_of n) = cc (k ∙ only_first n ns) in
+    let same : ◌≡◌ {A = Bool × (List ℕ × Tree)} (b, answer) (true, path_and_tree n) = cc (k ∙ only_first n ns) in
     ap (λ p. p.0) same
 
 -- what was kept of the first node, where the nodelist was given

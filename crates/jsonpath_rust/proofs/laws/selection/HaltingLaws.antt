@@ -15,6 +15,7 @@ use Rattle.jsonpath_rust.specs.documents.Patterns.{segments_patterns, IsPattern,
 use Rattle.jsonpath_rust.specs.declared.documents.halt.Halt.{Halt}
 use Rattle.jsonpath_rust.specs.declared.selection.budget.Limit.{Limit}
 use Rattle.jsonpath_rust.specs.selection.inner.Halting.{IsHalt}
+use Rattle.jsonpath_rust.proofs.laws.documents.Parts.{contains_part, err_so, passed_on}
 
 -- ---- more patterns
 
@@ -37,13 +38,8 @@ pub asked_rest : {d : Document} (x : Bool × Argument) (xs : List (Bool × Argum
 asked_rest x xs h = asked_right (x ∷ []) xs h
 
 -- one of a list of parts
-within : {X : Type 0} (f : X → List (Bool × Argument)) (all : List X → List (Bool × Argument)) → ((x : X) (xs : List X) → all (x ∷ xs) ≡ f x ++ all xs) → (xs : List X) (i : ℕ) (x : X) → i < length xs → x ≡ get_or xs i x → (p : Bool × Argument) → Contains (f x) p → Contains (all xs) p
-within f all more [] i x lt e p h = absurd (omega (arith, lt))
-within f all more (y ∷ ys) zero x lt e p h = subst (λ ps. Contains ps p) (sym (more y ys)) (Contains-append_left (f y) (all ys) p (subst (λ z. Contains (f z) p) e h))
-within f all more (y ∷ ys) (suc i) x lt e p h = subst (λ ps. Contains ps p) (sym (more y ys)) (Contains-append_right (f y) (all ys) p (within f all more ys i x (omega (arith, lt)) e p h))
-
 pub asked_at : {X : Type 0} {d : Document} (f : X → List (Bool × Argument)) (all : List X → List (Bool × Argument)) → ((x : X) (xs : List X) → all (x ∷ xs) ≡ f x ++ all xs) → (xs : List X) (i : ℕ) (x : X) → i < length xs → x ≡ get_or xs i x → AsksPattern (f x) d → AsksPattern (all xs) d
-asked_at f all more xs i x lt e h = asked_by (f x) (all xs) (within f all more xs i x lt e) h
+asked_at f all more xs i x lt e h = asked_by (f x) (all xs) (contains_part f all more xs i x lt e) h
 
 -- the same, with others behind
 beside : (xs ys zs : List (Bool × Argument)) (p : Bool × Argument) → (Contains xs p → Contains ys p) → Contains xs p ⊎ Contains zs p → Contains (ys ++ zs) p
@@ -51,19 +47,17 @@ beside xs ys zs p k (inl c) = Contains-append_left ys zs p (k c)
 beside xs ys zs p k (inr c) = Contains-append_right ys zs p c
 
 pub asked_at_or : {X : Type 0} {d : Document} (f : X → List (Bool × Argument)) (all : List X → List (Bool × Argument)) → ((x : X) (xs : List X) → all (x ∷ xs) ≡ f x ++ all xs) → (others : List (Bool × Argument)) (xs : List X) (i : ℕ) (x : X) → i < length xs → x ≡ get_or xs i x → AsksPattern (f x ++ others) d → AsksPattern (all xs ++ others) d
-asked_at_or f all more others xs i x lt e h = asked_by (f x ++ others) (all xs ++ others) (λ p c. beside (f x) (all xs) others p (within f all more xs i x lt e p) (Contains-append_cases (f x) others p c)) h
+asked_at_or f all more others xs i x lt e h = asked_by (f x ++ others) (all xs ++ others) (λ p c. beside (f x) (all xs) others p (contains_part f all more xs i x lt e p) (Contains-append_cases (f x) others p c)) h
 
 -- ---- halts
 
 -- a halt of a part is one of the whole
 pub halts_as : {A : Type 0} {xs ys : List (Bool × Argument)} {d : Document} (limit : Limit) (r : Result A Halt) → IfErr r (IsHalt limit xs d) → (AsksPattern xs d → AsksPattern ys d) → IfErr r (IsHalt limit ys d)
-halts_as limit (Ok a) h f = tt
-halts_as limit (Err e) h f = λ memory spent. f (h memory spent)
+halts_as limit r h f = err_so r _ _ (λ e k memory spent. f (k memory spent)) h
 
 -- of one that a `?` passes on
 pub halts_so : {A : Type 0} {xs ys : List (Bool × Argument)} {d : Document} (limit : Limit) (r : Result A Halt) (e : Halt) → IsErrAnd r (λ y. y ≡ e) → IsHalt limit xs d e → (AsksPattern xs d → AsksPattern ys d) → IfErr r (IsHalt limit ys d)
-halts_so limit (Ok a) e is h f = tt
-halts_so limit (Err y) e is h f = λ memory spent. f (h (λ m. memory (is ∙ m)) (λ s. spent (is ∙ s.0, s.1)))
+halts_so limit r e is h f = passed_on r _ _ is (λ y same memory spent. f (h (λ m. memory (same ∙ m)) (λ s. spent (same ∙ s.0, s.1))))
 
 -- ---- patterns
 

@@ -6,7 +6,7 @@ use Rattle.jsonpath_parser.specs.tree.View.{literal_view, step_view, operator_vi
 use Rattle.jsonpath_parser.specs.declared.tree.model.Literal.{Literal}
 use Rattle.jsonpath_parser.specs.declared.tree.model.SingularQuerySegment.{SingularQuerySegment}
 use Rattle.jsonpath_parser.specs.declared.tree.model.operator.Operator.{Operator}
-use Rattle.jsonpath_rust.specs.selection.inner.PlanViews.{Kept, query_at, steps_query, steps_at, call_at, comparison_at, segments_in, arguments_in, argument_view, call_view, called_view, filter_view, nodes_view, segment_view, selector_view, side_view}
+use Rattle.jsonpath_rust.specs.selection.inner.PlanViews.{Kept, query_at, steps_query, steps_at, call_at, comparison_at, segments_meant, arguments_meant, argument_view, call_view, called_view, filter_view, nodes_view, segment_view, selector_view, side_view}
 use Rattle.jsonpath_rust.specs.declared.selection.plan.Argument
 use Rattle.jsonpath_rust.specs.declared.selection.plan.Argument.{Argument}
 use Rattle.jsonpath_rust.specs.declared.selection.plan.Call
@@ -44,7 +44,7 @@ argument_view-Filter kept f w = search (rules, the_lemmas)
 pub call_view-Custom : (kept : Kept) (s : String Global) (v : Vec Argument Global) → call_view kept (Call.Custom s v) ≡ tree.custom_call (string_bytes s) (arguments_of (map (λ x. x Values) (map (argument_view kept) v.items)))
 call_view-Custom kept s v = search (rules, the_lemmas)
 
-pub called : (kept : Kept) (s : String Global) (v : Vec Argument Global) → call_view kept (Call.Custom s v) ≡ tree.custom_call (string_bytes s) (arguments_in kept v.items)
+pub called : (kept : Kept) (s : String Global) (v : Vec Argument Global) → call_view kept (Call.Custom s v) ≡ tree.custom_call (string_bytes s) (arguments_meant kept v.items)
 called kept s v = call_view-Custom kept s v ∙ ap (λ xs. tree.custom_call (string_bytes s) (arguments_of xs)) (map-map (λ x. x Values) (argument_view kept) v.items)
 
 pub call_view-Length : (kept : Kept) (x : Argument) → call_view kept (Call.Length x) ≡ tree.length_call (argument_view kept x Only)
@@ -92,7 +92,7 @@ filter_view-Kept kept n = search (rules, the_lemmas)
 pub nodes_view-Lookup : (kept : Kept) (v : Vec SingularQuerySegment Global) (w : Wanted) → nodes_view kept (Nodes.Lookup v) w ≡ tree.relative (steps_query (map step_view v.items))
 nodes_view-Lookup kept v w = search (rules, the_lemmas)
 
-pub nodes_view-Walk : (kept : Kept) (v : Vec Segment Global) (w : Wanted) → nodes_view kept (Nodes.Walk v) w ≡ tree.relative (segments_in kept v.items)
+pub nodes_view-Walk : (kept : Kept) (v : Vec Segment Global) (w : Wanted) → nodes_view kept (Nodes.Walk v) w ≡ tree.relative (segments_meant kept v.items)
 nodes_view-Walk kept v w = search (rules, the_lemmas)
 
 pub nodes_view-Kept : (kept : Kept) (n : ℕ) (w : Wanted) → nodes_view kept (Nodes.Kept n) w ≡ tree.absolute (query_at kept w n)

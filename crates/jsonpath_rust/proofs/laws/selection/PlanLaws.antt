@@ -8,7 +8,7 @@ use Rattle.std.proofs.lemmas.List.Folds.{list_all-append}
 use Rattle.std.specs.List.{list_all}
 use Rattle.jsonpath_parser.specs.tree.Syntax as tree
 use Rattle.jsonpath_parser.specs.tree.View.{segments_of}
-use Rattle.jsonpath_rust.specs.selection.inner.PlanViews.{Kept, KeptPart, nodes, value, kept_view, kept_from, rooted_view, segments_in, segment_view, is_same_wanted, query_in, part_at, part_is_rooted, IsSettled, IsRooted, AreRooted}
+use Rattle.jsonpath_rust.specs.selection.inner.PlanViews.{Kept, KeptPart, nodes, value, kept_view, kept_from, rooted_view, segments_meant, segment_view, is_same_wanted, query_in, part_at, part_is_rooted, IsSettled, IsRooted, AreRooted}
 use Rattle.jsonpath_rust.specs.selection.inner.PlanMaking.{Extends, IsRight, Made, IsBeside, IsKept, IsNumbered, IsNumberOf, kept_in, parts_of, source_of}
 use Rattle.jsonpath_rust.specs.declared.selection.plan.Entry.{Entry}
 use Rattle.jsonpath_rust.specs.declared.selection.plan.Rooted.{Rooted}
@@ -165,7 +165,7 @@ end_right m k s = m.right (record {
 end_extends : (new : Maker) → IsRight new → Extends (kept_in new) (kept_view new.kept.items)
 end_extends new r = subst (Extends (kept_in new)) (sym r.is) (extends_none (kept_in new))
 
-pub plan_made : {old new : Maker} {was : List tree.Segment} (gs : List Segment) → Made old new (λ kept. map (segment_view kept) gs) was → old.kept.items ≡ [] → old.met.items ≡ [] → segments_in (kept_view new.kept.items) gs ≡ segments_of was
+pub plan_made : {old new : Maker} {was : List tree.Segment} (gs : List Segment) → Made old new (λ kept. map (segment_view kept) gs) was → old.kept.items ≡ [] → old.met.items ≡ [] → segments_meant (kept_view new.kept.items) gs ≡ segments_of was
 plan_made {new = new} gs m k s = ap segments_of (m.says (kept_view new.kept.items) (end_extends new (end_right m k s)))
 
 pub plan_settled : {A : Type 0} {old new : Maker} {part : Kept → A} {a : A} → Made old new part a → old.kept.items ≡ [] → old.met.items ≡ [] → IsSettled new.kept.items

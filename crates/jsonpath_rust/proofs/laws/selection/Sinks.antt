@@ -14,7 +14,7 @@ use Rattle.jsonpath_base.proofs.Removed.{set_begun}
 use Rattle.jsonpath_rust.specs.documents.Node.{Node, has_node}
 use Rattle.jsonpath_rust.specs.documents.Functions.{count_value, count_of, only_value}
 use Rattle.jsonpath_rust.specs.selection.inner.Sinks as sinks
-use Rattle.jsonpath_rust.specs.selection.inner.Sinks.{Seen, nodes, paths, values, locations, removal, any, count, nothing, one, several, first, add, give, full, any_in, only_in, first_in, nodes_in, nodes_whole, paths_in, locations_in, removal_in, values_in, values_whole, answer_of, IsRemovalOf, Took}
+use Rattle.jsonpath_rust.specs.selection.inner.Sinks.{Seen, nodes, paths, values, locations, removal, any, count, nothing, one, several, first, add, give, full, any_in, only_in, first_in, nodes_in, nodes_whole, paths_in, locations_in, removal_in, values_in, values_whole, path_and_tree, IsRemovalOf, Took}
 
 pub give-append : (s : Seen) (xs ys : List Node) → give s (xs ++ ys) ≡ give (give s xs) ys
 give-append s [] ys = refl
@@ -93,14 +93,14 @@ only_whole (n ∷ m ∷ ns) p e = let h : None ≡ Some p = sym (ap only_in (giv
 -- ---- what it has in the end
 
 -- the first node is kept
-pub only_first : (n : Node) (ns : List Node) → first_in (give (first None) (n ∷ ns)) ≡ Some (true, answer_of n)
-only_first n ns = ap first_in (give-full (first (Some (true, answer_of n))) ns refl)
+pub only_first : (n : Node) (ns : List Node) → first_in (give (first None) (n ∷ ns)) ≡ Some (true, path_and_tree n)
+only_first n ns = ap first_in (give-full (first (Some (true, path_and_tree n))) ns refl)
 
-give-nodes : (bs : List Bool) (ms : List (List ℕ × Tree)) (ns : List Node) → give (nodes bs ms) ns ≡ nodes (bs ++ map (λ n. true) ns) (ms ++ map answer_of ns)
+give-nodes : (bs : List Bool) (ms : List (List ℕ × Tree)) (ns : List Node) → give (nodes bs ms) ns ≡ nodes (bs ++ map (λ n. true) ns) (ms ++ map path_and_tree ns)
 give-nodes bs ms [] = ap (λ x. nodes x ms) (sym (append-nil bs)) ∙ ap (nodes (bs ++ [])) (sym (append-nil ms))
 give-nodes bs ms (n ∷ ns) =
-    give-nodes (bs ++ true ∷ []) (ms ++ answer_of n ∷ []) ns ∙ ap (λ x. nodes x ((ms ++ answer_of n ∷ []) ++ map answer_of ns)) (append_assoc bs (true ∷ []) (map (λ m. true) ns))
-    ∙ ap (nodes (bs ++ true ∷ map (λ m. true) ns)) (append_assoc ms (answer_of n ∷ []) (map answer_of ns))
+    give-nodes (bs ++ true ∷ []) (ms ++ path_and_tree n ∷ []) ns ∙ ap (λ x. nodes x ((ms ++ path_and_tree n ∷ []) ++ map path_and_tree ns)) (append_assoc bs (true ∷ []) (map (λ m. true) ns))
+    ∙ ap (nodes (bs ++ true ∷ map (λ m. true) ns)) (append_assoc ms (path_and_tree n ∷ []) (map path_and_tree ns))
 
 give-paths : (ps : List (List ℕ)) (ns : List Node) → give (paths ps) ns ≡ paths (ps ++ map (λ n. normal n.location) ns)
 give-paths ps [] = ap paths (sym (append-nil ps))
@@ -131,13 +131,13 @@ trues ns = All-from_recursion (λ b. IsTrue b) (map (λ n. true) ns) (each ns)
     each (n ∷ ns) = (refl, each ns)
 
 -- what an empty sink has, once it was given these nodes
-given_to_nodes : {X : Type 0} (w : X → Bool) (f : X → List ℕ × Tree) (xs : List X) (z : Seen) (ns : List Node) → xs ≡ [] → z ≡ give (nodes (map w xs) (map f xs)) ns → z ≡ nodes (map (λ n. true) ns) (map answer_of ns)
+given_to_nodes : {X : Type 0} (w : X → Bool) (f : X → List ℕ × Tree) (xs : List X) (z : Seen) (ns : List Node) → xs ≡ [] → z ≡ give (nodes (map w xs) (map f xs)) ns → z ≡ nodes (map (λ n. true) ns) (map path_and_tree ns)
 given_to_nodes w f xs z ns h e = e ∙ ap (λ ys. give (nodes (map w ys) (map f ys)) ns) h ∙ give-nodes [] [] ns
 
 given_to_values : {X : Type 0} (w : X → Bool) (f : X → Tree) (xs : List X) (z : Seen) (ns : List Node) → xs ≡ [] → z ≡ give (values (map w xs) (map f xs)) ns → z ≡ values (map (λ n. true) ns) (map (λ n. n.tree) ns)
 given_to_values w f xs z ns h e = e ∙ ap (λ ys. give (values (map w ys) (map f ys)) ns) h ∙ give-values [] [] ns
 
-pub given_nodes : {X : Type 0} (w : X → Bool) (f : X → List ℕ × Tree) (xs : List X) (z : Seen) (ns : List Node) → xs ≡ [] → z ≡ give (nodes (map w xs) (map f xs)) ns → nodes_in z ≡ map answer_of ns
+pub given_nodes : {X : Type 0} (w : X → Bool) (f : X → List ℕ × Tree) (xs : List X) (z : Seen) (ns : List Node) → xs ≡ [] → z ≡ give (nodes (map w xs) (map f xs)) ns → nodes_in z ≡ map path_and_tree ns
 given_nodes w f xs z ns h e = ap nodes_in (given_to_nodes w f xs z ns h e)
 
 pub given_nodes_whole : {X : Type 0} (w : X → Bool) (f : X → List ℕ × Tree) (xs : List X) (z : Seen) (ns : List Node) → xs ≡ [] → z ≡ give (nodes (map w xs) (map f xs)) ns → nodes_whole z ≡ map (λ n. true) ns

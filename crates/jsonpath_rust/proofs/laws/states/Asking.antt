@@ -13,15 +13,16 @@ use Rattle.jsonpath_rust.specs.documents.Document.{Document}
 use Rattle.jsonpath_rust.specs.documents.Node.{children}
 use Rattle.jsonpath_rust.specs.documents.Patterns.{IsPattern}
 use Rattle.jsonpath_rust.specs.states.Process.{plain, argument_content, segment_content}
-use Rattle.jsonpath_rust.specs.states.State.{Place, Content, ref, places, inside, found_from, has_parts, mapped, parents_from, root_content, place_of, content_of, PointersAreWhole, DataIsWhole}
+use Rattle.jsonpath_rust.specs.states.State.{Target, Content, ref, targets, inside, found_from, has_parts, mapped, parents_from, root_content, target_of, content_of, PointersAreWhole, DataIsWhole}
 use Rattle.jsonpath_rust.specs.states.inner.Evaluating.{parts_from}
 use Rattle.jsonpath_rust.specs.declared.documents.halt.Halt.{Halt}
 use Rattle.jsonpath_rust.specs.declared.documents.halt.Halt.TheVariants.{Memory}
 use Rattle.jsonpath_rust.specs.declared.states.state.data.Data.{Data}
 use Rattle.jsonpath_rust.specs.declared.states.state.data.Data.TheVariants.{Ref, Refs, Value, Nothing}
 use Rattle.jsonpath_rust.specs.declared.states.state.pointer.Pointer.{Pointer}
-use Rattle.jsonpath_rust.proofs.laws.states.Lies.{LiesIn, Stays, IsDistinct, segment-stays, mapped-parents-stays, stays-children, stays-itself, lies-place}
+use Rattle.jsonpath_rust.proofs.laws.states.Lies.{LiesIn, Stays, IsDistinct, segment-stays, mapped-parents-stays, stays-children, stays-itself, lies-target}
 use Rattle.jsonpath_rust.proofs.laws.documents.NodesAt.{at-append, each_at}
+use Rattle.jsonpath_rust.proofs.laws.documents.Parts.{contains_part, err_so, passed_on}
 
 -- ---- fewer patterns, or fewer states
 
@@ -46,9 +47,7 @@ asks_below {ps} d b c e h = subst (λ x. AsksPatternAt ps d (IsBelow d x)) e h
 
 -- one of a list of parts
 pub asks_at : {d : Document} {S : Content → Type 0} {X : Type 0} (f : X → List (Bool × Argument)) (all : List X → List (Bool × Argument)) → ((x : X) (xs : List X) → all (x ∷ xs) ≡ f x ++ all xs) → (xs : List X) (i : ℕ) (x : X) → i < length xs → x ≡ get_or xs i x → AsksPatternAt (f x) d S → AsksPatternAt (all xs) d S
-asks_at {d} {S} f all more [] i x lt e h = absurd (omega (arith, lt))
-asks_at {d} {S} f all more (y ∷ ys) zero x lt e h = subst (λ ps. AsksPatternAt ps d S) (sym (more y ys)) (asks_left (f y) (all ys) (subst (λ z. AsksPatternAt (f z) d S) e h))
-asks_at {d} {S} f all more (y ∷ ys) (suc i) x lt e h = subst (λ ps. AsksPatternAt ps d S) (sym (more y ys)) (asks_right (f y) (all ys) (asks_at f all more ys i x (omega (arith, lt)) e h))
+asks_at {d} {S} f all more xs i x lt e h = asks_by (f x) (all xs) d S (contains_part f all more xs i x lt e) h
 
 -- the first pattern, at this state
 pub asks_here : {S : Content → Type 0} (d : Document) (entire : Bool) (pattern : Argument) (more : List (Bool × Argument)) (s : Content) (o : Option Tree) → S s → o ≡ plain (argument_content pattern d s) → IsPattern entire o → AsksPatternAt ((entire, pattern) ∷ more) d S
@@ -64,7 +63,7 @@ asks_none d S h = omega (arith, h.stands.1)
 pub asks_nothing : {d : Document} {S R : Content → Type 0} (ps : List (Bool × Argument)) → AsksPatternAt [] d S → AsksPatternAt ps d R
 asks_nothing {d} {S} ps h = absurd (asks_none d S h)
 
--- ---- where: what is below places that lie in a state is below the state
+-- ---- where: what is below targets that lie in a state is below the state
 
 below-lies : (d : Document) (c s : Content) (t : Tree) → LiesIn (tops d c) t → s ≡ inside t → IsBelow d c s
 below-lies d c s t h e = record { top = h.top; among = h.among; location = h.location; tree = t; there = h.there; alone = e }
@@ -75,45 +74,45 @@ below-top d c b s h k = record { top = k.top; among = k.among; location = k.loca
 lies-root : (d : Document) (c : Content) (t : Tree) → d.root ≡ t → LiesIn (tops d c) t
 lies-root d c t e = record { top = d.root; among = (0, omega arith, refl); location = []; there = ap (λ u. Some u) e }
 
-lies-top : (d : Document) (c b : Content) → AllByRecursion (Stays (tops d c)) (places b) → (t : Tree) (i : ℕ) → i < length (tops d b) → get_or (tops d b) i t ≡ t → LiesIn (tops d c) t
+lies-top : (d : Document) (c b : Content) → AllByRecursion (Stays (tops d c)) (targets b) → (t : Tree) (i : ℕ) → i < length (tops d b) → get_or (tops d b) i t ≡ t → LiesIn (tops d c) t
 lies-top d c b k t zero lt e = lies-root d c t e
-lies-top d c b k t (suc i) lt e = lies-place (tops d c) (places b) i t k (omega (arith, lt, length-map (places b) (λ (p : Place). p.tree))) e
+lies-top d c b k t (suc i) lt e = lies-target (tops d c) (targets b) i t k (omega (arith, lt, length-map (targets b) (λ (p : Target). p.tree))) e
 
-below-stays : (d : Document) (c b : Content) → AllByRecursion (Stays (tops d c)) (places b) → (s : Content) → IsBelow d b s → IsBelow d c s
+below-stays : (d : Document) (c b : Content) → AllByRecursion (Stays (tops d c)) (targets b) → (s : Content) → IsBelow d b s → IsBelow d c s
 below-stays d c b k s h = below-top d c b s h (lies-top d c b k h.top h.among.0 h.among.1 h.among.2)
 
 -- on an answer whose nodes lie in the state
-pub asks_within : {ps : List (Bool × Argument)} (d : Document) (c b : Content) → AllByRecursion (Stays (tops d c)) (places b) → AsksPatternAt ps d (IsBelow d b) → AsksPatternAt ps d (IsBelow d c)
+pub asks_within : {ps : List (Bool × Argument)} (d : Document) (c b : Content) → AllByRecursion (Stays (tops d c)) (targets b) → AsksPatternAt ps d (IsBelow d b) → AsksPatternAt ps d (IsBelow d c)
 asks_within {ps} d c b k h = asks_so ps d (IsBelow d b) (IsBelow d c) (below-stays d c b k) h
 
 -- so the nodes of what a segment makes of it
-pub stays_next : (g : Segment) (d : Document) (ts : List Tree) (b a : Content) → a ≡ segment_content g d b → AllByRecursion (Stays ts) (places b) → AllByRecursion (Stays ts) (places a)
-stays_next g d ts b a e k = subst (λ x. AllByRecursion (Stays ts) (places x)) (sym e) (segment-stays g d ts b k)
+pub stays_next : (g : Segment) (d : Document) (ts : List Tree) (b a : Content) → a ≡ segment_content g d b → AllByRecursion (Stays ts) (targets b) → AllByRecursion (Stays ts) (targets a)
+stays_next g d ts b a e k = subst (λ x. AllByRecursion (Stays ts) (targets x)) (sym e) (segment-stays g d ts b k)
 
 -- on the lists and objects there and below
-pub asks_parents : {ps : List (Bool × Argument)} (d : Document) (c b : Content) → AllByRecursion IsDistinct (places c) → b ≡ mapped parents_from c → AsksPatternAt ps d (IsBelow d b) → AsksPatternAt ps d (IsBelow d c)
+pub asks_parents : {ps : List (Bool × Argument)} (d : Document) (c b : Content) → AllByRecursion IsDistinct (targets c) → b ≡ mapped parents_from c → AsksPatternAt ps d (IsBelow d b) → AsksPatternAt ps d (IsBelow d c)
 asks_parents {ps} d c b distinct e h =
     let k = mapped-parents-stays (tops d c) c (stays-itself d c distinct) in
     asks_so ps d (IsBelow d (mapped parents_from c)) (IsBelow d c) (below-stays d c (mapped parents_from c) k) (subst (λ x. AsksPatternAt ps d (IsBelow d x)) e h)
 
 -- on one node of a state
-pub asks_place : {ps : List (Bool × Argument)} {X : Type 0} (seen : X → Place) (d : Document) (c : Content) (xs : List X) (i : ℕ) (x : X) → AllByRecursion IsDistinct (places c) → places c ≡ map seen xs → i < length xs → x ≡ get_or xs i x → AsksPatternAt ps d (IsBelow d (ref (seen x))) → AsksPatternAt ps d (IsBelow d c)
-asks_place {ps} seen d c xs i x distinct same lt e h =
-    let P : List Place → Type 0 = AllByRecursion (Stays (tops d c)) in
+pub asks_target : {ps : List (Bool × Argument)} {X : Type 0} (seen : X → Target) (d : Document) (c : Content) (xs : List X) (i : ℕ) (x : X) → AllByRecursion IsDistinct (targets c) → targets c ≡ map seen xs → i < length xs → x ≡ get_or xs i x → AsksPatternAt ps d (IsBelow d (ref (seen x))) → AsksPatternAt ps d (IsBelow d c)
+asks_target {ps} seen d c xs i x distinct same lt e h =
+    let P : List Target → Type 0 = AllByRecursion (Stays (tops d c)) in
     asks_so ps d (IsBelow d (ref (seen x))) (IsBelow d c) (below-stays d c (ref (seen x)) (each_at (Stays (tops d c)) seen xs i x (subst P same (stays-itself d c distinct)) lt e, tt)) h
 
 -- on a child of a node, by itself
-asked-inside : (d : Document) (c : Content) (q : Place) → Stays (tops d c) q → (s : Content) → IsAsked d (inside q.tree) s → IsBelow d c s
+asked-inside : (d : Document) (c : Content) (q : Target) → Stays (tops d c) q → (s : Content) → IsAsked d (inside q.tree) s → IsBelow d c s
 asked-inside d c q k s (inl e) = below-lies d c s q.tree k.lies e
 asked-inside d c q k s (inr h) = below-stays d c (inside q.tree) (record { lies = k.lies; distinct = k.distinct }, tt) s h
 
-stays-some : (P : Place → Type 0) (b : Bool) (ps qs : List Place) → AllByRecursion P ps → Some qs ≡ cond b (Some ps) None → AllByRecursion P qs
+stays-some : (P : Target → Type 0) (b : Bool) (ps qs : List Target) → AllByRecursion P ps → Some qs ≡ cond b (Some ps) None → AllByRecursion P qs
 stays-some P true ps qs h e =
     let same : ps ≡ qs = cc in
     subst (AllByRecursion P) same h
 stays-some P false ps qs h e = cc
 
-pub asks_child : {ps : List (Bool × Argument)} {X : Type 0} (seen : X → Place) (d : Document) (p : Place) (xs : List X) (i : ℕ) (x : X) (s : Content) → IsDistinct p → Some (map seen xs) ≡ parts_from p → i < length xs → x ≡ get_or xs i x → s ≡ inside (seen x).tree → AsksPatternAt ps d (IsAsked d s) → AsksPatternAt ps d (IsBelow d (ref p))
+pub asks_child : {ps : List (Bool × Argument)} {X : Type 0} (seen : X → Target) (d : Document) (p : Target) (xs : List X) (i : ℕ) (x : X) (s : Content) → IsDistinct p → Some (map seen xs) ≡ parts_from p → i < length xs → x ≡ get_or xs i x → s ≡ inside (seen x).tree → AsksPatternAt ps d (IsAsked d s) → AsksPatternAt ps d (IsBelow d (ref p))
 asks_child {ps} seen d p xs i x s distinct parts lt e alone h =
     let c = ref p in
     let each = stays-some (Stays (tops d c)) (has_parts p.tree) (found_from p children) (map seen xs) (stays-children (tops d c) p (stays-itself d c (distinct, tt)).0) parts in
@@ -137,11 +136,11 @@ asks_too {ps} d c h = asks_so ps d (IsBelow d c) (IsAsked d c) (λ s k. inr k) h
 
 -- ---- whole data has distinct names
 
-pointers-distinct : {A : Type 0} (tree : A → Tree) (whole : A → Bool) → ((x : A) → IsTrue (whole x) → IsTrue (has_distinct_names (tree x))) → (ps : List (Pointer A)) → PointersAreWhole whole ps → AllByRecursion IsDistinct (map (place_of tree) ps)
+pointers-distinct : {A : Type 0} (tree : A → Tree) (whole : A → Bool) → ((x : A) → IsTrue (whole x) → IsTrue (has_distinct_names (tree x))) → (ps : List (Pointer A)) → PointersAreWhole whole ps → AllByRecursion IsDistinct (map (target_of tree) ps)
 pointers-distinct tree whole k [] h = tt
 pointers-distinct tree whole k (p ∷ ps) h = (k p.inner.now (All-head (λ q. IsTrue (whole q.inner.now)) p ps h), pointers-distinct tree whole k ps (All-tail (λ q. IsTrue (whole q.inner.now)) p ps h))
 
-pub data-distinct : {A : Type 0} (tree : A → Tree) (whole : A → Bool) → ((x : A) → IsTrue (whole x) → IsTrue (has_distinct_names (tree x))) → (x : Data A) → DataIsWhole whole x → AllByRecursion IsDistinct (places (content_of tree x))
+pub data-distinct : {A : Type 0} (tree : A → Tree) (whole : A → Bool) → ((x : A) → IsTrue (whole x) → IsTrue (has_distinct_names (tree x))) → (x : Data A) → DataIsWhole whole x → AllByRecursion IsDistinct (targets (content_of tree x))
 data-distinct tree whole k (Ref p) h = (k p.inner.now h, tt)
 data-distinct tree whole k (Refs ps) h = pointers-distinct tree whole k ps.items h
 data-distinct tree whole k (Value x) h = tt
@@ -150,10 +149,8 @@ data-distinct tree whole k Nothing h = tt
 -- ---- why an answer is refused, in other words
 
 pub halts_as : {A X Y : Type 0} (r : Result A Halt) → IfErr r (λ y. (y ≡ Memory → ⊥) → X) → (X → Y) → IfErr r (λ y. (y ≡ Memory → ⊥) → Y)
-halts_as (Ok a) h f = tt
-halts_as (Err y) h f = λ m. f (h m)
+halts_as r h f = err_so r _ _ (λ y k m. f (k m)) h
 
 -- of an error that a `?` passes on
 pub halts_so : {A X Y : Type 0} (r : Result A Halt) (h : Halt) → IsErrAnd r (λ y. y ≡ h) → ((h ≡ Memory → ⊥) → X) → (X → Y) → IfErr r (λ y. (y ≡ Memory → ⊥) → Y)
-halts_so (Ok a) h is k f = tt
-halts_so (Err y) h is k f = λ m. f (k (λ e. m (is ∙ e)))
+halts_so r h is k f = passed_on r _ _ is (λ y same m. f (k (λ e. m (same ∙ e))))

@@ -7,8 +7,8 @@ use Rattle.jsonpath_parser.specs.Normal.{step_text, steps_text}
 use Rattle.jsonpath_base.specs.Tree as base
 use Rattle.jsonpath_base.specs.Tree.{Tree, null, truth, number, text, list, object, Trees, no_trees, Members, no_members, elements, pairs, as_list, as_members}
 use Rattle.jsonpath_rust.specs.documents.Node.{Node, root_node, element_nodes, member_nodes, children, children_at, subtree, subtree_at, subtrees_at, member_subtrees}
-use Rattle.jsonpath_rust.specs.states.Process.{lists_same, lists_places}
-use Rattle.jsonpath_rust.specs.states.State.{Place, refs, under, found_from, has_parts, parents_in, parents_from, in_parts, some, place_of}
+use Rattle.jsonpath_rust.specs.states.Process.{lists_same, lists_targets}
+use Rattle.jsonpath_rust.specs.states.State.{Target, refs, under, found_from, has_parts, parents_in, parents_from, in_parts, some, target_of}
 use Rattle.jsonpath_rust.specs.states.inner.Evaluating.{parts_from}
 use Rattle.jsonpath_rust.specs.declared.states.state.pointer.Pointer.{Pointer}
 use Rattle.jsonpath_rust.proofs.laws.documents.Parts.{filter_more}
@@ -27,7 +27,7 @@ counted_end G none xs i was all h v = sym (append-nil was) ∙ ap (λ ys. was ++
 
 -- ---- the children of a list or an object
 
-pub parts-list : (p : Place) (ts : List Tree) → Some ts ≡ as_list p.tree → Some (map (under p.path) (element_nodes [] 0 ts)) ≡ parts_from p
+pub parts-list : (p : Target) (ts : List Tree) → Some ts ≡ as_list p.tree → Some (map (under p.path) (element_nodes [] 0 ts)) ≡ parts_from p
 parts-list p ts h = of_tree p.path p.tree ts h
   where
     of_tree : (path : List ℕ) (t : Tree) (ts : List Tree) → Some ts ≡ as_list t → Some (map (under path) (element_nodes [] 0 ts)) ≡ parts_from (record { path = path; tree = t })
@@ -38,7 +38,7 @@ parts-list p ts h = of_tree p.path p.tree ts h
     of_tree path (number n) ts h = cc
     of_tree path (text s) ts h = cc
 
-pub parts-members : (p : Place) (ms : List (List ℕ × Tree)) → Some ms ≡ as_members p.tree → Some (map (under p.path) (member_nodes [] ms)) ≡ parts_from p
+pub parts-members : (p : Target) (ms : List (List ℕ × Tree)) → Some ms ≡ as_members p.tree → Some (map (under p.path) (member_nodes [] ms)) ≡ parts_from p
 parts-members p ms h = of_tree p.path p.tree ms h
   where
     of_tree : (path : List ℕ) (t : Tree) (ms : List (List ℕ × Tree)) → Some ms ≡ as_members t → Some (map (under path) (member_nodes [] ms)) ≡ parts_from (record { path = path; tree = t })
@@ -49,7 +49,7 @@ parts-members p ms h = of_tree p.path p.tree ms h
     of_tree path (number n) ms h = cc
     of_tree path (text s) ms h = cc
 
-pub parts-none : (p : Place) → None ≡ as_list p.tree → None ≡ as_members p.tree → None ≡ parts_from p
+pub parts-none : (p : Target) → None ≡ as_list p.tree → None ≡ as_members p.tree → None ≡ parts_from p
 parts-none p h k = of_tree p.path p.tree h k
   where
     of_tree : (path : List ℕ) (t : Tree) → None ≡ as_list t → None ≡ as_members t → None ≡ parts_from (record { path = path; tree = t })
@@ -60,7 +60,7 @@ parts-none p h k = of_tree p.path p.tree h k
     of_tree path (number n) h k = refl
     of_tree path (text s) h k = refl
 
--- ---- the nodes of a subtree, from another place
+-- ---- the nodes of a subtree, from another path
 
 abbrev shift : Location → Node → Node
 shift l n = record { location = l ++ n.location; tree = n.tree }
@@ -101,7 +101,7 @@ under-shift path l (n ∷ ns) =
     ∙ ap (λ x. record { path = x; tree = n.tree } ∷ map (under path) (map (shift l) ns)) (sym (append_assoc path (steps_text l) (steps_text n.location)))
     ∙ ap (λ qs. under (path ++ steps_text l) n ∷ qs) (under-shift path l ns)
 
--- the nodes below a node, from that node's own place
+-- the nodes below a node, from that node's own path
 under-subtree : (path : List ℕ) (n : Node) → map (under path) (subtree n) ≡ found_from (under path n) subtree
 under-subtree path n = ap (λ l. map (under path) (subtree_at l n.tree)) (sym (append-nil n.location)) ∙ ap (map (under path)) (subtree-shift n.location [] n.tree) ∙ under-shift path n.location (subtree_at [] n.tree)
 
@@ -113,26 +113,26 @@ filter-append h (x ∷ xs) ys =
 parents-below : (path : List ℕ) (ns : List Node) → filter (λ q. has_parts q.tree) (map (under path) (flat_map subtree ns)) ≡ flat_map parents_in (map (under path) ns)
 parents-below path [] = refl
 parents-below path (n ∷ ns) =
-    let h : Place → Bool = λ q. has_parts q.tree in
+    let h : Target → Bool = λ q. has_parts q.tree in
     ap (filter h) (map-append (under path) (subtree n) (flat_map subtree ns)) ∙ filter-append h (map (under path) (subtree n)) (map (under path) (flat_map subtree ns))
     ∙ ap (λ qs. filter h qs ++ filter h (map (under path) (flat_map subtree ns))) (under-subtree path n) ∙ ap (λ qs. parents_in (under path n) ++ qs) (parents-below path ns)
 
 -- it, if it has parts, and those below each part
-parents-parts : (p : Place) → parents_in p ≡ cond (has_parts p.tree) (p ∷ []) [] ++ flat_map parents_in (found_from p children)
+parents-parts : (p : Target) → parents_in p ≡ cond (has_parts p.tree) (p ∷ []) [] ++ flat_map parents_in (found_from p children)
 parents-parts p =
-    let h : Place → Bool = λ q. has_parts q.tree in
+    let h : Target → Bool = λ q. has_parts q.tree in
     ap (λ ns. filter h (map (under p.path) ns)) (subtree-children [] p.tree)
     ∙ filter_more h (under p.path (root_node p.tree)) (map (under p.path) (flat_map subtree (children_at [] p.tree)))
     ∙ ap (λ x. cond (has_parts p.tree) (record { path = x; tree = p.tree } ∷ []) [] ++ filter h (map (under p.path) (flat_map subtree (children_at [] p.tree)))) (append-nil p.path)
     ∙ ap (λ qs. cond (has_parts p.tree) (p ∷ []) [] ++ qs) (parents-below p.path (children_at [] p.tree))
 
-pub parents-some : (p : Place) (ps : List Place) → Some ps ≡ parts_from p → parents_in p ≡ p ∷ flat_map parents_in ps
+pub parents-some : (p : Target) (ps : List Target) → Some ps ≡ parts_from p → parents_in p ≡ p ∷ flat_map parents_in ps
 parents-some p ps e = here (has_parts p.tree) refl
   where
-    same_parts : (xs ys : List Place) → Some xs ≡ Some ys → flat_map parents_in ys ≡ flat_map parents_in xs
+    same_parts : (xs ys : List Target) → Some xs ≡ Some ys → flat_map parents_in ys ≡ flat_map parents_in xs
     same_parts xs ys h = sym (ap (λ o. flat_map parents_in (or_none o)) h)
       where
-        or_none : Option (List Place) → List Place
+        or_none : Option (List Target) → List Target
         or_none None = []
         or_none (Some zs) = zs
 
@@ -140,7 +140,7 @@ parents-some p ps e = here (has_parts p.tree) refl
     here true h = parents-parts p ∙ ap (λ b. cond b (p ∷ []) [] ++ flat_map parents_in (found_from p children)) h ∙ ap (λ qs. p ∷ qs) (same_parts ps (found_from p children) (e ∙ ap (λ b. cond b (Some (found_from p children)) None) h))
     here false h = cc
 
-pub parents-none : (p : Place) → None ≡ parts_from p → parents_in p ≡ []
+pub parents-none : (p : Target) → None ≡ parts_from p → parents_in p ≡ []
 parents-none p e = of_tree p.path p.tree e
   where
     of_tree : (path : List ℕ) (t : Tree) → None ≡ parts_from (record { path = path; tree = t }) → parents_in (record { path = path; tree = t }) ≡ []
@@ -152,10 +152,10 @@ parents-none p e = of_tree p.path p.tree e
     of_tree path (text s) h = refl
 
 -- the lists and objects there and below are some exactly where there is a list or an object
-pub parents-from : (p : Place) → some (parents_in p) ≡ parents_from p
+pub parents-from : (p : Target) → some (parents_in p) ≡ parents_from p
 parents-from p = here (has_parts p.tree) refl
   where
-    none_parents : (q : Place) → has_parts q.tree ≡ false → parents_in q ≡ []
+    none_parents : (q : Target) → has_parts q.tree ≡ false → parents_in q ≡ []
     none_parents q h = parents-none q (sym (ap (λ b. cond b (Some (found_from q children)) None) h))
 
     here : (b : Bool) → has_parts p.tree ≡ b → some (parents_in p) ≡ in_parts (has_parts p.tree) (parents_in p)
@@ -164,19 +164,19 @@ parents-from p = here (has_parts p.tree) refl
 
 -- ---- each part is smaller
 
-elements-total : (path : List ℕ) (k : ℕ) (ts : Trees) → total (map (λ (q : Place). size q.tree) (map (under path) (element_nodes [] k (elements ts)))) ≡ trees_size ts
+elements-total : (path : List ℕ) (k : ℕ) (ts : Trees) → total (map (λ (q : Target). size q.tree) (map (under path) (element_nodes [] k (elements ts)))) ≡ trees_size ts
 elements-total path k no_trees = refl
 elements-total path k (base.tree t ts) = ap (λ n. size t + n) (elements-total path (suc k) ts)
 
-members-total : (path : List ℕ) (ms : Members) → total (map (λ (q : Place). size q.tree) (map (under path) (member_nodes [] (pairs ms)))) ≡ members_size ms
+members-total : (path : List ℕ) (ms : Members) → total (map (λ (q : Target). size q.tree) (map (under path) (member_nodes [] (pairs ms)))) ≡ members_size ms
 members-total path no_members = refl
 members-total path (base.member k t ms) = ap (λ n. size t + n) (members-total path ms)
 
-abbrev or_total : Option (List Place) → ℕ
+abbrev or_total : Option (List Target) → ℕ
 or_total None = 0
 or_total (Some ps) = total (map (λ q. size q.tree) ps)
 
-parts-size : (path : List ℕ) (t : Tree) (ps : List Place) → Some ps ≡ parts_from (record { path = path; tree = t }) → total (map (λ q. size q.tree) ps) < size t
+parts-size : (path : List ℕ) (t : Tree) (ps : List Target) → Some ps ≡ parts_from (record { path = path; tree = t }) → total (map (λ q. size q.tree) ps) < size t
 parts-size path (list us) ps h = omega (arith, ap or_total h, elements-total path 0 us)
 parts-size path (object us) ps h = omega (arith, ap or_total h, members-total path us)
 parts-size path null ps h = cc
@@ -184,14 +184,14 @@ parts-size path (truth b) ps h = cc
 parts-size path (number n) ps h = cc
 parts-size path (text s) ps h = cc
 
-pub part_size : {A : Type 0} (seen : A → Place) (p : Place) (xs : List A) (i : ℕ) (x : A) → Some (map seen xs) ≡ parts_from p → i < length xs → x ≡ get_or xs i x → size (seen x).tree < size p.tree
-part_size seen p xs i x h lt e = omega (arith, parts-size p.path p.tree (map seen xs) h, sizes_at seen (λ (q : Place). size q.tree) xs i x lt e)
+pub part_size : {A : Type 0} (seen : A → Target) (p : Target) (xs : List A) (i : ℕ) (x : A) → Some (map seen xs) ≡ parts_from p → i < length xs → x ≡ get_or xs i x → size (seen x).tree < size p.tree
+part_size seen p xs i x h lt e = omega (arith, parts-size p.path p.tree (map seen xs) h, sizes_at seen (λ (q : Target). size q.tree) xs i x lt e)
 
 -- the children that a test keeps
-pub kept-parts : (h : Place → Bool) (p : Place) (ps : List Place) → Some ps ≡ parts_from p → refs (filter h ps) ≡ in_parts (has_parts p.tree) (filter h (found_from p children))
+pub kept-parts : (h : Target → Bool) (p : Target) (ps : List Target) → Some ps ≡ parts_from p → refs (filter h ps) ≡ in_parts (has_parts p.tree) (filter h (found_from p children))
 kept-parts h p ps e = here (has_parts p.tree) refl
   where
-    or_none : Option (List Place) → List Place
+    or_none : Option (List Target) → List Target
     or_none None = []
     or_none (Some zs) = zs
 
@@ -199,14 +199,14 @@ kept-parts h p ps e = here (has_parts p.tree) refl
     here true k = ap (λ o. refs (filter h (or_none o))) (e ∙ ap (λ b. cond b (Some (found_from p children)) None) k) ∙ ap (λ b. in_parts b (filter h (found_from p children))) (sym k)
     here false k = cc
 
--- ---- trees of places
+-- ---- trees of targets
 
-pub places-trees : {A : Type 0} (tree : A → Tree) (ps : List (Pointer A)) → map (λ (q : Place). q.tree) (map (place_of tree) ps) ≡ map (λ p. tree p.inner.now) ps
-places-trees tree [] = refl
-places-trees tree (p ∷ ps) = ap (λ ts. tree p.inner.now ∷ ts) (places-trees tree ps)
+pub targets-trees : {A : Type 0} (tree : A → Tree) (ps : List (Pointer A)) → map (λ (q : Target). q.tree) (map (target_of tree) ps) ≡ map (λ p. tree p.inner.now) ps
+targets-trees tree [] = refl
+targets-trees tree (p ∷ ps) = ap (λ ts. tree p.inner.now ∷ ts) (targets-trees tree ps)
 
-pub are_trees-list : (t : Tree) (ts : List Tree) (ps : List Place) → Some ts ≡ as_list t → lists_same ts (map (λ (q : Place). q.tree) ps) ≡ lists_places t ps
-are_trees-list (list us) ts ps h = ap (λ o. lists_same (or_none o) (map (λ (q : Place). q.tree) ps)) h
+pub are_trees-list : (t : Tree) (ts : List Tree) (ps : List Target) → Some ts ≡ as_list t → lists_same ts (map (λ (q : Target). q.tree) ps) ≡ lists_targets t ps
+are_trees-list (list us) ts ps h = ap (λ o. lists_same (or_none o) (map (λ (q : Target). q.tree) ps)) h
   where
     or_none : Option (List Tree) → List Tree
     or_none None = []

@@ -4,7 +4,7 @@ use Rattle.std.proofs.lemmas.List.Elements.{All-append, All-cons, All-nil, All-h
 use Rattle.std.proofs.lemmas.List.{map-append}
 use Rattle.std.specs.List.{AllZip, AllByRecursion, flat_map}
 use Rattle.jsonpath_base.specs.Tree.{Tree}
-use Rattle.jsonpath_rust.specs.states.State.{Place, Content, refs, nothing, places, mapped, place_of, content_of, pointers, Made, AreRefs, HasNothing, PointersAreWhole, DataIsWhole, GivesWhole, SomeHas}
+use Rattle.jsonpath_rust.specs.states.State.{Target, Content, refs, nothing, targets, mapped, target_of, content_of, pointers, Made, AreRefs, HasNothing, PointersAreWhole, DataIsWhole, GivesWhole, SomeHas}
 use Rattle.jsonpath_rust.specs.states.inner.Evaluating.{Completes}
 use Rattle.jsonpath_rust.specs.declared.states.state.pointer.Pointer.{Pointer}
 use Rattle.jsonpath_rust.specs.declared.states.state.data.Data.{Data}
@@ -24,23 +24,23 @@ completes_end {A} gives ps out all rest n ia ln z k =
     let w = k [] (subst (λ (r : List (Pointer A)). AllZip {B = Data A} gives r []) (sym (empty_of rest (sym ln ∙ z))) tt) in
     (w.0, subst (λ (r : List (Pointer A)). AllZip gives r w.0) ia w.1, sym (w.2 ∙ append-nil out.items))
 
-pub places_seen : {A : Type 0} (tree : A → Tree) (d : Data A) → map (place_of tree) (pointers d) ≡ places (content_of tree d)
-places_seen tree (Ref p) = refl
-places_seen tree (Refs ps) = refl
-places_seen tree (Value x) = refl
-places_seen tree Nothing = refl
+pub targets_seen : {A : Type 0} (tree : A → Tree) (d : Data A) → map (target_of tree) (pointers d) ≡ targets (content_of tree d)
+targets_seen tree (Ref p) = refl
+targets_seen tree (Refs ps) = refl
+targets_seen tree (Value x) = refl
+targets_seen tree Nothing = refl
 
-mapped_all : {A : Type 0} (tree : A → Tree) (f : Place → Content) (gives : Pointer A → Data A → Type 0) → ((p : Pointer A) (d : Data A) → gives p d → content_of tree d ≡ f (place_of tree p)) → (ps : List (Pointer A)) (ds : List (Data A)) → AllZip gives ps ds → map (place_of tree) (flat_map pointers ds) ≡ flat_map (λ p. places (f p)) (map (place_of tree) ps)
+mapped_all : {A : Type 0} (tree : A → Tree) (f : Target → Content) (gives : Pointer A → Data A → Type 0) → ((p : Pointer A) (d : Data A) → gives p d → content_of tree d ≡ f (target_of tree p)) → (ps : List (Pointer A)) (ds : List (Data A)) → AllZip gives ps ds → map (target_of tree) (flat_map pointers ds) ≡ flat_map (λ p. targets (f p)) (map (target_of tree) ps)
 mapped_all tree f gives h [] [] a = refl
 mapped_all tree f gives h [] (d ∷ ds) a = absurd a
 mapped_all tree f gives h (p ∷ ps) [] a = absurd a
 mapped_all tree f gives h (p ∷ ps) (d ∷ ds) a =
-    map-append (place_of tree) (pointers d) (flat_map pointers ds) ∙ ap (λ (x : List Place). x ++ map (place_of tree) (flat_map pointers ds)) (places_seen tree d ∙ ap places (h p d a.0))
-    ∙ ap (λ (x : List Place). places (f (place_of tree p)) ++ x) (mapped_all tree f gives h ps ds a.1)
+    map-append (target_of tree) (pointers d) (flat_map pointers ds) ∙ ap (λ (x : List Target). x ++ map (target_of tree) (flat_map pointers ds)) (targets_seen tree d ∙ ap targets (h p d a.0))
+    ∙ ap (λ (x : List Target). targets (f (target_of tree p)) ++ x) (mapped_all tree f gives h ps ds a.1)
 
-refs_content : {A : Type 0} (tree : A → Tree) (d : Data A) (ps : List (Pointer A)) → AreRefs d ps → content_of tree d ≡ refs (map (place_of tree) ps)
+refs_content : {A : Type 0} (tree : A → Tree) (d : Data A) (ps : List (Pointer A)) → AreRefs d ps → content_of tree d ≡ refs (map (target_of tree) ps)
 refs_content tree (Ref p) ps h = absurd h
-refs_content tree (Refs qs) ps h = ap (λ (x : List (Pointer _)). refs (map (place_of tree) x)) h
+refs_content tree (Refs qs) ps h = ap (λ (x : List (Pointer _)). refs (map (target_of tree) x)) h
 refs_content tree (Value x) ps h = absurd h
 refs_content tree Nothing ps h = absurd h
 
@@ -51,7 +51,7 @@ nothing_content tree (Value x) h = absurd h
 nothing_content tree Nothing h = refl
 
 -- what flat_map answers, where the closure's answers are a function of what is seen
-pub made_content : {A : Type 0} (tree : A → Tree) (f : Place → Content) (gives : Pointer A → Data A → Type 0) → ((p : Pointer A) (d : Data A) → gives p d → content_of tree d ≡ f (place_of tree p)) → (x d : Data A) → Made gives x d → content_of tree d ≡ mapped f (content_of tree x)
+pub made_content : {A : Type 0} (tree : A → Tree) (f : Target → Content) (gives : Pointer A → Data A → Type 0) → ((p : Pointer A) (d : Data A) → gives p d → content_of tree d ≡ f (target_of tree p)) → (x d : Data A) → Made gives x d → content_of tree d ≡ mapped f (content_of tree x)
 made_content tree f gives h (Ref p) d m = h p d m
 made_content tree f gives h (Refs ps) d m = refs_content tree d _ m.2 ∙ ap refs (mapped_all tree f gives h ps.items m.0 m.1)
 made_content tree f gives h (Value x) d m = nothing_content tree d m

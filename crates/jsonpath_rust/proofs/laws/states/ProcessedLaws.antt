@@ -2,7 +2,7 @@
 use Rattle.std.proofs.Common.{◌≡◌, ℕ, length, List, [], ◌∷◌, ◌++◌, append_assoc, append-nil, arith, map, ap, refl, sym, ◌∙◌, string_bytes}
 use Rattle.std.proofs.lemmas.List.{map-append}
 use Rattle.jsonpath_base.specs.Tree.{Tree}
-use Rattle.jsonpath_rust.specs.states.State.{Place, places_of}
+use Rattle.jsonpath_rust.specs.states.State.{Target, targets_of}
 use Rattle.jsonpath_rust.specs.declared.states.state.pointer.Pointer.{Pointer}
 
 -- one element was moved from the front of what is left behind what there is
@@ -20,10 +20,10 @@ moved_all f g got [] n all len none h = sym (append-nil (map f got)) ∙ h
 moved_all f g got (y ∷ ys) n all len none h = absurd (omega (arith, len, none))
 
 -- what a caller sees of pointers, and what a state holds of them
-pub shown-places : {A : Type 0} (tree : A → Tree) (ps : List (Pointer A)) → map {B = List ℕ × Tree} (λ p. (string_bytes p.path, tree p.inner.now)) ps ≡ map (λ (p : Place). (p.path, p.tree)) (places_of tree ps)
-shown-places tree [] = refl
-shown-places tree (p ∷ ps) = ap (λ (ns : List (List ℕ × Tree)). (string_bytes p.path, tree p.inner.now) ∷ ns) (shown-places tree ps)
+pub shown-targets : {A : Type 0} (tree : A → Tree) (ps : List (Pointer A)) → map {B = List ℕ × Tree} (λ p. (string_bytes p.path, tree p.inner.now)) ps ≡ map (λ (p : Target). (p.path, p.tree)) (targets_of tree ps)
+shown-targets tree [] = refl
+shown-targets tree (p ∷ ps) = ap (λ (ns : List (List ℕ × Tree)). (string_bytes p.path, tree p.inner.now) ∷ ns) (shown-targets tree ps)
 
-pub values-places : {A : Type 0} (tree : A → Tree) (ps : List (Pointer A)) → map (λ p. tree p.inner.now) ps ≡ map (λ (n : List ℕ × Tree). n.1) (map (λ (p : Place). (p.path, p.tree)) (places_of tree ps))
-values-places tree [] = refl
-values-places tree (p ∷ ps) = ap (λ (ts : List Tree). tree p.inner.now ∷ ts) (values-places tree ps)
+pub values-targets : {A : Type 0} (tree : A → Tree) (ps : List (Pointer A)) → map (λ p. tree p.inner.now) ps ≡ map (λ (n : List ℕ × Tree). n.1) (map (λ (p : Target). (p.path, p.tree)) (targets_of tree ps))
+values-targets tree [] = refl
+values-targets tree (p ∷ ps) = ap (λ (ts : List Tree). tree p.inner.now ∷ ts) (values-targets tree ps)

@@ -5,12 +5,12 @@ use Rattle.jsonpath_parser.specs.Location.{Step, name, index, Location}
 use Rattle.jsonpath_parser.specs.tree.Syntax as syntax
 use Rattle.jsonpath_parser.specs.tree.Syntax.{Selector, Segment, one, several, descendant, Segments, no_segments, segment}
 use Rattle.jsonpath_base.specs.Places.{child}
-use Rattle.jsonpath_base.specs.Steps.{step_view, location_view}
+use Rattle.jsonpath_base.specs.Steps.{owned_step, location_view}
 use Rattle.jsonpath_base.specs.Tree.{Tree, as_list}
 use Rattle.jsonpath_base.specs.Values.{value_tree}
 use Rattle.jsonpath_rust.specs.documents.Meaning.{element_of}
 use Rattle.jsonpath_rust.specs.declared.documents.reference.Child.{Child}
-use Rattle.jsonpath_rust.specs.declared.documents.reference.Place.{Place}
+use Rattle.jsonpath_rust.specs.declared.documents.reference.Referent.{Referent}
 
 -- the step to a child, and the child, where there is one
 abbrev pub step_to : Step → Tree → Option (Step × Tree)
@@ -19,26 +19,26 @@ step_to s t = option_map (λ u. (s, u)) (child s t)
 abbrev pub element_step : ℤ → Tree → Option (Step × Tree)
 element_step i t = option_and_then (λ k. step_to (index k) t) (option_and_then (λ ts. element_of i (length ts)) (as_list t))
 
-abbrev pub selector_step : Selector → Tree → Option (Step × Tree)
-selector_step (syntax.Selector.name k) t = step_to (name k) t
-selector_step (syntax.Selector.index i) t = element_step i t
-selector_step syntax.Selector.wildcard t = None
-selector_step (syntax.Selector.slice start end step) t = None
-selector_step (syntax.Selector.filter f) t = None
+abbrev pub selector_child : Selector → Tree → Option (Step × Tree)
+selector_child (syntax.Selector.name k) t = step_to (name k) t
+selector_child (syntax.Selector.index i) t = element_step i t
+selector_child syntax.Selector.wildcard t = None
+selector_child (syntax.Selector.slice start end step) t = None
+selector_child (syntax.Selector.filter f) t = None
 
-abbrev pub segment_step : Segment → Tree → Option (Step × Tree)
-segment_step (one s) t = selector_step s t
-segment_step (several ss) t = None
-segment_step (descendant g) t = None
+abbrev pub segment_child : Segment → Tree → Option (Step × Tree)
+segment_child (one s) t = selector_child s t
+segment_child (several ss) t = None
+segment_child (descendant g) t = None
 
 -- where the segments lead from a location and the tree there
 abbrev pub followed : Segments → Location → Tree → Option (Location × Tree)
 followed no_segments l t = Some (l, t)
-followed (segment g gs) l t = option_and_then (λ p. followed gs (l ++ p.0 ∷ []) p.1) (segment_step g t)
+followed (segment g gs) l t = option_and_then (λ p. followed gs (l ++ p.0 ∷ []) p.1) (segment_child g t)
 
 -- what the code answers, seen so
 abbrev pub child_view : Child → Step × Tree
-child_view c = (step_view c.step, value_tree c.value.now)
+child_view c = (owned_step c.step, value_tree c.value.now)
 
-abbrev pub place_view : Place → Location × Tree
-place_view p = (location_view p.steps.items, value_tree p.value.now)
+abbrev pub referent_view : Referent → Location × Tree
+referent_view p = (location_view p.steps.items, value_tree p.value.now)

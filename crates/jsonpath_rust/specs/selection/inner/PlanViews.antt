@@ -182,22 +182,22 @@ abbrev pub side_view : Kept → Side → tree.Comparable
 side_view kept = fold-Side (Wanted → tree.Argument) tree.Call tree.Call tree.Filter (Wanted → tree.Test) tree.Segment tree.Selector tree.Comparable argument_step call_step (called_step kept) (filter_step kept) (nodes_step kept) segment_step selector_step (side_step kept)
 
 -- lists of parts, one behind the other
-abbrev pub segments_in : Kept → List Segment → tree.Segments
-segments_in kept gs = segments_of (map (segment_view kept) gs)
+abbrev pub segments_meant : Kept → List Segment → tree.Segments
+segments_meant kept gs = segments_of (map (segment_view kept) gs)
 
-abbrev pub selectors_in : Kept → List Selector → tree.Selectors
-selectors_in kept ss = selectors_of (map (selector_view kept) ss)
+abbrev pub selectors_meant : Kept → List Selector → tree.Selectors
+selectors_meant kept ss = selectors_of (map (selector_view kept) ss)
 
-abbrev pub filters_in : Kept → List Filter → tree.Filters
-filters_in kept fs = filters_of (map (filter_view kept) fs)
+abbrev pub filters_meant : Kept → List Filter → tree.Filters
+filters_meant kept fs = filters_of (map (filter_view kept) fs)
 
 -- the arguments of a custom function
-abbrev pub arguments_in : Kept → List Argument → tree.Arguments
-arguments_in kept args = arguments_of (map (λ a. argument_view kept a Values) args)
+abbrev pub arguments_meant : Kept → List Argument → tree.Arguments
+arguments_meant kept args = arguments_of (map (λ a. argument_view kept a Values) args)
 
 -- each entry stands for a part where those before it are kept
 abbrev pub rooted_view : Kept → Rooted → KeptPart
-rooted_view kept (rooted.Nodes gs w) = nodes w (segments_in kept gs.items)
+rooted_view kept (rooted.Nodes gs w) = nodes w (segments_meant kept gs.items)
 rooted_view kept (rooted.Value ss) = value (map step_view ss.items)
 rooted_view kept (rooted.Answer c) = answered (call_view kept c)
 rooted_view kept (rooted.Comparison op a b) = compared (tree.compare (operator_view op) (side_view kept a) (side_view kept b))

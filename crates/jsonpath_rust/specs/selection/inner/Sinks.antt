@@ -19,8 +19,8 @@ use Rattle.jsonpath_rust.specs.declared.documents.node.QueryRef.{QueryRef}
 use Rattle.jsonpath_rust.specs.declared.documents.value.TheConstants.{GREATEST_COUNT}
 
 -- a node as it is answered: its Normalized Path and its tree
-abbrev pub answer_of : Node → List ℕ × Tree
-answer_of n = (normal n.location, n.tree)
+abbrev pub path_and_tree : Node → List ℕ × Tree
+path_and_tree n = (normal n.location, n.tree)
 
 -- A sink, without where its values lie in memory. Beside the values stands which of them are whole.
 pub data Seen : Type 0 where
@@ -64,7 +64,7 @@ start wanted.Values = values [] []
 
 -- every node of a whole document is whole
 abbrev pub add : Seen → Node → Seen
-add (nodes bs ns) n = nodes (bs ++ true ∷ []) (ns ++ answer_of n ∷ [])
+add (nodes bs ns) n = nodes (bs ++ true ∷ []) (ns ++ path_and_tree n ∷ [])
 add (paths ps) n = paths (ps ++ normal n.location ∷ [])
 add (values bs ts) n = values (bs ++ true ∷ []) (ts ++ n.tree ∷ [])
 add (locations ls) n = locations (ls ++ n.location ∷ [])
@@ -74,7 +74,7 @@ add (count k) n = count (min (suc k) GREATEST_COUNT)
 add nothing n = one true n.tree
 add (one b t) n = several
 add several n = several
-add (first None) n = first (Some (true, answer_of n))
+add (first None) n = first (Some (true, path_and_tree n))
 add (first (Some p)) n = first (Some p)
 
 abbrev pub give : Seen → List Node → Seen

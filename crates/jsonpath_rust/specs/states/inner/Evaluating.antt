@@ -8,7 +8,7 @@ use Rattle.jsonpath_rust.specs.documents.Document.{Document}
 use Rattle.jsonpath_rust.specs.documents.Node.{children}
 use Rattle.jsonpath_rust.specs.documents.Patterns.{filter_patterns, selectors_patterns}
 use Rattle.jsonpath_rust.specs.states.Process.{holds_at, joined_from}
-use Rattle.jsonpath_rust.specs.states.State.{Place, Content, nothing, named_from, children_from, indexed_from, sliced_from, parents_from, kept_from, found_from, has_parts, pointers}
+use Rattle.jsonpath_rust.specs.states.State.{Target, Content, nothing, named_from, children_from, indexed_from, sliced_from, parents_from, kept_from, found_from, has_parts, pointers}
 use Rattle.jsonpath_rust.specs.documents.inner.Parts.{selectors_in}
 use Rattle.jsonpath_rust.specs.declared.states.evaluate.segments.Part.{Part}
 use Rattle.jsonpath_rust.specs.declared.states.evaluate.segments.Part.TheVariants.{Name, Wildcard, Index, Slice, Parents, Kept, Joined}
@@ -18,11 +18,11 @@ use Rattle.jsonpath_rust.specs.declared.states.state.data.Data.{Data}
 use Rattle.jsonpath_rust.specs.declared.states.state.pointer.Pointer.{Pointer}
 
 -- the children of a list or an object
-abbrev pub parts_from : Place → Option (List Place)
+abbrev pub parts_from : Target → Option (List Target)
 parts_from p = if has_parts p.tree then Some (found_from p children) else None
 
 -- what a part makes of one node
-abbrev pub part_content : Part → Document → Place → Content
+abbrev pub part_content : Part → Document → Target → Content
 part_content (Name s) d p = named_from (string_bytes s.now) p
 part_content Wildcard d p = children_from p
 part_content (Index i) d p = indexed_from i p

@@ -1,6 +1,6 @@
 //! Whether a part of a plan has no `@`, as its own parts show: a call or a comparison without one is a number already.
 ghost use Rattle.std.specs.Prelude.{◌&&◌, IsTrue};
-ghost use Rattle.jsonpath_rust.specs.selection.inner.PlanViews.{Kept, AreRooted, argument_view, arguments_in, call_view, called_view, filter_view, filters_in, nodes_view, side_view};
+ghost use Rattle.jsonpath_rust.specs.selection.inner.PlanViews.{Kept, AreRooted, argument_view, arguments_meant, call_view, called_view, filter_view, filters_meant, nodes_view, side_view};
 ghost use Rattle.jsonpath_rust.specs.selection.inner.Rooted.{argument_is_rooted, arguments_are_rooted, call_is_rooted, comparable_is_rooted, filter_is_rooted, filters_are_rooted, test_is_rooted};
 ghost use Rattle.jsonpath_rust.specs.declared.selection.sink.Wanted.{Wanted};
 ghost use Rattle.jsonpath_rust.specs.declared.selection.sink.Wanted.TheVariants.{Only};
@@ -49,7 +49,7 @@ fn are_both_rooted(left: &Argument, right: &Argument) -> bool
 
 /// Whether no argument has an `@`.
 fn are_rooted(args: &[Argument]) -> bool
-    ensures { IsTrue result → (kept : Kept) → AreRooted kept → IsTrue (arguments_are_rooted (arguments_in kept args.now)) }
+    ensures { IsTrue result → (kept : Kept) → AreRooted kept → IsTrue (arguments_are_rooted (arguments_meant kept args.now)) }
 {
     'each: for arg in args {
         if !is_rooted(arg) {
@@ -91,7 +91,7 @@ fn is_rooted_filter(filter: &Filter) -> bool
 /// Whether no filter has an `@`.
 #[cycle(absolute)]
 fn are_rooted_filters(filters: &[Filter]) -> bool
-    ensures { IsTrue result → (kept : Kept) → AreRooted kept → IsTrue (filters_are_rooted (filters_in kept filters.now)) }
+    ensures { IsTrue result → (kept : Kept) → AreRooted kept → IsTrue (filters_are_rooted (filters_meant kept filters.now)) }
 {
     'each: for filter in filters {
         if !is_rooted_filter(filter) {

@@ -2,7 +2,7 @@
 ghost use Rattle.std.specs.Prelude.{◌≡◌, ◌<◌, [], length, map, IfSome, IfNone};
 ghost use Rattle.jsonpath_parser.specs.tree.Syntax as tree;
 ghost use Rattle.jsonpath_parser.specs.tree.View.{operator_view, step_view};
-ghost use Rattle.jsonpath_rust.specs.selection.inner.PlanViews.{kept_view, part_at, nodes, value, answered, compared, query_at, segments_in, steps_at, call_at, call_view, comparison_at, side_view};
+ghost use Rattle.jsonpath_rust.specs.selection.inner.PlanViews.{kept_view, part_at, nodes, value, answered, compared, query_at, segments_meant, steps_at, call_at, call_view, comparison_at, side_view};
 
 use super::keeping::is_same_wanted;
 use super::{Call, Plan, Rooted, Segment, Side};
@@ -13,7 +13,7 @@ impl Plan {
     /// The segments of the query from the root that is kept under this number, where this is wanted of its nodes.
     #[inline(always)]
     pub fn kept_segments(&self, number: usize, wanted: Wanted) -> Option<&[Segment]>
-        ensures part { IfSome result (λ gs. part_at (kept_view self.now.kept.items) number ≡ nodes wanted (segments_in (kept_view self.now.kept.items) gs.now)) }
+        ensures part { IfSome result (λ gs. part_at (kept_view self.now.kept.items) number ≡ nodes wanted (segments_meant (kept_view self.now.kept.items) gs.now)) }
         ensures within { IfSome result (λ gs. number < length (kept_view self.now.kept.items)) }
         ensures none { IfNone result (query_at (kept_view self.now.kept.items) wanted number ≡ tree.no_segments) }
     {

@@ -99,7 +99,10 @@ impl<'q> Maker<'q> {
         ensures memory { IfErr result (λ e. e ≡ OutOfMemory) }
     {
         match self.found(met.source) {
-            Some(number) => Ok(number),
+            Some(number) => {
+                drop(part);
+                Ok(number)
+            }
             None => self.keep(part, Turn::Asked, met),
         }
     }

@@ -1,8 +1,8 @@
 //! How the data of two states compares.
 ghost use Rattle.std.specs.Prelude.{◌≡◌, Some, All, map, IsTrue};
 ghost use Rattle.jsonpath_parser.specs.tree.View.{operator_view};
-ghost use Rattle.jsonpath_rust.specs.states.Process.{plain, lists_same, lists_places, values_same, contents_equal, is_content_below, contents_compare};
-ghost use Rattle.jsonpath_rust.specs.states.State.{places_of, content_of, PointersAreWhole, DataIsWhole};
+ghost use Rattle.jsonpath_rust.specs.states.Process.{plain, lists_same, lists_targets, values_same, contents_equal, is_content_below, contents_compare};
+ghost use Rattle.jsonpath_rust.specs.states.State.{targets_of, content_of, PointersAreWhole, DataIsWhole};
 
 use crate::documents::comparison::{Side, is_below};
 use crate::documents::queryable::Queryable;
@@ -66,7 +66,7 @@ fn is_same_value<'a, T: Queryable>(given: &Data<'a, T>, other: &T) -> bool
 fn are_elements<'a, T: Queryable>(list: &T, nodes: &[Pointer<'a, T>]) -> bool
     requires left { IsTrue (T.is_whole list.now) }
     requires right { PointersAreWhole T.is_whole nodes.now }
-    ensures { result ≡ lists_places (T.tree list.now) (places_of T.tree nodes.now) }
+    ensures { result ≡ lists_targets (T.tree list.now) (targets_of T.tree nodes.now) }
 {
     match list.as_array() {
         Some(items) => are_same_values(items, nodes),

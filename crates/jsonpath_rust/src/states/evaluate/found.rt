@@ -3,7 +3,7 @@ ghost use Rattle.std.specs.Prelude.{◌≡◌, ◌++◌, [], All, map, option_ma
 ghost use Rattle.jsonpath_parser.specs.Location as location;
 ghost use Rattle.jsonpath_parser.specs.declared.errors.JsonPathError.TheVariants.{OutOfMemory};
 ghost use Rattle.jsonpath_rust.specs.documents.Node.{below, element_nodes, member_nodes};
-ghost use Rattle.jsonpath_rust.specs.states.State.{under, named_from, indexed_from, children_from, sliced_from, parents_in, parents_from, place_of, places_of, content_of, PointersAreWhole, DataIsWhole};
+ghost use Rattle.jsonpath_rust.specs.states.State.{under, named_from, indexed_from, children_from, sliced_from, parents_in, parents_from, target_of, targets_of, content_of, PointersAreWhole, DataIsWhole};
 ghost use Rattle.jsonpath_rust.specs.states.inner.Evaluating.{parts_from};
 
 use crate::documents::Queried;
@@ -20,7 +20,7 @@ pub fn named<'a, T: Queryable>(
     key: &str,
 ) -> Queried<Data<'a, T>>
     requires { IsTrue (T.is_whole from.now.inner.now) }
-    ensures value { IfOk result (λ d. content_of T.tree d ≡ named_from key.now (place_of T.tree from.now)) }
+    ensures value { IfOk result (λ d. content_of T.tree d ≡ named_from key.now (target_of T.tree from.now)) }
     ensures whole { IfOk result (λ d. DataIsWhole T.is_whole d) }
     ensures memory { IfErr result (λ e. e ≡ OutOfMemory) }
 {
@@ -37,7 +37,7 @@ pub fn element_from<'a, T: Queryable>(
     index: i64,
 ) -> Queried<Data<'a, T>>
     requires { IsTrue (T.is_whole from.now.inner.now) }
-    ensures value { IfOk result (λ d. content_of T.tree d ≡ indexed_from index (place_of T.tree from.now)) }
+    ensures value { IfOk result (λ d. content_of T.tree d ≡ indexed_from index (target_of T.tree from.now)) }
     ensures whole { IfOk result (λ d. DataIsWhole T.is_whole d) }
     ensures memory { IfErr result (λ e. e ≡ OutOfMemory) }
 {
@@ -50,7 +50,7 @@ pub fn element_from<'a, T: Queryable>(
 /// All children.
 pub fn wildcard<'a, T: Queryable>(alloc: Global, from: &Pointer<'a, T>) -> Queried<Data<'a, T>>
     requires { IsTrue (T.is_whole from.now.inner.now) }
-    ensures value { IfOk result (λ d. content_of T.tree d ≡ children_from (place_of T.tree from.now)) }
+    ensures value { IfOk result (λ d. content_of T.tree d ≡ children_from (target_of T.tree from.now)) }
     ensures whole { IfOk result (λ d. DataIsWhole T.is_whole d) }
     ensures memory { IfErr result (λ e. e ≡ OutOfMemory) }
 {
@@ -75,7 +75,7 @@ pub fn sliced<'a, T: Queryable>(
     step: Option<i64>,
 ) -> Queried<Data<'a, T>>
     requires { IsTrue (T.is_whole from.now.inner.now) }
-    ensures value { IfOk result (λ d. content_of T.tree d ≡ sliced_from start end step (place_of T.tree from.now)) }
+    ensures value { IfOk result (λ d. content_of T.tree d ≡ sliced_from start end step (target_of T.tree from.now)) }
     ensures whole { IfOk result (λ d. DataIsWhole T.is_whole d) }
     ensures memory { IfErr result (λ e. e ≡ OutOfMemory) }
 {
@@ -95,7 +95,7 @@ pub fn sliced<'a, T: Queryable>(
 /// The lists and objects there and below.
 pub fn parents<'a, T: Queryable>(alloc: Global, from: &Pointer<'a, T>) -> Queried<Data<'a, T>>
     requires { IsTrue (T.is_whole from.now.inner.now) }
-    ensures value { IfOk result (λ d. content_of T.tree d ≡ parents_from (place_of T.tree from.now)) }
+    ensures value { IfOk result (λ d. content_of T.tree d ≡ parents_from (target_of T.tree from.now)) }
     ensures whole { IfOk result (λ d. DataIsWhole T.is_whole d) }
     ensures memory { IfErr result (λ e. e ≡ OutOfMemory) }
 {
@@ -115,7 +115,7 @@ fn push_parents<'a, T: Queryable>(
 ) -> Queried<()>
     requires whole { IsTrue (T.is_whole from.now.inner.now) }
     requires others { PointersAreWhole T.is_whole found.old.items }
-    ensures value { OnOk result (places_of T.tree found.new.items ≡ places_of T.tree found.old.items ++ parents_in (place_of T.tree from.now)) }
+    ensures value { OnOk result (targets_of T.tree found.new.items ≡ targets_of T.tree found.old.items ++ parents_in (target_of T.tree from.now)) }
     ensures whole { OnOk result (PointersAreWhole T.is_whole found.new.items) }
     ensures memory { IfErr result (λ e. e ≡ OutOfMemory) }
 {
@@ -135,7 +135,7 @@ pub fn parts<'a, T: Queryable>(
     from: &Pointer<'a, T>,
 ) -> Queried<Option<Vec<Pointer<'a, T>>>>
     requires { IsTrue (T.is_whole from.now.inner.now) }
-    ensures value { IfOk result (λ o. option_map (λ v. places_of T.tree v.items) o ≡ parts_from (place_of T.tree from.now)) }
+    ensures value { IfOk result (λ o. option_map (λ v. targets_of T.tree v.items) o ≡ parts_from (target_of T.tree from.now)) }
     ensures whole { IfOk result (λ o. IfSome o (λ v. PointersAreWhole T.is_whole v.items)) }
     ensures memory { IfErr result (λ e. e ≡ OutOfMemory) }
 {
@@ -154,7 +154,7 @@ fn elements<'a, T: Queryable>(
     items: &'a [T],
 ) -> Queried<Vec<Pointer<'a, T>>>
     requires { All (λ x. IsTrue (T.is_whole x)) items.now }
-    ensures value { IfOk result (λ v. places_of T.tree v.items ≡ map (under (place_of T.tree from.now).path) (element_nodes [] 0 (map T.tree items.now))) }
+    ensures value { IfOk result (λ v. targets_of T.tree v.items ≡ map (under (target_of T.tree from.now).path) (element_nodes [] 0 (map T.tree items.now))) }
     ensures whole { IfOk result (λ v. PointersAreWhole T.is_whole v.items) }
     ensures memory { IfErr result (λ e. e ≡ OutOfMemory) }
 {
@@ -171,7 +171,7 @@ fn members<'a, T: Queryable>(
     pairs: &[(&'a str, &'a T)],
 ) -> Queried<Vec<Pointer<'a, T>>>
     requires { All (λ m. IsTrue (T.is_whole m.1.now)) pairs.now }
-    ensures value { IfOk result (λ v. places_of T.tree v.items ≡ map (under (place_of T.tree from.now).path) (member_nodes [] (map (λ m. (m.0.now, T.tree m.1.now)) pairs.now))) }
+    ensures value { IfOk result (λ v. targets_of T.tree v.items ≡ map (under (target_of T.tree from.now).path) (member_nodes [] (map (λ m. (m.0.now, T.tree m.1.now)) pairs.now))) }
     ensures whole { IfOk result (λ v. PointersAreWhole T.is_whole v.items) }
     ensures memory { IfErr result (λ e. e ≡ OutOfMemory) }
 {
@@ -189,7 +189,7 @@ fn below_name<'a, T: Queryable>(
     key: &str,
     inner: &'a T,
 ) -> Queried<Pointer<'a, T>>
-    ensures value { IfOk result (λ p. place_of T.tree p ≡ under (place_of T.tree from.now).path (below [] (location.name key.now) (T.tree inner.now))) }
+    ensures value { IfOk result (λ p. target_of T.tree p ≡ under (target_of T.tree from.now).path (below [] (location.name key.now) (T.tree inner.now))) }
     ensures inner { IfOk result (λ p. p.inner.now ≡ inner.now) }
     ensures memory { IfErr result (λ e. e ≡ OutOfMemory) }
 {
@@ -204,7 +204,7 @@ fn below_index<'a, T: Queryable>(
     index: usize,
     inner: &'a T,
 ) -> Queried<Pointer<'a, T>>
-    ensures value { IfOk result (λ p. place_of T.tree p ≡ under (place_of T.tree from.now).path (below [] (location.index index) (T.tree inner.now))) }
+    ensures value { IfOk result (λ p. target_of T.tree p ≡ under (target_of T.tree from.now).path (below [] (location.index index) (T.tree inner.now))) }
     ensures inner { IfOk result (λ p. p.inner.now ≡ inner.now) }
     ensures memory { IfErr result (λ e. e ≡ OutOfMemory) }
 {

@@ -4,7 +4,7 @@ ghost use Rattle.jsonpath_parser.specs.tree.View.{segment_view, selector_view, f
 ghost use Rattle.jsonpath_rust.specs.documents.Document.{document_of};
 ghost use Rattle.jsonpath_rust.specs.documents.Patterns.{segments_patterns, segment_patterns, selectors_patterns, selector_patterns, filter_patterns};
 ghost use Rattle.jsonpath_rust.specs.states.Process.{several_content, segments_content, segment_content, selector_content, joined_from, holds_at};
-ghost use Rattle.jsonpath_rust.specs.states.State.{nothing, ref, mapped, kept_from, place_of, content_of, DataIsWhole};
+ghost use Rattle.jsonpath_rust.specs.states.State.{nothing, ref, mapped, kept_from, target_of, content_of, DataIsWhole};
 ghost use Rattle.jsonpath_rust.specs.states.inner.Evaluating.{part_content, part_patterns, HaltsBelow};
 ghost use Rattle.jsonpath_rust.specs.documents.inner.Parts.{segments_in, selectors_in};
 
@@ -71,7 +71,7 @@ pub fn segment_data<'a, T: Queryable>(
         Segment::Selector(one) => selector_data(alloc, one, given, root),
         Segment::Selectors(several) => several_data(alloc, several, given, root),
         Segment::Descendant(inner) => {
-            let below = each_place(alloc, Part::Parents, given, root)?;
+            let below = each_target(alloc, Part::Parents, given, root)?;
             segment_data(alloc, inner, below, root)
         }
     }
@@ -93,7 +93,7 @@ fn several_data<'a, T: Queryable>(
 {
     match selectors.split_first() {
         None => Ok(Data::Nothing),
-        Some((_first, _rest)) => each_place(alloc, Part::Joined(selectors), given, root),
+        Some((_first, _rest)) => each_target(alloc, Part::Joined(selectors), given, root),
     }
 }
 
@@ -112,19 +112,19 @@ pub fn selector_data<'a, T: Queryable>(
     ensures refused { IfErr result (HaltsBelow (selector_patterns (selector_view selector.now)) (document_of T.tree T.custom root.now) (content_of T.tree given.entry)) }
 {
     match selector {
-        Selector::Name(name) => each_place(alloc, Part::Name(name), given, root),
-        Selector::Wildcard => each_place(alloc, Part::Wildcard, given, root),
-        Selector::Index(index) => each_place(alloc, Part::Index(*index), given, root),
+        Selector::Name(name) => each_target(alloc, Part::Name(name), given, root),
+        Selector::Wildcard => each_target(alloc, Part::Wildcard, given, root),
+        Selector::Index(index) => each_target(alloc, Part::Index(*index), given, root),
         Selector::Slice(start, end, step) => {
-            each_place(alloc, Part::Slice(*start, *end, *step), given, root)
+            each_target(alloc, Part::Slice(*start, *end, *step), given, root)
         }
-        Selector::Filter(filter) => each_place(alloc, Part::Kept(filter), given, root),
+        Selector::Filter(filter) => each_target(alloc, Part::Kept(filter), given, root),
     }
 }
 
 /// The part at each node, as `flat_map` joins them.
 #[cycle(evaluate)]
-pub fn each_place<'a, T: Queryable>(
+pub fn each_target<'a, T: Queryable>(
     alloc: Global,
     part: Part<'_>,
     given: Data<'a, T>,
@@ -137,11 +137,11 @@ pub fn each_place<'a, T: Queryable>(
     ensures refused { IfErr result (HaltsBelow (part_patterns part.entry) (document_of T.tree T.custom root.now) (content_of T.tree given.entry)) }
 {
     match given {
-        Data::Ref(from) => at_place(alloc, part, &from, root),
-        Data::Refs(places) => {
+        Data::Ref(from) => at_target(alloc, part, &from, root),
+        Data::Refs(targets) => {
             let mut all = Vec::new(alloc);
-            for from in &places {
-                let found = at_place(alloc, part, from, root)?;
+            for from in &targets {
+                let found = at_target(alloc, part, from, root)?;
                 push_nodes(&mut all, found)?;
             }
             Ok(Data::Refs(all))
@@ -153,7 +153,7 @@ pub fn each_place<'a, T: Queryable>(
 
 /// The part at a node.
 #[cycle(evaluate)]
-fn at_place<'a, T: Queryable>(
+fn at_target<'a, T: Queryable>(
     alloc: Global,
     part: Part<'_>,
     from: &Pointer<'a, T>,
@@ -161,9 +161,9 @@ fn at_place<'a, T: Queryable>(
 ) -> Walked<Data<'a, T>>
     requires root { IsTrue (T.is_whole root.now) }
     requires whole { IsTrue (T.is_whole from.now.inner.now) }
-    ensures value { IfOk result (λ d. content_of T.tree d ≡ part_content part.entry (document_of T.tree T.custom root.now) (place_of T.tree from.now)) }
+    ensures value { IfOk result (λ d. content_of T.tree d ≡ part_content part.entry (document_of T.tree T.custom root.now) (target_of T.tree from.now)) }
     ensures whole { IfOk result (λ d. DataIsWhole T.is_whole d) }
-    ensures refused { IfErr result (HaltsBelow (part_patterns part.entry) (document_of T.tree T.custom root.now) (ref (place_of T.tree from.now))) }
+    ensures refused { IfErr result (HaltsBelow (part_patterns part.entry) (document_of T.tree T.custom root.now) (ref (target_of T.tree from.now))) }
 {
     match part {
         Part::Name(name) => Ok(named(alloc, from, name)?),
@@ -186,9 +186,9 @@ fn kept<'a, T: Queryable>(
 ) -> Walked<Data<'a, T>>
     requires root { IsTrue (T.is_whole root.now) }
     requires whole { IsTrue (T.is_whole from.now.inner.now) }
-    ensures value { IfOk result (λ d. content_of T.tree d ≡ kept_from (holds_at (filter_view filter.now) (document_of T.tree T.custom root.now)) (place_of T.tree from.now)) }
+    ensures value { IfOk result (λ d. content_of T.tree d ≡ kept_from (holds_at (filter_view filter.now) (document_of T.tree T.custom root.now)) (target_of T.tree from.now)) }
     ensures whole { IfOk result (λ d. DataIsWhole T.is_whole d) }
-    ensures refused { IfErr result (HaltsBelow (filter_patterns (filter_view filter.now)) (document_of T.tree T.custom root.now) (ref (place_of T.tree from.now))) }
+    ensures refused { IfErr result (HaltsBelow (filter_patterns (filter_view filter.now)) (document_of T.tree T.custom root.now) (ref (target_of T.tree from.now))) }
 {
     match parts(alloc, from)? {
         Some(children) => {
@@ -214,9 +214,9 @@ fn joined<'a, T: Queryable>(
 ) -> Walked<Data<'a, T>>
     requires root { IsTrue (T.is_whole root.now) }
     requires whole { IsTrue (T.is_whole from.now.inner.now) }
-    ensures value { IfOk result (λ d. content_of T.tree d ≡ joined_from (selectors_in selectors.now) (document_of T.tree T.custom root.now) nothing (place_of T.tree from.now)) }
+    ensures value { IfOk result (λ d. content_of T.tree d ≡ joined_from (selectors_in selectors.now) (document_of T.tree T.custom root.now) nothing (target_of T.tree from.now)) }
     ensures whole { IfOk result (λ d. DataIsWhole T.is_whole d) }
-    ensures refused { IfErr result (HaltsBelow (selectors_patterns (selectors_in selectors.now)) (document_of T.tree T.custom root.now) (ref (place_of T.tree from.now))) }
+    ensures refused { IfErr result (HaltsBelow (selectors_patterns (selectors_in selectors.now)) (document_of T.tree T.custom root.now) (ref (target_of T.tree from.now))) }
 {
     let mut all = Data::Nothing;
     for selector in selectors {

@@ -5,7 +5,7 @@ ghost use Rattle.jsonpath_parser.specs.tree.View.{test_view};
 ghost use Rattle.jsonpath_parser.specs.declared.errors.JsonPathError.TheVariants.{OutOfMemory};
 ghost use Rattle.jsonpath_rust.specs.states.Process as process;
 ghost use Rattle.jsonpath_rust.specs.states.Process.{is_truth, test_truth};
-ghost use Rattle.jsonpath_rust.specs.states.State.{places, place_of, places_of, content_of, PointersAreWhole, DataIsWhole};
+ghost use Rattle.jsonpath_rust.specs.states.State.{targets, target_of, targets_of, content_of, PointersAreWhole, DataIsWhole};
 ghost use Rattle.jsonpath_rust.specs.declared.documents.halt.Halt.TheVariants.{Memory};
 
 use crate::documents::Queried;
@@ -28,8 +28,8 @@ pub fn is_true<'a, T: Queryable>(given: &Data<'a, T>) -> bool
 }
 
 /// Whether it has a node.
-fn has_place<'a, T: Queryable>(given: &Data<'a, T>) -> bool
-    ensures { result ≡ process.has_place (places (content_of T.tree given.now)) }
+fn has_target<'a, T: Queryable>(given: &Data<'a, T>) -> bool
+    ensures { result ≡ process.has_target (targets (content_of T.tree given.now)) }
 {
     match given {
         Data::Ref(_) => true,
@@ -52,7 +52,7 @@ pub fn test_answer<'a, T: Queryable>(
     ensures memory { IfErr result (λ h. h ≡ Memory) }
 {
     if !test.is_res_bool() {
-        truth_data(alloc, has_place(&answer) != not)
+        truth_data(alloc, has_target(&answer) != not)
     } else if not {
         truth_data(alloc, !is_true(&answer))
     } else {
@@ -69,7 +69,7 @@ pub fn keep_if<'a, T: Queryable>(
 ) -> Queried<()>
     requires own { IsTrue (T.is_whole pointer.now.inner.now) }
     requires others { PointersAreWhole T.is_whole found.old.items }
-    ensures value { OnOk result (places_of T.tree found.new.items ≡ places_of T.tree found.old.items ++ cond is_kept (place_of T.tree pointer.now ∷ []) []) }
+    ensures value { OnOk result (targets_of T.tree found.new.items ≡ targets_of T.tree found.old.items ++ cond is_kept (target_of T.tree pointer.now ∷ []) []) }
     ensures whole { OnOk result (PointersAreWhole T.is_whole found.new.items) }
     ensures memory { IfErr result (λ e. e ≡ OutOfMemory) }
 {

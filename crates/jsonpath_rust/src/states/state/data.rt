@@ -1,8 +1,8 @@
 //! What a state holds.
-ghost use Rattle.std.specs.Prelude.{◌≡◌, ◌⊎◌, ◌++◌, map, Ok, Err, IsTrue, IfOk, IfErr, OnOk, option_map};
+ghost use Rattle.std.specs.Prelude.{◌≡◌, ◌⊎◌, [], ◌∷◌, ◌++◌, map, Ok, Err, IsTrue, IfOk, IfErr, OnOk, option_map};
 ghost use Rattle.std.specs.List.{AllByRecursion};
 ghost use Rattle.jsonpath_parser.specs.declared.errors.JsonPathError.TheVariants.{OutOfMemory};
-ghost use Rattle.jsonpath_rust.specs.states.State.{Content, ref, refs, nothing, place_of, places_of, content_of, pointers, PointersAreWhole, DataIsWhole, ok_refs, ok_value, contents_same, places_same, reduced, Made, GivesWhole, SomeHas};
+ghost use Rattle.jsonpath_rust.specs.states.State.{Content, ref, refs, nothing, target_of, targets_of, content_of, pointers, PointersAreWhole, DataIsWhole, ok_refs, ok_value, contents_same, targets_same, reduced, Made, GivesWhole, SomeHas};
 
 use crate::documents::Queried;
 use crate::documents::queryable::Queryable;
@@ -25,7 +25,7 @@ pub enum Data<'a, T> {
 impl<'a, T: Queryable> Data<'a, T> {
     /// One node.
     pub fn new_ref(pointer: Pointer<'a, T>) -> Self
-        ensures content { content_of T.tree result ≡ ref (place_of T.tree pointer.entry) }
+        ensures content { content_of T.tree result ≡ ref (target_of T.tree pointer.entry) }
         ensures whole { IsTrue (T.is_whole pointer.entry.inner.now) → DataIsWhole T.is_whole result }
     {
         Data::Ref(pointer)
@@ -33,7 +33,7 @@ impl<'a, T: Queryable> Data<'a, T> {
 
     /// Nodes, in this order.
     pub fn new_refs(pointers: Vec<Pointer<'a, T>>) -> Self
-        ensures content { content_of T.tree result ≡ refs (places_of T.tree pointers.entry.items) }
+        ensures content { content_of T.tree result ≡ refs (targets_of T.tree pointers.entry.items) }
         ensures whole { PointersAreWhole T.is_whole pointers.entry.items → DataIsWhole T.is_whole result }
     {
         Data::Refs(pointers)
@@ -48,39 +48,19 @@ impl<'a, T: Queryable> Data<'a, T> {
     {
         match self {
             Data::Ref(p) => match other {
-                Data::Ref(q) => {
-                    let mut all = Vec::new(alloc);
-                    all.push(p)?;
-                    all.push(q)?;
-                    Ok(Data::Refs(all))
-                }
-                Data::Refs(mut qs) => {
-                    let mut all = Vec::new(alloc);
-                    all.push(p)?;
-                    all.append(&mut qs)?;
-                    Ok(Data::Refs(all))
-                }
+                Data::Ref(q) => behind(one_pointer(alloc, p)?, Data::Ref(q)),
+                Data::Refs(qs) => behind(one_pointer(alloc, p)?, Data::Refs(qs)),
                 Data::Value(_value) => Ok(Data::Nothing),
                 Data::Nothing => Ok(Data::Ref(p)),
             },
-            Data::Refs(mut ps) => match other {
-                Data::Ref(q) => {
-                    ps.push(q)?;
-                    Ok(Data::Refs(ps))
-                }
-                Data::Refs(mut qs) => {
-                    ps.append(&mut qs)?;
-                    Ok(Data::Refs(ps))
-                }
-                Data::Value(_value) => Ok(Data::Nothing),
-                Data::Nothing => Ok(Data::Refs(ps)),
-            },
-            Data::Value(_value) => Ok(Data::Nothing),
+            Data::Refs(ps) => behind(ps, other),
+            Data::Value(_value) => {
+                drop(other);
+                Ok(Data::Nothing)
+            }
             Data::Nothing => match other {
-                Data::Ref(q) => Ok(Data::Ref(q)),
-                Data::Refs(qs) => Ok(Data::Refs(qs)),
                 Data::Value(_value) => Ok(Data::Nothing),
-                Data::Nothing => Ok(Data::Nothing),
+                nodes => Ok(nodes),
             },
         }
     }
@@ -235,12 +215,47 @@ pub(crate) fn push_nodes<'a, T: Queryable>(
     }
 }
 
+/// A list of one node.
+fn one_pointer<'a, T: Queryable>(
+    alloc: Global,
+    pointer: Pointer<'a, T>,
+) -> Queried<Vec<Pointer<'a, T>>>
+    ensures value { IfOk result (λ v. targets_of T.tree v.items ≡ target_of T.tree pointer.entry ∷ []) }
+    ensures whole { IsTrue (T.is_whole pointer.entry.inner.now) → IfOk result (λ v. PointersAreWhole T.is_whole v.items) }
+    ensures memory { IfErr result (λ e. e ≡ OutOfMemory) }
+{
+    let mut all = Vec::new(alloc);
+    all.push(pointer)?;
+    Ok(all)
+}
+
+/// These nodes, and the other's behind them, where it has nodes or is nothing; and else nothing.
+fn behind<'a, T: Queryable>(nodes: Vec<Pointer<'a, T>>, other: Data<'a, T>) -> Queried<Data<'a, T>>
+    ensures value { IfOk result (λ d. content_of T.tree d ≡ reduced (refs (targets_of T.tree nodes.entry.items)) (content_of T.tree other.entry)) }
+    ensures whole { PointersAreWhole T.is_whole nodes.entry.items → DataIsWhole T.is_whole other.entry → IfOk result (λ d. DataIsWhole T.is_whole d) }
+    ensures memory { IfErr result (λ e. e ≡ OutOfMemory) }
+{
+    let mut all = nodes;
+    match other {
+        Data::Ref(q) => {
+            all.push(q)?;
+            Ok(Data::Refs(all))
+        }
+        Data::Refs(mut qs) => {
+            all.append(&mut qs)?;
+            Ok(Data::Refs(all))
+        }
+        Data::Value(_value) => Ok(Data::Nothing),
+        Data::Nothing => Ok(Data::Refs(all)),
+    }
+}
+
 /// Copies of the pointers.
 fn copied<'a, T: Queryable>(
     alloc: Global,
     pointers: &[Pointer<'a, T>],
 ) -> Queried<Vec<Pointer<'a, T>>>
-    ensures value { IfOk result (λ v. places_of T.tree v.items ≡ places_of T.tree pointers.now) }
+    ensures value { IfOk result (λ v. targets_of T.tree v.items ≡ targets_of T.tree pointers.now) }
     ensures whole { PointersAreWhole T.is_whole pointers.now → IfOk result (λ v. PointersAreWhole T.is_whole v.items) }
     ensures memory { IfErr result (λ e. e ≡ OutOfMemory) }
 {
@@ -255,7 +270,7 @@ fn copied<'a, T: Queryable>(
 pub(crate) fn are_same<'a, T: Queryable>(left: &[Pointer<'a, T>], right: &[Pointer<'a, T>]) -> bool
     requires left { PointersAreWhole T.is_whole left.now }
     requires right { PointersAreWhole T.is_whole right.now }
-    ensures { result ≡ places_same (places_of T.tree left.now) (places_of T.tree right.now) }
+    ensures { result ≡ targets_same (targets_of T.tree left.now) (targets_of T.tree right.now) }
 {
     if left.len() != right.len() {
         return false;

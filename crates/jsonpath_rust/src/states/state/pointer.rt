@@ -3,7 +3,7 @@ ghost use Rattle.std.specs.Prelude.{◌≡◌, ◌↔◌, ◌++◌, [], IsTrue, 
 ghost use Rattle.jsonpath_parser.specs.Location.{name, index};
 ghost use Rattle.jsonpath_parser.specs.Normal.{step_text};
 ghost use Rattle.jsonpath_parser.specs.declared.errors.JsonPathError.TheVariants.{OutOfMemory};
-ghost use Rattle.jsonpath_rust.specs.states.State.{ref, place_of, contents_same};
+ghost use Rattle.jsonpath_rust.specs.states.State.{ref, target_of, contents_same};
 
 use crate::documents::queryable::Queryable;
 use crate::documents::{Queried, QueryPath, QueryRef};
@@ -52,7 +52,7 @@ impl<'a, T: Queryable> Pointer<'a, T> {
     pub fn empty(alloc: Global, inner: &'a T) -> Self
         ensures inner { result.inner.now ≡ inner.now }
         ensures path { string_bytes result.path ≡ [] }
-        ensures seen { place_of T.tree result ≡ record { path = []; tree = T.tree inner.now } }
+        ensures seen { target_of T.tree result ≡ record { path = []; tree = T.tree inner.now } }
     {
         Pointer {
             inner,
@@ -71,7 +71,7 @@ impl<'a, T: Queryable> Pointer<'a, T> {
     pub fn try_clone(&self, alloc: Global) -> Queried<Self>
         ensures inner { IfOk result (λ p. p.inner.now ≡ self.now.inner.now) }
         ensures path { IfOk result (λ p. string_bytes p.path ≡ string_bytes self.now.path) }
-        ensures seen { IfOk result (λ p. place_of T.tree p ≡ place_of T.tree self.now) }
+        ensures seen { IfOk result (λ p. target_of T.tree p ≡ target_of T.tree self.now) }
         ensures memory { IfErr result (λ e. e ≡ OutOfMemory) }
     {
         Ok(Pointer {
@@ -85,7 +85,7 @@ impl<'a, T: Queryable> Pointer<'a, T> {
     pub fn equal(&self, other: &Self) -> bool
         requires left { IsTrue (T.is_whole self.now.inner.now) }
         requires right { IsTrue (T.is_whole other.now.inner.now) }
-        ensures { result ≡ contents_same (ref (place_of T.tree self.now)) (ref (place_of T.tree other.now)) }
+        ensures { result ≡ contents_same (ref (target_of T.tree self.now)) (ref (target_of T.tree other.now)) }
     {
         self.inner.equal(other.inner) && self.path == other.path
     }

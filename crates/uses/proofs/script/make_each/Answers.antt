@@ -2,7 +2,7 @@ use Rattle.std.proofs.Common.{length, add-one, refl, subst, arith}
 use Rattle.std.proofs.lemmas.Option.{slice_get_read}
 use Rattle.std.proofs.lemmas.Result.{err_from_is_err_and}
 use Rattle.jsonpath_rust.specs.base.Values.{value_tree}
-use Rattle.uses.specs.Script.{IsRefusedIn, Makes}
+use Rattle.uses.specs.Script.{IsRefusedIn, Leaves}
 use Rattle.uses.proofs.Making.{made_next}
 use Rattle.uses.proofs.script.make_each.Goals as goal
 
@@ -24,7 +24,7 @@ returns-then-not-branch-clause-stuck c =
     let edit = c.index-edits-index.result in
     let m = value_tree c.loop-index.document in
     let u = value_tree c.make.new.document in
-    let makes = subst (λ b. Makes edit m b u) c.if-not-branch.true c.in_ok-make.ensures.made in
+    let makes = subst (λ b. Leaves edit m b u) c.if-not-branch.true c.in_ok-make.ensures.made in
     record { between = m; before = c.loop-index.invariant.0; edit = edit; there = slice_get_read edits (length edits) c.loop-index.index edit refl (omega arith) c.index-edits-index.is; is_so = (u, makes) }
 
 pub loop-index-preserved : goal.loop-index-preserved
@@ -33,5 +33,5 @@ loop-index-preserved c =
     let edit = c.index-edits-index.result in
     let m = value_tree c.loop-index.document in
     let u = value_tree c.make.new.document in
-    let makes = subst (λ b. Makes edit m b u) c.if-not-branch.false c.in_ok-make.ensures.made in
+    let makes = subst (λ b. Leaves edit m b u) c.if-not-branch.false c.in_ok-make.ensures.made in
     (rw add-one (made_next edits (value_tree c.args.document.now) m u c.loop-index.index edit (omega arith) c.index-edits-index.is c.loop-index.invariant.0 makes), c.in_ok-make.ensures.whole)

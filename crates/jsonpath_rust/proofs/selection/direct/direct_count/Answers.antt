@@ -1,5 +1,5 @@
 use Rattle.std.proofs.Common.{List, length, ap, ◌≡◌, ◌∙◌, Some}
-use Rattle.jsonpath_rust.specs.selection.inner.PlanViews.{segments_in}
+use Rattle.jsonpath_rust.specs.selection.inner.PlanViews.{segments_meant}
 use Rattle.jsonpath_rust.specs.selection.inner.Walking.{through}
 use Rattle.jsonpath_rust.specs.declared.selection.plan.Segment.{Segment}
 use Rattle.jsonpath_rust.specs.declared.selection.sink.Wanted.TheVariants.{Count}
@@ -9,5 +9,5 @@ use Rattle.jsonpath_rust.proofs.selection.direct.direct_count.Goals as goal
 
 pub returns-in-Some-clause-value : goal.returns-in-Some-clause-value
 returns-in-Some-clause-value g c = λ kept d n e.
-    let counted = of_some (λ k. k ≡ length (through (segments_in kept c.deref.result.now) d n)) _ _ c.in-Some.is (c.followed_count.ensures kept d n e) in
-    ap (λ x. Some x) c.count_scalar.ensures ∙ walk_count kept _ _ Count d n c.in-Some.count c.in-Walk.is (counted ∙ ap (λ (gs : List Segment). length (through (segments_in kept gs) d n)) c.deref.ensures.value)
+    let counted = of_some (λ k. k ≡ length (through (segments_meant kept c.deref.result.now) d n)) _ _ c.in-Some.is (c.followed_count.ensures kept d n e) in
+    ap (λ x. Some x) c.count_scalar.ensures ∙ walk_count kept _ _ Count d n c.in-Some.count c.in-Walk.is (counted ∙ ap (λ (gs : List Segment). length (through (segments_meant kept gs) d n)) c.deref.ensures.value)

@@ -3,7 +3,7 @@ use Rattle.jsonpath_parser.specs.tree.View.{step_view}
 use Rattle.jsonpath_parser.specs.declared.tree.model.SingularQuerySegment.{SingularQuerySegment}
 use Rattle.jsonpath_rust.specs.documents.Functions.{as_truth}
 use Rattle.jsonpath_rust.specs.documents.Meaning.{tested, value_at}
-use Rattle.jsonpath_rust.specs.selection.inner.PlanViews.{nodes_view, segments_in}
+use Rattle.jsonpath_rust.specs.selection.inner.PlanViews.{nodes_view, segments_meant}
 use Rattle.jsonpath_rust.specs.selection.inner.Walking.{through}
 use Rattle.jsonpath_rust.specs.declared.selection.plan.Segment.{Segment}
 use Rattle.jsonpath_rust.specs.declared.selection.sink.Wanted.TheVariants.{Any}
@@ -22,5 +22,5 @@ returns-in-Lookup g c = λ kept d n e.
 
 pub returns-in-Some : goal.returns-in-Some
 returns-in-Some g c = λ kept d n e.
-    let counted = of_some (λ k. k ≡ length (through (segments_in kept c.deref-in-Walk.result.now) d n)) _ _ c.in-Some.is (c.followed_count.ensures kept d n e) in
-    walk_there kept _ _ Any d n c.in-Some.count c.in-Walk.is (counted ∙ ap (λ (gs : List Segment). length (through (segments_in kept gs) d n)) c.deref-in-Walk.ensures.value)
+    let counted = of_some (λ k. k ≡ length (through (segments_meant kept c.deref-in-Walk.result.now) d n)) _ _ c.in-Some.is (c.followed_count.ensures kept d n e) in
+    walk_there kept _ _ Any d n c.in-Some.count c.in-Walk.is (counted ∙ ap (λ (gs : List Segment). length (through (segments_meant kept gs) d n)) c.deref-in-Walk.ensures.value)

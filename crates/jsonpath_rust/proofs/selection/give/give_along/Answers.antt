@@ -1,7 +1,7 @@
 use Rattle.std.proofs.Common.{ap, ◌∙◌, List, [], rules}
 use Rattle.jsonpath_rust.specs.declared.selection.plan.Segment.{Segment}
 use Rattle.jsonpath_rust.specs.documents.Document.{document_of}
-use Rattle.jsonpath_rust.specs.selection.inner.PlanViews.{kept_view, segments_in}
+use Rattle.jsonpath_rust.specs.selection.inner.PlanViews.{kept_view, segments_meant}
 use Rattle.jsonpath_rust.specs.selection.inner.Walking.{through, node_of}
 use Rattle.jsonpath_base.specs.declared.step.StepRef.{StepRef}
 use Rattle.jsonpath_rust.proofs.laws.selection.Entries.{as_many}
@@ -21,5 +21,5 @@ returns-clause-gave g c =
     let tree = g.T.Queryable.tree in
     let d = document_of tree g.T.Queryable.custom c.args.root.now in
     let kept = kept_view c.args.plan.now.kept.items in
-    let at = λ (q : List StepRef) (gs : List Segment). through (segments_in kept gs) d (node_of tree q c.args.root.now) in
-    result_as _ _ _ _ _ (ap (λ q. at q c.deref.result.now) c.in_ok-work_out_early.ensures.way ∙ ap (at []) c.deref.ensures.value ∙ nodelist-through (segments_in kept c.args.plan.now.segments.items) d) c.walk.ensures.gave
+    let at = λ (q : List StepRef) (gs : List Segment). through (segments_meant kept gs) d (node_of tree q c.args.root.now) in
+    result_as _ _ _ _ _ (ap (λ q. at q c.deref.result.now) c.in_ok-work_out_early.ensures.way ∙ ap (at []) c.deref.ensures.value ∙ nodelist-through (segments_meant kept c.args.plan.now.segments.items) d) c.walk.ensures.gave

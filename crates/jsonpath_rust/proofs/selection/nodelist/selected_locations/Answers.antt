@@ -8,4 +8,4 @@ use Rattle.jsonpath_rust.proofs.selection.nodelist.selected_locations.Goals as g
 
 pub returns-clause-locations : goal.returns-clause-locations
 returns-clause-locations g c =
-    c.into_locations.ensures ∙ given_locations (λ l. location_view l.items) c.new.result.items _ (nodelist (query_view c.args.query.now) (document_of g.T.Queryable.tree g.T.Queryable.custom c.args.value.now)) c.new.ensures.items c.in_ok-_goes_on.ensures.gave.given
+    c.into_locations.ensures ∙ given_locations (λ l. location_view l.items) c.new.result.items _ (nodelist (query_view c.args.query.now) (document_of g.T.Queryable.tree g.T.Queryable.custom c.args.value.now)) c.new.ensures.items c.in_ok-sink.ensures.gave

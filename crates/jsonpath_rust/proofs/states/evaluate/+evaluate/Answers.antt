@@ -12,16 +12,16 @@ use Rattle.jsonpath_base.specs.Tree.{Tree}
 use Rattle.jsonpath_rust.specs.documents.Args.{arg_value}
 use Rattle.jsonpath_rust.specs.documents.Document.{document_of}
 use Rattle.jsonpath_rust.specs.states.Process.{holds_at, some_holds_at, each_holds_at, several_content, segments_content, segment_content, selector_content, joined_from, call_content, arguments_trees, plain}
-use Rattle.jsonpath_rust.specs.states.State.{Place, Content, ref, refs, value, mapped, reduced, places, inside, indexed_from, place_of, content_of, pointers, root_content}
+use Rattle.jsonpath_rust.specs.states.State.{Target, Content, ref, refs, value, mapped, reduced, targets, inside, indexed_from, target_of, content_of, pointers, root_content}
 use Rattle.jsonpath_rust.specs.states.inner.Evaluating.{parts_from, part_content}
 use Rattle.jsonpath_rust.specs.documents.inner.Parts.{segments_in, selectors_in, filters_in, arguments_in}
 use Rattle.jsonpath_rust.specs.documents.inner.Weight.{segment_weight, segments_weight, selector_weight, selectors_weight, filter_weight, filters_weight, argument_weight, arguments_weight}
 use Rattle.jsonpath_rust.proofs.laws.states.Found.{kept-parts}
-use Rattle.jsonpath_rust.proofs.laws.states.Maps.{places_seen, whole_pointers}
+use Rattle.jsonpath_rust.proofs.laws.states.Maps.{targets_seen, whole_pointers}
 use Rattle.jsonpath_rust.proofs.laws.documents.Parts.{part_of, some_found, some_next, each_failed, each_next, fold_next, parts_end, ok_through, joined_next, joined_end, all_joined, filter_more}
 use Rattle.jsonpath_parser.specs.tree.Syntax.{absolute}
 use Rattle.jsonpath_rust.specs.documents.Patterns.{segments_patterns, segment_patterns, selectors_patterns, selector_patterns, filters_patterns, filter_patterns, test_patterns, comparison_patterns, call_patterns, argument_patterns, arguments_patterns}
-use Rattle.jsonpath_rust.proofs.laws.states.Asking.{asks_left, asks_right, asks_rest, asks_at, asks_here, asks_nothing, asks_same, asks_below, asks_parents, asks_place, asks_child, asks_root, asks_too, asks_within, stays_next, data-distinct, halts_as, halts_so}
+use Rattle.jsonpath_rust.proofs.laws.states.Asking.{asks_left, asks_right, asks_rest, asks_at, asks_here, asks_nothing, asks_same, asks_below, asks_parents, asks_target, asks_child, asks_root, asks_too, asks_within, stays_next, data-distinct, halts_as, halts_so}
 use Rattle.jsonpath_rust.proofs.laws.states.Lies.{stays-itself}
 use Rattle.jsonpath_rust.proofs.states.evaluate.+evaluate.Goals as goal
 
@@ -45,7 +45,7 @@ segments::selector_data-returns-in-Index-clause-value g t c =
     let k = content_of tree c.args.given in
     let e = ap selector_view c.in-Index.is ∙ selector_view-Index c.in-Index.index in
     let fits : SFits w64 c.in-Index.index = search rules in
-    ok_through _ (content_of tree) _ _ (ap (λ i. mapped (indexed_from i) k) (to_z-of_z w64 c.in-Index.index fits) ∙ sym (ap (λ s. selector_content s d k) e)) c.each_place-in-Index.ensures.value
+    ok_through _ (content_of tree) _ _ (ap (λ i. mapped (indexed_from i) k) (to_z-of_z w64 c.in-Index.index fits) ∙ sym (ap (λ s. selector_content s d k) e)) c.each_target-in-Index.ensures.value
 
 pub segments::selector_data-returns-in-Slice-clause-value : goal.segments::selector_data-returns-in-Slice-clause-value
 segments::selector_data-returns-in-Slice-clause-value g t c =
@@ -53,45 +53,45 @@ segments::selector_data-returns-in-Slice-clause-value g t c =
     let d = document_of tree g.T.Queryable.custom c.args.root.now in
     let k = content_of tree c.args.given in
     let e = ap selector_view c.in-Slice.is ∙ selector_view-Slice c.in-Slice.start c.in-Slice.end c.in-Slice.step in
-    ok_through _ (content_of tree) _ _ (sym (ap (λ s. selector_content s d k) e)) c.each_place-in-Slice.ensures.value
+    ok_through _ (content_of tree) _ _ (sym (ap (λ s. selector_content s d k) e)) c.each_target-in-Slice.ensures.value
 
-pub segments::each_place-loop-from-preserved : goal.segments::each_place-loop-from-preserved
-segments::each_place-loop-from-preserved g t c =
+pub segments::each_target-loop-from-preserved : goal.segments::each_target-loop-from-preserved
+segments::each_target-loop-from-preserved g t c =
     let tree = g.T.Queryable.tree in
     let whole = g.T.Queryable.is_whole in
     let d = document_of tree g.T.Queryable.custom c.args.root.now in
-    let f : Place → List Place = λ p. places (part_content c.args.part d p) in
+    let f : Target → List Target = λ p. targets (part_content c.args.part d p) in
     let items = c.deref-from-items.result.now in
     let x = c.from-item.result in
     let was = c.loop-from.all.items in
     let found = c.in_ok-found-in-Refs.found in
     let inv = c.loop-from.invariant in
-    let pushed = ap (map (place_of tree)) c.in_ok-push_nodes-in-Refs.ensures.ok ∙ map-append (place_of tree) was (pointers found) ∙ ap (λ qs. map (place_of tree) was ++ qs) (places_seen tree found ∙ ap places c.in_ok-found-in-Refs.ensures.value) in
+    let pushed = ap (map (target_of tree)) c.in_ok-push_nodes-in-Refs.ensures.ok ∙ map-append (target_of tree) was (pointers found) ∙ ap (λ qs. map (target_of tree) was ++ qs) (targets_seen tree found ∙ ap targets c.in_ok-found-in-Refs.ensures.value) in
     record {
-      made = joined_next (λ xs. flat_map f (map (place_of tree) xs)) (λ y. f (place_of tree y)) (λ y ys. refl) items c.loop-from.from-index x _ _ _ c.loop-from-test.true c.from-item.is pushed inv.made;
+      made = joined_next (λ xs. flat_map f (map (target_of tree) xs)) (λ y. f (target_of tree y)) (λ y ys. refl) items c.loop-from.from-index x _ _ _ c.loop-from-test.true c.from-item.is pushed inv.made;
       whole = all_joined (λ p. IsTrue (whole p.inner.now)) was _ (pointers found) c.in_ok-push_nodes-in-Refs.ensures.ok (whole_pointers whole found c.in_ok-found-in-Refs.ensures.whole) inv.whole;
     }
 
-pub segments::each_place-returns-after-loop-from-clause-value : goal.segments::each_place-returns-after-loop-from-clause-value
-segments::each_place-returns-after-loop-from-clause-value g t c =
+pub segments::each_target-returns-after-loop-from-clause-value : goal.segments::each_target-returns-after-loop-from-clause-value
+segments::each_target-returns-after-loop-from-clause-value g t c =
     let tree = g.T.Queryable.tree in
     let d = document_of tree g.T.Queryable.custom c.args.root.now in
-    let f : Place → List Place = λ p. places (part_content c.args.part d p) in
-    ap refs (joined_end (λ xs. flat_map f (map (place_of tree) xs)) refl c.deref-from-items.result.now c.loop-from.from-index (map (place_of tree) c.loop-from.all.items) _ c.loop-from-test.false c.loop-from.invariant.made ∙ ap (λ xs. flat_map f (map (place_of tree) xs)) c.deref-from-items.ensures.value)
+    let f : Target → List Target = λ p. targets (part_content c.args.part d p) in
+    ap refs (joined_end (λ xs. flat_map f (map (target_of tree) xs)) refl c.deref-from-items.result.now c.loop-from.from-index (map (target_of tree) c.loop-from.all.items) _ c.loop-from-test.false c.loop-from.invariant.made ∙ ap (λ xs. flat_map f (map (target_of tree) xs)) c.deref-from-items.ensures.value)
     ∙ ap (λ z. mapped (part_content c.args.part d) (content_of tree z)) (sym c.in-Refs.is)
 
 pub segments::kept-loop-child-preserved : goal.segments::kept-loop-child-preserved
 segments::kept-loop-child-preserved g t c =
     let tree = g.T.Queryable.tree in
     let d = document_of tree g.T.Queryable.custom c.args.root.now in
-    let h : Place → Bool = λ p. holds_at (filter_view c.args.filter.now) d (inside p.tree) in
+    let h : Target → Bool = λ p. holds_at (filter_view c.args.filter.now) d (inside p.tree) in
     let items = c.deref-child-items.result.now in
     let x = c.child-item.result in
     let inv = c.loop-child.invariant in
     let holds = c.in_ok-is_kept-in-Some.ensures.value ∙ ap (λ q. holds_at (filter_view c.args.filter.now) d (ref q)) c.empty.ensures.seen in
-    let pushed = c.in_ok-keep_if-in-Some.ensures.value ∙ ap (λ b. map (place_of tree) c.loop-child.found.items ++ cond b (place_of tree x ∷ []) []) holds in
+    let pushed = c.in_ok-keep_if-in-Some.ensures.value ∙ ap (λ b. map (target_of tree) c.loop-child.found.items ++ cond b (target_of tree x ∷ []) []) holds in
     record {
-      made = joined_next (λ xs. filter h (map (place_of tree) xs)) (λ y. cond (h (place_of tree y)) (place_of tree y ∷ []) []) (λ y ys. filter_more h (place_of tree y) (map (place_of tree) ys)) items c.loop-child.child-index x _ _ _ c.loop-child-test.true c.child-item.is pushed inv.made;
+      made = joined_next (λ xs. filter h (map (target_of tree) xs)) (λ y. cond (h (target_of tree y)) (target_of tree y ∷ []) []) (λ y ys. filter_more h (target_of tree y) (map (target_of tree) ys)) items c.loop-child.child-index x _ _ _ c.loop-child-test.true c.child-item.is pushed inv.made;
       whole = c.in_ok-keep_if-in-Some.ensures.whole;
     }
 
@@ -99,12 +99,12 @@ pub segments::kept-returns-after-loop-child-clause-value : goal.segments::kept-r
 segments::kept-returns-after-loop-child-clause-value g t c =
     let tree = g.T.Queryable.tree in
     let d = document_of tree g.T.Queryable.custom c.args.root.now in
-    let h : Place → Bool = λ p. holds_at (filter_view c.args.filter.now) d (inside p.tree) in
-    let from = place_of tree c.args.from.now in
+    let h : Target → Bool = λ p. holds_at (filter_view c.args.filter.now) d (inside p.tree) in
+    let from = target_of tree c.args.from.now in
     let items = c.deref-child-items.result.now in
-    let here : Some (map (place_of tree) items) ≡ parts_from from = ap (λ xs. Some (map (place_of tree) xs)) c.deref-child-items.ensures.value ∙ ap (λ o. option_map (λ v. map (place_of tree) v.items) o) (sym c.in-Some.is) ∙ c.in_ok-children.ensures.value in
-    ap refs (joined_end (λ xs. filter h (map (place_of tree) xs)) refl items c.loop-child.child-index (map (place_of tree) c.loop-child.found.items) _ c.loop-child-test.false c.loop-child.invariant.made)
-    ∙ kept-parts h from (map (place_of tree) items) here
+    let here : Some (map (target_of tree) items) ≡ parts_from from = ap (λ xs. Some (map (target_of tree) xs)) c.deref-child-items.ensures.value ∙ ap (λ o. option_map (λ v. map (target_of tree) v.items) o) (sym c.in-Some.is) ∙ c.in_ok-children.ensures.value in
+    ap refs (joined_end (λ xs. filter h (map (target_of tree) xs)) refl items c.loop-child.child-index (map (target_of tree) c.loop-child.found.items) _ c.loop-child-test.false c.loop-child.invariant.made)
+    ∙ kept-parts h from (map (target_of tree) items) here
 
 pub filters::call_data-returns-in_ok-values-in-Custom-clause-value : goal.filters::call_data-returns-in_ok-values-in-Custom-clause-value
 filters::call_data-returns-in_ok-values-in-Custom-clause-value g t c =
@@ -146,7 +146,7 @@ pub segments::joined-loop-selector-preserved : goal.segments::joined-loop-select
 segments::joined-loop-selector-preserved g t c =
     let tree = g.T.Queryable.tree in
     let d = document_of tree g.T.Queryable.custom c.args.root.now in
-    let p = place_of tree c.args.from.now in
+    let p = target_of tree c.args.from.now in
     let inv = c.loop-selector.invariant in
     let found = c.in_ok-found.ensures.value ∙ ap (λ q. selector_content (selector_view c.selector-item.result) d (ref q)) c.in_ok-try_clone.ensures.seen in
     record {
@@ -158,7 +158,7 @@ pub segments::joined-returns-clause-value : goal.segments::joined-returns-clause
 segments::joined-returns-clause-value g t c =
     let tree = g.T.Queryable.tree in
     let d = document_of tree g.T.Queryable.custom c.args.root.now in
-    parts_end (λ (ss : List Selector). joined_from (selectors_in ss) d (content_of tree c.loop-selector.all) (place_of tree c.args.from.now)) c.args.selectors.now c.loop-selector.selector-index _ c.loop-selector-test.false c.loop-selector.invariant.made
+    parts_end (λ (ss : List Selector). joined_from (selectors_in ss) d (content_of tree c.loop-selector.all) (target_of tree c.args.from.now)) c.args.selectors.now c.loop-selector.selector-index _ c.loop-selector-test.false c.loop-selector.invariant.made
 
 pub filters::some_holds-holds-requires : goal.filters::some_holds-holds-requires
 filters::some_holds-holds-requires g t c κs within =
@@ -229,25 +229,25 @@ segments::segment_data-returns-in_ok-below-in-Descendant-clause-refused g t c =
     let same = ap (λ (s : Segment). segment_patterns (segment_view s)) c.deref-in-Descendant.ensures ∙ sym (ap segment_patterns e) in
     halts_as _ c.segment_data.ensures.refused (λ h. asks_same _ _ same (asks_parents d k _ distinct c.in_ok-below-in-Descendant.ensures.value h))
 
-pub segments::each_place-returns-in_err-found-in-Refs-clause-refused : goal.segments::each_place-returns-in_err-found-in-Refs-clause-refused
-segments::each_place-returns-in_err-found-in-Refs-clause-refused g t c =
+pub segments::each_target-returns-in_err-found-in-Refs-clause-refused : goal.segments::each_target-returns-in_err-found-in-Refs-clause-refused
+segments::each_target-returns-in_err-found-in-Refs-clause-refused g t c =
     let tree = g.T.Queryable.tree in
     let d = document_of g.T.Queryable.tree g.T.Queryable.custom c.args.root.now in
     let k = content_of g.T.Queryable.tree c.args.given in
     let distinct = data-distinct tree g.T.Queryable.is_whole g.met.T.Queryable.distinct c.args.given c.requires.whole in
     let items = c.deref-from-items.result.now in
-    let same = ap (λ z. places (content_of tree z)) c.in-Refs.is ∙ ap (map (place_of tree)) (sym c.deref-from-items.ensures.value) in
-    halts_so _ _ c.from_residual.ensures.1 c.in_err-found-in-Refs.ensures.refused (λ h. asks_place (place_of tree) d k items c.loop-from.from-index c.from-item.result distinct same c.loop-from-test.true c.from-item.is h)
+    let same = ap (λ z. targets (content_of tree z)) c.in-Refs.is ∙ ap (map (target_of tree)) (sym c.deref-from-items.ensures.value) in
+    halts_so _ _ c.from_residual.ensures.1 c.in_err-found-in-Refs.ensures.refused (λ h. asks_target (target_of tree) d k items c.loop-from.from-index c.from-item.result distinct same c.loop-from-test.true c.from-item.is h)
 
 pub segments::kept-returns-in_err-is_kept-in-Some-clause-refused : goal.segments::kept-returns-in_err-is_kept-in-Some-clause-refused
 segments::kept-returns-in_err-is_kept-in-Some-clause-refused g t c =
     let tree = g.T.Queryable.tree in
     let d = document_of g.T.Queryable.tree g.T.Queryable.custom c.args.root.now in
-    let from = place_of tree c.args.from.now in
+    let from = target_of tree c.args.from.now in
     let items = c.deref-child-items.result.now in
     let distinct = g.met.T.Queryable.distinct c.args.from.now.inner.now c.requires.whole in
-    let here : Some (map (place_of tree) items) ≡ parts_from from = ap (λ xs. Some (map (place_of tree) xs)) c.deref-child-items.ensures.value ∙ ap (λ o. option_map (λ v. map (place_of tree) v.items) o) (sym c.in-Some.is) ∙ c.in_ok-children.ensures.value in
-    halts_so _ _ c.from_residual-in_err-is_kept-in-Some.ensures.1 c.in_err-is_kept-in-Some.ensures.refused (λ h. asks_child (place_of tree) d from items c.loop-child.child-index c.child-item.result _ distinct here c.loop-child-test.true c.child-item.is (ap ref c.empty.ensures.seen) h)
+    let here : Some (map (target_of tree) items) ≡ parts_from from = ap (λ xs. Some (map (target_of tree) xs)) c.deref-child-items.ensures.value ∙ ap (λ o. option_map (λ v. map (target_of tree) v.items) o) (sym c.in-Some.is) ∙ c.in_ok-children.ensures.value in
+    halts_so _ _ c.from_residual-in_err-is_kept-in-Some.ensures.1 c.in_err-is_kept-in-Some.ensures.refused (λ h. asks_child (target_of tree) d from items c.loop-child.child-index c.child-item.result _ distinct here c.loop-child-test.true c.child-item.is (ap ref c.empty.ensures.seen) h)
 
 pub filters::comparison_holds-returns-in_err-left-clause-refused : goal.filters::comparison_holds-returns-in_err-left-clause-refused
 filters::comparison_holds-returns-in_err-left-clause-refused g t c =

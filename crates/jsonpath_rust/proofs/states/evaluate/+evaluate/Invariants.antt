@@ -4,7 +4,7 @@ use Rattle.jsonpath_parser.specs.tree.View.{segment_view, selector_view, filter_
 use Rattle.jsonpath_rust.specs.documents.Args.{arg_value}
 use Rattle.jsonpath_rust.specs.documents.Document.{document_of}
 use Rattle.jsonpath_rust.specs.states.Process.{segments_content, joined_from, holds_at, some_holds_at, each_holds_at, arguments_trees}
-use Rattle.jsonpath_rust.specs.states.State.{Place, nothing, places, inside, place_of, content_of, PointersAreWhole, DataIsWhole}
+use Rattle.jsonpath_rust.specs.states.State.{Target, nothing, targets, inside, target_of, content_of, PointersAreWhole, DataIsWhole}
 use Rattle.jsonpath_rust.specs.states.inner.Evaluating.{part_content}
 use Rattle.jsonpath_rust.specs.documents.inner.Parts.{segments_in, selectors_in, filters_in, arguments_in}
 use Rattle.jsonpath_rust.proofs.laws.states.PartWeight.{part_weight}
@@ -25,11 +25,11 @@ decreases-segments::several_data g l = 4 * selectors_weight (selectors_in l.sele
 abbrev pub decreases-segments::selector_data : goal.decreases-segments::selector_data
 decreases-segments::selector_data g l = 4 * selector_weight (selector_view l.selector.now)
 
-abbrev pub decreases-segments::each_place : goal.decreases-segments::each_place
-decreases-segments::each_place g l = 4 * part_weight l.part + 2
+abbrev pub decreases-segments::each_target : goal.decreases-segments::each_target
+decreases-segments::each_target g l = 4 * part_weight l.part + 2
 
-abbrev pub decreases-segments::at_place : goal.decreases-segments::at_place
-decreases-segments::at_place g l = 4 * part_weight l.part + 1
+abbrev pub decreases-segments::at_target : goal.decreases-segments::at_target
+decreases-segments::at_target g l = 4 * part_weight l.part + 1
 
 abbrev pub decreases-segments::kept : goal.decreases-segments::kept
 decreases-segments::kept g l = 4 * filter_weight (filter_view l.filter.now) + 1
@@ -68,13 +68,13 @@ abbrev pub decreases-filters::argument_data : goal.decreases-filters::argument_d
 decreases-filters::argument_data g l = 4 * argument_weight (argument_view l.arg.now)
 
 -- what was found, with what is left
-abbrev pub invariant-segments::each_place-loop-from : goal.invariant-segments::each_place-loop-from
-invariant-segments::each_place-loop-from g l =
+abbrev pub invariant-segments::each_target-loop-from : goal.invariant-segments::each_target-loop-from
+invariant-segments::each_target-loop-from g l =
     let tree = g.T.Queryable.tree in
     let d = document_of tree g.T.Queryable.custom l.root in
-    let f : Place → List Place = λ p. places (part_content l.part d p) in
+    let f : Target → List Target = λ p. targets (part_content l.part d p) in
     record {
-      made : map (place_of tree) l.all.items ++ flat_map f (map (place_of tree) (drop l.from-index l.from-items)) ≡ flat_map f (map (place_of tree) l.from-items);
+      made : map (target_of tree) l.all.items ++ flat_map f (map (target_of tree) (drop l.from-index l.from-items)) ≡ flat_map f (map (target_of tree) l.from-items);
       whole : PointersAreWhole g.T.Queryable.is_whole l.all.items;
     }
 
@@ -82,9 +82,9 @@ abbrev pub invariant-segments::kept-loop-child : goal.invariant-segments::kept-l
 invariant-segments::kept-loop-child g l =
     let tree = g.T.Queryable.tree in
     let d = document_of tree g.T.Queryable.custom l.root in
-    let h : Place → Bool = λ p. holds_at (filter_view l.filter) d (inside p.tree) in
+    let h : Target → Bool = λ p. holds_at (filter_view l.filter) d (inside p.tree) in
     record {
-      made : map (place_of tree) l.found.items ++ filter h (map (place_of tree) (drop l.child-index l.child-items)) ≡ filter h (map (place_of tree) l.child-items);
+      made : map (target_of tree) l.found.items ++ filter h (map (target_of tree) (drop l.child-index l.child-items)) ≡ filter h (map (target_of tree) l.child-items);
       whole : PointersAreWhole g.T.Queryable.is_whole l.found.items;
     }
 
@@ -105,7 +105,7 @@ invariant-segments::segments_data-loop-segment g l =
     record {
       made : segments_content (segments_in (drop l.segment-index l.segments)) d (content_of tree l.answer) ≡ segments_content (segments_in l.segments) d (content_of tree l.initial.answer);
       whole : DataIsWhole g.T.Queryable.is_whole l.answer;
-      within : AllByRecursion (Stays (tops d (content_of tree l.initial.answer))) (places (content_of tree l.answer));
+      within : AllByRecursion (Stays (tops d (content_of tree l.initial.answer))) (targets (content_of tree l.answer));
     }
 
 -- what the selectors that are left join behind what there is
@@ -113,7 +113,7 @@ abbrev pub invariant-segments::joined-loop-selector : goal.invariant-segments::j
 invariant-segments::joined-loop-selector g l =
     let tree = g.T.Queryable.tree in
     let d = document_of tree g.T.Queryable.custom l.root in
-    let p = place_of tree l.from in
+    let p = target_of tree l.from in
     record {
       made : joined_from (selectors_in (drop l.selector-index l.selectors)) d (content_of tree l.all) p ≡ joined_from (selectors_in l.selectors) d nothing p;
       whole : DataIsWhole g.T.Queryable.is_whole l.all;

@@ -1,8 +1,8 @@
 use Rattle.std.proofs.Common.{◌≡◌, ◌∙◌, length, map, ap, arith, refl, IsTrue, string_bytes}
 use Rattle.std.proofs.lemmas.List.Elements.{All-head, All-tail}
-use Rattle.jsonpath_rust.specs.states.State.{Place}
+use Rattle.jsonpath_rust.specs.states.State.{Target}
 use Rattle.jsonpath_rust.proofs.laws.documents.Parts.{all_more}
-use Rattle.jsonpath_rust.proofs.laws.states.ProcessedLaws.{moved_one, moved_all, shown-places}
+use Rattle.jsonpath_rust.proofs.laws.states.ProcessedLaws.{moved_one, moved_all, shown-targets}
 use Rattle.jsonpath_rust.proofs.states.processed.processed_nodes.Goals as goal
 
 pub loop-pointer-preserved : goal.loop-pointer-preserved
@@ -27,5 +27,5 @@ returns-clause-nodes g c =
     let i = c.loop-pointer.invariant in
     moved_all (λ r. (string_bytes r.path, tree r.val.now)) (λ p. (string_bytes p.path, tree p.inner.now)) c.loop-pointer.nodes.items _ _ _ i.len c.in-None.ensures.steps.0 i.made
     ∙ ap (map (λ p. (string_bytes p.path, tree p.inner.now))) c.into_iter-pointer-iterator.ensures.into_iter_gives.0
-    ∙ shown-places tree c.in_ok-pointers.pointers.items
-    ∙ ap (map (λ (p : Place). (p.path, p.tree))) c.in_ok-pointers.ensures.places
+    ∙ shown-targets tree c.in_ok-pointers.pointers.items
+    ∙ ap (map (λ (p : Target). (p.path, p.tree))) c.in_ok-pointers.ensures.targets

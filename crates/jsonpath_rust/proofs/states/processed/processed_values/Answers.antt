@@ -1,8 +1,8 @@
 use Rattle.std.proofs.Common.{◌∙◌, ℕ, List, map, ap, refl}
 use Rattle.jsonpath_base.specs.Tree.{Tree}
-use Rattle.jsonpath_rust.specs.states.State.{Place}
+use Rattle.jsonpath_rust.specs.states.State.{Target}
 use Rattle.jsonpath_rust.proofs.laws.documents.Parts.{joined_end}
-use Rattle.jsonpath_rust.proofs.laws.states.ProcessedLaws.{values-places}
+use Rattle.jsonpath_rust.proofs.laws.states.ProcessedLaws.{values-targets}
 use Rattle.jsonpath_rust.proofs.states.processed.processed_values.Goals as goal
 
 pub returns-clause-values : goal.returns-clause-values
@@ -10,5 +10,5 @@ returns-clause-values g c =
     let tree = g.T.Queryable.tree in
     joined_end (map (λ p. tree p.inner.now)) refl c.deref-pointer-items.result.now c.loop-pointer.pointer-index (map (λ x. tree x.now) c.loop-pointer.values.items) _ c.loop-pointer-test.false c.loop-pointer.invariant.made
     ∙ ap (map (λ p. tree p.inner.now)) c.deref-pointer-items.ensures.value
-    ∙ values-places tree c.in_ok-pointers.pointers.items
-    ∙ ap (λ (ps : List Place). map (λ (n : List ℕ × Tree). n.1) (map (λ (p : Place). (p.path, p.tree)) ps)) c.in_ok-pointers.ensures.places
+    ∙ values-targets tree c.in_ok-pointers.pointers.items
+    ∙ ap (λ (ps : List Target). map (λ (n : List ℕ × Tree). n.1) (map (λ (p : Target). (p.path, p.tree)) ps)) c.in_ok-pointers.ensures.targets

@@ -1,5 +1,5 @@
 use Rattle.std.proofs.Common.{List, ◌∙◌, ap, sym}
-use Rattle.jsonpath_rust.specs.selection.inner.PlanViews.{call_view, arguments_in}
+use Rattle.jsonpath_rust.specs.selection.inner.PlanViews.{call_view, arguments_meant}
 use Rattle.jsonpath_rust.specs.selection.inner.Rooted.{call_is_rooted, arguments_are_rooted}
 use Rattle.jsonpath_rust.specs.declared.selection.plan.Argument.{Argument}
 use Rattle.jsonpath_rust.specs.declared.selection.sink.Wanted.TheVariants.{Only, Count}
@@ -7,7 +7,7 @@ use Rattle.jsonpath_rust.proofs.laws.selection.PlanEquations.{called, call_view-
 use Rattle.jsonpath_rust.proofs.selection.plan.absolute.is_rooted_call.Goals as goal
 
 pub returns-in-Custom : goal.returns-in-Custom
-returns-in-Custom c = λ h kept r. ap (λ x. call_is_rooted (call_view kept x)) c.in-Custom.is ∙ ap call_is_rooted (called kept _ _) ∙ ap (λ (xs : List Argument). arguments_are_rooted (arguments_in kept xs)) (sym c.deref.ensures.value) ∙ c.are_rooted.ensures h kept r
+returns-in-Custom c = λ h kept r. ap (λ x. call_is_rooted (call_view kept x)) c.in-Custom.is ∙ ap call_is_rooted (called kept _ _) ∙ ap (λ (xs : List Argument). arguments_are_rooted (arguments_meant kept xs)) (sym c.deref.ensures.value) ∙ c.are_rooted.ensures h kept r
 
 pub returns-in-Length : goal.returns-in-Length
 returns-in-Length c = λ h kept r. ap (λ x. call_is_rooted (call_view kept x)) c.in-Length.is ∙ ap call_is_rooted (call_view-Length kept _) ∙ c.is_rooted.ensures h kept Only r

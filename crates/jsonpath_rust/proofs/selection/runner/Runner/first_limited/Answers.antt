@@ -13,18 +13,18 @@ returns-in-Some-clause-first g c =
     let tree = g.T.Queryable.tree in
     let whole = λ (r : QueryRef _). g.T.Queryable.is_whole r.val.now in
     let doc = document_of tree g.T.Queryable.custom c.args.value.now in
-    first_answered whole (λ r. (string_bytes r.path, tree r.val.now)) (runner_view c.args.self.now) doc _ (g.met.T.Queryable.distinct c.args.value.now c.requires) (c.into_first.ensures ∙ ap first_in (of_some _ _ _ c.in-Some.is c.in_ok-_goes_on.ensures.gave).given)
+    first_answered whole (λ r. (string_bytes r.path, tree r.val.now)) (runner_view c.args.self.now) doc _ (g.met.T.Queryable.distinct c.args.value.now c.requires) (c.into_first.ensures ∙ ap first_in (of_some _ _ _ c.in-Some.is c.in_ok-sink.ensures.gave))
 
 pub returns-in-Some-clause-none : goal.returns-in-Some-clause-none
 returns-in-Some-clause-none g c =
     let tree = g.T.Queryable.tree in
     let whole = λ (r : QueryRef _). g.T.Queryable.is_whole r.val.now in
     let doc = document_of tree g.T.Queryable.custom c.args.value.now in
-    none_answered whole (λ r. (string_bytes r.path, tree r.val.now)) (runner_view c.args.self.now) doc _ (c.into_first.ensures ∙ ap first_in (of_some _ _ _ c.in-Some.is c.in_ok-_goes_on.ensures.gave).given)
+    none_answered whole (λ r. (string_bytes r.path, tree r.val.now)) (runner_view c.args.self.now) doc _ (c.into_first.ensures ∙ ap first_in (of_some _ _ _ c.in-Some.is c.in_ok-sink.ensures.gave))
 
 pub returns-in-Some-clause-whole : goal.returns-in-Some-clause-whole
 returns-in-Some-clause-whole g c =
     let tree = g.T.Queryable.tree in
     let whole = λ (r : QueryRef _). g.T.Queryable.is_whole r.val.now in
     let doc = document_of tree g.T.Queryable.custom c.args.value.now in
-    whole_answered whole (λ r. (string_bytes r.path, tree r.val.now)) (nodelist (runner_view c.args.self.now) doc) _ (c.into_first.ensures ∙ ap first_in (of_some _ _ _ c.in-Some.is c.in_ok-_goes_on.ensures.gave).given)
+    whole_answered whole (λ r. (string_bytes r.path, tree r.val.now)) (nodelist (runner_view c.args.self.now) doc) _ (c.into_first.ensures ∙ ap first_in (of_some _ _ _ c.in-Some.is c.in_ok-sink.ensures.gave))

@@ -10,4 +10,4 @@ use Rattle.jsonpath_rust.proofs.selection.runner.Runner.has_node_limited.Goals a
 pub returns-in-Some-clause-none : goal.returns-in-Some-clause-none
 returns-in-Some-clause-none g c =
     let doc = document_of g.T.Queryable.tree g.T.Queryable.custom c.args.value.now in
-    no_node _ (nodelist (runner_view c.args.self.now) doc) (c.has_any.ensures ∙ ap any_in (of_some _ _ _ c.in-Some.is c.in_ok-_goes_on.ensures.gave).given)
+    no_node _ (nodelist (runner_view c.args.self.now) doc) (c.into_any.ensures ∙ ap any_in (of_some _ _ _ c.in-Some.is c.in_ok-sink.ensures.gave))

@@ -11,10 +11,10 @@ returns-clause-values g c =
     let tree = g.T.Queryable.tree in
     let q = runner_view c.args.self.now in
     let doc = document_of tree g.T.Queryable.custom c.args.value.now in
-    values_answered q doc _ (g.met.T.Queryable.distinct c.args.value.now c.requires) (c.into_values.ensures.values ∙ given_values (λ x. g.T.Queryable.is_whole x.now) (λ x. tree x.now) c.new.result.items _ (nodelist q doc) c.new.ensures.items c.in_ok-_goes_on.ensures.gave.given)
+    values_answered q doc _ (g.met.T.Queryable.distinct c.args.value.now c.requires) (c.into_values.ensures.values ∙ given_values (λ x. g.T.Queryable.is_whole x.now) (λ x. tree x.now) c.new.result.items _ (nodelist q doc) c.new.ensures.items c.in_ok-sink.ensures.gave)
 
 pub returns-clause-whole : goal.returns-clause-whole
 returns-clause-whole g c =
     let tree = g.T.Queryable.tree in
     let ns = nodelist (runner_view c.args.self.now) (document_of tree g.T.Queryable.custom c.args.value.now) in
-    all_whole (λ x. g.T.Queryable.is_whole x.now) c.into_values.result.items ns (c.into_values.ensures.whole ∙ given_values_whole (λ x. g.T.Queryable.is_whole x.now) (λ x. tree x.now) c.new.result.items _ ns c.new.ensures.items c.in_ok-_goes_on.ensures.gave.given)
+    all_whole (λ x. g.T.Queryable.is_whole x.now) c.into_values.result.items ns (c.into_values.ensures.whole ∙ given_values_whole (λ x. g.T.Queryable.is_whole x.now) (λ x. tree x.now) c.new.result.items _ ns c.new.ensures.items c.in_ok-sink.ensures.gave)

@@ -8,7 +8,7 @@ use Rattle.std.specs.List.{flat_map}
 use Rattle.jsonpath_parser.specs.Location.{name, index}
 use Rattle.jsonpath_parser.specs.tree.View.{operator_view, step_view}
 use Rattle.jsonpath_parser.specs.declared.tree.model.SingularQuerySegment.{SingularQuerySegment}
-use Rattle.jsonpath_rust.specs.selection.inner.PlanViews.{segments_in, segment_view, selectors_in, selector_view, filters_in, filter_view, nodes_view, side_view, call_view, called_view, call_in, comparison_in, arguments_in, argument_view, steps_query}
+use Rattle.jsonpath_rust.specs.selection.inner.PlanViews.{segments_meant, segment_view, selectors_meant, selector_view, filters_meant, filter_view, nodes_view, side_view, call_view, called_view, call_in, comparison_in, arguments_meant, argument_view, steps_query}
 use Rattle.jsonpath_rust.specs.selection.inner.PlanViews as plan
 use Rattle.jsonpath_rust.specs.declared.selection.plan.Argument.{Argument}
 use Rattle.jsonpath_rust.specs.declared.selection.plan.Filter.{Filter}
@@ -83,7 +83,7 @@ act-returns-in-All-clause-gave g t c =
     let tree = g.T.Queryable.tree in
     let d = document tree g.T.Queryable.custom c.args.self.now in
     let n = node_of tree c.args.trail.now.way.steps.items c.args.at.now in
-    let rest = through (segments_in kept c.args.onward.rest.now) d in
+    let rest = through (segments_meant kept c.args.onward.rest.now) d in
     result_as _ _ _ _ _ (sym (append-nil (rest n)) ∙ ap (λ a. flat_map rest (acted kept a d n)) (sym c.in-All.is)) c.go_on.ensures.gave
 
 pub act-returns-then-branch-clause-gave : goal.act-returns-then-branch-clause-gave
@@ -92,7 +92,7 @@ act-returns-then-branch-clause-gave g t c =
     let tree = g.T.Queryable.tree in
     let d = document tree g.T.Queryable.custom c.args.self.now in
     let n = node_of tree c.args.trail.now.way.steps.items c.args.at.now in
-    let rest = through (segments_in kept c.args.onward.rest.now) d in
+    let rest = through (segments_meant kept c.args.onward.rest.now) d in
     let h = c.in_ok-filter_holds-in-If.ensures in
     result_as _ _ _ _ _ (ap (λ q. rest (node_of tree q c.args.at.now)) h.returns.same ∙ kept_true rest (holds (filter_view kept c.in-If.filter.now) d) n (sym h.holds ∙ c.if-branch.true) ∙ ap (λ a. flat_map rest (acted kept a d n)) (sym c.in-If.is)) c.go_on-then-branch.ensures.gave
 
@@ -102,7 +102,7 @@ act-returns-else-branch-clause-gave g t c =
     let tree = g.T.Queryable.tree in
     let d = document tree g.T.Queryable.custom c.args.self.now in
     let n = node_of tree c.args.trail.now.way.steps.items c.args.at.now in
-    let rest = through (segments_in kept c.args.onward.rest.now) d in
+    let rest = through (segments_meant kept c.args.onward.rest.now) d in
     let h = c.in_ok-filter_holds-in-If.ensures in
     took_none _ _ (ap (λ a. flat_map rest (acted kept a d n)) c.in-If.is ∙ kept_false rest (holds (filter_view kept c.in-If.filter.now) d) n (sym h.holds ∙ c.if-branch.false))
 
@@ -112,7 +112,7 @@ act-returns-in-Below-clause-gave g t c =
     let tree = g.T.Queryable.tree in
     let d = document tree g.T.Queryable.custom c.args.self.now in
     let n = node_of tree c.args.trail.now.way.steps.items c.args.at.now in
-    let rest = through (segments_in kept c.args.onward.rest.now) d in
+    let rest = through (segments_meant kept c.args.onward.rest.now) d in
     result_as _ _ _ _ _ (ap (λ a. flat_map rest (acted kept a d n)) (sym c.in-Below.is)) c.descend.ensures.gave
 
 pub descend-each_member-requires : goal.descend-each_member-requires
@@ -157,7 +157,7 @@ descend-returns-in-Some-2-clause-gave g t c =
     let tree = g.T.Queryable.tree in
     let d = document tree g.T.Queryable.custom c.args.self.now in
     let n = node_of tree c.args.trail.now.way.steps.items c.args.at.now in
-    let rest = through (segments_in kept c.args.onward.rest.now) d in
+    let rest = through (segments_meant kept c.args.onward.rest.now) d in
     let h = replaced (segment_view kept c.args.onward.next.now) d in
     let here = flat_map rest (flat_map (acted kept c.in-Some.next d) (children n)) in
     let further = flat_map rest (flat_map (λ m. flat_map h (subtree m)) (children n)) in
@@ -178,7 +178,7 @@ descend-returns-clause-gave g t c =
     let tree = g.T.Queryable.tree in
     let d = document tree g.T.Queryable.custom c.args.self.now in
     let n = node_of tree c.args.trail.now.way.steps.items c.args.at.now in
-    let rest = through (segments_in kept c.args.onward.rest.now) d in
+    let rest = through (segments_meant kept c.args.onward.rest.now) d in
     let h = replaced (segment_view kept c.args.onward.next.now) d in
     let here = flat_map rest (h n) in
     let same = ap (λ q. here ++ flat_map rest (flat_map (λ m. flat_map h (subtree m)) (children (node_of tree q c.args.at.now)))) c.in_ok-pass.ensures.returns.same in
@@ -190,7 +190,7 @@ descend-returns-then-not-branch-clause-gave g t c =
     let tree = g.T.Queryable.tree in
     let d = document tree g.T.Queryable.custom c.args.self.now in
     let n = node_of tree c.args.trail.now.way.steps.items c.args.at.now in
-    let rest = through (segments_in kept c.args.onward.rest.now) d in
+    let rest = through (segments_meant kept c.args.onward.rest.now) d in
     let h = replaced (segment_view kept c.args.onward.next.now) d in
     let further = flat_map rest (flat_map (λ m. flat_map h (subtree m)) (children n)) in
     let makes = ap (λ ns. flat_map rest ns ++ further) ((c.in-Some.ensures kept).makes d n) in
@@ -202,7 +202,7 @@ descend-returns-then-not-branch-2-clause-gave g t c =
     let tree = g.T.Queryable.tree in
     let d = document tree g.T.Queryable.custom c.args.self.now in
     let n = node_of tree c.args.trail.now.way.steps.items c.args.at.now in
-    let rest = through (segments_in kept c.args.onward.rest.now) d in
+    let rest = through (segments_meant kept c.args.onward.rest.now) d in
     let h = replaced (segment_view kept c.args.onward.next.now) d in
     took_stop _ _ _ _ _ _ _ (below_more rest h n.location n.tree) c.in_ok-pass.ensures.gave c.if-not-branch-2.true
 
@@ -220,7 +220,7 @@ at_child-returns-then-is_idle-clause-gave g t c =
     let kept = kept_of c.args.self.now in
     let tree = g.T.Queryable.tree in
     let d = document tree g.T.Queryable.custom c.args.self.now in
-    let rest = through (segments_in kept c.args.onward.rest.now) d in
+    let rest = through (segments_meant kept c.args.onward.rest.now) d in
     took_none _ _ (ap (flat_map rest) (c.is_idle.ensures c.if-is_idle.true kept d _))
 
 pub at_child-act-requires : goal.at_child-act-requires
@@ -231,7 +231,7 @@ at_child-returns-clause-gave g t c =
     let kept = kept_of c.args.self.now in
     let tree = g.T.Queryable.tree in
     let d = document tree g.T.Queryable.custom c.args.self.now in
-    let rest = through (segments_in kept c.args.onward.rest.now) d in
+    let rest = through (segments_meant kept c.args.onward.rest.now) d in
     let x = tree c.args.child.value.now in
     took_as _ _ _ _ _ (ap (λ q. flat_map rest (acted kept c.args.onward.next d (node_of tree q c.args.child.value.now))) c.in_ok-push.ensures.steps ∙ ap (λ l. flat_map rest (acted kept c.args.onward.next d (record { location = l; tree = x }))) (map-append lent_step c.args.trail.now.way.steps.items (c.args.child.step ∷ []))) c.in_ok-goes_on.ensures.gave
 
@@ -263,7 +263,7 @@ each_child-returns-then-not-branch-clause-gave g t c =
     let tree = g.T.Queryable.tree in
     let d = document tree g.T.Queryable.custom c.args.self.now in
     let n = node_of tree c.args.trail.now.way.steps.items c.args.at.now in
-    let rest = through (segments_in kept c.args.onward.rest.now) d in
+    let rest = through (segments_meant kept c.args.onward.rest.now) d in
     let act = acted kept c.args.onward.next d in
     let inv = c.loop-i.invariant in
     let k = took_as _ _ _ _ _ (ap (λ q. flat_map rest (act (below (lent_location q) (index c.loop-i.i) (tree c.value-item.result)))) inv.returns.same) c.in_ok-at_child.ensures.gave in
@@ -275,7 +275,7 @@ each_child-loop-i-preserved g t c =
     let tree = g.T.Queryable.tree in
     let d = document tree g.T.Queryable.custom c.args.self.now in
     let n = node_of tree c.args.trail.now.way.steps.items c.args.at.now in
-    let rest = through (segments_in kept c.args.onward.rest.now) d in
+    let rest = through (segments_meant kept c.args.onward.rest.now) d in
     let act = acted kept c.args.onward.next d in
     let inv = c.loop-i.invariant in
     let k = took_as _ _ _ _ _ (ap (λ q. flat_map rest (act (below (lent_location q) (index c.loop-i.i) (tree c.value-item.result)))) inv.returns.same) c.in_ok-at_child.ensures.gave in
@@ -304,7 +304,7 @@ each_member-returns-then-not-branch-clause-gave g t c =
     let tree = g.T.Queryable.tree in
     let d = document tree g.T.Queryable.custom c.args.self.now in
     let n = node_of tree c.args.trail.now.way.steps.items c.args.members.now.of.now in
-    let rest = through (segments_in kept c.args.onward.rest.now) d in
+    let rest = through (segments_meant kept c.args.onward.rest.now) d in
     let act = acted kept c.args.onward.next d in
     let inv = c.loop-member.invariant in
     let k = took_as _ _ _ _ _ (ap (λ q. flat_map rest (act (below (lent_location q) (name c.member-item.result.0.now) (tree c.member-item.result.1.now)))) inv.returns.same) c.in_ok-at_child.ensures.gave in
@@ -316,7 +316,7 @@ each_member-loop-member-preserved g t c =
     let tree = g.T.Queryable.tree in
     let d = document tree g.T.Queryable.custom c.args.self.now in
     let n = node_of tree c.args.trail.now.way.steps.items c.args.members.now.of.now in
-    let rest = through (segments_in kept c.args.onward.rest.now) d in
+    let rest = through (segments_meant kept c.args.onward.rest.now) d in
     let act = acted kept c.args.onward.next d in
     let inv = c.loop-member.invariant in
     let k = took_as _ _ _ _ _ (ap (λ q. flat_map rest (act (below (lent_location q) (name c.member-item.result.0.now) (tree c.member-item.result.1.now)))) inv.returns.same) c.in_ok-at_child.ensures.gave in
@@ -332,7 +332,7 @@ pub pass-pick_each-requires : goal.pass-pick_each-requires
 pass-pick_each-requires g t c κs within =
     let kept = kept_of c.args.self.now in
     let e = ap (segment_view kept) c.in-Selectors.is ∙ segment_view-Selectors kept c.in-Selectors.selectors in
-    (down _ _ _ _ _ _ c.decreases (omega (arith, ap segment_weight e, ap (λ (xs : List Selector). selectors_weight (selectors_in kept xs)) c.as_slice-next.ensures.value)) (omega (arith, c.requires.within)), (within, c.requires))
+    (down _ _ _ _ _ _ c.decreases (omega (arith, ap segment_weight e, ap (λ (xs : List Selector). selectors_weight (selectors_meant kept xs)) c.as_slice-next.ensures.value)) (omega (arith, c.requires.within)), (within, c.requires))
 
 pub pass-act-requires : goal.pass-act-requires
 pass-act-requires g t c κs within =
@@ -346,7 +346,7 @@ pass-returns-in-Selector-clause-gave g t c =
     let tree = g.T.Queryable.tree in
     let d = document tree g.T.Queryable.custom c.args.self.now in
     let n = node_of tree c.args.trail.now.way.steps.items c.args.at.now in
-    let rest = through (segments_in kept c.args.onward.rest.now) d in
+    let rest = through (segments_meant kept c.args.onward.rest.now) d in
     let e = ap (segment_view kept) c.in-Selector.is ∙ segment_view-Selector kept c.in-Selector.next in
     result_as _ _ _ _ _ (ap (flat_map rest) (sym (ap (λ s. replaced s d n) e))) c.pick.ensures.gave
 
@@ -356,9 +356,9 @@ pass-returns-in-Selectors-clause-gave g t c =
     let tree = g.T.Queryable.tree in
     let d = document tree g.T.Queryable.custom c.args.self.now in
     let n = node_of tree c.args.trail.now.way.steps.items c.args.at.now in
-    let rest = through (segments_in kept c.args.onward.rest.now) d in
+    let rest = through (segments_meant kept c.args.onward.rest.now) d in
     let e = ap (segment_view kept) c.in-Selectors.is ∙ segment_view-Selectors kept c.in-Selectors.selectors in
-    result_as _ _ _ _ _ (ap (flat_map rest) (ap (λ (ss : List Selector). all_pick (selectors_in kept ss) d n) c.as_slice-next.ensures.value ∙ sym (ap (λ s. replaced s d n) e))) c.pick_each.ensures.gave
+    result_as _ _ _ _ _ (ap (flat_map rest) (ap (λ (ss : List Selector). all_pick (selectors_meant kept ss) d n) c.as_slice-next.ensures.value ∙ sym (ap (λ s. replaced s d n) e))) c.pick_each.ensures.gave
 
 pub pass-returns-in-Descendant-clause-gave : goal.pass-returns-in-Descendant-clause-gave
 pass-returns-in-Descendant-clause-gave g t c =
@@ -366,7 +366,7 @@ pass-returns-in-Descendant-clause-gave g t c =
     let tree = g.T.Queryable.tree in
     let d = document tree g.T.Queryable.custom c.args.self.now in
     let n = node_of tree c.args.trail.now.way.steps.items c.args.at.now in
-    let rest = through (segments_in kept c.args.onward.rest.now) d in
+    let rest = through (segments_meant kept c.args.onward.rest.now) d in
     let e = ap (segment_view kept) c.in-Descendant.is ∙ segment_view-Descendant kept c.in-Descendant.inner in
     result_as _ _ _ _ _ (ap (flat_map rest) (ap (λ (s : Segment). flat_map (replaced (segment_view kept s) d) (subtree n)) c.deref.ensures ∙ sym (ap (λ s. replaced s d n) e))) c.act.ensures.gave
 
@@ -414,7 +414,7 @@ pick-returns-in-Some-clause-gave g t c =
     let tree = g.T.Queryable.tree in
     let d = document tree g.T.Queryable.custom c.args.self.now in
     let n = node_of tree c.args.trail.now.way.steps.items c.args.at.now in
-    let rest = through (segments_in kept c.args.onward.rest.now) d in
+    let rest = through (segments_meant kept c.args.onward.rest.now) d in
     let e = ap (selector_view kept) c.in-Name.is ∙ selector_view-Name kept c.in-Name.name in
     let k = string_bytes c.in-Name.name in
     let x = tree c.in-Some.value.now in
@@ -427,7 +427,7 @@ pick-returns-in-None-clause-gave g t c =
     let tree = g.T.Queryable.tree in
     let d = document tree g.T.Queryable.custom c.args.self.now in
     let n = node_of tree c.args.trail.now.way.steps.items c.args.at.now in
-    let rest = through (segments_in kept c.args.onward.rest.now) d in
+    let rest = through (segments_meant kept c.args.onward.rest.now) d in
     let e = ap (selector_view kept) c.in-Name.is ∙ selector_view-Name kept c.in-Name.name in
     let h = c.in-None.ensures.value c.requires.whole ∙ ap (λ q. get q n.tree) c.deref.ensures in
     took_none _ _ (ap (flat_map rest) (ap (λ s. picks s d n) e ∙ named_none n.location (string_bytes c.in-Name.name) n.tree h))
@@ -438,7 +438,7 @@ pick-returns-in-Wildcard-clause-gave g t c =
     let tree = g.T.Queryable.tree in
     let d = document tree g.T.Queryable.custom c.args.self.now in
     let n = node_of tree c.args.trail.now.way.steps.items c.args.at.now in
-    let rest = through (segments_in kept c.args.onward.rest.now) d in
+    let rest = through (segments_meant kept c.args.onward.rest.now) d in
     let e = ap (selector_view kept) c.in-Wildcard.is ∙ selector_view-Wildcard kept in
     result_as _ _ _ _ _ (ap (flat_map rest) (flat_map-alone (children n) ∙ sym (ap (λ s. picks s d n) e))) c.each_child.ensures.gave
 
@@ -448,7 +448,7 @@ pick-returns-in-Some-element-clause-gave g t c =
     let tree = g.T.Queryable.tree in
     let d = document tree g.T.Queryable.custom c.args.self.now in
     let n = node_of tree c.args.trail.now.way.steps.items c.args.at.now in
-    let rest = through (segments_in kept c.args.onward.rest.now) d in
+    let rest = through (segments_meant kept c.args.onward.rest.now) d in
     let e = ap (selector_view kept) c.in-Index.is ∙ selector_view-Index kept c.in-Index.index in
     let fits : SFits w64 c.in-Index.index = search rules in
     let z = to_z-of_z w64 c.in-Index.index fits in
@@ -460,7 +460,7 @@ pick-returns-in-None-element-clause-gave g t c =
     let tree = g.T.Queryable.tree in
     let d = document tree g.T.Queryable.custom c.args.self.now in
     let n = node_of tree c.args.trail.now.way.steps.items c.args.at.now in
-    let rest = through (segments_in kept c.args.onward.rest.now) d in
+    let rest = through (segments_meant kept c.args.onward.rest.now) d in
     let e = ap (selector_view kept) c.in-Index.is ∙ selector_view-Index kept c.in-Index.index in
     let fits : SFits w64 c.in-Index.index = search rules in
     let z = to_z-of_z w64 c.in-Index.index fits in
@@ -472,7 +472,7 @@ pick-returns-in-Slice-clause-gave g t c =
     let tree = g.T.Queryable.tree in
     let d = document tree g.T.Queryable.custom c.args.self.now in
     let n = node_of tree c.args.trail.now.way.steps.items c.args.at.now in
-    let rest = through (segments_in kept c.args.onward.rest.now) d in
+    let rest = through (segments_meant kept c.args.onward.rest.now) d in
     let e = ap (selector_view kept) c.in-Slice.is ∙ selector_view-Slice kept c.in-Slice.start c.in-Slice.end c.in-Slice.step in
     result_as _ _ _ _ _ (ap (flat_map rest) (sym (ap (λ s. picks s d n) e))) c.pick_slice.ensures.gave
 
@@ -482,14 +482,14 @@ pick-returns-in-Filter-clause-gave g t c =
     let tree = g.T.Queryable.tree in
     let d = document tree g.T.Queryable.custom c.args.self.now in
     let n = node_of tree c.args.trail.now.way.steps.items c.args.at.now in
-    let rest = through (segments_in kept c.args.onward.rest.now) d in
+    let rest = through (segments_meant kept c.args.onward.rest.now) d in
     let e = ap (selector_view kept) c.in-Filter.is ∙ selector_view-Filter kept c.in-Filter.filter in
     result_as _ _ _ _ _ (ap (flat_map rest) (flat_map-filter (holds (filter_view kept c.in-Filter.filter) d) (children n) ∙ sym (ap (λ s. picks s d n) e))) c.each_child-in-Filter.ensures.gave
 
 pub pick_each-pick-requires : goal.pick_each-pick-requires
 pick_each-pick-requires g t c κs within =
     let kept = kept_of c.args.self.now in
-    let w = part_of (λ (x : Selector). selector_weight (selector_view kept x)) (λ xs. selectors_weight (selectors_in kept xs)) (λ x xs. refl) c.args.onward.next.now c.loop-selector.selector-index c.selector-item.result c.loop-selector-test.true c.selector-item.is in
+    let w = part_of (λ (x : Selector). selector_weight (selector_view kept x)) (λ xs. selectors_weight (selectors_meant kept xs)) (λ x xs. refl) c.args.onward.next.now c.loop-selector.selector-index c.selector-item.result c.loop-selector-test.true c.selector-item.is in
     (down _ _ _ _ _ _ c.decreases (omega (arith, w)) (omega (arith, c.requires.within)), (within, still c.requires c.loop-selector.invariant.returns))
 
 pub pick_each-returns-then-not-branch-clause-gave : goal.pick_each-returns-then-not-branch-clause-gave
@@ -498,7 +498,7 @@ pick_each-returns-then-not-branch-clause-gave g t c =
     let tree = g.T.Queryable.tree in
     let d = document tree g.T.Queryable.custom c.args.self.now in
     let n = node_of tree c.args.trail.now.way.steps.items c.args.at.now in
-    let rest = through (segments_in kept c.args.onward.rest.now) d in
+    let rest = through (segments_meant kept c.args.onward.rest.now) d in
     let inv = c.loop-selector.invariant in
     let k = took_as _ _ _ _ _ (ap (λ q. flat_map rest (picks (selector_view kept c.selector-item.result) d (node_of tree q c.args.at.now))) inv.returns.same) c.in_ok-pick.ensures.gave in
     record { given = turn_stop _ _ (selector_turns kept d n rest) c.args.onward.next.now c.loop-selector.selector-index c.selector-item.result _ _ _ _ c.loop-selector-test.true c.selector-item.is k c.if-not-branch.true inv.given; stopped = λ _. k.stopped c.if-not-branch.true }
@@ -509,7 +509,7 @@ pick_each-loop-selector-preserved g t c =
     let tree = g.T.Queryable.tree in
     let d = document tree g.T.Queryable.custom c.args.self.now in
     let n = node_of tree c.args.trail.now.way.steps.items c.args.at.now in
-    let rest = through (segments_in kept c.args.onward.rest.now) d in
+    let rest = through (segments_meant kept c.args.onward.rest.now) d in
     let inv = c.loop-selector.invariant in
     let k = took_as _ _ _ _ _ (ap (λ q. flat_map rest (picks (selector_view kept c.selector-item.result) d (node_of tree q c.args.at.now))) inv.returns.same) c.in_ok-pick.ensures.gave in
     record { returns = on inv.returns c.in_ok-pick.ensures.returns; given = turn_next _ _ (selector_turns kept d n rest) c.args.onward.next.now c.loop-selector.selector-index c.selector-item.result _ _ _ _ c.loop-selector-test.true c.selector-item.is k inv.given }
@@ -520,7 +520,7 @@ pick_each-returns-clause-gave g t c =
     let tree = g.T.Queryable.tree in
     let d = document tree g.T.Queryable.custom c.args.self.now in
     let n = node_of tree c.args.trail.now.way.steps.items c.args.at.now in
-    let rest = through (segments_in kept c.args.onward.rest.now) d in
+    let rest = through (segments_meant kept c.args.onward.rest.now) d in
     record { given = turn_end _ _ (selector_turns kept d n rest) c.args.onward.next.now c.loop-selector.selector-index _ _ c.loop-selector-test.false c.loop-selector.invariant.given; stopped = λ h. true_false h }
 
 pub pick_slice-returns-in_default-clause-gave : goal.pick_slice-returns-in_default-clause-gave
@@ -529,7 +529,7 @@ pick_slice-returns-in_default-clause-gave g t c =
     let tree = g.T.Queryable.tree in
     let d = document tree g.T.Queryable.custom c.args.self.now in
     let n = node_of tree c.args.trail.now.way.steps.items c.args.at.now in
-    let rest = through (segments_in kept c.args.onward.rest.now) d in
+    let rest = through (segments_meant kept c.args.onward.rest.now) d in
     let h = c.in_default.ensures.value c.requires.whole in
     took_none _ _ (ap (λ o. flat_map rest (flat_map (λ ts. flat_map (λ k. element k n) (slice_of c.args.onward.next.0 c.args.onward.next.1 c.args.onward.next.2 (length ts))) (option_to_list o))) (sym h))
 
@@ -564,7 +564,7 @@ pick_slice-returns-then-not-branch-clause-gave g t c =
     let custom = g.T.Queryable.custom in
     let d = document tree custom c.args.self.now in
     let n = node_of tree c.args.trail.now.way.steps.items c.args.at.now in
-    let rest = through (segments_in kept c.args.onward.rest.now) d in
+    let rest = through (segments_meant kept c.args.onward.rest.now) d in
     let items = c.in-Some.items.now.items in
     let some = c.in-Some.ensures.value c.requires.whole in
     let inv = c.loop-position.invariant in
@@ -583,7 +583,7 @@ pick_slice-loop-position-preserved g t c =
     let tree = g.T.Queryable.tree in
     let d = document tree g.T.Queryable.custom c.args.self.now in
     let n = node_of tree c.args.trail.now.way.steps.items c.args.at.now in
-    let rest = through (segments_in kept c.args.onward.rest.now) d in
+    let rest = through (segments_meant kept c.args.onward.rest.now) d in
     let items = c.in-Some.items.now.items in
     let some = c.in-Some.ensures.value c.requires.whole in
     let inv = c.loop-position.invariant in
@@ -604,7 +604,7 @@ pick_slice-returns-clause-gave g t c =
     let custom = g.T.Queryable.custom in
     let d = document tree custom c.args.self.now in
     let n = node_of tree c.args.trail.now.way.steps.items c.args.at.now in
-    let rest = through (segments_in kept c.args.onward.rest.now) d in
+    let rest = through (segments_meant kept c.args.onward.rest.now) d in
     let items = c.in-Some.items.now.items in
     let some = c.in-Some.ensures.value c.requires.whole in
     let inv = c.loop-position.invariant in
@@ -624,7 +624,7 @@ descend-returns-clause-returns g t c = on_ok _ _ c.in_ok-pass.ensures.returns c.
 pub some_holds-filter_holds-requires : goal.some_holds-filter_holds-requires
 some_holds-filter_holds-requires g t c κs within =
     let kept = kept_of c.args.self.now in
-    let w = part_of (λ (x : Filter). filter_weight (filter_view kept x)) (λ xs. filters_weight (filters_in kept xs)) (λ x xs. refl) c.args.parts.now c.loop-part.part-index c.part-item.result c.loop-part-test.true c.part-item.is in
+    let w = part_of (λ (x : Filter). filter_weight (filter_view kept x)) (λ xs. filters_weight (filters_meant kept xs)) (λ x xs. refl) c.args.parts.now c.loop-part.part-index c.part-item.result c.loop-part-test.true c.part-item.is in
     (down _ _ _ _ _ _ c.decreases (omega (arith, w)) (omega (arith, c.requires.within)), (within, still c.requires c.loop-part.invariant.returns))
 
 pub some_holds-returns-then-branch-clause-holds : goal.some_holds-returns-then-branch-clause-holds
@@ -636,7 +636,7 @@ some_holds-returns-then-branch-clause-holds g t c =
     let inv = c.loop-part.invariant in
     let item = c.part-item.result in
     let here = c.in_ok-filter_holds.ensures.holds ∙ ap (λ q. holds (filter_view kept item) d (node_of tree q c.args.at.now)) inv.returns.same in
-    some_found (λ (fs : List Filter). some_holds (filters_in kept fs) d n) (λ f. holds (filter_view kept f) d n) (λ x xs. refl) c.args.parts.now c.loop-part.part-index item _ c.loop-part-test.true c.part-item.is (sym here ∙ c.if-branch.true) inv.holds
+    some_found (λ (fs : List Filter). some_holds (filters_meant kept fs) d n) (λ f. holds (filter_view kept f) d n) (λ x xs. refl) c.args.parts.now c.loop-part.part-index item _ c.loop-part-test.true c.part-item.is (sym here ∙ c.if-branch.true) inv.holds
 
 pub some_holds-loop-part-preserved : goal.some_holds-loop-part-preserved
 some_holds-loop-part-preserved g t c =
@@ -647,7 +647,7 @@ some_holds-loop-part-preserved g t c =
     let inv = c.loop-part.invariant in
     let item = c.part-item.result in
     let here = c.in_ok-filter_holds.ensures.holds ∙ ap (λ q. holds (filter_view kept item) d (node_of tree q c.args.at.now)) inv.returns.same in
-    record { returns = on inv.returns c.in_ok-filter_holds.ensures.returns; holds = some_next (λ (fs : List Filter). some_holds (filters_in kept fs) d n) (λ f. holds (filter_view kept f) d n) (λ x xs. refl) c.args.parts.now c.loop-part.part-index item _ c.loop-part-test.true c.part-item.is (sym here ∙ c.if-branch.false) inv.holds }
+    record { returns = on inv.returns c.in_ok-filter_holds.ensures.returns; holds = some_next (λ (fs : List Filter). some_holds (filters_meant kept fs) d n) (λ f. holds (filter_view kept f) d n) (λ x xs. refl) c.args.parts.now c.loop-part.part-index item _ c.loop-part-test.true c.part-item.is (sym here ∙ c.if-branch.false) inv.holds }
 
 pub some_holds-returns-clause-holds : goal.some_holds-returns-clause-holds
 some_holds-returns-clause-holds g t c =
@@ -655,12 +655,12 @@ some_holds-returns-clause-holds g t c =
     let tree = g.T.Queryable.tree in
     let d = document tree g.T.Queryable.custom c.args.self.now in
     let n = node_of tree c.args.trail.now.way.steps.items c.args.at.now in
-    parts_end (λ (fs : List Filter). some_holds (filters_in kept fs) d n) c.args.parts.now c.loop-part.part-index _ c.loop-part-test.false c.loop-part.invariant.holds
+    parts_end (λ (fs : List Filter). some_holds (filters_meant kept fs) d n) c.args.parts.now c.loop-part.part-index _ c.loop-part-test.false c.loop-part.invariant.holds
 
 pub each_holds-filter_holds-requires : goal.each_holds-filter_holds-requires
 each_holds-filter_holds-requires g t c κs within =
     let kept = kept_of c.args.self.now in
-    let w = part_of (λ (x : Filter). filter_weight (filter_view kept x)) (λ xs. filters_weight (filters_in kept xs)) (λ x xs. refl) c.args.parts.now c.loop-part.part-index c.part-item.result c.loop-part-test.true c.part-item.is in
+    let w = part_of (λ (x : Filter). filter_weight (filter_view kept x)) (λ xs. filters_weight (filters_meant kept xs)) (λ x xs. refl) c.args.parts.now c.loop-part.part-index c.part-item.result c.loop-part-test.true c.part-item.is in
     (down _ _ _ _ _ _ c.decreases (omega (arith, w)) (omega (arith, c.requires.within)), (within, still c.requires c.loop-part.invariant.returns))
 
 pub each_holds-returns-then-not-branch-clause-holds : goal.each_holds-returns-then-not-branch-clause-holds
@@ -672,7 +672,7 @@ each_holds-returns-then-not-branch-clause-holds g t c =
     let inv = c.loop-part.invariant in
     let item = c.part-item.result in
     let here = c.in_ok-filter_holds.ensures.holds ∙ ap (λ q. holds (filter_view kept item) d (node_of tree q c.args.at.now)) inv.returns.same in
-    each_failed (λ (fs : List Filter). each_holds (filters_in kept fs) d n) (λ f. holds (filter_view kept f) d n) (λ x xs. refl) c.args.parts.now c.loop-part.part-index item _ c.loop-part-test.true c.part-item.is (sym here ∙ c.if-not-branch.true) inv.holds
+    each_failed (λ (fs : List Filter). each_holds (filters_meant kept fs) d n) (λ f. holds (filter_view kept f) d n) (λ x xs. refl) c.args.parts.now c.loop-part.part-index item _ c.loop-part-test.true c.part-item.is (sym here ∙ c.if-not-branch.true) inv.holds
 
 pub each_holds-loop-part-preserved : goal.each_holds-loop-part-preserved
 each_holds-loop-part-preserved g t c =
@@ -683,7 +683,7 @@ each_holds-loop-part-preserved g t c =
     let inv = c.loop-part.invariant in
     let item = c.part-item.result in
     let here = c.in_ok-filter_holds.ensures.holds ∙ ap (λ q. holds (filter_view kept item) d (node_of tree q c.args.at.now)) inv.returns.same in
-    record { returns = on inv.returns c.in_ok-filter_holds.ensures.returns; holds = each_next (λ (fs : List Filter). each_holds (filters_in kept fs) d n) (λ f. holds (filter_view kept f) d n) (λ x xs. refl) c.args.parts.now c.loop-part.part-index item _ c.loop-part-test.true c.part-item.is (sym here ∙ c.if-not-branch.false) inv.holds }
+    record { returns = on inv.returns c.in_ok-filter_holds.ensures.returns; holds = each_next (λ (fs : List Filter). each_holds (filters_meant kept fs) d n) (λ f. holds (filter_view kept f) d n) (λ x xs. refl) c.args.parts.now c.loop-part.part-index item _ c.loop-part-test.true c.part-item.is (sym here ∙ c.if-not-branch.false) inv.holds }
 
 pub each_holds-returns-clause-holds : goal.each_holds-returns-clause-holds
 each_holds-returns-clause-holds g t c =
@@ -691,12 +691,12 @@ each_holds-returns-clause-holds g t c =
     let tree = g.T.Queryable.tree in
     let d = document tree g.T.Queryable.custom c.args.self.now in
     let n = node_of tree c.args.trail.now.way.steps.items c.args.at.now in
-    parts_end (λ (fs : List Filter). each_holds (filters_in kept fs) d n) c.args.parts.now c.loop-part.part-index _ c.loop-part-test.false c.loop-part.invariant.holds
+    parts_end (λ (fs : List Filter). each_holds (filters_meant kept fs) d n) c.args.parts.now c.loop-part.part-index _ c.loop-part-test.false c.loop-part.invariant.holds
 
 pub custom-argument-requires : goal.custom-argument-requires
 custom-argument-requires g t c κs within =
     let kept = kept_of c.args.self.now in
-    let w = part_of (λ (x : Argument). argument_weight (argument_view kept x Values)) (λ xs. arguments_weight (arguments_in kept xs)) (λ x xs. refl) c.args.args.now c.loop-arg.arg-index c.arg-item.result c.loop-arg-test.true c.arg-item.is in
+    let w = part_of (λ (x : Argument). argument_weight (argument_view kept x Values)) (λ xs. arguments_weight (arguments_meant kept xs)) (λ x xs. refl) c.args.args.now c.loop-arg.arg-index c.arg-item.result c.loop-arg-test.true c.arg-item.is in
     (down _ _ _ _ _ _ c.decreases (omega (arith, w)) (omega (arith, c.requires.within)), (within, still c.requires c.loop-arg.invariant.returns))
 
 pub custom-push_to-requires-clause-within : goal.custom-push_to-requires-clause-within
@@ -720,7 +720,7 @@ custom-loop-arg-init g t c =
     let d = document tree g.T.Queryable.custom c.args.self.now in
     let n = node_of tree c.args.trail.now.way.steps.items c.args.at.now in
     let whole = g.T.Queryable.is_whole in
-    record { returns = stays c.requires.ready; trees = ap (λ xs. arg_trees tree xs ++ all_trees (arguments_in kept c.args.args.now) d n) c.new-values.ensures.items; whole = subst (AreWhole whole) (sym c.new-values.ensures.items) (All-nil _) }
+    record { returns = stays c.requires.ready; trees = ap (λ xs. arg_trees tree xs ++ all_trees (arguments_meant kept c.args.args.now) d n) c.new-values.ensures.items; whole = subst (AreWhole whole) (sym c.new-values.ensures.items) (All-nil _) }
 
 pub custom-loop-arg-preserved : goal.custom-loop-arg-preserved
 custom-loop-arg-preserved g t c =
@@ -733,7 +733,7 @@ custom-loop-arg-preserved g t c =
     let was = arg_trees tree c.loop-arg.values.items in
     let pushed = c.in_ok-push_to.ensures in
     let trees = ap trees_held c.in_ok-argument.ensures.held ∙ as_trees_held (argued (argument_view kept item Values) d (node_of tree c.loop-arg.trail.way.steps.items c.args.at.now)) ∙ ap (λ q. as_trees (argued (argument_view kept item Values) d (node_of tree q c.args.at.now))) inv.returns.same in
-    record { returns = on inv.returns c.in_ok-argument.ensures.returns; trees = joined_next (λ (xs : List Argument). all_trees (arguments_in kept xs) d n) (λ a. as_trees (argued (argument_view kept a Values) d n)) (λ x xs. refl) c.args.args.now c.loop-arg.arg-index item was _ _ c.loop-arg-test.true c.arg-item.is (pushed.value ∙ ap (λ ts. was ++ ts) trees) inv.trees; whole = pushed.whole }
+    record { returns = on inv.returns c.in_ok-argument.ensures.returns; trees = joined_next (λ (xs : List Argument). all_trees (arguments_meant kept xs) d n) (λ a. as_trees (argued (argument_view kept a Values) d n)) (λ x xs. refl) c.args.args.now c.loop-arg.arg-index item was _ _ c.loop-arg-test.true c.arg-item.is (pushed.value ∙ ap (λ ts. was ++ ts) trees) inv.trees; whole = pushed.whole }
 
 pub custom-returns-clause-value : goal.custom-returns-clause-value
 custom-returns-clause-value g t c =
@@ -744,7 +744,7 @@ custom-returns-clause-value g t c =
     let custom = g.T.Queryable.custom in
     let inv = c.loop-arg.invariant in
     let all = arg_trees tree c.loop-arg.values.items in
-    let end = sym (append-nil all) ∙ parts_end (λ (xs : List Argument). all ++ all_trees (arguments_in kept xs) d n) c.args.args.now c.loop-arg.arg-index _ c.loop-arg-test.false inv.trees in
+    let end = sym (append-nil all) ∙ parts_end (λ (xs : List Argument). all ++ all_trees (arguments_meant kept xs) d n) c.args.args.now c.loop-arg.arg-index _ c.loop-arg-test.false inv.trees in
     let nm = string_bytes c.args.name.now in
     ap (λ x. Some x) (c.in_ok-extension_custom.ensures.value ∙ ap (λ k. custom k (arg_trees tree c.deref-3.result.now)) c.deref-2.ensures ∙ ap (λ xs. custom nm (arg_trees tree xs)) c.deref-3.ensures.value ∙ ap (custom nm) end)
 
@@ -766,19 +766,19 @@ gather-returns-clause-given g t c =
     let tree = g.T.Queryable.tree in
     let d = document tree g.T.Queryable.custom c.args.self.now in
     let n = node_of tree c.args.trail.now.way.steps.items c.args.at.now in
-    c.in_ok-_goes_on.ensures.gave.given ∙ ap (λ s. give s (through (segments_in kept c.args.segments.now) d n)) c.start-sink.ensures
+    c.in_ok-_goes_on.ensures.gave.given ∙ ap (λ s. give s (through (segments_meant kept c.args.segments.now) d n)) c.start-sink.ensures
 
 pub filter_holds-some_holds-requires : goal.filter_holds-some_holds-requires
 filter_holds-some_holds-requires g t c κs within =
     let kept = kept_of c.args.self.now in
     let e = ap (filter_view kept) c.in-Or.is ∙ filter_view-Or kept c.in-Or.parts in
-    (down _ _ _ _ _ _ c.decreases (omega (arith, ap filter_weight e, ap (λ (xs : List Filter). filters_weight (filters_in kept xs)) c.deref.ensures.value)) (omega (arith, c.requires.within)), (within, c.requires))
+    (down _ _ _ _ _ _ c.decreases (omega (arith, ap filter_weight e, ap (λ (xs : List Filter). filters_weight (filters_meant kept xs)) c.deref.ensures.value)) (omega (arith, c.requires.within)), (within, c.requires))
 
 pub filter_holds-each_holds-requires : goal.filter_holds-each_holds-requires
 filter_holds-each_holds-requires g t c κs within =
     let kept = kept_of c.args.self.now in
     let e = ap (filter_view kept) c.in-And.is ∙ filter_view-And kept c.in-And.parts in
-    (down _ _ _ _ _ _ c.decreases (omega (arith, ap filter_weight e, ap (λ (xs : List Filter). filters_weight (filters_in kept xs)) c.deref-in-And.ensures.value)) (omega (arith, c.requires.within)), (within, c.requires))
+    (down _ _ _ _ _ _ c.decreases (omega (arith, ap filter_weight e, ap (λ (xs : List Filter). filters_weight (filters_meant kept xs)) c.deref-in-And.ensures.value)) (omega (arith, c.requires.within)), (within, c.requires))
 
 pub filter_holds-filter_holds-requires : goal.filter_holds-filter_holds-requires
 filter_holds-filter_holds-requires g t c κs within =
@@ -820,7 +820,7 @@ filter_holds-returns-in-Or-clause-holds g t c =
     let d = document tree g.T.Queryable.custom c.args.self.now in
     let n = node_of tree c.args.trail.now.way.steps.items c.args.at.now in
     let e = ap (filter_view kept) c.in-Or.is ∙ filter_view-Or kept c.in-Or.parts in
-    ok_as _ _ _ (ap (λ (fs : List Filter). some_holds (filters_in kept fs) d n) c.deref.ensures.value ∙ sym (ap (λ f. holds f d n) e)) c.some_holds.ensures.holds
+    ok_as _ _ _ (ap (λ (fs : List Filter). some_holds (filters_meant kept fs) d n) c.deref.ensures.value ∙ sym (ap (λ f. holds f d n) e)) c.some_holds.ensures.holds
 
 pub filter_holds-returns-in-And-clause-holds : goal.filter_holds-returns-in-And-clause-holds
 filter_holds-returns-in-And-clause-holds g t c =
@@ -829,7 +829,7 @@ filter_holds-returns-in-And-clause-holds g t c =
     let d = document tree g.T.Queryable.custom c.args.self.now in
     let n = node_of tree c.args.trail.now.way.steps.items c.args.at.now in
     let e = ap (filter_view kept) c.in-And.is ∙ filter_view-And kept c.in-And.parts in
-    ok_as _ _ _ (ap (λ (fs : List Filter). each_holds (filters_in kept fs) d n) c.deref-in-And.ensures.value ∙ sym (ap (λ f. holds f d n) e)) c.each_holds.ensures.holds
+    ok_as _ _ _ (ap (λ (fs : List Filter). each_holds (filters_meant kept fs) d n) c.deref-in-And.ensures.value ∙ sym (ap (λ f. holds f d n) e)) c.each_holds.ensures.holds
 
 pub filter_holds-returns-in_ok-filter_holds-in-Group-clause-holds : goal.filter_holds-returns-in_ok-filter_holds-in-Group-clause-holds
 filter_holds-returns-in_ok-filter_holds-in-Group-clause-holds g t c =
@@ -995,7 +995,7 @@ pub answer-custom-requires : goal.answer-custom-requires
 answer-custom-requires g t c κs within =
     let kept = kept_of c.args.self.now in
     let e = ap (call_view kept) c.in-Custom.is ∙ called kept c.in-Custom.name c.in-Custom.args in
-    (down _ _ _ _ _ _ c.decreases (omega (arith, ap call_weight e, ap (λ (xs : List Argument). arguments_weight (arguments_in kept xs)) c.deref.ensures.value)) (omega (arith, c.requires.within)), (within, c.requires))
+    (down _ _ _ _ _ _ c.decreases (omega (arith, ap call_weight e, ap (λ (xs : List Argument). arguments_weight (arguments_meant kept xs)) c.deref.ensures.value)) (omega (arith, c.requires.within)), (within, c.requires))
 
 pub answer-value-requires : goal.answer-value-requires
 answer-value-requires g t c κs within =
@@ -1052,7 +1052,7 @@ answer-returns-in-Custom-clause-value g t c =
     let n = node_of tree c.args.trail.now.way.steps.items c.args.at.now in
     let custom = g.T.Queryable.custom in
     let e = ap (call_view kept) c.in-Custom.is ∙ called kept c.in-Custom.name c.in-Custom.args in
-    ok_through _ (operand_tree tree) _ _ (ap (λ (xs : List Argument). Some (custom (string_bytes c.in-Custom.name) (all_trees (arguments_in kept xs) d n))) c.deref.ensures.value ∙ sym (ap (λ f. answer f d n) e)) c.custom.ensures.value
+    ok_through _ (operand_tree tree) _ _ (ap (λ (xs : List Argument). Some (custom (string_bytes c.in-Custom.name) (all_trees (arguments_meant kept xs) d n))) c.deref.ensures.value ∙ sym (ap (λ f. answer f d n) e)) c.custom.ensures.value
 
 pub answer-returns-in_ok-spend-in-Length-clause-value : goal.answer-returns-in_ok-spend-in-Length-clause-value
 answer-returns-in_ok-spend-in-Length-clause-value g t c =
@@ -1238,7 +1238,7 @@ pub nodes-gather-requires : goal.nodes-gather-requires
 nodes-gather-requires g t c κs within =
     let kept = kept_of c.args.self.now in
     let e = ap (λ ns. nodes_view kept ns c.args.wanted) c.in-Walk.is ∙ nodes_view-Walk kept c.in-Walk.segments c.args.wanted in
-    (down _ _ _ _ _ _ c.decreases (omega (arith, ap test_weight e, ap (λ (xs : List Segment). segments_weight (segments_in kept xs)) c.deref-in-Walk.ensures.value)) (omega (arith, c.requires.within)), (within, c.requires))
+    (down _ _ _ _ _ _ c.decreases (omega (arith, ap test_weight e, ap (λ (xs : List Segment). segments_weight (segments_meant kept xs)) c.deref-in-Walk.ensures.value)) (omega (arith, c.requires.within)), (within, c.requires))
 
 pub nodes-kept_nodes-requires : goal.nodes-kept_nodes-requires
 nodes-kept_nodes-requires g t c κs within =
@@ -1263,7 +1263,7 @@ nodes-returns-in_ok-gather-in-Walk-clause-held g t c =
     let d = document tree g.T.Queryable.custom c.args.self.now in
     let n = node_of tree c.args.trail.now.way.steps.items c.args.at.now in
     let e = ap (λ ns. nodes_view kept ns c.args.wanted) c.in-Walk.is ∙ nodes_view-Walk kept c.in-Walk.segments c.args.wanted in
-    let ns = ap (λ (gs : List Segment). through (segments_in kept gs) d n) c.deref-in-Walk.ensures.value ∙ through-applied (segments_in kept c.in-Walk.segments.items) d n in
+    let ns = ap (λ (gs : List Segment). through (segments_meant kept gs) d n) c.deref-in-Walk.ensures.value ∙ through-applied (segments_meant kept c.in-Walk.segments.items) d n in
     ap nodes (c.in_ok-gather-in-Walk.ensures.given ∙ ap (give (start c.args.wanted)) ns) ∙ sym (ap (λ q. holding c.args.wanted (tested q d n)) e)
 
 pub nodes-returns-in-Kept-clause-held : goal.nodes-returns-in-Kept-clause-held
@@ -1311,7 +1311,7 @@ kept_nodes-returns-clause-given g t c =
     let kept = kept_of c.args.self.now in
     let tree = g.T.Queryable.tree in
     let d = document tree g.T.Queryable.custom c.args.self.now in
-    let gs = segments_in kept c.in-Some.segments.now in
+    let gs = segments_meant kept c.in-Some.segments.now in
     let at = λ (q : List StepRef). through gs d (node_of tree q c.args.self.now.root.now) in
     let all = ap at (ap (λ w. w.steps.items) c.replace-here.ensures.after ∙ c.new-root.ensures) ∙ nodelist-through gs d ∙ ap (λ q. nodelist q d) (sym (kept_query kept c.args.number c.args.wanted _ c.in-Some.ensures.part)) in
     ap nodes_or_none c.keep.ensures.value ∙ c.in_ok-nodes.ensures.given ∙ ap (give (start c.args.wanted)) all
@@ -1321,7 +1321,7 @@ kept_nodes-returns-clause-returns g t c =
     let kept = kept_of c.args.self.now in
     let tree = g.T.Queryable.tree in
     let d = document tree g.T.Queryable.custom c.args.self.now in
-    let gs = segments_in kept c.in-Some.segments.now in
+    let gs = segments_meant kept c.in-Some.segments.now in
     let at = λ (q : List StepRef). through gs d (node_of tree q c.args.self.now.root.now) in
     let all = ap at (ap (λ w. w.steps.items) c.replace-here.ensures.after ∙ c.new-root.ensures) ∙ nodelist-through gs d in
     let given = ap keeping.nodes (c.in_ok-nodes.ensures.given ∙ ap (give (start c.args.wanted)) all) ∙ sym (ap (λ p. given_by p d) c.in-Some.ensures.part) in
@@ -1438,28 +1438,28 @@ kept_comparison-returns-clause-returns g t c =
 pub act-returns-in_err-filter_holds-in-If-clause-refused : goal.act-returns-in_err-filter_holds-in-If-clause-refused
 act-returns-in_err-filter_holds-in-If-clause-refused g t c =
     let kept = kept_of c.args.self.now in
-    halts_so _ _ _ c.from_residual.ensures.1 c.in_err-filter_holds-in-If.ensures.refused (λ h. asked_left (action_patterns kept c.args.onward.next) (segments_patterns (segments_in kept c.args.onward.rest.now)) (asked_as (action_patterns kept) _ _ c.in-If.is h))
+    halts_so _ _ _ c.from_residual.ensures.1 c.in_err-filter_holds-in-If.ensures.refused (λ h. asked_left (action_patterns kept c.args.onward.next) (segments_patterns (segments_meant kept c.args.onward.rest.now)) (asked_as (action_patterns kept) _ _ c.in-If.is h))
 
 pub act-returns-then-branch-clause-refused : goal.act-returns-then-branch-clause-refused
 act-returns-then-branch-clause-refused g t c =
     let kept = kept_of c.args.self.now in
-    halts_as _ _ c.go_on-then-branch.ensures.refused (λ h. asked_right (action_patterns kept c.args.onward.next) (segments_patterns (segments_in kept c.args.onward.rest.now)) h)
+    halts_as _ _ c.go_on-then-branch.ensures.refused (λ h. asked_right (action_patterns kept c.args.onward.next) (segments_patterns (segments_meant kept c.args.onward.rest.now)) h)
 
 pub pick_each-returns-in_err-pick-clause-refused : goal.pick_each-returns-in_err-pick-clause-refused
 pick_each-returns-in_err-pick-clause-refused g t c =
     let kept = kept_of c.args.self.now in
-    let others = segments_patterns (segments_in kept c.args.onward.rest.now) in
-    halts_so _ _ _ c.from_residual-in_err-pick.ensures.1 c.in_err-pick.ensures.refused (λ h. asked_at_or (λ (x : Selector). selector_patterns (selector_view kept x)) (λ xs. selectors_patterns (selectors_in kept xs)) (λ x xs. refl) others c.args.onward.next.now c.loop-selector.selector-index c.selector-item.result c.loop-selector-test.true c.selector-item.is h)
+    let others = segments_patterns (segments_meant kept c.args.onward.rest.now) in
+    halts_so _ _ _ c.from_residual-in_err-pick.ensures.1 c.in_err-pick.ensures.refused (λ h. asked_at_or (λ (x : Selector). selector_patterns (selector_view kept x)) (λ xs. selectors_patterns (selectors_meant kept xs)) (λ x xs. refl) others c.args.onward.next.now c.loop-selector.selector-index c.selector-item.result c.loop-selector-test.true c.selector-item.is h)
 
 pub some_holds-returns-in_err-filter_holds-clause-refused : goal.some_holds-returns-in_err-filter_holds-clause-refused
 some_holds-returns-in_err-filter_holds-clause-refused g t c =
     let kept = kept_of c.args.self.now in
-    halts_so _ _ _ c.from_residual-in_err-filter_holds.ensures.1 c.in_err-filter_holds.ensures.refused (λ h. asked_at (λ (x : Filter). filter_patterns (filter_view kept x)) (λ xs. filters_patterns (filters_in kept xs)) (λ x xs. refl) c.args.parts.now c.loop-part.part-index c.part-item.result c.loop-part-test.true c.part-item.is h)
+    halts_so _ _ _ c.from_residual-in_err-filter_holds.ensures.1 c.in_err-filter_holds.ensures.refused (λ h. asked_at (λ (x : Filter). filter_patterns (filter_view kept x)) (λ xs. filters_patterns (filters_meant kept xs)) (λ x xs. refl) c.args.parts.now c.loop-part.part-index c.part-item.result c.loop-part-test.true c.part-item.is h)
 
 pub each_holds-returns-in_err-filter_holds-clause-refused : goal.each_holds-returns-in_err-filter_holds-clause-refused
 each_holds-returns-in_err-filter_holds-clause-refused g t c =
     let kept = kept_of c.args.self.now in
-    halts_so _ _ _ c.from_residual-in_err-filter_holds.ensures.1 c.in_err-filter_holds.ensures.refused (λ h. asked_at (λ (x : Filter). filter_patterns (filter_view kept x)) (λ xs. filters_patterns (filters_in kept xs)) (λ x xs. refl) c.args.parts.now c.loop-part.part-index c.part-item.result c.loop-part-test.true c.part-item.is h)
+    halts_so _ _ _ c.from_residual-in_err-filter_holds.ensures.1 c.in_err-filter_holds.ensures.refused (λ h. asked_at (λ (x : Filter). filter_patterns (filter_view kept x)) (λ xs. filters_patterns (filters_meant kept xs)) (λ x xs. refl) c.args.parts.now c.loop-part.part-index c.part-item.result c.loop-part-test.true c.part-item.is h)
 
 pub comparison_holds-returns-in_err-left-clause-refused : goal.comparison_holds-returns-in_err-left-clause-refused
 comparison_holds-returns-in_err-left-clause-refused g t c =
@@ -1475,7 +1475,7 @@ pub answer-returns-in-Custom-clause-refused : goal.answer-returns-in-Custom-clau
 answer-returns-in-Custom-clause-refused g t c =
     let kept = kept_of c.args.self.now in
     let e = ap (call_view kept) c.in-Custom.is ∙ called kept c.in-Custom.name c.in-Custom.args in
-    halts_as _ _ c.custom.ensures.refused (λ h. asked_as call_patterns _ _ e (asked_as (λ (xs : List Argument). arguments_patterns (arguments_in kept xs)) _ _ (sym c.deref.ensures.value) h))
+    halts_as _ _ c.custom.ensures.refused (λ h. asked_as call_patterns _ _ e (asked_as (λ (xs : List Argument). arguments_patterns (arguments_meant kept xs)) _ _ (sym c.deref.ensures.value) h))
 
 pub match_or_search-returns-in_err-text-clause-refused : goal.match_or_search-returns-in_err-text-clause-refused
 match_or_search-returns-in_err-text-clause-refused g t c =
@@ -1494,16 +1494,16 @@ match_or_search-returns-in_err-pattern-clause-refused g t c =
 pub custom-returns-in_err-argument-clause-refused : goal.custom-returns-in_err-argument-clause-refused
 custom-returns-in_err-argument-clause-refused g t c =
     let kept = kept_of c.args.self.now in
-    halts_so _ _ _ c.from_residual.ensures.1 c.in_err-argument.ensures.refused (λ h. asked_at (λ (x : Argument). argument_patterns (argument_view kept x Values)) (λ xs. arguments_patterns (arguments_in kept xs)) (λ x xs. refl) c.args.args.now c.loop-arg.arg-index c.arg-item.result c.loop-arg-test.true c.arg-item.is h)
+    halts_so _ _ _ c.from_residual.ensures.1 c.in_err-argument.ensures.refused (λ h. asked_at (λ (x : Argument). argument_patterns (argument_view kept x Values)) (λ xs. arguments_patterns (arguments_meant kept xs)) (λ x xs. refl) c.args.args.now c.loop-arg.arg-index c.arg-item.result c.loop-arg-test.true c.arg-item.is h)
 
 pub custom-returns-in_err-cost-clause-refused : goal.custom-returns-in_err-cost-clause-refused
 custom-returns-in_err-cost-clause-refused g t c =
     let d = document g.T.Queryable.tree g.T.Queryable.custom c.args.self.now in
-    let ps = arguments_patterns (arguments_in (kept_of c.args.self.now) c.args.args.now) in
+    let ps = arguments_patterns (arguments_meant (kept_of c.args.self.now) c.args.args.now) in
     passed_on c.from_residual-in_err-cost.result _ (IsHalt c.args.self.now.limit ps d) c.from_residual-in_err-cost.ensures.1 (λ y e. λ memory spent. absurd (memory (e ∙ c.in_err-cost.ensures)))
 
 pub custom-returns-in_err-extension_custom-clause-refused : goal.custom-returns-in_err-extension_custom-clause-refused
 custom-returns-in_err-extension_custom-clause-refused g t c =
     let d = document g.T.Queryable.tree g.T.Queryable.custom c.args.self.now in
-    let ps = arguments_patterns (arguments_in (kept_of c.args.self.now) c.args.args.now) in
+    let ps = arguments_patterns (arguments_meant (kept_of c.args.self.now) c.args.args.now) in
     passed_on c.from_residual-in_err-extension_custom.result _ (IsHalt c.args.self.now.limit ps d) c.from_residual-in_err-extension_custom.ensures.1 (λ y e. λ memory spent. absurd (memory (e c.in_err-extension_custom.ensures.memory)))

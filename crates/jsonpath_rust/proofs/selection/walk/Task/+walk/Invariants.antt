@@ -4,7 +4,7 @@ use Rattle.jsonpath_base.specs.Slice.{slice_of}
 use Rattle.jsonpath_base.specs.SliceSteps.{places_left}
 use Rattle.jsonpath_rust.specs.documents.Node.{element_nodes, member_nodes, children}
 use Rattle.jsonpath_rust.specs.documents.Meaning.{all_pick, element, some_holds, each_holds, all_trees}
-use Rattle.jsonpath_rust.specs.selection.inner.PlanViews.{segment_view, segments_in, selector_view, selectors_in, filter_view, filters_in, side_view, call_view, argument_view, arguments_in, nodes_view, query_at, call_at, called_view, comparison_at}
+use Rattle.jsonpath_rust.specs.selection.inner.PlanViews.{segment_view, segments_meant, selector_view, selectors_meant, filter_view, filters_meant, side_view, call_view, argument_view, arguments_meant, nodes_view, query_at, call_at, called_view, comparison_at}
 use Rattle.jsonpath_rust.specs.selection.inner.Walking.{through, node_of, acted}
 use Rattle.jsonpath_rust.specs.selection.inner.Sinks.{seen, give}
 use Rattle.jsonpath_rust.specs.selection.inner.Keeping.{document, kept_of}
@@ -18,46 +18,46 @@ use Rattle.jsonpath_rust.specs.declared.selection.sink.Wanted.TheVariants.{Any, 
 use Rattle.jsonpath_rust.proofs.selection.walk.Task.+walk.Given as goal
 
 abbrev pub decreases-walk : goal.decreases-walk
-decreases-walk g l = let tree = g.T.Queryable.tree in work (segments_weight (segments_in (kept_of l.self.now) l.segments.now) + 1) (size (tree l.self.now.root.now)) (5 * size (tree l.at.now))
+decreases-walk g l = let tree = g.T.Queryable.tree in work (segments_weight (segments_meant (kept_of l.self.now) l.segments.now) + 1) (size (tree l.self.now.root.now)) (5 * size (tree l.at.now))
 
 abbrev pub decreases-pass : goal.decreases-pass
-decreases-pass g l = let tree = g.T.Queryable.tree in work (segment_weight (segment_view (kept_of l.self.now) l.onward.next.now) + segments_weight (segments_in (kept_of l.self.now) l.onward.rest.now)) (size (tree l.self.now.root.now)) (5 * size (tree l.at.now))
+decreases-pass g l = let tree = g.T.Queryable.tree in work (segment_weight (segment_view (kept_of l.self.now) l.onward.next.now) + segments_weight (segments_meant (kept_of l.self.now) l.onward.rest.now)) (size (tree l.self.now.root.now)) (5 * size (tree l.at.now))
 
 abbrev pub decreases-pick_each : goal.decreases-pick_each
-decreases-pick_each g l = let tree = g.T.Queryable.tree in work (selectors_weight (selectors_in (kept_of l.self.now) l.onward.next.now) + 1 + segments_weight (segments_in (kept_of l.self.now) l.onward.rest.now)) (size (tree l.self.now.root.now)) (5 * size (tree l.at.now))
+decreases-pick_each g l = let tree = g.T.Queryable.tree in work (selectors_weight (selectors_meant (kept_of l.self.now) l.onward.next.now) + 1 + segments_weight (segments_meant (kept_of l.self.now) l.onward.rest.now)) (size (tree l.self.now.root.now)) (5 * size (tree l.at.now))
 
 abbrev pub decreases-pick : goal.decreases-pick
-decreases-pick g l = let tree = g.T.Queryable.tree in work (selector_weight (selector_view (kept_of l.self.now) l.onward.next.now) + segments_weight (segments_in (kept_of l.self.now) l.onward.rest.now)) (size (tree l.self.now.root.now)) (5 * size (tree l.at.now))
+decreases-pick g l = let tree = g.T.Queryable.tree in work (selector_weight (selector_view (kept_of l.self.now) l.onward.next.now) + segments_weight (segments_meant (kept_of l.self.now) l.onward.rest.now)) (size (tree l.self.now.root.now)) (5 * size (tree l.at.now))
 
 abbrev pub decreases-pick_slice : goal.decreases-pick_slice
-decreases-pick_slice g l = let tree = g.T.Queryable.tree in work (segments_weight (segments_in (kept_of l.self.now) l.onward.rest.now) + 3) (size (tree l.self.now.root.now)) (5 * size (tree l.at.now))
+decreases-pick_slice g l = let tree = g.T.Queryable.tree in work (segments_weight (segments_meant (kept_of l.self.now) l.onward.rest.now) + 3) (size (tree l.self.now.root.now)) (5 * size (tree l.at.now))
 
 abbrev pub decreases-each_child : goal.decreases-each_child
-decreases-each_child g l = let tree = g.T.Queryable.tree in work (action_weight (kept_of l.self.now) l.onward.next + segments_weight (segments_in (kept_of l.self.now) l.onward.rest.now)) (size (tree l.self.now.root.now)) (5 * size (tree l.at.now) + 1)
+decreases-each_child g l = let tree = g.T.Queryable.tree in work (action_weight (kept_of l.self.now) l.onward.next + segments_weight (segments_meant (kept_of l.self.now) l.onward.rest.now)) (size (tree l.self.now.root.now)) (5 * size (tree l.at.now) + 1)
 
 abbrev pub decreases-each_member : goal.decreases-each_member
-decreases-each_member g l = let tree = g.T.Queryable.tree in work (action_weight (kept_of l.self.now) l.onward.next + segments_weight (segments_in (kept_of l.self.now) l.onward.rest.now)) (size (tree l.self.now.root.now)) (5 * size (tree l.members.now.of.now))
+decreases-each_member g l = let tree = g.T.Queryable.tree in work (action_weight (kept_of l.self.now) l.onward.next + segments_weight (segments_meant (kept_of l.self.now) l.onward.rest.now)) (size (tree l.self.now.root.now)) (5 * size (tree l.members.now.of.now))
 
 abbrev pub decreases-descend : goal.decreases-descend
-decreases-descend g l = let tree = g.T.Queryable.tree in work (segment_weight (segment_view (kept_of l.self.now) l.onward.next.now) + 1 + segments_weight (segments_in (kept_of l.self.now) l.onward.rest.now)) (size (tree l.self.now.root.now)) (5 * size (tree l.at.now) + 2)
+decreases-descend g l = let tree = g.T.Queryable.tree in work (segment_weight (segment_view (kept_of l.self.now) l.onward.next.now) + 1 + segments_weight (segments_meant (kept_of l.self.now) l.onward.rest.now)) (size (tree l.self.now.root.now)) (5 * size (tree l.at.now) + 2)
 
 abbrev pub decreases-at_child : goal.decreases-at_child
-decreases-at_child g l = let tree = g.T.Queryable.tree in work (action_weight (kept_of l.self.now) l.onward.next + segments_weight (segments_in (kept_of l.self.now) l.onward.rest.now)) (size (tree l.self.now.root.now)) (5 * size (tree l.child.value.now) + 4)
+decreases-at_child g l = let tree = g.T.Queryable.tree in work (action_weight (kept_of l.self.now) l.onward.next + segments_weight (segments_meant (kept_of l.self.now) l.onward.rest.now)) (size (tree l.self.now.root.now)) (5 * size (tree l.child.value.now) + 4)
 
 abbrev pub decreases-act : goal.decreases-act
-decreases-act g l = let tree = g.T.Queryable.tree in work (action_weight (kept_of l.self.now) l.onward.next + segments_weight (segments_in (kept_of l.self.now) l.onward.rest.now)) (size (tree l.self.now.root.now)) (5 * size (tree l.at.now) + 3)
+decreases-act g l = let tree = g.T.Queryable.tree in work (action_weight (kept_of l.self.now) l.onward.next + segments_weight (segments_meant (kept_of l.self.now) l.onward.rest.now)) (size (tree l.self.now.root.now)) (5 * size (tree l.at.now) + 3)
 
 abbrev pub decreases-go_on : goal.decreases-go_on
-decreases-go_on g l = let tree = g.T.Queryable.tree in work (segments_weight (segments_in (kept_of l.self.now) l.rest.now) + 1) (size (tree l.self.now.root.now)) (5 * size (tree l.at.now) + 1)
+decreases-go_on g l = let tree = g.T.Queryable.tree in work (segments_weight (segments_meant (kept_of l.self.now) l.rest.now) + 1) (size (tree l.self.now.root.now)) (5 * size (tree l.at.now) + 1)
 
 abbrev pub decreases-filter_holds : goal.decreases-filter_holds
 decreases-filter_holds g l = let tree = g.T.Queryable.tree in work (filter_weight (filter_view (kept_of l.self.now) l.filter.now)) (size (tree l.self.now.root.now)) (5 * size (tree l.at.now))
 
 abbrev pub decreases-some_holds : goal.decreases-some_holds
-decreases-some_holds g l = let tree = g.T.Queryable.tree in work (filters_weight (filters_in (kept_of l.self.now) l.parts.now) + 1) (size (tree l.self.now.root.now)) (5 * size (tree l.at.now))
+decreases-some_holds g l = let tree = g.T.Queryable.tree in work (filters_weight (filters_meant (kept_of l.self.now) l.parts.now) + 1) (size (tree l.self.now.root.now)) (5 * size (tree l.at.now))
 
 abbrev pub decreases-each_holds : goal.decreases-each_holds
-decreases-each_holds g l = let tree = g.T.Queryable.tree in work (filters_weight (filters_in (kept_of l.self.now) l.parts.now) + 1) (size (tree l.self.now.root.now)) (5 * size (tree l.at.now))
+decreases-each_holds g l = let tree = g.T.Queryable.tree in work (filters_weight (filters_meant (kept_of l.self.now) l.parts.now) + 1) (size (tree l.self.now.root.now)) (5 * size (tree l.at.now))
 
 abbrev pub decreases-answer : goal.decreases-answer
 decreases-answer g l = let tree = g.T.Queryable.tree in work (call_weight (call_view (kept_of l.self.now) l.call.now)) (size (tree l.self.now.root.now)) (5 * size (tree l.at.now))
@@ -75,7 +75,7 @@ abbrev pub decreases-match_or_search : goal.decreases-match_or_search
 decreases-match_or_search g l = let tree = g.T.Queryable.tree in work (argument_weight (argument_view (kept_of l.self.now) l.args.0.now Only) + argument_weight (argument_view (kept_of l.self.now) l.args.1.now Only) + 1) (size (tree l.self.now.root.now)) (5 * size (tree l.at.now))
 
 abbrev pub decreases-custom : goal.decreases-custom
-decreases-custom g l = let tree = g.T.Queryable.tree in work (arguments_weight (arguments_in (kept_of l.self.now) l.args.now) + 1) (size (tree l.self.now.root.now)) (5 * size (tree l.at.now))
+decreases-custom g l = let tree = g.T.Queryable.tree in work (arguments_weight (arguments_meant (kept_of l.self.now) l.args.now) + 1) (size (tree l.self.now.root.now)) (5 * size (tree l.at.now))
 
 abbrev pub decreases-value : goal.decreases-value
 decreases-value g l = let tree = g.T.Queryable.tree in work (argument_weight (argument_view (kept_of l.self.now) l.arg.now Only)) (size (tree l.self.now.root.now)) (5 * size (tree l.at.now) + 1)
@@ -84,7 +84,7 @@ abbrev pub decreases-argument : goal.decreases-argument
 decreases-argument g l = let tree = g.T.Queryable.tree in work (argument_weight (argument_view (kept_of l.self.now) l.arg.now l.wanted)) (size (tree l.self.now.root.now)) (5 * size (tree l.at.now))
 
 abbrev pub decreases-gather : goal.decreases-gather
-decreases-gather g l = let tree = g.T.Queryable.tree in work (segments_weight (segments_in (kept_of l.self.now) l.segments.now) + 2) (size (tree l.self.now.root.now)) (5 * size (tree l.at.now))
+decreases-gather g l = let tree = g.T.Queryable.tree in work (segments_weight (segments_meant (kept_of l.self.now) l.segments.now) + 2) (size (tree l.self.now.root.now)) (5 * size (tree l.at.now))
 
 abbrev pub decreases-exists : goal.decreases-exists
 decreases-exists g l = let tree = g.T.Queryable.tree in work (test_weight (nodes_view (kept_of l.self.now) l.nodes.now Any)) (size (tree l.self.now.root.now)) (5 * size (tree l.at.now) + 1)
@@ -108,10 +108,10 @@ invariant-pick_each-loop-selector g l =
     let whole = g.T.Queryable.is_whole in
     let d = document tree g.T.Queryable.custom l.self in
     let n = node_of tree l.initial.trail.way.steps.items l.at in
-    let rest = through (segments_in (kept_of l.self) l.onward.rest.now) d in
+    let rest = through (segments_meant (kept_of l.self) l.onward.rest.now) d in
     record {
       returns : Returns tree whole g.T.Queryable.custom l.self l.initial.trail l.trail;
-      given : give (seen tree whole l.sink) (flat_map rest (all_pick (selectors_in (kept_of l.self) (drop l.selector-index l.selector-items)) d n)) ≡ give (seen tree whole l.initial.sink) (flat_map rest (all_pick (selectors_in (kept_of l.self) l.onward.next.now) d n));
+      given : give (seen tree whole l.sink) (flat_map rest (all_pick (selectors_meant (kept_of l.self) (drop l.selector-index l.selector-items)) d n)) ≡ give (seen tree whole l.initial.sink) (flat_map rest (all_pick (selectors_meant (kept_of l.self) l.onward.next.now) d n));
     }
 
 abbrev pub invariant-pick_slice-loop-position : goal.invariant-pick_slice-loop-position
@@ -120,7 +120,7 @@ invariant-pick_slice-loop-position g l =
     let whole = g.T.Queryable.is_whole in
     let d = document tree g.T.Queryable.custom l.self in
     let n = node_of tree l.initial.trail.way.steps.items l.at in
-    let rest = through (segments_in (kept_of l.self) l.onward.rest.now) d in
+    let rest = through (segments_meant (kept_of l.self) l.onward.rest.now) d in
     record {
       returns : Returns tree whole g.T.Queryable.custom l.self l.initial.trail l.trail;
       below : All (λ i. i < length l.items.items) (places_left l.position-iterator);
@@ -133,7 +133,7 @@ invariant-each_child-loop-i g l =
     let whole = g.T.Queryable.is_whole in
     let d = document tree g.T.Queryable.custom l.self in
     let n = node_of tree l.initial.trail.way.steps.items l.at in
-    let rest = through (segments_in (kept_of l.self) l.onward.rest.now) d in
+    let rest = through (segments_meant (kept_of l.self) l.onward.rest.now) d in
     record {
       returns : Returns tree whole g.T.Queryable.custom l.self l.initial.trail l.trail;
       given : give (seen tree whole l.sink) (flat_map rest (flat_map (acted (kept_of l.self) l.onward.next d) (element_nodes n.location l.i (map tree (drop l.i l.value-items))))) ≡ give (seen tree whole l.initial.sink) (flat_map rest (flat_map (acted (kept_of l.self) l.onward.next d) (children n)));
@@ -145,7 +145,7 @@ invariant-each_member-loop-member g l =
     let whole = g.T.Queryable.is_whole in
     let d = document tree g.T.Queryable.custom l.self in
     let n = node_of tree l.initial.trail.way.steps.items l.members.of.now in
-    let rest = through (segments_in (kept_of l.self) l.onward.rest.now) d in
+    let rest = through (segments_meant (kept_of l.self) l.onward.rest.now) d in
     record {
       returns : Returns tree whole g.T.Queryable.custom l.self l.initial.trail l.trail;
       given : give (seen tree whole l.sink) (flat_map rest (flat_map (acted (kept_of l.self) l.onward.next d) (member_nodes n.location (map (λ m. (m.0.now, tree m.1.now)) (drop l.member-index l.member-items))))) ≡ give (seen tree whole l.initial.sink) (flat_map rest (flat_map (acted (kept_of l.self) l.onward.next d) (children n)));
@@ -160,7 +160,7 @@ invariant-some_holds-loop-part g l =
     let n = node_of tree l.initial.trail.way.steps.items l.at in
     record {
       returns : Returns tree whole g.T.Queryable.custom l.self l.initial.trail l.trail;
-      holds : some_holds (filters_in (kept_of l.self) (drop l.part-index l.parts)) d n ≡ some_holds (filters_in (kept_of l.self) l.parts) d n;
+      holds : some_holds (filters_meant (kept_of l.self) (drop l.part-index l.parts)) d n ≡ some_holds (filters_meant (kept_of l.self) l.parts) d n;
     }
 
 -- the parts that are left decide
@@ -172,7 +172,7 @@ invariant-each_holds-loop-part g l =
     let n = node_of tree l.initial.trail.way.steps.items l.at in
     record {
       returns : Returns tree whole g.T.Queryable.custom l.self l.initial.trail l.trail;
-      holds : each_holds (filters_in (kept_of l.self) (drop l.part-index l.parts)) d n ≡ each_holds (filters_in (kept_of l.self) l.parts) d n;
+      holds : each_holds (filters_meant (kept_of l.self) (drop l.part-index l.parts)) d n ≡ each_holds (filters_meant (kept_of l.self) l.parts) d n;
     }
 
 -- the arguments so far, with those that are left
@@ -184,6 +184,6 @@ invariant-custom-loop-arg g l =
     let n = node_of tree l.initial.trail.way.steps.items l.at in
     record {
       returns : Returns tree whole g.T.Queryable.custom l.self l.initial.trail l.trail;
-      trees : arg_trees tree l.values.items ++ all_trees (arguments_in (kept_of l.self) (drop l.arg-index l.args)) d n ≡ all_trees (arguments_in (kept_of l.self) l.args) d n;
+      trees : arg_trees tree l.values.items ++ all_trees (arguments_meant (kept_of l.self) (drop l.arg-index l.args)) d n ≡ all_trees (arguments_meant (kept_of l.self) l.args) d n;
       whole : AreWhole whole l.values.items;
     }

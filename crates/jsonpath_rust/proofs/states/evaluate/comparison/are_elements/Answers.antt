@@ -1,8 +1,8 @@
 use Rattle.std.proofs.Common.{◌≡◌, map, ap, ◌∙◌, sym, Some}
 use Rattle.jsonpath_base.specs.Tree.{as_list}
 use Rattle.jsonpath_rust.specs.states.Process.{lists_same}
-use Rattle.jsonpath_rust.specs.states.State.{place_of}
-use Rattle.jsonpath_rust.proofs.laws.states.Found.{places-trees, are_trees-list}
+use Rattle.jsonpath_rust.specs.states.State.{target_of}
+use Rattle.jsonpath_rust.proofs.laws.states.Found.{targets-trees, are_trees-list}
 use Rattle.jsonpath_rust.proofs.states.evaluate.comparison.are_elements.Goals as goal
 
 pub returns-in-Some : goal.returns-in-Some
@@ -10,4 +10,4 @@ returns-in-Some g c =
     let tree = g.T.Queryable.tree in
     let ts = map tree c.deref.result.now in
     let is_list : Some ts ≡ as_list (tree c.args.list.now) = ap (λ xs. Some (map tree xs)) c.deref.ensures.value ∙ c.in-Some.ensures.value c.requires.left in
-    c.are_same_values.ensures ∙ ap (lists_same ts) (sym (places-trees tree c.args.nodes.now)) ∙ are_trees-list (tree c.args.list.now) ts (map (place_of tree) c.args.nodes.now) is_list
+    c.are_same_values.ensures ∙ ap (lists_same ts) (sym (targets-trees tree c.args.nodes.now)) ∙ are_trees-list (tree c.args.list.now) ts (map (target_of tree) c.args.nodes.now) is_list

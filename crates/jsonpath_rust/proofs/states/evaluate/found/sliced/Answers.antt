@@ -3,7 +3,7 @@ use Rattle.std.proofs.lemmas.List.{map-append}
 use Rattle.std.specs.List.{flat_map}
 use Rattle.jsonpath_rust.specs.documents.Node.{root_node}
 use Rattle.jsonpath_rust.specs.documents.Meaning.{element}
-use Rattle.jsonpath_rust.specs.states.State.{under, place_of}
+use Rattle.jsonpath_rust.specs.states.State.{under, target_of}
 use Rattle.jsonpath_rust.proofs.laws.documents.Parts.{joined_next, all_more, get_or-self}
 use Rattle.jsonpath_rust.proofs.laws.documents.Trees.{all_at, element_at}
 use Rattle.jsonpath_rust.proofs.states.evaluate.found.sliced.Goals as goal
@@ -26,7 +26,7 @@ loop-at-preserved g c =
     let within : at < c.len.result = all_at (λ i. i < c.len.result) picked idx at below c.loop-at-test.true (get_or-self picked idx 0 c.loop-at-test.true) in
     let inside : at < length items = search rules in
     let here = element_at tree [] t items at c.index.result.now some inside c.index.ensures in
-    let pushed = ap (map (place_of tree)) c.in_ok-push-in-Some.ensures.items ∙ map-append (place_of tree) was (one ∷ []) ∙ ap (λ q. map (place_of tree) was ++ q ∷ []) c.in_ok-below_index-in-Some.ensures.value ∙ ap (λ ns. map (place_of tree) was ++ map (under path) ns) here in
+    let pushed = ap (map (target_of tree)) c.in_ok-push-in-Some.ensures.items ∙ map-append (target_of tree) was (one ∷ []) ∙ ap (λ q. map (target_of tree) was ++ q ∷ []) c.in_ok-below_index-in-Some.ensures.value ∙ ap (λ ns. map (target_of tree) was ++ map (under path) ns) here in
     let ok : IsTrue (whole c.index.result.now) = all_at (λ x. IsTrue (whole x)) items at c.index.result.now (c.in-Some.ensures.whole c.requires) inside c.index.ensures in
     record {
       made = joined_next (λ xs. map (under path) (flat_map (λ k. element k (root_node t)) xs)) (λ k. map (under path) (element k (root_node t))) (λ x xs. map-append (under path) (element x (root_node t)) (flat_map (λ k. element k (root_node t)) xs)) picked idx at _ _ _ c.loop-at-test.true (get_or-self picked idx 0 c.loop-at-test.true) pushed inv.made;

@@ -2,7 +2,7 @@ use Rattle.std.proofs.Common.{◌++◌, map, ap, ◌∙◌, sym, refl}
 use Rattle.jsonpath_rust.specs.documents.Args.{arg_value}
 use Rattle.jsonpath_rust.specs.states.Process.{content_trees}
 use Rattle.jsonpath_rust.specs.states.State.{content_of}
-use Rattle.jsonpath_rust.proofs.laws.states.Found.{places-trees}
+use Rattle.jsonpath_rust.proofs.laws.states.Found.{targets-trees}
 use Rattle.jsonpath_rust.proofs.laws.documents.Parts.{joined_end}
 use Rattle.jsonpath_rust.proofs.states.evaluate.function.push_values.Goals as goal
 
@@ -11,4 +11,4 @@ returns-after-loop-from-clause-value g c =
     let tree = g.T.Queryable.tree in
     let olds = map (λ a. tree (arg_value a)) c.args.values.now.items in
     joined_end (map (λ p. tree p.inner.now)) refl c.deref-from-items.result.now c.loop-from.from-index (map (λ a. tree (arg_value a)) c.loop-from.values.items) _ c.loop-from-test.false c.loop-from.invariant.trees
-    ∙ ap (λ xs. olds ++ map (λ p. tree p.inner.now) xs) c.deref-from-items.ensures.value ∙ ap (λ ts. olds ++ ts) (sym (places-trees tree c.in-Refs.all.items) ∙ ap (λ z. content_trees (content_of tree z)) (sym c.in-Refs.is))
+    ∙ ap (λ xs. olds ++ map (λ p. tree p.inner.now) xs) c.deref-from-items.ensures.value ∙ ap (λ ts. olds ++ ts) (sym (targets-trees tree c.in-Refs.all.items) ∙ ap (λ z. content_trees (content_of tree z)) (sym c.in-Refs.is))

@@ -1,9 +1,9 @@
 use Rattle.std.proofs.Common.{◌≡◌, drop}
-use Rattle.jsonpath_rust.specs.states.State.{places_of, places_same}
+use Rattle.jsonpath_rust.specs.states.State.{targets_of, targets_same}
 use Rattle.jsonpath_rust.proofs.states.state.data.are_same.Given as goal
 
 -- those that are left decide
 abbrev pub invariant-loop-i : goal.invariant-loop-i
 invariant-loop-i g l =
     let tree = g.T.Queryable.tree in
-    places_same (places_of tree (drop l.i l.left)) (places_of tree (drop l.i l.right)) ≡ places_same (places_of tree l.left) (places_of tree l.right)
+    targets_same (targets_of tree (drop l.i l.left)) (targets_of tree (drop l.i l.right)) ≡ targets_same (targets_of tree l.left) (targets_of tree l.right)

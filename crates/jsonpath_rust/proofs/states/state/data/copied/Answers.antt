@@ -1,6 +1,6 @@
 use Rattle.std.proofs.Common.{◌∷◌, ◌++◌, [], map, ap, ◌∙◌, refl, subst, sym, IsTrue}
 use Rattle.std.proofs.lemmas.List.{map-append}
-use Rattle.jsonpath_rust.specs.states.State.{place_of}
+use Rattle.jsonpath_rust.specs.states.State.{target_of}
 use Rattle.jsonpath_rust.proofs.laws.documents.Parts.{joined_next, all_more}
 use Rattle.jsonpath_rust.proofs.laws.documents.Trees.{all_at}
 use Rattle.jsonpath_rust.proofs.states.state.data.copied.Goals as goal
@@ -13,8 +13,8 @@ loop-pointer-preserved g c =
     let was = c.loop-pointer.all.items in
     let one = c.in_ok-try_clone.field-0 in
     let inv = c.loop-pointer.invariant in
-    let pushed = ap (map (place_of tree)) c.in_ok-push.ensures.items ∙ map-append (place_of tree) was (one ∷ []) ∙ ap (λ q. map (place_of tree) was ++ q ∷ []) c.in_ok-try_clone.ensures.seen in
+    let pushed = ap (map (target_of tree)) c.in_ok-push.ensures.items ∙ map-append (target_of tree) was (one ∷ []) ∙ ap (λ q. map (target_of tree) was ++ q ∷ []) c.in_ok-try_clone.ensures.seen in
     record {
-      made = joined_next (map (place_of tree)) (λ p. place_of tree p ∷ []) (λ x xs. refl) items c.loop-pointer.pointer-index c.pointer-item.result _ _ _ c.loop-pointer-test.true c.pointer-item.is pushed inv.made;
+      made = joined_next (map (target_of tree)) (λ p. target_of tree p ∷ []) (λ x xs. refl) items c.loop-pointer.pointer-index c.pointer-item.result _ _ _ c.loop-pointer-test.true c.pointer-item.is pushed inv.made;
       whole = λ w. all_more (λ p. IsTrue (whole p.inner.now)) was _ one c.in_ok-push.ensures.items (subst (λ x. IsTrue (whole x)) (sym c.in_ok-try_clone.ensures.inner) (all_at (λ p. IsTrue (whole p.inner.now)) items c.loop-pointer.pointer-index c.pointer-item.result w c.loop-pointer-test.true c.pointer-item.is)) (inv.whole w);
     }

@@ -1,5 +1,5 @@
 use Rattle.std.proofs.Common.{◌≡◌, ◌++◌, map, drop}
-use Rattle.jsonpath_rust.specs.states.State.{place_of, PointersAreWhole}
+use Rattle.jsonpath_rust.specs.states.State.{target_of, PointersAreWhole}
 use Rattle.jsonpath_rust.proofs.states.state.data.copied.Given as goal
 
 -- what is copied, with what is left
@@ -8,6 +8,6 @@ invariant-loop-pointer g l =
     let tree = g.T.Queryable.tree in
     let whole = g.T.Queryable.is_whole in
     record {
-      made : map (place_of tree) l.all.items ++ map (place_of tree) (drop l.pointer-index l.pointers) ≡ map (place_of tree) l.pointers;
+      made : map (target_of tree) l.all.items ++ map (target_of tree) (drop l.pointer-index l.pointers) ≡ map (target_of tree) l.pointers;
       whole : PointersAreWhole whole l.pointers → PointersAreWhole whole l.all.items;
     }

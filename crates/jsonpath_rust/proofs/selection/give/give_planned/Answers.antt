@@ -3,7 +3,7 @@ use Rattle.jsonpath_rust.specs.documents.Document.{document_of}
 use Rattle.jsonpath_rust.specs.documents.Meaning.{nodelist}
 use Rattle.jsonpath_rust.specs.documents.Patterns.{IsStop}
 use Rattle.jsonpath_rust.specs.selection.inner.Sinks.{Took, seen}
-use Rattle.jsonpath_rust.proofs.selection.give.give_nodes.Goals as goal
+use Rattle.jsonpath_rust.proofs.selection.give.give_planned.Goals as goal
 
 pub returns-clause-gave : goal.returns-clause-gave
 returns-clause-gave g c =
