@@ -2,7 +2,7 @@
 //! recursion over the query and makes each nodelist whole; `walk` is what is quick.
 //!
 //! A part that reads a state as a whole, as `count` or a comparison does, has a result here on every state, so this cannot
-//! be made of the walk, which knows one node at a time.
+//! be made of the walk, which knows one node at a time. The recursion, in `segments` and `filters`, stands on one `Evaluation`.
 
 pub mod comparison;
 pub mod filters;
@@ -12,3 +12,12 @@ pub mod segments;
 pub mod singular;
 pub mod test;
 pub mod value;
+
+use std::alloc::Global;
+
+/// What evaluates the parts of a query: the root of the document, and what allocates.
+#[derive(Drop)]
+pub struct Evaluation<'a, T> {
+    pub alloc: Global,
+    pub root: &'a T,
+}

@@ -15,12 +15,8 @@ ghost use Rattle.jsonpath_rust.specs.states.inner.Evaluating.{HaltsAt, HaltsBelo
 use crate::documents::Queried;
 use crate::documents::halt::Walked;
 use crate::documents::queryable::Queryable;
-use crate::states::evaluate::filters::{
-    argument_data, atom_data, call_data, comparable_data, comparison_data, test_data,
-};
-use crate::states::evaluate::segments::{
-    Part, each_target, segment_data, segments_data, selector_data,
-};
+use crate::states::evaluate::Evaluation;
+use crate::states::evaluate::segments::Part;
 use crate::states::evaluate::singular::{singular_data, step_data, steps_data};
 use crate::states::evaluate::value::literal_data;
 use crate::states::state::{Data, State};
@@ -85,11 +81,8 @@ impl Query for JpQuery {
 
     fn process<'a, T: Queryable>(&self, alloc: Global, state: State<'a, T>) -> Answered<'a, T> {
         let State { content, root } = state;
-        answered(
-            alloc,
-            segments_data(alloc, &self.segments, content, root),
-            root,
-        )
+        let at = Evaluation { alloc, root };
+        answered(alloc, at.segments_data(&self.segments, content), root)
     }
 }
 
@@ -101,7 +94,8 @@ impl Query for Vec<Segment> {
 
     fn process<'a, T: Queryable>(&self, alloc: Global, state: State<'a, T>) -> Answered<'a, T> {
         let State { content, root } = state;
-        answered(alloc, segments_data(alloc, self, content, root), root)
+        let at = Evaluation { alloc, root };
+        answered(alloc, at.segments_data(self, content), root)
     }
 }
 
@@ -113,7 +107,8 @@ impl Query for Segment {
 
     fn process<'a, T: Queryable>(&self, alloc: Global, state: State<'a, T>) -> Answered<'a, T> {
         let State { content, root } = state;
-        answered(alloc, segment_data(alloc, self, content, root), root)
+        let at = Evaluation { alloc, root };
+        answered(alloc, at.segment_data(self, content), root)
     }
 }
 
@@ -125,7 +120,8 @@ impl Query for Selector {
 
     fn process<'a, T: Queryable>(&self, alloc: Global, state: State<'a, T>) -> Answered<'a, T> {
         let State { content, root } = state;
-        answered(alloc, selector_data(alloc, self, content, root), root)
+        let at = Evaluation { alloc, root };
+        answered(alloc, at.selector_data(self, content), root)
     }
 }
 
@@ -137,11 +133,8 @@ impl Query for Filter {
 
     fn process<'a, T: Queryable>(&self, alloc: Global, state: State<'a, T>) -> Answered<'a, T> {
         let State { content, root } = state;
-        answered(
-            alloc,
-            each_target(alloc, Part::Kept(self), content, root),
-            root,
-        )
+        let at = Evaluation { alloc, root };
+        answered(alloc, at.each_target(Part::Kept(self), content), root)
     }
 }
 
@@ -153,7 +146,8 @@ impl Query for FilterAtom {
 
     fn process<'a, T: Queryable>(&self, alloc: Global, state: State<'a, T>) -> Answered<'a, T> {
         let State { content, root } = state;
-        answered(alloc, atom_data(alloc, self, &content, root), root)
+        let at = Evaluation { alloc, root };
+        answered(alloc, at.atom_data(self, &content), root)
     }
 }
 
@@ -165,7 +159,8 @@ impl Query for Comparison {
 
     fn process<'a, T: Queryable>(&self, alloc: Global, state: State<'a, T>) -> Answered<'a, T> {
         let State { content, root } = state;
-        answered(alloc, comparison_data(alloc, self, &content, root), root)
+        let at = Evaluation { alloc, root };
+        answered(alloc, at.comparison_data(self, &content), root)
     }
 }
 
@@ -177,7 +172,8 @@ impl Query for Comparable {
 
     fn process<'a, T: Queryable>(&self, alloc: Global, state: State<'a, T>) -> Answered<'a, T> {
         let State { content, root } = state;
-        answered(alloc, comparable_data(alloc, self, &content, root), root)
+        let at = Evaluation { alloc, root };
+        answered(alloc, at.comparable_data(self, &content), root)
     }
 }
 
@@ -252,7 +248,8 @@ impl Query for Test {
 
     fn process<'a, T: Queryable>(&self, alloc: Global, state: State<'a, T>) -> Answered<'a, T> {
         let State { content, root } = state;
-        answered(alloc, test_data(alloc, self, &content, root), root)
+        let at = Evaluation { alloc, root };
+        answered(alloc, at.test_data(self, &content), root)
     }
 }
 
@@ -264,7 +261,8 @@ impl Query for TestFunction {
 
     fn process<'a, T: Queryable>(&self, alloc: Global, state: State<'a, T>) -> Answered<'a, T> {
         let State { content, root } = state;
-        answered(alloc, call_data(alloc, self, &content, root), root)
+        let at = Evaluation { alloc, root };
+        answered(alloc, at.call_data(self, &content), root)
     }
 }
 
@@ -276,7 +274,8 @@ impl Query for FnArg {
 
     fn process<'a, T: Queryable>(&self, alloc: Global, state: State<'a, T>) -> Answered<'a, T> {
         let State { content, root } = state;
-        answered(alloc, argument_data(alloc, self, &content, root), root)
+        let at = Evaluation { alloc, root };
+        answered(alloc, at.argument_data(self, &content), root)
     }
 }
 

@@ -1,6 +1,6 @@
 -- Which patterns are asked, and where: a part of a list of patterns asks no more than the list, and what is asked below a node of a state is
 -- asked below the state.
-use Rattle.std.proofs.Common.{◌≡◌, ℕ, zero, suc, ◌<◌, List, [], ◌∷◌, ◌++◌, length, get_or, map, cond, refl, sym, ◌∙◌, ap, subst, arith, Bool, true, false, Option, Some, None, option_and_then, Result, Ok, Err, IfErr, IsTrue, inl, inr}
+use Rattle.std.proofs.Common.{◌≡◌, ℕ, zero, suc, ◌<◌, List, [], ◌∷◌, ◌++◌, length, get_or, map, cond, refl, sym, ◌∙◌, ap, subst, arith, Bool, true, false, Option, Some, None, option_and_then, Result, IfErr, IsTrue, inl, inr}
 use Rattle.std.proofs.lemmas.List.{length-map}
 use Rattle.std.proofs.lemmas.List.Elements.{Contains-append_left, Contains-append_right, All-head, All-tail}
 use Rattle.std.specs.List.{AllByRecursion, Contains}

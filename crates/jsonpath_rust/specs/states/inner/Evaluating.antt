@@ -1,21 +1,27 @@
 -- The parts of the plain evaluator, for its contracts alone: the definitions here are no part of what a query means.
-use Rattle.std.specs.Prelude.{◌≡◌, List, [], ◌++◌, Bool, Option, Some, None, if◌then◌else◌, string_bytes}
+use Rattle.std.specs.Prelude.{◌≡◌, ℕ, List, [], ◌++◌, Bool, Option, Some, None, if◌then◌else◌, string_bytes}
 use Rattle.std.specs.List.{flat_map, AllZip}
 use Rattle.jsonpath_parser.specs.tree.Syntax.{Argument}
 use Rattle.jsonpath_parser.specs.tree.View.{filter_view}
 use Rattle.jsonpath_rust.specs.states.Asking.{IsBelow, IsAsked, AsksPatternAt}
-use Rattle.jsonpath_rust.specs.documents.Document.{Document}
+use Rattle.jsonpath_base.specs.Tree.{Tree}
+use Rattle.jsonpath_rust.specs.documents.Document.{Document, document_of}
 use Rattle.jsonpath_rust.specs.documents.Node.{children}
 use Rattle.jsonpath_rust.specs.documents.Patterns.{filter_patterns, selectors_patterns}
 use Rattle.jsonpath_rust.specs.states.Process.{holds_at, joined_from}
 use Rattle.jsonpath_rust.specs.states.State.{Target, Content, nothing, named_from, children_from, indexed_from, sliced_from, parents_from, kept_from, found_from, has_parts, pointers}
 use Rattle.jsonpath_rust.specs.documents.inner.Parts.{selectors_in}
+use Rattle.jsonpath_rust.specs.declared.states.evaluate.Evaluation.{Evaluation}
 use Rattle.jsonpath_rust.specs.declared.states.evaluate.segments.Part.{Part}
 use Rattle.jsonpath_rust.specs.declared.states.evaluate.segments.Part.TheVariants.{Name, Wildcard, Index, Slice, Parents, Kept, Joined}
 use Rattle.jsonpath_rust.specs.declared.documents.halt.Halt.{Halt}
 use Rattle.jsonpath_rust.specs.declared.documents.halt.Halt.TheVariants.{Memory}
 use Rattle.jsonpath_rust.specs.declared.states.state.data.Data.{Data}
 use Rattle.jsonpath_rust.specs.declared.states.state.pointer.Pointer.{Pointer}
+
+-- what is asked, seen as the meaning has it
+abbrev pub document : {A : Type 0} → (A → Tree) → (List ℕ → List Tree → Tree) → Evaluation A → Document
+document tree custom at = document_of tree custom at.root.now
 
 -- the children of a list or an object
 abbrev pub parts_from : Target → Option (List Target)

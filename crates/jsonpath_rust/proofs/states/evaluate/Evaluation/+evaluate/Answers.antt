@@ -10,10 +10,9 @@ use Rattle.jsonpath_parser.specs.declared.tree.model.FnArg.{FnArg}
 use Rattle.jsonpath_parser.proofs.laws.tree.ViewEquations.{segment_view-Selectors, selector_view-Index, selector_view-Slice, call_view-Custom, segment_view-Descendant, test_view-RelQuery, test_view-AbsQuery, query_view-segments, call_view-Search, call_view-Match}
 use Rattle.jsonpath_base.specs.Tree.{Tree}
 use Rattle.jsonpath_rust.specs.documents.Args.{arg_value}
-use Rattle.jsonpath_rust.specs.documents.Document.{document_of}
 use Rattle.jsonpath_rust.specs.states.Process.{holds_at, some_holds_at, each_holds_at, several_content, segments_content, segment_content, selector_content, joined_from, call_content, arguments_trees, plain}
 use Rattle.jsonpath_rust.specs.states.State.{Target, Content, ref, refs, value, mapped, reduced, targets, inside, indexed_from, target_of, content_of, pointers, root_content}
-use Rattle.jsonpath_rust.specs.states.inner.Evaluating.{parts_from, part_content}
+use Rattle.jsonpath_rust.specs.states.inner.Evaluating.{document, parts_from, part_content}
 use Rattle.jsonpath_rust.specs.documents.inner.Parts.{segments_in, selectors_in, filters_in, arguments_in}
 use Rattle.jsonpath_rust.specs.documents.inner.Weight.{segment_weight, segments_weight, selector_weight, selectors_weight, filter_weight, filters_weight, argument_weight, arguments_weight}
 use Rattle.jsonpath_rust.proofs.laws.states.Found.{kept-parts}
@@ -23,43 +22,43 @@ use Rattle.jsonpath_parser.specs.tree.Syntax.{absolute}
 use Rattle.jsonpath_rust.specs.documents.Patterns.{segments_patterns, segment_patterns, selectors_patterns, selector_patterns, filters_patterns, filter_patterns, test_patterns, comparison_patterns, call_patterns, argument_patterns, arguments_patterns}
 use Rattle.jsonpath_rust.proofs.laws.states.Asking.{asks_left, asks_right, asks_rest, asks_at, asks_here, asks_nothing, asks_same, asks_below, asks_parents, asks_target, asks_child, asks_root, asks_too, asks_within, stays_next, data-distinct, halts_as, halts_so}
 use Rattle.jsonpath_rust.proofs.laws.states.Lies.{stays-itself}
-use Rattle.jsonpath_rust.proofs.states.evaluate.+evaluate.Goals as goal
+use Rattle.jsonpath_rust.proofs.states.evaluate.Evaluation.+evaluate.Goals as goal
 
-pub filters::arguments-argument_data-requires : goal.filters::arguments-argument_data-requires
-filters::arguments-argument_data-requires g t c κs within =
+pub arguments-argument_data-requires : goal.arguments-argument_data-requires
+arguments-argument_data-requires g t c κs within =
     let w = part_of (λ (x : FnArg). argument_weight (argument_view x)) (λ xs. arguments_weight (arguments_in xs)) (λ x xs. refl) c.args.args.now c.loop-arg.arg-index c.arg-item.result c.loop-arg-test.true c.arg-item.is in
     (omega (arith, c.decreases, w), (within, (c.requires.root, c.requires.whole)))
 
-pub segments::segment_data-returns-in-Selectors-clause-value : goal.segments::segment_data-returns-in-Selectors-clause-value
-segments::segment_data-returns-in-Selectors-clause-value g t c =
+pub segment_data-returns-in-Selectors-clause-value : goal.segment_data-returns-in-Selectors-clause-value
+segment_data-returns-in-Selectors-clause-value g t c =
     let tree = g.T.Queryable.tree in
-    let d = document_of tree g.T.Queryable.custom c.args.root.now in
+    let d = document tree g.T.Queryable.custom c.args.self.now in
     let k = content_of tree c.args.given in
     let e = ap segment_view c.in-Selectors.is ∙ segment_view-Selectors c.in-Selectors.several in
     ok_through _ (content_of tree) _ _ (ap (λ (xs : List Selector). several_content (selectors_in xs) d k) c.deref.ensures.value ∙ sym (ap (λ s. segment_content s d k) e)) c.several_data.ensures.value
 
-pub segments::selector_data-returns-in-Index-clause-value : goal.segments::selector_data-returns-in-Index-clause-value
-segments::selector_data-returns-in-Index-clause-value g t c =
+pub selector_data-returns-in-Index-clause-value : goal.selector_data-returns-in-Index-clause-value
+selector_data-returns-in-Index-clause-value g t c =
     let tree = g.T.Queryable.tree in
-    let d = document_of tree g.T.Queryable.custom c.args.root.now in
+    let d = document tree g.T.Queryable.custom c.args.self.now in
     let k = content_of tree c.args.given in
     let e = ap selector_view c.in-Index.is ∙ selector_view-Index c.in-Index.index in
     let fits : SFits w64 c.in-Index.index = search rules in
     ok_through _ (content_of tree) _ _ (ap (λ i. mapped (indexed_from i) k) (to_z-of_z w64 c.in-Index.index fits) ∙ sym (ap (λ s. selector_content s d k) e)) c.each_target-in-Index.ensures.value
 
-pub segments::selector_data-returns-in-Slice-clause-value : goal.segments::selector_data-returns-in-Slice-clause-value
-segments::selector_data-returns-in-Slice-clause-value g t c =
+pub selector_data-returns-in-Slice-clause-value : goal.selector_data-returns-in-Slice-clause-value
+selector_data-returns-in-Slice-clause-value g t c =
     let tree = g.T.Queryable.tree in
-    let d = document_of tree g.T.Queryable.custom c.args.root.now in
+    let d = document tree g.T.Queryable.custom c.args.self.now in
     let k = content_of tree c.args.given in
     let e = ap selector_view c.in-Slice.is ∙ selector_view-Slice c.in-Slice.start c.in-Slice.end c.in-Slice.step in
     ok_through _ (content_of tree) _ _ (sym (ap (λ s. selector_content s d k) e)) c.each_target-in-Slice.ensures.value
 
-pub segments::each_target-loop-from-preserved : goal.segments::each_target-loop-from-preserved
-segments::each_target-loop-from-preserved g t c =
+pub each_target-loop-from-preserved : goal.each_target-loop-from-preserved
+each_target-loop-from-preserved g t c =
     let tree = g.T.Queryable.tree in
     let whole = g.T.Queryable.is_whole in
-    let d = document_of tree g.T.Queryable.custom c.args.root.now in
+    let d = document tree g.T.Queryable.custom c.args.self.now in
     let f : Target → List Target = λ p. targets (part_content c.args.part d p) in
     let items = c.deref-from-items.result.now in
     let x = c.from-item.result in
@@ -72,18 +71,18 @@ segments::each_target-loop-from-preserved g t c =
       whole = all_joined (λ p. IsTrue (whole p.inner.now)) was _ (pointers found) c.in_ok-push_nodes-in-Refs.ensures.ok (whole_pointers whole found c.in_ok-found-in-Refs.ensures.whole) inv.whole;
     }
 
-pub segments::each_target-returns-after-loop-from-clause-value : goal.segments::each_target-returns-after-loop-from-clause-value
-segments::each_target-returns-after-loop-from-clause-value g t c =
+pub each_target-returns-after-loop-from-clause-value : goal.each_target-returns-after-loop-from-clause-value
+each_target-returns-after-loop-from-clause-value g t c =
     let tree = g.T.Queryable.tree in
-    let d = document_of tree g.T.Queryable.custom c.args.root.now in
+    let d = document tree g.T.Queryable.custom c.args.self.now in
     let f : Target → List Target = λ p. targets (part_content c.args.part d p) in
     ap refs (joined_end (λ xs. flat_map f (map (target_of tree) xs)) refl c.deref-from-items.result.now c.loop-from.from-index (map (target_of tree) c.loop-from.all.items) _ c.loop-from-test.false c.loop-from.invariant.made ∙ ap (λ xs. flat_map f (map (target_of tree) xs)) c.deref-from-items.ensures.value)
     ∙ ap (λ z. mapped (part_content c.args.part d) (content_of tree z)) (sym c.in-Refs.is)
 
-pub segments::kept-loop-child-preserved : goal.segments::kept-loop-child-preserved
-segments::kept-loop-child-preserved g t c =
+pub kept-loop-child-preserved : goal.kept-loop-child-preserved
+kept-loop-child-preserved g t c =
     let tree = g.T.Queryable.tree in
-    let d = document_of tree g.T.Queryable.custom c.args.root.now in
+    let d = document tree g.T.Queryable.custom c.args.self.now in
     let h : Target → Bool = λ p. holds_at (filter_view c.args.filter.now) d (inside p.tree) in
     let items = c.deref-child-items.result.now in
     let x = c.child-item.result in
@@ -95,10 +94,10 @@ segments::kept-loop-child-preserved g t c =
       whole = c.in_ok-keep_if-in-Some.ensures.whole;
     }
 
-pub segments::kept-returns-after-loop-child-clause-value : goal.segments::kept-returns-after-loop-child-clause-value
-segments::kept-returns-after-loop-child-clause-value g t c =
+pub kept-returns-after-loop-child-clause-value : goal.kept-returns-after-loop-child-clause-value
+kept-returns-after-loop-child-clause-value g t c =
     let tree = g.T.Queryable.tree in
-    let d = document_of tree g.T.Queryable.custom c.args.root.now in
+    let d = document tree g.T.Queryable.custom c.args.self.now in
     let h : Target → Bool = λ p. holds_at (filter_view c.args.filter.now) d (inside p.tree) in
     let from = target_of tree c.args.from.now in
     let items = c.deref-child-items.result.now in
@@ -106,46 +105,46 @@ segments::kept-returns-after-loop-child-clause-value g t c =
     ap refs (joined_end (λ xs. filter h (map (target_of tree) xs)) refl items c.loop-child.child-index (map (target_of tree) c.loop-child.found.items) _ c.loop-child-test.false c.loop-child.invariant.made)
     ∙ kept-parts h from (map (target_of tree) items) here
 
-pub filters::call_data-returns-in_ok-values-in-Custom-clause-value : goal.filters::call_data-returns-in_ok-values-in-Custom-clause-value
-filters::call_data-returns-in_ok-values-in-Custom-clause-value g t c =
+pub call_data-returns-in_ok-values-in-Custom-clause-value : goal.call_data-returns-in_ok-values-in-Custom-clause-value
+call_data-returns-in_ok-values-in-Custom-clause-value g t c =
     let tree = g.T.Queryable.tree in
     let custom = g.T.Queryable.custom in
-    let d = document_of tree custom c.args.root.now in
+    let d = document tree custom c.args.self.now in
     let k = content_of tree c.args.given.now in
     let e = ap call_view c.in-Custom.is ∙ call_view-Custom c.in-Custom.name c.in-Custom.args in
     let seen : List Tree → Content = λ ts. value (custom (string_bytes c.in-Custom.name) ts) in
     ok_through _ (content_of tree) _ _ (ap (λ xs. seen (map (λ a. tree (arg_value a)) xs)) c.deref-in-Custom.ensures.value ∙ ap seen (c.in_ok-values-in-Custom.ensures.value ∙ ap (λ (xs : List FnArg). arguments_trees (arguments_in xs) d k) c.deref.ensures.value) ∙ sym (ap (λ s. call_content s d k) e)) c.custom_data.ensures.value
 
-pub segments::segments_data-segment_data-requires : goal.segments::segments_data-segment_data-requires
-segments::segments_data-segment_data-requires g t c κs within =
+pub segments_data-segment_data-requires : goal.segments_data-segment_data-requires
+segments_data-segment_data-requires g t c κs within =
     let w = part_of (λ (x : Segment). segment_weight (segment_view x)) (λ xs. segments_weight (segments_in xs)) (λ x xs. refl) c.args.segments.now c.loop-segment.segment-index c.segment-item.result c.loop-segment-test.true c.segment-item.is in
     (omega (arith, c.decreases, w), (within, (c.requires.root, c.loop-segment.invariant.whole)))
 
-pub segments::segments_data-loop-segment-preserved : goal.segments::segments_data-loop-segment-preserved
-segments::segments_data-loop-segment-preserved g t c =
+pub segments_data-loop-segment-preserved : goal.segments_data-loop-segment-preserved
+segments_data-loop-segment-preserved g t c =
     let tree = g.T.Queryable.tree in
-    let d = document_of tree g.T.Queryable.custom c.args.root.now in
+    let d = document tree g.T.Queryable.custom c.args.self.now in
     record {
       made = fold_next (λ (gs : List Segment) (k : Content). segments_content (segments_in gs) d k) (λ x. segment_content (segment_view x) d) (λ x xs k. refl) c.args.segments.now c.loop-segment.segment-index c.segment-item.result _ _ _ c.loop-segment-test.true c.segment-item.is c.in_ok-answer.ensures.value c.loop-segment.invariant.made;
       whole = c.in_ok-answer.ensures.whole;
       within = stays_next (segment_view c.segment-item.result) d _ _ _ c.in_ok-answer.ensures.value c.loop-segment.invariant.within;
     }
 
-pub segments::segments_data-returns-clause-value : goal.segments::segments_data-returns-clause-value
-segments::segments_data-returns-clause-value g t c =
+pub segments_data-returns-clause-value : goal.segments_data-returns-clause-value
+segments_data-returns-clause-value g t c =
     let tree = g.T.Queryable.tree in
-    let d = document_of tree g.T.Queryable.custom c.args.root.now in
+    let d = document tree g.T.Queryable.custom c.args.self.now in
     parts_end (λ (gs : List Segment). segments_content (segments_in gs) d (content_of tree c.loop-segment.answer)) c.args.segments.now c.loop-segment.segment-index _ c.loop-segment-test.false c.loop-segment.invariant.made
 
-pub segments::joined-selector_data-requires : goal.segments::joined-selector_data-requires
-segments::joined-selector_data-requires g t c κs within =
+pub joined-selector_data-requires : goal.joined-selector_data-requires
+joined-selector_data-requires g t c κs within =
     let w = part_of (λ (x : Selector). selector_weight (selector_view x)) (λ xs. selectors_weight (selectors_in xs)) (λ x xs. refl) c.args.selectors.now c.loop-selector.selector-index c.selector-item.result c.loop-selector-test.true c.selector-item.is in
     (omega (arith, c.decreases, w), (within, (c.requires.root, search rules)))
 
-pub segments::joined-loop-selector-preserved : goal.segments::joined-loop-selector-preserved
-segments::joined-loop-selector-preserved g t c =
+pub joined-loop-selector-preserved : goal.joined-loop-selector-preserved
+joined-loop-selector-preserved g t c =
     let tree = g.T.Queryable.tree in
-    let d = document_of tree g.T.Queryable.custom c.args.root.now in
+    let d = document tree g.T.Queryable.custom c.args.self.now in
     let p = target_of tree c.args.from.now in
     let inv = c.loop-selector.invariant in
     let found = c.in_ok-found.ensures.value ∙ ap (λ q. selector_content (selector_view c.selector-item.result) d (ref q)) c.in_ok-try_clone.ensures.seen in
@@ -154,203 +153,203 @@ segments::joined-loop-selector-preserved g t c =
       whole = c.in_ok-all.ensures.whole inv.whole c.in_ok-found.ensures.whole;
     }
 
-pub segments::joined-returns-clause-value : goal.segments::joined-returns-clause-value
-segments::joined-returns-clause-value g t c =
+pub joined-returns-clause-value : goal.joined-returns-clause-value
+joined-returns-clause-value g t c =
     let tree = g.T.Queryable.tree in
-    let d = document_of tree g.T.Queryable.custom c.args.root.now in
+    let d = document tree g.T.Queryable.custom c.args.self.now in
     parts_end (λ (ss : List Selector). joined_from (selectors_in ss) d (content_of tree c.loop-selector.all) (target_of tree c.args.from.now)) c.args.selectors.now c.loop-selector.selector-index _ c.loop-selector-test.false c.loop-selector.invariant.made
 
-pub filters::some_holds-holds-requires : goal.filters::some_holds-holds-requires
-filters::some_holds-holds-requires g t c κs within =
+pub some_holds-holds-requires : goal.some_holds-holds-requires
+some_holds-holds-requires g t c κs within =
     let w = part_of (λ (x : Filter). filter_weight (filter_view x)) (λ xs. filters_weight (filters_in xs)) (λ x xs. refl) c.args.parts.now c.loop-part.part-index c.part-item.result c.loop-part-test.true c.part-item.is in
     (omega (arith, c.decreases, w), (within, (c.requires.root, c.requires.whole)))
 
-pub filters::some_holds-returns-then-branch-clause-value : goal.filters::some_holds-returns-then-branch-clause-value
-filters::some_holds-returns-then-branch-clause-value g t c =
+pub some_holds-returns-then-branch-clause-value : goal.some_holds-returns-then-branch-clause-value
+some_holds-returns-then-branch-clause-value g t c =
     let tree = g.T.Queryable.tree in
-    let d = document_of tree g.T.Queryable.custom c.args.root.now in
+    let d = document tree g.T.Queryable.custom c.args.self.now in
     let k = content_of tree c.args.given.now in
     some_found (λ (fs : List Filter). some_holds_at (filters_in fs) d k) (λ f. holds_at (filter_view f) d k) (λ x xs. refl) c.args.parts.now c.loop-part.part-index c.part-item.result _ c.loop-part-test.true c.part-item.is (sym c.in_ok-holds.ensures.value ∙ c.if-branch.true) c.loop-part.invariant
 
-pub filters::some_holds-loop-part-preserved : goal.filters::some_holds-loop-part-preserved
-filters::some_holds-loop-part-preserved g t c =
+pub some_holds-loop-part-preserved : goal.some_holds-loop-part-preserved
+some_holds-loop-part-preserved g t c =
     let tree = g.T.Queryable.tree in
-    let d = document_of tree g.T.Queryable.custom c.args.root.now in
+    let d = document tree g.T.Queryable.custom c.args.self.now in
     let k = content_of tree c.args.given.now in
     some_next (λ (fs : List Filter). some_holds_at (filters_in fs) d k) (λ f. holds_at (filter_view f) d k) (λ x xs. refl) c.args.parts.now c.loop-part.part-index c.part-item.result _ c.loop-part-test.true c.part-item.is (sym c.in_ok-holds.ensures.value ∙ c.if-branch.false) c.loop-part.invariant
 
-pub filters::some_holds-returns-clause-value : goal.filters::some_holds-returns-clause-value
-filters::some_holds-returns-clause-value g t c =
+pub some_holds-returns-clause-value : goal.some_holds-returns-clause-value
+some_holds-returns-clause-value g t c =
     let tree = g.T.Queryable.tree in
-    let d = document_of tree g.T.Queryable.custom c.args.root.now in
+    let d = document tree g.T.Queryable.custom c.args.self.now in
     parts_end (λ (fs : List Filter). some_holds_at (filters_in fs) d (content_of tree c.args.given.now)) c.args.parts.now c.loop-part.part-index _ c.loop-part-test.false c.loop-part.invariant
 
-pub filters::each_holds-holds-requires : goal.filters::each_holds-holds-requires
-filters::each_holds-holds-requires g t c κs within =
+pub each_holds-holds-requires : goal.each_holds-holds-requires
+each_holds-holds-requires g t c κs within =
     let w = part_of (λ (x : Filter). filter_weight (filter_view x)) (λ xs. filters_weight (filters_in xs)) (λ x xs. refl) c.args.parts.now c.loop-part.part-index c.part-item.result c.loop-part-test.true c.part-item.is in
     (omega (arith, c.decreases, w), (within, (c.requires.root, c.requires.whole)))
 
-pub filters::each_holds-returns-then-not-branch-clause-value : goal.filters::each_holds-returns-then-not-branch-clause-value
-filters::each_holds-returns-then-not-branch-clause-value g t c =
+pub each_holds-returns-then-not-branch-clause-value : goal.each_holds-returns-then-not-branch-clause-value
+each_holds-returns-then-not-branch-clause-value g t c =
     let tree = g.T.Queryable.tree in
-    let d = document_of tree g.T.Queryable.custom c.args.root.now in
+    let d = document tree g.T.Queryable.custom c.args.self.now in
     let k = content_of tree c.args.given.now in
     each_failed (λ (fs : List Filter). each_holds_at (filters_in fs) d k) (λ f. holds_at (filter_view f) d k) (λ x xs. refl) c.args.parts.now c.loop-part.part-index c.part-item.result _ c.loop-part-test.true c.part-item.is (sym c.in_ok-holds.ensures.value ∙ c.if-not-branch.true) c.loop-part.invariant
 
-pub filters::each_holds-loop-part-preserved : goal.filters::each_holds-loop-part-preserved
-filters::each_holds-loop-part-preserved g t c =
+pub each_holds-loop-part-preserved : goal.each_holds-loop-part-preserved
+each_holds-loop-part-preserved g t c =
     let tree = g.T.Queryable.tree in
-    let d = document_of tree g.T.Queryable.custom c.args.root.now in
+    let d = document tree g.T.Queryable.custom c.args.self.now in
     let k = content_of tree c.args.given.now in
     each_next (λ (fs : List Filter). each_holds_at (filters_in fs) d k) (λ f. holds_at (filter_view f) d k) (λ x xs. refl) c.args.parts.now c.loop-part.part-index c.part-item.result _ c.loop-part-test.true c.part-item.is (sym c.in_ok-holds.ensures.value ∙ c.if-not-branch.false) c.loop-part.invariant
 
-pub filters::each_holds-returns-clause-value : goal.filters::each_holds-returns-clause-value
-filters::each_holds-returns-clause-value g t c =
+pub each_holds-returns-clause-value : goal.each_holds-returns-clause-value
+each_holds-returns-clause-value g t c =
     let tree = g.T.Queryable.tree in
-    let d = document_of tree g.T.Queryable.custom c.args.root.now in
+    let d = document tree g.T.Queryable.custom c.args.self.now in
     parts_end (λ (fs : List Filter). each_holds_at (filters_in fs) d (content_of tree c.args.given.now)) c.args.parts.now c.loop-part.part-index _ c.loop-part-test.false c.loop-part.invariant
 
-pub segments::segment_data-returns-in_err-below-in-Descendant-clause-refused : goal.segments::segment_data-returns-in_err-below-in-Descendant-clause-refused
-segments::segment_data-returns-in_err-below-in-Descendant-clause-refused g t c =
+pub segment_data-returns-in_err-below-in-Descendant-clause-refused : goal.segment_data-returns-in_err-below-in-Descendant-clause-refused
+segment_data-returns-in_err-below-in-Descendant-clause-refused g t c =
     halts_so _ _ c.from_residual.ensures.1 c.in_err-below-in-Descendant.ensures.refused (λ h. asks_nothing _ h)
 
-pub segments::segment_data-returns-in-Selectors-clause-refused : goal.segments::segment_data-returns-in-Selectors-clause-refused
-segments::segment_data-returns-in-Selectors-clause-refused g t c =
+pub segment_data-returns-in-Selectors-clause-refused : goal.segment_data-returns-in-Selectors-clause-refused
+segment_data-returns-in-Selectors-clause-refused g t c =
     let e = ap segment_view c.in-Selectors.is ∙ segment_view-Selectors c.in-Selectors.several in
     halts_as _ c.several_data.ensures.refused (λ h. asks_same _ _ (ap (λ (xs : List Selector). selectors_patterns (selectors_in xs)) c.deref.ensures.value ∙ sym (ap segment_patterns e)) h)
 
-pub segments::segment_data-returns-in_ok-below-in-Descendant-clause-refused : goal.segments::segment_data-returns-in_ok-below-in-Descendant-clause-refused
-segments::segment_data-returns-in_ok-below-in-Descendant-clause-refused g t c =
+pub segment_data-returns-in_ok-below-in-Descendant-clause-refused : goal.segment_data-returns-in_ok-below-in-Descendant-clause-refused
+segment_data-returns-in_ok-below-in-Descendant-clause-refused g t c =
     let tree = g.T.Queryable.tree in
-    let d = document_of g.T.Queryable.tree g.T.Queryable.custom c.args.root.now in
+    let d = document g.T.Queryable.tree g.T.Queryable.custom c.args.self.now in
     let k = content_of g.T.Queryable.tree c.args.given in
     let distinct = data-distinct tree g.T.Queryable.is_whole g.met.T.Queryable.distinct c.args.given c.requires.whole in
     let e = ap segment_view c.in-Descendant.is ∙ segment_view-Descendant c.in-Descendant.inner in
     let same = ap (λ (s : Segment). segment_patterns (segment_view s)) c.deref-in-Descendant.ensures ∙ sym (ap segment_patterns e) in
     halts_as _ c.segment_data.ensures.refused (λ h. asks_same _ _ same (asks_parents d k _ distinct c.in_ok-below-in-Descendant.ensures.value h))
 
-pub segments::each_target-returns-in_err-found-in-Refs-clause-refused : goal.segments::each_target-returns-in_err-found-in-Refs-clause-refused
-segments::each_target-returns-in_err-found-in-Refs-clause-refused g t c =
+pub each_target-returns-in_err-found-in-Refs-clause-refused : goal.each_target-returns-in_err-found-in-Refs-clause-refused
+each_target-returns-in_err-found-in-Refs-clause-refused g t c =
     let tree = g.T.Queryable.tree in
-    let d = document_of g.T.Queryable.tree g.T.Queryable.custom c.args.root.now in
+    let d = document g.T.Queryable.tree g.T.Queryable.custom c.args.self.now in
     let k = content_of g.T.Queryable.tree c.args.given in
     let distinct = data-distinct tree g.T.Queryable.is_whole g.met.T.Queryable.distinct c.args.given c.requires.whole in
     let items = c.deref-from-items.result.now in
     let same = ap (λ z. targets (content_of tree z)) c.in-Refs.is ∙ ap (map (target_of tree)) (sym c.deref-from-items.ensures.value) in
     halts_so _ _ c.from_residual.ensures.1 c.in_err-found-in-Refs.ensures.refused (λ h. asks_target (target_of tree) d k items c.loop-from.from-index c.from-item.result distinct same c.loop-from-test.true c.from-item.is h)
 
-pub segments::kept-returns-in_err-is_kept-in-Some-clause-refused : goal.segments::kept-returns-in_err-is_kept-in-Some-clause-refused
-segments::kept-returns-in_err-is_kept-in-Some-clause-refused g t c =
+pub kept-returns-in_err-is_kept-in-Some-clause-refused : goal.kept-returns-in_err-is_kept-in-Some-clause-refused
+kept-returns-in_err-is_kept-in-Some-clause-refused g t c =
     let tree = g.T.Queryable.tree in
-    let d = document_of g.T.Queryable.tree g.T.Queryable.custom c.args.root.now in
+    let d = document g.T.Queryable.tree g.T.Queryable.custom c.args.self.now in
     let from = target_of tree c.args.from.now in
     let items = c.deref-child-items.result.now in
     let distinct = g.met.T.Queryable.distinct c.args.from.now.inner.now c.requires.whole in
     let here : Some (map (target_of tree) items) ≡ parts_from from = ap (λ xs. Some (map (target_of tree) xs)) c.deref-child-items.ensures.value ∙ ap (λ o. option_map (λ v. map (target_of tree) v.items) o) (sym c.in-Some.is) ∙ c.in_ok-children.ensures.value in
     halts_so _ _ c.from_residual-in_err-is_kept-in-Some.ensures.1 c.in_err-is_kept-in-Some.ensures.refused (λ h. asks_child (target_of tree) d from items c.loop-child.child-index c.child-item.result _ distinct here c.loop-child-test.true c.child-item.is (ap ref c.empty.ensures.seen) h)
 
-pub filters::comparison_holds-returns-in_err-left-clause-refused : goal.filters::comparison_holds-returns-in_err-left-clause-refused
-filters::comparison_holds-returns-in_err-left-clause-refused g t c =
+pub comparison_holds-returns-in_err-left-clause-refused : goal.comparison_holds-returns-in_err-left-clause-refused
+comparison_holds-returns-in_err-left-clause-refused g t c =
     let e = ap comparison_patterns c.parts-operator.ensures in
     halts_so _ _ c.from_residual.ensures.1 c.in_err-left.ensures.refused (λ h. asks_same _ _ (sym e) (asks_left _ _ h))
 
-pub filters::comparison_holds-returns-in_err-right-clause-refused : goal.filters::comparison_holds-returns-in_err-right-clause-refused
-filters::comparison_holds-returns-in_err-right-clause-refused g t c =
+pub comparison_holds-returns-in_err-right-clause-refused : goal.comparison_holds-returns-in_err-right-clause-refused
+comparison_holds-returns-in_err-right-clause-refused g t c =
     let e = ap comparison_patterns c.parts-operator.ensures in
     halts_so _ _ c.from_residual-in_err-right.ensures.1 c.in_err-right.ensures.refused (λ h. asks_same _ _ (sym e) (asks_right _ _ h))
 
-pub filters::test_data-returns-in_ok-here-in-RelQuery-clause-refused : goal.filters::test_data-returns-in_ok-here-in-RelQuery-clause-refused
-filters::test_data-returns-in_ok-here-in-RelQuery-clause-refused g t c =
-    let d = document_of g.T.Queryable.tree g.T.Queryable.custom c.args.root.now in
+pub test_data-returns-in_ok-here-in-RelQuery-clause-refused : goal.test_data-returns-in_ok-here-in-RelQuery-clause-refused
+test_data-returns-in_ok-here-in-RelQuery-clause-refused g t c =
+    let d = document g.T.Queryable.tree g.T.Queryable.custom c.args.self.now in
     let k = content_of g.T.Queryable.tree c.args.given.now in
     let e = ap test_view c.in-RelQuery.is ∙ test_view-RelQuery c.in-RelQuery.segments in
     let same = ap (λ (xs : List Segment). segments_patterns (segments_in xs)) c.deref.ensures.value ∙ sym (ap test_patterns e) in
     halts_as _ c.segments_data.ensures.refused (λ h. asks_too d k (asks_below d _ k (c.in_ok-here-in-RelQuery.ensures.value c.requires.whole) (asks_same _ _ same h)))
 
-pub filters::test_data-returns-in_ok-here-in-AbsQuery-clause-refused : goal.filters::test_data-returns-in_ok-here-in-AbsQuery-clause-refused
-filters::test_data-returns-in_ok-here-in-AbsQuery-clause-refused g t c =
-    let d = document_of g.T.Queryable.tree g.T.Queryable.custom c.args.root.now in
+pub test_data-returns-in_ok-here-in-AbsQuery-clause-refused : goal.test_data-returns-in_ok-here-in-AbsQuery-clause-refused
+test_data-returns-in_ok-here-in-AbsQuery-clause-refused g t c =
+    let d = document g.T.Queryable.tree g.T.Queryable.custom c.args.self.now in
     let k = content_of g.T.Queryable.tree c.args.given.now in
     let e = ap test_view c.in-AbsQuery.is ∙ test_view-AbsQuery c.in-AbsQuery.query ∙ ap absolute (query_view-segments c.in-AbsQuery.query) in
     let same = ap (λ (xs : List Segment). segments_patterns (segments_in xs)) c.deref-in-AbsQuery.ensures.value ∙ sym (ap test_patterns e) in
     halts_as _ c.segments_data-in-AbsQuery.ensures.refused (λ h. asks_root d k (asks_below d _ (root_content d) c.in_ok-here-in-AbsQuery.ensures.value (asks_same _ _ same h)))
 
-pub filters::call_data-returns-in_err-values-in-Custom-clause-refused : goal.filters::call_data-returns-in_err-values-in-Custom-clause-refused
-filters::call_data-returns-in_err-values-in-Custom-clause-refused g t c =
+pub call_data-returns-in_err-values-in-Custom-clause-refused : goal.call_data-returns-in_err-values-in-Custom-clause-refused
+call_data-returns-in_err-values-in-Custom-clause-refused g t c =
     let e = ap call_view c.in-Custom.is ∙ call_view-Custom c.in-Custom.name c.in-Custom.args in
     halts_so _ _ c.from_residual.ensures.1 c.in_err-values-in-Custom.ensures.refused (λ h. asks_same _ _ (ap (λ (xs : List FnArg). arguments_patterns (arguments_in xs)) c.deref.ensures.value ∙ sym (ap call_patterns e)) h)
 
-pub filters::call_data-returns-in_err-text-in-Search-clause-refused : goal.filters::call_data-returns-in_err-text-in-Search-clause-refused
-filters::call_data-returns-in_err-text-in-Search-clause-refused g t c =
+pub call_data-returns-in_err-text-in-Search-clause-refused : goal.call_data-returns-in_err-text-in-Search-clause-refused
+call_data-returns-in_err-text-in-Search-clause-refused g t c =
     let e = ap call_patterns (ap call_view c.in-Search.is ∙ call_view-Search c.in-Search.text c.in-Search.pattern) in
     halts_so _ _ c.from_residual-in_err-text-in-Search.ensures.1 c.in_err-text-in-Search.ensures.refused (λ h. asks_same _ _ (sym e) (asks_rest _ _ (asks_left _ (argument_patterns (argument_view c.in-Search.pattern)) h)))
 
-pub filters::call_data-returns-in_err-pattern-in-Search-clause-refused : goal.filters::call_data-returns-in_err-pattern-in-Search-clause-refused
-filters::call_data-returns-in_err-pattern-in-Search-clause-refused g t c =
+pub call_data-returns-in_err-pattern-in-Search-clause-refused : goal.call_data-returns-in_err-pattern-in-Search-clause-refused
+call_data-returns-in_err-pattern-in-Search-clause-refused g t c =
     let e = ap call_patterns (ap call_view c.in-Search.is ∙ call_view-Search c.in-Search.text c.in-Search.pattern) in
     halts_so _ _ c.from_residual-in_err-pattern-in-Search.ensures.1 c.in_err-pattern-in-Search.ensures.refused (λ h. asks_same _ _ (sym e) (asks_rest _ _ (asks_right (argument_patterns (argument_view c.in-Search.text)) _ h)))
 
-pub filters::call_data-returns-in_ok-pattern-in-Search-clause-refused : goal.filters::call_data-returns-in_ok-pattern-in-Search-clause-refused
-filters::call_data-returns-in_ok-pattern-in-Search-clause-refused g t c =
-    let d = document_of g.T.Queryable.tree g.T.Queryable.custom c.args.root.now in
+pub call_data-returns-in_ok-pattern-in-Search-clause-refused : goal.call_data-returns-in_ok-pattern-in-Search-clause-refused
+call_data-returns-in_ok-pattern-in-Search-clause-refused g t c =
+    let d = document g.T.Queryable.tree g.T.Queryable.custom c.args.self.now in
     let k = content_of g.T.Queryable.tree c.args.given.now in
     let e = ap call_patterns (ap call_view c.in-Search.is ∙ call_view-Search c.in-Search.text c.in-Search.pattern) in
     halts_as _ c.found_data.ensures.refused (λ h. asks_same _ _ (sym e) (asks_here d false (argument_view c.in-Search.pattern) _ k _ (inl refl) (ap plain c.in_ok-pattern-in-Search.ensures.value) h))
 
-pub filters::call_data-returns-in_err-text-in-Match-clause-refused : goal.filters::call_data-returns-in_err-text-in-Match-clause-refused
-filters::call_data-returns-in_err-text-in-Match-clause-refused g t c =
+pub call_data-returns-in_err-text-in-Match-clause-refused : goal.call_data-returns-in_err-text-in-Match-clause-refused
+call_data-returns-in_err-text-in-Match-clause-refused g t c =
     let e = ap call_patterns (ap call_view c.in-Match.is ∙ call_view-Match c.in-Match.text c.in-Match.pattern) in
     halts_so _ _ c.from_residual-in_err-text-in-Match.ensures.1 c.in_err-text-in-Match.ensures.refused (λ h. asks_same _ _ (sym e) (asks_rest _ _ (asks_left _ (argument_patterns (argument_view c.in-Match.pattern)) h)))
 
-pub filters::call_data-returns-in_err-pattern-in-Match-clause-refused : goal.filters::call_data-returns-in_err-pattern-in-Match-clause-refused
-filters::call_data-returns-in_err-pattern-in-Match-clause-refused g t c =
+pub call_data-returns-in_err-pattern-in-Match-clause-refused : goal.call_data-returns-in_err-pattern-in-Match-clause-refused
+call_data-returns-in_err-pattern-in-Match-clause-refused g t c =
     let e = ap call_patterns (ap call_view c.in-Match.is ∙ call_view-Match c.in-Match.text c.in-Match.pattern) in
     halts_so _ _ c.from_residual-in_err-pattern-in-Match.ensures.1 c.in_err-pattern-in-Match.ensures.refused (λ h. asks_same _ _ (sym e) (asks_rest _ _ (asks_right (argument_patterns (argument_view c.in-Match.text)) _ h)))
 
-pub filters::call_data-returns-in_ok-pattern-in-Match-clause-refused : goal.filters::call_data-returns-in_ok-pattern-in-Match-clause-refused
-filters::call_data-returns-in_ok-pattern-in-Match-clause-refused g t c =
-    let d = document_of g.T.Queryable.tree g.T.Queryable.custom c.args.root.now in
+pub call_data-returns-in_ok-pattern-in-Match-clause-refused : goal.call_data-returns-in_ok-pattern-in-Match-clause-refused
+call_data-returns-in_ok-pattern-in-Match-clause-refused g t c =
+    let d = document g.T.Queryable.tree g.T.Queryable.custom c.args.self.now in
     let k = content_of g.T.Queryable.tree c.args.given.now in
     let e = ap call_patterns (ap call_view c.in-Match.is ∙ call_view-Match c.in-Match.text c.in-Match.pattern) in
     halts_as _ c.found_data-in-Match.ensures.refused (λ h. asks_same _ _ (sym e) (asks_here d true (argument_view c.in-Match.pattern) _ k _ (inl refl) (ap plain c.in_ok-pattern-in-Match.ensures.value) h))
 
-pub filters::arguments-returns-in_err-answer-clause-refused : goal.filters::arguments-returns-in_err-answer-clause-refused
-filters::arguments-returns-in_err-answer-clause-refused g t c =
+pub arguments-returns-in_err-answer-clause-refused : goal.arguments-returns-in_err-answer-clause-refused
+arguments-returns-in_err-answer-clause-refused g t c =
     let f = λ (x : FnArg). argument_patterns (argument_view x) in
     let all = λ (xs : List FnArg). arguments_patterns (arguments_in xs) in
     halts_so _ _ c.from_residual.ensures.1 c.in_err-answer.ensures.refused (λ h. asks_at f all (λ x xs. refl) c.args.args.now c.loop-arg.arg-index c.arg-item.result c.loop-arg-test.true c.arg-item.is h)
 
-pub segments::segments_data-returns-in_err-answer-clause-refused : goal.segments::segments_data-returns-in_err-answer-clause-refused
-segments::segments_data-returns-in_err-answer-clause-refused g t c =
-    let d = document_of g.T.Queryable.tree g.T.Queryable.custom c.args.root.now in
+pub segments_data-returns-in_err-answer-clause-refused : goal.segments_data-returns-in_err-answer-clause-refused
+segments_data-returns-in_err-answer-clause-refused g t c =
+    let d = document g.T.Queryable.tree g.T.Queryable.custom c.args.self.now in
     let k = content_of g.T.Queryable.tree c.args.given in
     let f = λ (x : Segment). segment_patterns (segment_view x) in
     let all = λ (xs : List Segment). segments_patterns (segments_in xs) in
     halts_so _ _ c.from_residual.ensures.1 c.in_err-answer.ensures.refused (λ h. asks_at f all (λ x xs. refl) c.args.segments.now c.loop-segment.segment-index c.segment-item.result c.loop-segment-test.true c.segment-item.is (asks_within d k _ c.loop-segment.invariant.within h))
 
-pub segments::joined-returns-in_err-found-clause-refused : goal.segments::joined-returns-in_err-found-clause-refused
-segments::joined-returns-in_err-found-clause-refused g t c =
-    let d = document_of g.T.Queryable.tree g.T.Queryable.custom c.args.root.now in
+pub joined-returns-in_err-found-clause-refused : goal.joined-returns-in_err-found-clause-refused
+joined-returns-in_err-found-clause-refused g t c =
+    let d = document g.T.Queryable.tree g.T.Queryable.custom c.args.self.now in
     let f = λ (x : Selector). selector_patterns (selector_view x) in
     let all = λ (xs : List Selector). selectors_patterns (selectors_in xs) in
     halts_so _ _ c.from_residual-in_err-found.ensures.1 c.in_err-found.ensures.refused (λ h. asks_at f all (λ x xs. refl) c.args.selectors.now c.loop-selector.selector-index c.selector-item.result c.loop-selector-test.true c.selector-item.is (asks_below d _ _ (ap ref c.in_ok-try_clone.ensures.seen) h))
 
-pub filters::some_holds-returns-in_err-holds-clause-refused : goal.filters::some_holds-returns-in_err-holds-clause-refused
-filters::some_holds-returns-in_err-holds-clause-refused g t c =
+pub some_holds-returns-in_err-holds-clause-refused : goal.some_holds-returns-in_err-holds-clause-refused
+some_holds-returns-in_err-holds-clause-refused g t c =
     let f = λ (x : Filter). filter_patterns (filter_view x) in
     let all = λ (xs : List Filter). filters_patterns (filters_in xs) in
     halts_so _ _ c.from_residual.ensures.1 c.in_err-holds.ensures.refused (λ h. asks_at f all (λ x xs. refl) c.args.parts.now c.loop-part.part-index c.part-item.result c.loop-part-test.true c.part-item.is h)
 
-pub filters::each_holds-returns-in_err-holds-clause-refused : goal.filters::each_holds-returns-in_err-holds-clause-refused
-filters::each_holds-returns-in_err-holds-clause-refused g t c =
+pub each_holds-returns-in_err-holds-clause-refused : goal.each_holds-returns-in_err-holds-clause-refused
+each_holds-returns-in_err-holds-clause-refused g t c =
     let f = λ (x : Filter). filter_patterns (filter_view x) in
     let all = λ (xs : List Filter). filters_patterns (filters_in xs) in
     halts_so _ _ c.from_residual.ensures.1 c.in_err-holds.ensures.refused (λ h. asks_at f all (λ x xs. refl) c.args.parts.now c.loop-part.part-index c.part-item.result c.loop-part-test.true c.part-item.is h)
 
-pub segments::segments_data-loop-segment-init : goal.segments::segments_data-loop-segment-init
-segments::segments_data-loop-segment-init g t c =
+pub segments_data-loop-segment-init : goal.segments_data-loop-segment-init
+segments_data-loop-segment-init g t c =
     let tree = g.T.Queryable.tree in
-    let d = document_of tree g.T.Queryable.custom c.args.root.now in
+    let d = document tree g.T.Queryable.custom c.args.self.now in
     record {
       made = refl;
       whole = c.requires.whole;

@@ -1,0 +1,133 @@
+use Rattle.std.proofs.Common.{◌≡◌, ◌++◌, ◌+◌, ◌*◌, drop, map, filter, All, IsTrue, List, Bool}
+use Rattle.std.specs.List.{AllByRecursion, flat_map}
+use Rattle.jsonpath_parser.specs.tree.View.{segment_view, selector_view, filter_view, atom_view, test_view, comparison_view, comparable_view, call_view, argument_view}
+use Rattle.jsonpath_rust.specs.documents.Args.{arg_value}
+use Rattle.jsonpath_rust.specs.states.Process.{segments_content, joined_from, holds_at, some_holds_at, each_holds_at, arguments_trees}
+use Rattle.jsonpath_rust.specs.states.State.{Target, nothing, targets, inside, target_of, content_of, PointersAreWhole, DataIsWhole}
+use Rattle.jsonpath_rust.specs.states.inner.Evaluating.{document, part_content}
+use Rattle.jsonpath_rust.specs.documents.inner.Parts.{segments_in, selectors_in, filters_in, arguments_in}
+use Rattle.jsonpath_rust.proofs.laws.states.PartWeight.{part_weight}
+use Rattle.jsonpath_rust.specs.documents.inner.Weight.{segments_weight, segment_weight, selectors_weight, selector_weight, filter_weight, filters_weight, atom_weight, test_weight, comparison_weight, comparable_weight, call_weight, argument_weight, arguments_weight}
+use Rattle.jsonpath_rust.specs.states.Asking.{tops}
+use Rattle.jsonpath_rust.proofs.laws.states.Lies.{Stays}
+use Rattle.jsonpath_rust.proofs.states.evaluate.Evaluation.+evaluate.Given as goal
+
+abbrev pub decreases-segments_data : goal.decreases-segments_data
+decreases-segments_data g l = 4 * segments_weight (segments_in l.segments.now) + 1
+
+abbrev pub decreases-segment_data : goal.decreases-segment_data
+decreases-segment_data g l = 4 * segment_weight (segment_view l.segment.now)
+
+abbrev pub decreases-several_data : goal.decreases-several_data
+decreases-several_data g l = 4 * selectors_weight (selectors_in l.selectors.now) + 7
+
+abbrev pub decreases-selector_data : goal.decreases-selector_data
+decreases-selector_data g l = 4 * selector_weight (selector_view l.selector.now)
+
+abbrev pub decreases-each_target : goal.decreases-each_target
+decreases-each_target g l = 4 * part_weight l.part + 2
+
+abbrev pub decreases-at_target : goal.decreases-at_target
+decreases-at_target g l = 4 * part_weight l.part + 1
+
+abbrev pub decreases-kept : goal.decreases-kept
+decreases-kept g l = 4 * filter_weight (filter_view l.filter.now) + 1
+
+abbrev pub decreases-joined : goal.decreases-joined
+decreases-joined g l = 4 * selectors_weight (selectors_in l.selectors.now) + 1
+
+abbrev pub decreases-holds : goal.decreases-holds
+decreases-holds g l = 4 * filter_weight (filter_view l.filter.now)
+
+abbrev pub decreases-some_holds : goal.decreases-some_holds
+decreases-some_holds g l = 4 * filters_weight (filters_in l.parts.now) + 1
+
+abbrev pub decreases-each_holds : goal.decreases-each_holds
+decreases-each_holds g l = 4 * filters_weight (filters_in l.parts.now) + 1
+
+abbrev pub decreases-atom_data : goal.decreases-atom_data
+decreases-atom_data g l = 4 * atom_weight (atom_view l.atom.now)
+
+abbrev pub decreases-comparison_holds : goal.decreases-comparison_holds
+decreases-comparison_holds g l = 4 * comparison_weight (comparison_view l.comparison.now)
+
+abbrev pub decreases-comparable_data : goal.decreases-comparable_data
+decreases-comparable_data g l = 4 * comparable_weight (comparable_view l.comparable.now)
+
+abbrev pub decreases-test_data : goal.decreases-test_data
+decreases-test_data g l = 4 * test_weight (test_view l.test.now)
+
+abbrev pub decreases-call_data : goal.decreases-call_data
+decreases-call_data g l = 4 * call_weight (call_view l.function.now)
+
+abbrev pub decreases-arguments : goal.decreases-arguments
+decreases-arguments g l = 4 * arguments_weight (arguments_in l.args.now) + 1
+
+abbrev pub decreases-argument_data : goal.decreases-argument_data
+decreases-argument_data g l = 4 * argument_weight (argument_view l.arg.now)
+
+-- what was found, with what is left
+abbrev pub invariant-each_target-loop-from : goal.invariant-each_target-loop-from
+invariant-each_target-loop-from g l =
+    let tree = g.T.Queryable.tree in
+    let d = document tree g.T.Queryable.custom l.self in
+    let f : Target → List Target = λ p. targets (part_content l.part d p) in
+    record {
+      made : map (target_of tree) l.all.items ++ flat_map f (map (target_of tree) (drop l.from-index l.from-items)) ≡ flat_map f (map (target_of tree) l.from-items);
+      whole : PointersAreWhole g.T.Queryable.is_whole l.all.items;
+    }
+
+abbrev pub invariant-kept-loop-child : goal.invariant-kept-loop-child
+invariant-kept-loop-child g l =
+    let tree = g.T.Queryable.tree in
+    let d = document tree g.T.Queryable.custom l.self in
+    let h : Target → Bool = λ p. holds_at (filter_view l.filter) d (inside p.tree) in
+    record {
+      made : map (target_of tree) l.found.items ++ filter h (map (target_of tree) (drop l.child-index l.child-items)) ≡ filter h (map (target_of tree) l.child-items);
+      whole : PointersAreWhole g.T.Queryable.is_whole l.found.items;
+    }
+
+abbrev pub invariant-arguments-loop-arg : goal.invariant-arguments-loop-arg
+invariant-arguments-loop-arg g l =
+    let tree = g.T.Queryable.tree in
+    let d = document tree g.T.Queryable.custom l.self in
+    record {
+      trees : map (λ a. tree (arg_value a)) l.values.items ++ arguments_trees (arguments_in (drop l.arg-index l.args)) d (content_of tree l.given) ≡ arguments_trees (arguments_in l.args) d (content_of tree l.given);
+      whole : All (λ a. IsTrue (g.T.Queryable.is_whole (arg_value a))) l.values.items;
+    }
+
+-- what the segments that are left make of the answer so far
+abbrev pub invariant-segments_data-loop-segment : goal.invariant-segments_data-loop-segment
+invariant-segments_data-loop-segment g l =
+    let tree = g.T.Queryable.tree in
+    let d = document tree g.T.Queryable.custom l.self in
+    record {
+      made : segments_content (segments_in (drop l.segment-index l.segments)) d (content_of tree l.answer) ≡ segments_content (segments_in l.segments) d (content_of tree l.initial.answer);
+      whole : DataIsWhole g.T.Queryable.is_whole l.answer;
+      within : AllByRecursion (Stays (tops d (content_of tree l.initial.answer))) (targets (content_of tree l.answer));
+    }
+
+-- what the selectors that are left join behind what there is
+abbrev pub invariant-joined-loop-selector : goal.invariant-joined-loop-selector
+invariant-joined-loop-selector g l =
+    let tree = g.T.Queryable.tree in
+    let d = document tree g.T.Queryable.custom l.self in
+    let p = target_of tree l.from in
+    record {
+      made : joined_from (selectors_in (drop l.selector-index l.selectors)) d (content_of tree l.all) p ≡ joined_from (selectors_in l.selectors) d nothing p;
+      whole : DataIsWhole g.T.Queryable.is_whole l.all;
+    }
+
+-- the parts that are left decide
+abbrev pub invariant-some_holds-loop-part : goal.invariant-some_holds-loop-part
+invariant-some_holds-loop-part g l =
+    let tree = g.T.Queryable.tree in
+    let d = document tree g.T.Queryable.custom l.self in
+    some_holds_at (filters_in (drop l.part-index l.parts)) d (content_of tree l.given) ≡ some_holds_at (filters_in l.parts) d (content_of tree l.given)
+
+-- the parts that are left decide
+abbrev pub invariant-each_holds-loop-part : goal.invariant-each_holds-loop-part
+invariant-each_holds-loop-part g l =
+    let tree = g.T.Queryable.tree in
+    let d = document tree g.T.Queryable.custom l.self in
+    each_holds_at (filters_in (drop l.part-index l.parts)) d (content_of tree l.given) ≡ each_holds_at (filters_in l.parts) d (content_of tree l.given)
