@@ -2,8 +2,8 @@
 mod filters;
 mod queries;
 
-use jsonpath_parser::errors::Parsed;
-use jsonpath_parser::{
+use jsonpath_rust::parser::errors::Parsed;
+use jsonpath_rust::parser::{
     Cursor, child_segment, comp_expr, comparable, filter_atom, function_expr, jp_query, literal,
     logical_expr, logical_expr_and, rel_query, segment, segments, selector, singular_query,
     singular_query_segments, slice_selector, test,

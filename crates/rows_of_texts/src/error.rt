@@ -1,6 +1,6 @@
 //! Rows on errors: the `error` of that name has this `text`, and a copy of it is equal to it. The error is made by its maker
 //! where it has one; beside the thirteen variants there are the names of two makers, `from_text` and `bad_bool`.
-use jsonpath_parser::errors::JsonPathError;
+use jsonpath_rust::parser::errors::JsonPathError;
 use rows_common::Memory;
 use rows_common::members::{has_only, string_at};
 use serde_json::Value;

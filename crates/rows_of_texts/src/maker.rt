@@ -1,13 +1,13 @@
 //! Rows on the makers of trees: a maker, what it takes, and the tree that it makes, also as it is `shown`, or its refusal; and
 //! on what an argument is.
 use crate::production::{Reading, beside, shown_beside};
-use jsonpath_build::{atom_test, cmp, comparable_lit, lit_int, test_rel};
-use jsonpath_parser::errors::{JsonPathError, Parsed};
-use jsonpath_parser::model::{
+use jsonpath_rust::build::{atom_test, cmp, comparable_lit, lit_int, test_rel};
+use jsonpath_rust::parser::errors::{JsonPathError, Parsed};
+use jsonpath_rust::parser::model::{
     Comparable, Comparison, Filter, FilterAtom, FnArg, JpQuery, Literal, Segment, Test,
     TestFunction, slice_from,
 };
-use jsonpath_parser::{Cursor, function_expr};
+use jsonpath_rust::parser::{Cursor, function_expr};
 use rows_common::Memory;
 use rows_common::members::{has_only, string_at};
 use serde_json::Value;

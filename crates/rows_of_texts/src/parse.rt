@@ -3,7 +3,7 @@ ghost use Rattle.std.specs.Prelude.{ℕ, IsTrue};
 ghost use Rattle.rows_common.specs.Reading.{IsQuery};
 
 use crate::tree::{Comparison, compare};
-use jsonpath_parser::MAX_NESTING_DEPTH;
+use jsonpath_rust::parser::MAX_NESTING_DEPTH;
 use rows_common::Memory;
 use rows_common::members::{Depth, depth_of, has_only};
 use rows_common::reading::{Reading, read};

@@ -1,7 +1,7 @@
 //! Rows on the grammar functions: what each reads from the start of a text, or `calls`, each where the one before it ended;
 //! and how the tree is `shown`.
-use jsonpath_parser::errors::Parsed;
-use jsonpath_parser::{
+use jsonpath_rust::parser::errors::Parsed;
+use jsonpath_rust::parser::{
     Cursor, child_segment, comp_expr, comparable, filter_atom, function_expr, jp_query, literal,
     logical_expr, logical_expr_and, parse_json_path, rel_query, segment, segments, selector,
     singular_query, singular_query_segments, slice_selector, test,

@@ -1,6 +1,6 @@
 //! Rows on query trees: `same_as` and `differs_from`. One of the two trees is a copy, so the rows ask of copies too.
-use jsonpath_parser::model::JpQuery;
-use jsonpath_parser::{let_go, parse_json_path};
+use jsonpath_rust::parser::model::JpQuery;
+use jsonpath_rust::parser::{let_go, parse_json_path};
 use rows_common::Memory;
 
 /// How the trees of two texts compare.

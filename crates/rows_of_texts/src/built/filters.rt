@@ -1,12 +1,12 @@
 //! Filters and their parts, made by hand; each is the tree of the text that stands above it.
-use jsonpath_build::{
+use jsonpath_rust::build::{
     and, arg_filter, arg_lit, arg_test, atom_cmp, atom_not, atom_test, atom_test_not, cmp,
     comparable_fn, comparable_lit, comparable_query, filter, jq, lit_bool, lit_int, lit_null,
     lit_str, or, q_name, q_segments_one, selector_filter, singular_current, test_abs, test_fn1,
     test_fn2, test_function, test_rel,
 };
-use jsonpath_parser::errors::Parsed;
-use jsonpath_parser::model::{
+use jsonpath_rust::parser::errors::Parsed;
+use jsonpath_rust::parser::model::{
     Comparable, Comparison, Filter, FilterAtom, FnArg, Literal, Selector, Test, TestFunction,
 };
 use std::alloc::Global;
@@ -81,7 +81,7 @@ pub fn literal(alloc: Global, text: &str) -> Parsed<Literal> {
 /// `(@)`, `!(@)`, `!@`, `@<1` or `@`
 pub fn atom(alloc: Global, text: &str) -> Parsed<FilterAtom> {
     match text {
-        "(@)" => jsonpath_build::atom(alloc, filter(current(alloc)?)),
+        "(@)" => jsonpath_rust::build::atom(alloc, filter(current(alloc)?)),
         "!(@)" => atom_not(alloc, filter(current(alloc)?)),
         "!@" => atom_test_not(alloc, test_rel(Vec::new(alloc))),
         "@<1" => below_one(alloc),

@@ -1,12 +1,12 @@
 //! Queries and their parts, made by hand; each is the tree of the text that stands above it.
-use jsonpath_build::{
+use jsonpath_rust::build::{
     jq, q_index, q_name, q_segments, q_segments_one, segment_descendant, segment_many, segment_one,
     selector_index, selector_name, selector_slice, selector_wildcard, singular_root, slice_all,
     slice_end, slice_end_step, slice_full, slice_start, slice_start_end, slice_start_step,
     slice_step,
 };
-use jsonpath_parser::errors::Parsed;
-use jsonpath_parser::model::{JpQuery, Segment, SingularQuery, SingularQuerySegment};
+use jsonpath_rust::parser::errors::Parsed;
+use jsonpath_rust::parser::model::{JpQuery, Segment, SingularQuery, SingularQuerySegment};
 use std::alloc::Global;
 
 /// `$['a'][0]`
