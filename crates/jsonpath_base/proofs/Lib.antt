@@ -20,3 +20,4 @@ pub mod Loans
 pub mod LoanTies
 pub mod LoanWords
 pub mod LoanOut
+pub mod WayLaws

@@ -4,3 +4,4 @@ pub mod Picked
 pub mod Marks
 pub mod Thinning
 pub mod Lent
+pub mod Way

@@ -1,5 +1,6 @@
-//! What evaluation stands on: the steps of Normalized Paths, slices, texts, the patterns of `match` and `search`, and
-//! values of `serde_json` as documents, compared with one another and in sets, read, written and removed at locations.
+//! What evaluation stands on: the steps of Normalized Paths and the way to a value, slices, texts, the patterns of `match` and
+//! `search`, and values of `serde_json` as documents, compared with one another and in sets, read, written and removed at
+//! locations.
 #![tactic(auto)]
 
 pub mod equality;
@@ -13,6 +14,7 @@ pub mod slice;
 pub mod step;
 pub mod text;
 pub mod value;
+pub mod way;
 
 pub use equality::{same, same_is_an_equivalence};
 pub use lending::at_mut;

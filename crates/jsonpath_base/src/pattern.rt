@@ -1,9 +1,15 @@
-//! The patterns of `match` and `search` (RFC 9535, 2.4.6 and 2.4.7).
+//! The patterns of `match` and `search` (RFC 9535, 2.4.6 and 2.4.7): read (`Pattern`), asked of many texts (`Finder`), and kept
+//! with what asks them for the length of a call (`cells`, `finders`, `lent`, `recent`).
 ghost use Rattle.std.specs.Prelude.{◌≡◌, ◌↔◌, ◌++◌, ◌==◌, IsTrue, false, Option, IsSome, is_some, chars, codes, IfOk, IfErr, OnOk, string_bytes, encode_utf8_all};
 ghost use Rattle.regex.specs.Patterns.{Re};
 ghost use Rattle.jsonpath_parser.specs.declared.errors.JsonPathError.TheVariants as error;
 ghost use Rattle.jsonpath_base.specs.Pattern.{translated, reading, wrapped, is_entire, sought, pattern_sought, found, IsInvalid, IsPatternRefusal};
 ghost use Rattle.jsonpath_base.specs.inner.PatternParts.{written, inside_after, escaped_after, FindsSame, MatchesSame};
+
+pub mod cells;
+pub mod finders;
+mod lent;
+mod recent;
 
 use jsonpath_parser::errors::{JsonPathError, Parsed};
 use regex::{Error, Matcher, Regex};

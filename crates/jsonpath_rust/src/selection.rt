@@ -3,8 +3,8 @@
 //!
 //! A query is compiled to a plan (`plan`), once. The walk (`walk`, `children`) goes by the plan; inside filters (`filter`,
 //! `function`, `subquery`) it looks up names and indexes (`singular`, `sides`, `lookup`, `direct`), walks from the node at hand, or takes
-//! what is kept of the root (`cache`, `rooted`, `early`) and of patterns (`finders`, `lent`). The nodes go to a sink (`sink`) with
-//! the way that leads to them (`way`).
+//! what is kept of the root (`cache`, `rooted`, `early`) and of patterns (`pattern` of `jsonpath_base`). The nodes go to a sink
+//! (`sink`) with the way that leads to them (`way` of `jsonpath_base`).
 mod action;
 mod argument;
 mod budget;
@@ -14,18 +14,14 @@ mod cost;
 mod direct;
 mod early;
 mod filter;
-mod finders;
 mod function;
 mod give;
-mod lent;
 mod lookup;
 mod nodelist;
 mod onward;
-mod patterns;
 mod plan;
 mod planned;
 mod prepared;
-mod recent;
 mod rooted;
 mod runner;
 mod sides;
@@ -34,7 +30,6 @@ mod sink;
 mod subquery;
 mod trail;
 mod walk;
-mod way;
 
 pub use crate::selection::nodelist::{
     selected_locations, selected_nodes, selected_paths, selected_removal, selected_values,

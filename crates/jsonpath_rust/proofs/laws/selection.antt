@@ -16,5 +16,4 @@ pub mod Sinks
 pub mod Standing
 pub mod StepLaws
 pub mod Walks
-pub mod WayLaws
 pub mod Work

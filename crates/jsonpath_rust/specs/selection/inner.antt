@@ -11,4 +11,3 @@ pub mod Rooted
 pub mod Sinks
 pub mod Standing
 pub mod Walking
-pub mod Way

@@ -9,7 +9,7 @@ use crate::selection::plan::{Rooted, Turn};
 use crate::selection::sink::Wanted;
 use crate::selection::trail::Trail;
 use crate::selection::walk::Task;
-use crate::selection::way::Way;
+use jsonpath_base::way::Way;
 
 impl<'a: 's, 's, T: Queryable> Task<'a, 's, T> {
     /// Works out the entries whose turn is early, inner ones first, and comes back to the root.

@@ -3,7 +3,7 @@ ghost use Rattle.std.specs.Prelude.{◌≡◌, ◌∷◌, ◌++◌, Some, string
 ghost use Rattle.jsonpath_base.specs.Tree.{truth};
 ghost use Rattle.jsonpath_rust.specs.documents.Functions.{is_matched, as_value};
 ghost use Rattle.jsonpath_rust.specs.documents.Meaning.{answer, argued, all_trees};
-ghost use Rattle.jsonpath_rust.specs.documents.Patterns.{call_patterns, argument_patterns, arguments_patterns};
+ghost use Rattle.jsonpath_rust.specs.documents.Patterns.{IsPattern, call_patterns, argument_patterns, arguments_patterns};
 ghost use Rattle.jsonpath_base.specs.Pattern.{is_entire};
 ghost use Rattle.jsonpath_rust.specs.documents.inner.Operands.{operand_tree, operand_is_whole};
 ghost use Rattle.jsonpath_rust.specs.selection.inner.Arguing.{held, holding, IsHeld};
@@ -12,19 +12,22 @@ ghost use Rattle.jsonpath_rust.specs.selection.inner.Keeping.{IsReady, document,
 ghost use Rattle.jsonpath_rust.specs.selection.inner.PlanViews.{argument_view, arguments_meant, call_view};
 ghost use Rattle.jsonpath_rust.specs.selection.inner.Standing.{Stands, Returns};
 ghost use Rattle.jsonpath_rust.specs.selection.inner.Walking.{node_of};
+ghost use Rattle.jsonpath_rust.specs.declared.documents.halt.Halt.TheVariants.{Memory};
 ghost use Rattle.jsonpath_rust.specs.declared.selection.sink.Wanted.TheVariants.{Only};
 
 use crate::documents::halt::Walked;
 use crate::documents::queryable::Queryable;
 use crate::documents::value::{Operand, Scalar, scalar_of};
 use crate::selection::argument::Argument;
-use crate::selection::patterns::Origin;
 use crate::selection::plan;
 use crate::selection::plan::Call;
 use crate::selection::sink::Wanted;
 use crate::selection::trail::Trail;
 use crate::selection::walk::Task;
 use jsonpath_base::Extent;
+use jsonpath_base::pattern::cells::Origin;
+use jsonpath_base::pattern::finders::{Asked, Finders};
+use std::alloc::Global;
 
 impl<'a: 's, 's, T: Queryable> Task<'a, 's, T> {
     /// What a call returns at a value, to which the way leads.
@@ -96,9 +99,8 @@ impl<'a: 's, 's, T: Queryable> Task<'a, 's, T> {
         let cost = self.limit.text_cost(&text);
         let also = self.limit.text_cost(&pattern);
         trail.budget.spend(self.limit, cost.saturating_add(also))?;
-        let found = trail
-            .finders
-            .is_matched(self.alloc, (&text, &pattern), extent, origin)?;
+        let finders = &mut trail.finders;
+        let found = is_matched(self.alloc, finders, (&text, &pattern), extent, origin)?;
         Ok(Operand::Plain(Scalar::Truth(found)))
     }
 
@@ -193,4 +195,25 @@ fn origin_of(arg: &plan::Argument) -> Origin {
         plan::Argument::Pattern(_text, number) => Origin::Query(*number),
         _ => Origin::Document,
     }
+}
+
+/// What `match` or `search` returns for a value and a pattern. It refuses where the pattern cannot be built, and where
+/// memory ran out.
+fn is_matched<T: Queryable>(
+    alloc: Global,
+    finders: &mut Finders<'_, '_>,
+    sides: (&Operand<'_, '_, T>, &Operand<'_, '_, T>),
+    extent: Extent,
+    origin: Origin,
+) -> Walked<bool>
+    requires text { IsTrue (operand_is_whole T.is_whole sides.0.now) }
+    requires pattern { IsTrue (operand_is_whole T.is_whole sides.1.now) }
+    ensures value { IfOk result (λ b. b ≡ is_matched (is_entire extent) (operand_tree T.tree sides.entry.0.now) (operand_tree T.tree sides.entry.1.now)) }
+    ensures refused { IfErr result (λ h. (h ≡ Memory → ⊥) → IsPattern (is_entire extent) (operand_tree T.tree sides.entry.1.now)) }
+{
+    let (Some(text), Some(pattern)) = (sides.0.as_text(), sides.1.as_text()) else {
+        return Ok(false);
+    };
+    let asked = Asked { pattern, extent };
+    Ok(finders.is_found(alloc, text, asked, origin)?)
 }

@@ -13,13 +13,13 @@ use crate::documents::halt::Walked;
 use crate::documents::queryable::Queryable;
 use crate::selection::budget::Budget;
 use crate::selection::cache::Cache;
-use crate::selection::finders::{Finders, Standing};
-use crate::selection::patterns::{LentPlaces, Places};
 use crate::selection::plan::{Plan, plan_of, release};
 use crate::selection::sink::Sink;
 use crate::selection::trail::Trail;
 use crate::selection::walk::Task;
-use crate::selection::way::Way;
+use jsonpath_base::pattern::cells::{LentCells, QueryCells};
+use jsonpath_base::pattern::finders::{Finders, Standing};
+use jsonpath_base::way::Way;
 use jsonpath_parser::model::JpQuery;
 use std::alloc::Global;
 
@@ -36,13 +36,12 @@ pub fn give_nodes<'a, T: Queryable>(
     alloc: Global,
     query: &JpQuery,
     root: &'a T,
-    sink: Sink<'a, T>,
+    mut sink: Sink<'a, T>,
 ) -> Queried<Sink<'a, T>>
     requires { IsTrue (T.is_whole root.now) }
     ensures gave { IfOk result (λ s. seen T.tree T.is_whole s ≡ give (seen T.tree T.is_whole sink.entry) (nodelist (query_view query.now) (document_of T.tree T.custom root.now))) }
     ensures refused { IfErr result (IsStop (query_view query.now) (document_of T.tree T.custom root.now)) }
 {
-    let mut sink = sink;
     match give_planned(alloc, query, root, &mut sink) {
         Ok(_goes_on) => Ok(sink),
         Err(error) => {
@@ -82,10 +81,10 @@ fn give_once<'a, T: Queryable>(
         (seen T.tree T.is_whole sink.new) b) }
     ensures refused { IfErr result (IsStop (plan_view plan.now) (document_of T.tree T.custom root.now)) }
 {
-    let places = Places::new(alloc, plan.pattern_count)?;
+    let cells = QueryCells::new(alloc, plan.pattern_count)?;
     let request = Request {
         plan,
-        standing: Standing::new(alloc, &places),
+        standing: Standing::new(alloc, &cells),
         budget: Budget::unlimited(),
     };
     let (given, _standing) = give_requested(alloc, request, root, sink);
@@ -113,7 +112,7 @@ pub fn give_requested<'a, 'p, T: Queryable>(
         standing,
         budget,
     } = request;
-    let lent = LentPlaces::new();
+    let lent = LentCells::new();
     let finders = Finders::new(alloc, standing, &lent);
     give_from_root(alloc, plan, (finders, budget), root, sink)
 }

@@ -13,11 +13,11 @@ ghost use Rattle.jsonpath_rust.specs.selection.inner.Planned.{plan_view};
 use crate::documents::queryable::Queryable;
 use crate::documents::{Queried, QueryPath, QueryRef};
 use crate::selection::budget::Budget;
-use crate::selection::finders::Standing;
 use crate::selection::give::Request;
-use crate::selection::patterns::Places;
 use crate::selection::planned::Planned;
 use crate::selection::runner::Runner;
+use jsonpath_base::pattern::cells::QueryCells;
+use jsonpath_base::pattern::finders::Standing;
 use jsonpath_parser::model::JpQuery;
 use std::alloc::Global;
 
@@ -36,7 +36,7 @@ use std::alloc::Global;
 pub struct Prepared {
     planned: Planned,
     /// Where its patterns are built.
-    places: Places,
+    cells: QueryCells,
 }
 
 impl Prepared {
@@ -47,8 +47,8 @@ impl Prepared {
         ensures memory { IfErr result (λ e. e ≡ OutOfMemory) }
     {
         let planned = Planned::new(alloc, query)?;
-        match Places::new(alloc, planned.plan.pattern_count) {
-            Ok(places) => Ok(Prepared { planned, places }),
+        match QueryCells::new(alloc, planned.plan.pattern_count) {
+            Ok(cells) => Ok(Prepared { planned, cells }),
             Err(error) => {
                 planned.release();
                 Err(error.into())
@@ -134,7 +134,7 @@ impl Prepared {
 
     /// What asks its patterns, with none asked yet.
     pub(crate) fn standing(&self, alloc: Global) -> Standing<'_> {
-        Standing::new(alloc, &self.places)
+        Standing::new(alloc, &self.cells)
     }
 
     /// What is asked of a document, for this work.

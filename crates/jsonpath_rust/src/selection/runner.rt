@@ -14,10 +14,10 @@ use crate::documents::halt::{Halt, Walked};
 use crate::documents::queryable::Queryable;
 use crate::documents::{Queried, QueryPath, QueryRef};
 use crate::selection::budget::Budget;
-use crate::selection::finders::Standing;
 use crate::selection::give::give_requested;
 use crate::selection::prepared::Prepared;
 use crate::selection::sink::Sink;
+use jsonpath_base::pattern::finders::Standing;
 use jsonpath_parser::model::JpQuery;
 use std::alloc::Global;
 use std::mem;
@@ -232,14 +232,13 @@ impl<'p> Runner<'p> {
         &mut self,
         alloc: Global,
         value: &'a T,
-        sink: Sink<'a, T>,
+        mut sink: Sink<'a, T>,
     ) -> Queried<Sink<'a, T>>
         requires { IsTrue (T.is_whole value.now) }
         ensures gave { IfOk result (λ s. seen T.tree T.is_whole s ≡ give (seen T.tree T.is_whole sink.entry) (nodelist (runner_view self.old) (document_of T.tree T.custom value.now))) }
         ensures same { runner_view self.new ≡ runner_view self.old }
         ensures refused { IfErr result (IsStop (runner_view self.old) (document_of T.tree T.custom value.now)) }
     {
-        let mut sink = sink;
         match self.give(alloc, Budget::unlimited(), value, &mut sink) {
             Ok(_goes_on) => Ok(sink),
             Err(halt) => {
@@ -255,14 +254,13 @@ impl<'p> Runner<'p> {
         alloc: Global,
         units: usize,
         value: &'a T,
-        sink: Sink<'a, T>,
+        mut sink: Sink<'a, T>,
     ) -> Queried<Option<Sink<'a, T>>>
         requires { IsTrue (T.is_whole value.now) }
         ensures gave { IfOk result (λ o. IfSome o (λ s. seen T.tree T.is_whole s ≡ give (seen T.tree T.is_whole sink.entry) (nodelist (runner_view self.old) (document_of T.tree T.custom value.now)))) }
         ensures same { runner_view self.new ≡ runner_view self.old }
         ensures refused { IfErr result (IsStop (runner_view self.old) (document_of T.tree T.custom value.now)) }
     {
-        let mut sink = sink;
         let given = self.give(alloc, Budget::of(units), value, &mut sink);
         match given {
             Ok(_goes_on) => Ok(Some(sink)),

@@ -12,7 +12,7 @@ use crate::documents::halt::Walked;
 use crate::documents::queryable::Queryable;
 use crate::documents::value::GREATEST_COUNT;
 use crate::documents::{QueryPath, QueryRef};
-use crate::selection::way::Way;
+use jsonpath_base::way::Way;
 use jsonpath_base::{Removal, Step};
 use std::alloc::Global;
 

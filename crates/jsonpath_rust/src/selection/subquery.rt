@@ -20,7 +20,7 @@ use crate::selection::singular::looked_up;
 use crate::selection::sink::{Sink, Wanted};
 use crate::selection::trail::Trail;
 use crate::selection::walk::Task;
-use crate::selection::way::Way;
+use jsonpath_base::way::Way;
 use std::mem;
 
 impl<'a: 's, 's, T: Queryable> Task<'a, 's, T> {

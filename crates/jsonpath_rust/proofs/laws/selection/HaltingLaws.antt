@@ -1,5 +1,5 @@
 -- A pattern of a part of a query is one of the query, and a halt for it one of the query.
-use Rattle.std.proofs.Common.{◌≡◌, ℕ, zero, suc, ◌<◌, List, [], ◌∷◌, ◌++◌, length, get_or, arith, refl, sym, ◌∙◌, subst, Bool, Option, Result, Ok, Err, IfErr, IsErrAnd, inl, inr, ◌⊎◌}
+use Rattle.std.proofs.Common.{◌≡◌, ℕ, ◌<◌, List, [], ◌∷◌, ◌++◌, length, get_or, arith, refl, sym, ◌∙◌, subst, Bool, Option, Result, IfErr, IsErrAnd, inl, inr, ◌⊎◌}
 use Rattle.std.proofs.lemmas.List.Elements.{Contains-append_left, Contains-append_right, Contains-append_cases}
 use Rattle.std.specs.List.{Contains}
 use Rattle.jsonpath_parser.specs.tree.Syntax.{Argument, Query}

@@ -15,9 +15,9 @@ use super::steps::{steps_again, steps_of};
 use super::{
     Argument, Call, Called, Entry, Filter, Nodes, Plan, Rooted, Segment, Selector, Side, Turn,
 };
-use crate::selection::finders::Asked;
 use crate::selection::sink::Wanted;
 use jsonpath_base::Extent;
+use jsonpath_base::pattern::finders::Asked;
 use jsonpath_parser::errors::Parsed;
 use jsonpath_parser::model as tree;
 use jsonpath_parser::model::{JpQuery, Operator, SingularQuery};

@@ -7,7 +7,7 @@ use Rattle.std.specs.String.Boundary.{IsSplitPoint}
 use Rattle.jsonpath_parser.specs.Location.{Step, name, index}
 use Rattle.jsonpath_parser.specs.Normal.{step_text}
 use Rattle.jsonpath_base.specs.Steps.{lent_step}
-use Rattle.jsonpath_rust.specs.selection.inner.Way.{spelled, IsSpelled}
+use Rattle.jsonpath_base.specs.inner.Way.{spelled, IsSpelled}
 use Rattle.jsonpath_base.specs.declared.step.StepRef.{StepRef}
 
 spelled-append : (ss ts : List StepRef) → spelled (ss ++ ts) ≡ spelled ss ++ spelled ts

@@ -1,6 +1,6 @@
 use Rattle.std.proofs.Common.{◌≡◌, ◌<◌, length, arith}
-use Rattle.jsonpath_rust.proofs.laws.selection.WayLaws.{spelled_next}
-use Rattle.jsonpath_rust.proofs.selection.way.spell.Goals as goal
+use Rattle.jsonpath_base.proofs.WayLaws.{spelled_next}
+use Rattle.jsonpath_base.proofs.way.spell.Goals as goal
 
 pub loop-alloc-preserved : goal.loop-alloc-preserved
 loop-alloc-preserved c =

@@ -1,4 +1,4 @@
--- What is spelled of a way, for the contracts of the walk alone: the definitions here are no part of what a query means.
+-- What is spelled of a way, for the contracts of `Way` alone.
 use Rattle.std.specs.Prelude.{◌≡◌, ℕ, ◌<◌, ◌≤◌, List, length, take, get_or}
 use Rattle.jsonpath_parser.specs.Normal.{steps_text}
 use Rattle.jsonpath_base.specs.Steps.{lent_location}

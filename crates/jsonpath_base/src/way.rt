@@ -1,15 +1,12 @@
 //! The way from the root to the value at hand, and what is spelled of its Normalized Path (RFC 9535, 2.7).
-ghost use Rattle.std.specs.Prelude.{◌≡◌, List, [], ◌∷◌, ◌++◌, length, map, IfOk, IfErr, OnOk, OnErr, string_bytes};
+ghost use Rattle.std.specs.Prelude.{◌≡◌, List, [], ◌∷◌, ◌++◌, length, IfOk, OnOk, OnErr, string_bytes};
 ghost use Rattle.jsonpath_parser.specs.Normal.{normal, step_text};
 ghost use Rattle.jsonpath_base.specs.Steps.{location_view, lent_step, lent_location};
-ghost use Rattle.jsonpath_rust.specs.declared.documents.halt.Halt.TheVariants.{Memory};
-ghost use Rattle.jsonpath_rust.specs.selection.inner.Way.{spelled, IsSpelled};
+ghost use Rattle.jsonpath_base.specs.inner.Way.{spelled, IsSpelled};
 ghost use Rattle.jsonpath_base.specs.declared.step.StepRef.{StepRef};
 
-use crate::documents::QueryPath;
-use crate::documents::halt::Walked;
-use jsonpath_base::step::{Step, StepRef, add_index, add_name};
-use std::alloc::Global;
+use crate::step::{Step, StepRef, add_index, add_name};
+use std::alloc::{AllocError, Global};
 
 /// The steps from the root to the value at hand. A step is spelled when a node at its end or below is returned, and then
 /// no more while it stands here.
@@ -17,9 +14,9 @@ use std::alloc::Global;
 pub struct Way<'s> {
     pub steps: Vec<StepRef<'s>>,
     /// The first steps, as a Normalized Path writes them.
-    pub text: String,
+    text: String,
     /// Where in the text each of them begins.
-    pub starts: Vec<usize>,
+    starts: Vec<usize>,
     ghost spelled: { IsSpelled steps.items starts.items (string_bytes text) },
 }
 
@@ -37,12 +34,10 @@ impl<'s> Way<'s> {
 
     /// A step further.
     #[inline(always)]
-    pub fn push(&mut self, step: StepRef<'s>) -> Walked<()>
+    pub fn push(&mut self, step: StepRef<'s>) -> Result<(), AllocError>
         ensures steps { OnOk result (self.new.steps.items ≡ self.old.steps.items ++ step.entry ∷ []) }
-        ensures memory { IfErr result (λ h. h ≡ Memory) }
     {
-        self.steps.push(step)?;
-        Ok(())
+        Ok(self.steps.push(step)?)
     }
 
     /// A step back.
@@ -59,10 +54,9 @@ impl<'s> Way<'s> {
     }
 
     /// The Normalized Path.
-    pub fn path(&mut self, alloc: Global) -> Walked<QueryPath>
+    pub fn path(&mut self, alloc: Global) -> Result<String, AllocError>
         ensures value { IfOk result (λ path. string_bytes path ≡ normal (lent_location self.old.steps.items)) }
         ensures same { self.new.steps.items ≡ self.old.steps.items }
-        ensures memory { IfErr result (λ h. h ≡ Memory) }
     {
         spell(alloc, &self.steps, &mut self.text, &mut self.starts)?;
         let mut path = String::with_capacity(alloc, self.text.len().saturating_add(1))?;
@@ -72,9 +66,8 @@ impl<'s> Way<'s> {
     }
 
     /// The location, with names of its own.
-    pub fn location(&self, alloc: Global) -> Walked<Vec<Step>>
+    pub fn location(&self, alloc: Global) -> Result<Vec<Step>, AllocError>
         ensures value { IfOk result (λ steps. location_view steps.items ≡ lent_location self.now.steps.items) }
-        ensures memory { IfErr result (λ h. h ≡ Memory) }
     {
         let mut steps = Vec::with_capacity(alloc, self.steps.len())?;
         for step in &self.steps {
@@ -90,11 +83,10 @@ fn spell(
     steps: &Vec<StepRef<'_>>,
     text: &mut String,
     starts: &mut Vec<usize>,
-) -> Walked<()>
+) -> Result<(), AllocError>
     requires { IsSpelled steps.now.items starts.old.items (string_bytes text.old) }
     ensures right { IsSpelled steps.now.items starts.new.items (string_bytes text.new) }
     ensures all { OnOk result (string_bytes text.new ≡ spelled steps.now.items) }
-    ensures memory { IfErr result (λ h. h ≡ Memory) }
 {
     while starts.len() < steps.len() {
         let step = steps[starts.len()];
@@ -109,12 +101,11 @@ fn spell_next(
     step: StepRef<'_>,
     text: &mut String,
     starts: &mut Vec<usize>,
-) -> Walked<()>
+) -> Result<(), AllocError>
     ensures text { OnOk result (string_bytes text.new ≡ string_bytes text.old ++ step_text (lent_step step.entry)) }
     ensures starts { OnOk result (starts.new.items ≡ starts.old.items ++ length (string_bytes text.old) ∷ []) }
     ensures same_text { OnErr result (string_bytes text.new ≡ string_bytes text.old) }
     ensures same_starts { OnErr result (starts.new.items ≡ starts.old.items) }
-    ensures memory { IfErr result (λ h. h ≡ Memory) }
 {
     starts.push(text.len())?;
     match add_step(alloc, text, step) {
@@ -128,13 +119,16 @@ fn spell_next(
 
 /// Follows a text by a step. Where memory is refused, the text stays as it was.
 #[inline(always)]
-fn add_step(alloc: Global, text: &mut String, step: StepRef<'_>) -> Walked<()>
+fn add_step(alloc: Global, text: &mut String, step: StepRef<'_>) -> Result<(), AllocError>
     ensures value { OnOk result (string_bytes text.new ≡ string_bytes text.old ++ step_text (lent_step step.entry)) }
     ensures same { OnErr result (string_bytes text.new ≡ string_bytes text.old) }
-    ensures memory { IfErr result (λ h. h ≡ Memory) }
 {
-    match step {
-        StepRef::Name(name) => Ok(add_name(alloc, text, name)?),
-        StepRef::Index(index) => Ok(add_index(alloc, text, index)?),
+    let added = match step {
+        StepRef::Name(name) => add_name(alloc, text, name),
+        StepRef::Index(index) => add_index(alloc, text, index),
+    };
+    match added {
+        Ok(()) => Ok(()),
+        Err(_) => Err(AllocError),
     }
 }

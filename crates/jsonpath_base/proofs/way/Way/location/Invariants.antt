@@ -1,7 +1,7 @@
 use Rattle.std.proofs.Common.{◌≡◌, take}
 use Rattle.jsonpath_base.specs.Steps.{location_view}
 use Rattle.jsonpath_base.specs.Steps.{lent_location}
-use Rattle.jsonpath_rust.proofs.selection.way.Way.location.Given as goal
+use Rattle.jsonpath_base.proofs.way.Way.location.Given as goal
 
 -- the first steps stand there
 abbrev pub invariant-loop-step : goal.invariant-loop-step

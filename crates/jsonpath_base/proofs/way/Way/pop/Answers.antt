@@ -1,7 +1,7 @@
 use Rattle.std.proofs.Common.{◌<◌, length, arith, subst, sym}
-use Rattle.jsonpath_rust.specs.selection.inner.Way.{IsSpelled}
-use Rattle.jsonpath_rust.proofs.laws.selection.WayLaws.{may_cut, spelled_back, at_most_one}
-use Rattle.jsonpath_rust.proofs.selection.way.Way.pop.Goals as goal
+use Rattle.jsonpath_base.specs.inner.Way.{IsSpelled}
+use Rattle.jsonpath_base.proofs.WayLaws.{may_cut, spelled_back, at_most_one}
+use Rattle.jsonpath_base.proofs.way.Way.pop.Goals as goal
 
 pub truncate-requires : goal.truncate-requires
 truncate-requires c =

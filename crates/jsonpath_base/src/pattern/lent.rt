@@ -1,16 +1,16 @@
 //! What asks the patterns that come from the document (RFC 9535, 2.4.6 and 2.4.7).
 //!
-//! A finder borrows its pattern, so a pattern that is kept with its finder stays to the end of the call, in a place of its own.
-//! The first few get a place when they are first asked. From then on each place costs twice as many asks as the one before: a
+//! A finder borrows its pattern, so a pattern that is kept with its finder stays to the end of the call, in a cell of its own.
+//! The first few get a cell when they are first asked. From then on each cell costs twice as many asks as the one before: a
 //! pattern that is asked again and again gets one at last, and there are few of them, however many patterns a document has. Of
 //! the others the few that were asked last are kept built, with no finder.
 ghost use Rattle.std.specs.Prelude.{◌≡◌, IfOk, IfErr, IfSome};
 ghost use Rattle.jsonpath_base.specs.Pattern.{is_entire, pattern_sought, found, IsPatternRefusal};
 
-use crate::selection::finders::Asked;
-use crate::selection::patterns::{LentPlaces, Place};
-use crate::selection::recent::{Recent, Unplaced};
-use jsonpath_base::pattern::{Finder, found};
+use crate::pattern::cells::{LentCells, PatternCell};
+use crate::pattern::finders::Asked;
+use crate::pattern::recent::{Loose, Recent};
+use crate::pattern::{Finder, found};
 use jsonpath_parser::errors::Parsed;
 use std::alloc::{AllocError, Global};
 
@@ -18,25 +18,25 @@ use std::alloc::{AllocError, Global};
 #[derive(Drop)]
 pub struct LentFinders<'p> {
     /// Where those stand that are kept to the end of the call.
-    places: &'p LentPlaces,
-    /// What asks them, in the order of their places.
+    cells: &'p LentCells,
+    /// What asks them, in the order of their cells.
     finders: Vec<Box<Finder<'p>>>,
     /// The index of the one that was asked last.
     last: usize,
-    /// How often a pattern has to have been asked before it gets the next place.
+    /// How often a pattern has to have been asked before it gets the next cell.
     price: usize,
-    /// Some of those that have no place.
+    /// Some of those that stand in no cell.
     recent: Recent,
 }
 
-/// How many patterns get a place when they are first asked.
+/// How many patterns get a cell when they are first asked.
 const FREE: usize = 8;
 
 impl<'p> LentFinders<'p> {
-    /// With these places, all empty.
-    pub fn new(alloc: Global, places: &'p LentPlaces) -> Self {
+    /// With these cells, all empty.
+    pub fn new(alloc: Global, cells: &'p LentCells) -> Self {
         LentFinders {
-            places,
+            cells,
             finders: Vec::new(alloc),
             last: 0,
             price: 0,
@@ -57,11 +57,11 @@ impl<'p> LentFinders<'p> {
         if let Some(found) = self.ask(index, text, asked) {
             return Ok(found);
         }
-        let unplaced = match self.recent.take(asked) {
-            Some(unplaced) => unplaced,
-            None => Unplaced::new(alloc, asked)?,
+        let loose = match self.recent.take(asked) {
+            Some(loose) => loose,
+            None => Loose::new(alloc, asked)?,
         };
-        self.ask_unplaced(alloc, unplaced, text, asked)
+        self.ask_loose(alloc, loose, text, asked)
     }
 
     /// What the finder at this index returns for a text, if it is one of this pattern.
@@ -85,11 +85,11 @@ impl<'p> LentFinders<'p> {
         self.finders.len()
     }
 
-    /// Asks a pattern that has no place. If it was asked often enough it gets one, else it is kept among those asked last.
-    fn ask_unplaced(
+    /// Asks a pattern that stands in no cell. If it was asked often enough it gets one, else it is kept among those asked last.
+    fn ask_loose(
         &mut self,
         alloc: Global,
-        unplaced: Unplaced,
+        loose: Loose,
         text: &str,
         asked: Asked<'_>,
     ) -> Parsed<bool>
@@ -97,29 +97,29 @@ impl<'p> LentFinders<'p> {
         ensures refused { IfErr result (IsPatternRefusal (pattern_sought (is_entire asked.entry.extent) asked.entry.pattern.now)) }
     {
         let index = self.finders.len();
-        if unplaced.asks >= self.price {
-            if let Some(place) = self.places.place(alloc, index)? {
-                self.place(alloc, unplaced, place)?;
+        if loose.asks >= self.price {
+            if let Some(cell) = self.cells.cell(alloc, index)? {
+                self.settle(alloc, loose, cell)?;
                 if let Some(found) = self.ask(index, text, asked) {
                     return Ok(found);
                 }
                 return found(alloc, text, asked.pattern, asked.extent);
             }
         }
-        let answer = unplaced.is_found(alloc, text, asked)?;
-        self.recent.keep(unplaced)?;
+        let answer = loose.is_found(alloc, text, asked)?;
+        self.recent.keep(loose)?;
         Ok(answer)
     }
 
-    /// Gives the pattern this place, and makes what asks it.
-    fn place(
+    /// Puts the pattern into this cell, and makes what asks it.
+    fn settle(
         &mut self,
         alloc: Global,
-        unplaced: Unplaced,
-        place: &'p Place,
+        loose: Loose,
+        cell: &'p PatternCell,
     ) -> Result<(), AllocError> {
-        let _ = place.set(unplaced.pattern);
-        if let Some(pattern) = place.get() {
+        let _ = cell.set(loose.pattern);
+        if let Some(pattern) = cell.get() {
             self.finders.push(Box::new(alloc, pattern.finder(alloc)?)?)?;
         }
         if self.finders.len() >= FREE {

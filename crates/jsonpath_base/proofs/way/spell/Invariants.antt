@@ -1,6 +1,6 @@
 use Rattle.std.proofs.Common.{◌-◌, length, string_bytes}
-use Rattle.jsonpath_rust.specs.selection.inner.Way.{IsSpelled}
-use Rattle.jsonpath_rust.proofs.selection.way.spell.Given as goal
+use Rattle.jsonpath_base.specs.inner.Way.{IsSpelled}
+use Rattle.jsonpath_base.proofs.way.spell.Given as goal
 
 -- what is spelled so far is spelled right
 abbrev pub invariant-loop-alloc : goal.invariant-loop-alloc

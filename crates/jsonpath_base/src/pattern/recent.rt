@@ -2,25 +2,25 @@
 ghost use Rattle.std.specs.Prelude.{◌≡◌, IfOk, IfErr};
 ghost use Rattle.jsonpath_base.specs.Pattern.{is_entire, pattern_sought, found, IsPatternRefusal};
 
-use crate::selection::finders::Asked;
-use jsonpath_base::pattern::{Pattern, found};
+use crate::pattern::finders::Asked;
+use crate::pattern::{Pattern, found};
 use jsonpath_parser::errors::Parsed;
 use std::alloc::{AllocError, Global};
 
-/// A pattern that has no place, and how often it was asked.
+/// A pattern that stands in no cell, and how often it was asked.
 #[derive(Drop)]
-pub struct Unplaced {
+pub struct Loose {
     pub pattern: Box<Pattern>,
     pub asks: usize,
 }
 
-impl Unplaced {
+impl Loose {
     /// This pattern, not asked yet. It refuses as `Pattern::new` does.
     pub fn new(alloc: Global, asked: Asked<'_>) -> Parsed<Self>
         ensures { IfErr result (IsPatternRefusal (pattern_sought (is_entire asked.entry.extent) asked.entry.pattern.now)) }
     {
         let pattern = asked.built(alloc)?;
-        Ok(Unplaced { pattern, asks: 0 })
+        Ok(Loose { pattern, asks: 0 })
     }
 
     /// Whether it is this pattern.
@@ -43,7 +43,7 @@ impl Unplaced {
 /// The patterns that were asked last, the one asked longest ago first.
 #[derive(Drop)]
 pub struct Recent {
-    patterns: Vec<Unplaced>,
+    patterns: Vec<Loose>,
 }
 
 /// How many patterns are kept.
@@ -58,7 +58,7 @@ impl Recent {
     }
 
     /// Takes this pattern out, if it is kept.
-    pub fn take(&mut self, asked: Asked<'_>) -> Option<Unplaced> {
+    pub fn take(&mut self, asked: Asked<'_>) -> Option<Loose> {
         let index = self.index_of(asked)?;
         if index < self.patterns.len() {
             return Some(self.patterns.remove(index));
@@ -68,8 +68,8 @@ impl Recent {
 
     /// The index of this pattern, if it is kept.
     fn index_of(&self, asked: Asked<'_>) -> Option<usize> {
-        for (index, unplaced) in self.patterns.iter().enumerate() {
-            if unplaced.is_of(asked) {
+        for (index, loose) in self.patterns.iter().enumerate() {
+            if loose.is_of(asked) {
                 return Some(index);
             }
         }
@@ -77,11 +77,11 @@ impl Recent {
     }
 
     /// Keeps a pattern that was just asked. Where there are too many, the one asked longest ago leaves.
-    pub fn keep(&mut self, mut unplaced: Unplaced) -> Result<(), AllocError> {
+    pub fn keep(&mut self, mut loose: Loose) -> Result<(), AllocError> {
         if self.patterns.len() >= MOST {
             drop(self.patterns.remove(0));
         }
-        unplaced.asks = unplaced.asks.saturating_add(1);
-        Ok(self.patterns.push(unplaced)?)
+        loose.asks = loose.asks.saturating_add(1);
+        Ok(self.patterns.push(loose)?)
     }
 }
