@@ -1,4 +1,5 @@
 //! Where the patterns of `match` and `search` are built (RFC 9535, 2.4.6 and 2.4.7).
+ghost use Rattle.std.specs.Prelude.{◌≡◌, IfOk, vec_len};
 
 use crate::pattern::Pattern;
 use std::alloc::{AllocError, Global};
@@ -24,14 +25,16 @@ pub struct QueryCells {
 
 impl QueryCells {
     /// So many, all empty.
-    pub fn new(alloc: Global, pattern_count: usize) -> Result<Self, AllocError> {
+    pub fn new(alloc: Global, pattern_count: usize) -> Result<Self, AllocError>
+        ensures { IfOk result (λ made. vec_len made.cells ≡ pattern_count) }
+    {
         let cells = empty_cells(alloc, pattern_count)?;
         Ok(QueryCells { cells })
     }
 
     /// The one of this number.
     #[inline(always)]
-    pub fn cell(&self, number: usize) -> Option<&PatternCell> {
+    pub(crate) fn cell(&self, number: usize) -> Option<&PatternCell> {
         self.cells.get(number)
     }
 }
@@ -53,7 +56,11 @@ impl LentCells {
     }
 
     /// The one at this index, if there are so many.
-    pub fn cell(&self, alloc: Global, index: usize) -> Result<Option<&PatternCell>, AllocError> {
+    pub(crate) fn cell(
+        &self,
+        alloc: Global,
+        index: usize,
+    ) -> Result<Option<&PatternCell>, AllocError> {
         if self.cells.get().is_none() {
             let cells = empty_cells(alloc, MOST_LENT)?;
             let _ = self.cells.set(cells);
@@ -69,7 +76,9 @@ impl LentCells {
 const MOST_LENT: usize = 32;
 
 /// So many cells.
-fn empty_cells(alloc: Global, count: usize) -> Result<Vec<PatternCell>, AllocError> {
+fn empty_cells(alloc: Global, count: usize) -> Result<Vec<PatternCell>, AllocError>
+    ensures { IfOk result (λ cells. vec_len cells ≡ count) }
+{
     let mut cells = Vec::with_capacity(alloc, count)?;
     for _ in 0..count {
         cells.push(OnceCell::new())?;

@@ -1,7 +1,8 @@
 //! What asks patterns (RFC 9535, 2.4.6 and 2.4.7). One that stands in the query is built when it is first asked, unless an
 //! earlier call has built it, and is then kept with what asks it, at its number.
-ghost use Rattle.std.specs.Prelude.{◌≡◌, IfOk, IfErr, IfSome};
+ghost use Rattle.std.specs.Prelude.{◌≡◌, IfOk, IfErr, IfSome, box_value, vec_len};
 ghost use Rattle.jsonpath_base.specs.Pattern.{is_entire, pattern_sought, found, IsPatternRefusal};
+ghost use Rattle.jsonpath_base.specs.PatternViews.{source_of, is_for_match};
 
 use crate::pattern::cells::{LentCells, Origin, PatternCell, QueryCells};
 use crate::pattern::lent::LentFinders;
@@ -18,7 +19,9 @@ pub struct Asked<'p> {
 
 impl<'p> Asked<'p> {
     /// Builds the pattern. It refuses as `Pattern::new` does.
-    pub fn built(self, alloc: Global) -> Parsed<Box<Pattern>>
+    pub(crate) fn built(self, alloc: Global) -> Parsed<Box<Pattern>>
+        ensures source { IfOk result (λ p. source_of (box_value p) ≡ self.entry.pattern.now) }
+        ensures extent { IfOk result (λ p. is_for_match (box_value p) ≡ is_entire self.entry.extent) }
         ensures refused { IfErr result (IsPatternRefusal (pattern_sought (is_entire self.entry.extent) self.entry.pattern.now)) }
     {
         let pattern = Pattern::new(alloc, self.pattern, self.extent)?;
@@ -27,7 +30,7 @@ impl<'p> Asked<'p> {
 
     /// What the finder returns for a text, if it is one of this pattern.
     #[inline(always)]
-    pub fn answer_of(self, finder: &mut Finder<'_>, text: &str) -> Option<bool>
+    pub(crate) fn answer_of(self, finder: &mut Finder<'_>, text: &str) -> Option<bool>
         ensures { IfSome result (λ b. b ≡ found (is_entire self.entry.extent) self.entry.pattern.now text.now) }
     {
         if !finder.is_of(self.pattern, self.extent) {
@@ -39,18 +42,21 @@ impl<'p> Asked<'p> {
 
 /// What asks the patterns that stand in a query, by their numbers.
 #[derive(Drop)]
-pub struct Standing<'p> {
+pub struct QueryFinders<'p> {
     /// Where they are built.
     cells: &'p QueryCells,
     /// What asks each of them. Those that were not asked yet have none.
     finders: Vec<Option<Box<Finder<'p>>>>,
 }
 
-impl<'p> Standing<'p> {
+impl<'p> QueryFinders<'p> {
     /// With these cells, and nothing that asks yet. Nothing is allocated.
     #[inline(always)]
-    pub fn new(alloc: Global, cells: &'p QueryCells) -> Self {
-        Standing {
+    pub fn new(alloc: Global, cells: &'p QueryCells) -> Self
+        ensures cells { result.cells ≡ cells.entry }
+        ensures none { vec_len result.finders ≡ 0 }
+    {
+        QueryFinders {
             cells,
             finders: Vec::new(alloc),
         }
@@ -104,7 +110,7 @@ impl<'p> Standing<'p> {
 #[derive(Drop)]
 pub struct Finders<'s, 'p> {
     /// Those that stand in the query. What asks them outlasts the call, if it is handed on.
-    pub standing: Standing<'p>,
+    pub query: QueryFinders<'p>,
     /// Those that come from the document.
     lent: LentFinders<'s>,
 }
@@ -112,9 +118,11 @@ pub struct Finders<'s, 'p> {
 impl<'s, 'p> Finders<'s, 'p> {
     /// With what asks those of the query so far, and these cells for those that come from the document. Nothing is allocated.
     #[inline(always)]
-    pub fn new(alloc: Global, standing: Standing<'p>, lent: &'s LentCells) -> Self {
+    pub fn new(alloc: Global, query: QueryFinders<'p>, lent: &'s LentCells) -> Self
+        ensures { result.query ≡ query.entry }
+    {
         Finders {
-            standing,
+            query,
             lent: LentFinders::new(alloc, lent),
         }
     }
@@ -133,11 +141,11 @@ impl<'s, 'p> Finders<'s, 'p> {
         ensures refused { IfErr result (IsPatternRefusal (pattern_sought (is_entire asked.entry.extent) asked.entry.pattern.now)) }
     {
         if let Origin::Query(number) = origin {
-            if let Some(found) = self.standing.ask(number, text, asked) {
+            if let Some(found) = self.query.ask(number, text, asked) {
                 return Ok(found);
             }
-            self.standing.make(alloc, number, asked)?;
-            if let Some(found) = self.standing.ask(number, text, asked) {
+            self.query.make(alloc, number, asked)?;
+            if let Some(found) = self.query.ask(number, text, asked) {
                 return Ok(found);
             }
         }

@@ -18,7 +18,7 @@ use crate::selection::sink::Sink;
 use crate::selection::trail::Trail;
 use crate::selection::walk::Task;
 use jsonpath_base::pattern::cells::{LentCells, QueryCells};
-use jsonpath_base::pattern::finders::{Finders, Standing};
+use jsonpath_base::pattern::finders::{Finders, QueryFinders};
 use jsonpath_base::way::Way;
 use jsonpath_parser::model::JpQuery;
 use std::alloc::Global;
@@ -27,7 +27,7 @@ use std::alloc::Global;
 #[derive(Drop)]
 pub struct Request<'s, 'p> {
     pub plan: &'s Plan,
-    pub standing: Standing<'p>,
+    pub finders: QueryFinders<'p>,
     pub budget: Budget,
 }
 
@@ -84,10 +84,10 @@ fn give_once<'a, T: Queryable>(
     let cells = QueryCells::new(alloc, plan.pattern_count)?;
     let request = Request {
         plan,
-        standing: Standing::new(alloc, &cells),
+        finders: QueryFinders::new(alloc, &cells),
         budget: Budget::unlimited(),
     };
-    let (given, _standing) = give_requested(alloc, request, root, sink);
+    let (given, _finders) = give_requested(alloc, request, root, sink);
     match given {
         Ok(goes_on) => Ok(goes_on),
         Err(halt) => Err(halt.told(alloc)),
@@ -101,7 +101,7 @@ pub fn give_requested<'a, 'p, T: Queryable>(
     request: Request<'_, 'p>,
     root: &'a T,
     sink: &mut Sink<'a, T>,
-) -> (Walked<bool>, Standing<'p>)
+) -> (Walked<bool>, QueryFinders<'p>)
     requires { IsTrue (T.is_whole root.now) }
     ensures gave { IfOk result.0 (λ b. Took (seen T.tree T.is_whole sink.old) (nodelist (plan_view request.entry.plan.now) (document_of T.tree T.custom root.now))
         (seen T.tree T.is_whole sink.new) b) }
@@ -109,11 +109,11 @@ pub fn give_requested<'a, 'p, T: Queryable>(
 {
     let Request {
         plan,
-        standing,
+        finders,
         budget,
     } = request;
     let lent = LentCells::new();
-    let finders = Finders::new(alloc, standing, &lent);
+    let finders = Finders::new(alloc, finders, &lent);
     give_from_root(alloc, plan, (finders, budget), root, sink)
 }
 
@@ -124,7 +124,7 @@ fn give_from_root<'a: 's, 's, 'p, T: Queryable>(
     means: (Finders<'s, 'p>, Budget),
     root: &'a T,
     sink: &mut Sink<'a, T>,
-) -> (Walked<bool>, Standing<'p>)
+) -> (Walked<bool>, QueryFinders<'p>)
     requires { IsTrue (T.is_whole root.now) }
     ensures gave { IfOk result.0 (λ b. Took (seen T.tree T.is_whole sink.old) (nodelist (plan_view plan.now) (document_of T.tree T.custom root.now))
         (seen T.tree T.is_whole sink.new) b) }
@@ -139,7 +139,7 @@ fn give_from_root<'a: 's, 's, 'p, T: Queryable>(
     };
     let given = give_along(alloc, plan, root, &mut trail, sink);
     let finders = trail.finders;
-    (given, finders.standing)
+    (given, finders.query)
 }
 
 /// The same, along a trail that begins here.

@@ -17,7 +17,7 @@ use crate::selection::give::Request;
 use crate::selection::planned::Planned;
 use crate::selection::runner::Runner;
 use jsonpath_base::pattern::cells::QueryCells;
-use jsonpath_base::pattern::finders::Standing;
+use jsonpath_base::pattern::finders::QueryFinders;
 use jsonpath_parser::model::JpQuery;
 use std::alloc::Global;
 
@@ -133,18 +133,22 @@ impl Prepared {
     }
 
     /// What asks its patterns, with none asked yet.
-    pub(crate) fn standing(&self, alloc: Global) -> Standing<'_> {
-        Standing::new(alloc, &self.cells)
+    pub(crate) fn finders(&self, alloc: Global) -> QueryFinders<'_> {
+        QueryFinders::new(alloc, &self.cells)
     }
 
     /// What is asked of a document, for this work.
-    pub(crate) fn request<'p>(&'p self, standing: Standing<'p>, budget: Budget) -> Request<'p, 'p>
+    pub(crate) fn request<'p>(
+        &'p self,
+        finders: QueryFinders<'p>,
+        budget: Budget,
+    ) -> Request<'p, 'p>
         ensures plan { plan_view result.plan.now ≡ prepared_view self.now }
         ensures budget { result.budget ≡ budget }
     {
         Request {
             plan: &self.planned.plan,
-            standing,
+            finders,
             budget,
         }
     }

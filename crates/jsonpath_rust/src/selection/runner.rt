@@ -17,7 +17,7 @@ use crate::selection::budget::Budget;
 use crate::selection::give::give_requested;
 use crate::selection::prepared::Prepared;
 use crate::selection::sink::Sink;
-use jsonpath_base::pattern::finders::Standing;
+use jsonpath_base::pattern::finders::QueryFinders;
 use jsonpath_parser::model::JpQuery;
 use std::alloc::Global;
 use std::mem;
@@ -39,7 +39,7 @@ use std::mem;
 #[derive(Drop)]
 pub struct Runner<'p> {
     prepared: &'p Prepared,
-    standing: Standing<'p>,
+    finders: QueryFinders<'p>,
 }
 
 impl<'p> Runner<'p> {
@@ -49,7 +49,7 @@ impl<'p> Runner<'p> {
     {
         Runner {
             prepared,
-            standing: prepared.standing(alloc),
+            finders: prepared.finders(alloc),
         }
     }
 
@@ -290,14 +290,14 @@ impl<'p> Runner<'p> {
         ensures refused { IfErr result (IsHalt budget.limit (segments_patterns (runner_view self.old)) (document_of T.tree T.custom value.now)) }
     {
         let prepared = self.prepared;
-        let standing = mem::replace(&mut self.standing, prepared.standing(alloc));
-        let (given, standing) = give_requested(
+        let finders = mem::replace(&mut self.finders, prepared.finders(alloc));
+        let (given, finders) = give_requested(
             alloc,
-            prepared.request(standing, budget),
+            prepared.request(finders, budget),
             value,
             sink,
         );
-        self.standing = standing;
+        self.finders = finders;
         given
     }
 }
