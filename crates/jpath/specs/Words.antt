@@ -2,6 +2,7 @@
 use Rattle.std.specs.Prelude.{ℕ, List, [], ◌∷◌, length, nat_le, codes, Bool, ◌&&◌, Option, Some, None, option_map, option_and_then, if◌then◌else◌}
 use Rattle.std.specs.Str.{bytes_eq, all_ascii_digits}
 use Rattle.std.specs.Str.Parse.{digits_value}
+use Rattle.jsonpath_parser.specs.declared.parse.TheConstants.{MAX_NESTING_DEPTH}
 use Rattle.jpath.specs.declared.words.Command.{Command}
 use Rattle.jpath.specs.declared.words.Command.TheVariants.{Print, Delete}
 use Rattle.jpath.specs.declared.words.Listing.TheVariants.{Nodes, Values, Paths}
@@ -36,6 +37,6 @@ request command depth query = option_and_then (λ d. option_map (λ c. record { 
 
 -- a command and a query, which may be any text, and between them perhaps `--depth` and a depth; nothing else
 abbrev pub asked_by : List (List ℕ) → Option Asked
-asked_by (command ∷ query ∷ []) = request command (Some 128) query
+asked_by (command ∷ query ∷ []) = request command (Some MAX_NESTING_DEPTH) query
 asked_by (command ∷ option ∷ depth ∷ query ∷ []) = request command (option_of option depth) query
 asked_by _ = None
