@@ -1,0 +1,219 @@
+"""Measures what queries of strangers cost, and the stack that they need: two tables of docs/PERFORMANCE.md.
+
+    python3 docs/strangers.py times crates/jpath/out/jpath
+    python3 docs/strangers.py stack crates/jpath/out/jpath
+
+Each row of the first table is a query with its document, in several sizes: the least of three runs of `jpath values`, in
+processor seconds, a slash between the sizes. Its like, which looks at the current node where the query looks at the
+root, comes behind. The second table has the least stack of `jpath nodes`, in KB, to within 64.
+"""
+
+import json
+import resource
+import subprocess
+import sys
+
+# The pattern that takes `regex` long to build.
+LARGE = r"(\p{L}{50}){5}"
+
+
+def ored(tests):
+    """Tests with `||` between them."""
+    return "||".join(tests)
+
+
+def numbers(count):
+    return list(range(1000, 1000 + count))
+
+
+def early(others):
+    """640 tests of every number, in a filter of the root, behind some others that are never reached."""
+    behind = f"@.first&&({ored(f'$..k{i}' for i in range(others))})||" if others else ""
+    tests = ored(f"@<-{i}" for i in range(1, 641))
+    return f"$.l[?{behind}$..[?{tests}]]", {"l": numbers(4000)}
+
+
+def nested(depth):
+    """Filters in one another, each from the root."""
+    inner = "..@.y" if depth == 0 else "@.y"
+    for _ in range(depth):
+        inner = f"$..[?@.q,?{inner}]"
+    return inner, [{"x": i} for i in range(2000)]
+
+
+def long_queries(count):
+    """Queries of 1,652 segments, which differ in the last."""
+    names = ".b" * 1650
+    return f"$.l[?{ored(f'$..a{names}..[{i}]' for i in range(count))}]", {"l": numbers(200)}
+
+
+def counted(size):
+    """A count behind a test that never holds."""
+    return "$[?$..[?@.nope&&count($..*..*..*..*)>9]]", [numbers(size) for _ in range(size)]
+
+
+def searched(patterns, first=()):
+    """A function of the size: patterns of the document, in turn, behind others that are asked first."""
+
+    def row(size):
+        asked = list(first) + [patterns[i % len(patterns)] for i in range(size)]
+        return "$[?search(@.t,@.p)]", [{"t": "abc", "p": pattern} for pattern in asked]
+
+    return row
+
+
+def subsets(size):
+    return "$.l[?subset_of($.a,$.b)]", {"l": numbers(size), "a": numbers(size), "b": numbers(size)[::-1]}
+
+
+def subsets_like(size):
+    return "$[?subset_of(@.a,@.b)]", [{"a": numbers(size), "b": numbers(size)[::-1]}]
+
+
+def lengths(size):
+    return "$.l[?length($.t)==@]", {"t": "a" * 5 * size, "l": numbers(size)}
+
+
+def differing(size):
+    return "$.l[?$.a!=$.b]", {"l": numbers(size), "a": numbers(size), "b": numbers(size)}
+
+
+def members(size):
+    return f"$.l[?{ored(f'in({i},$.a)' for i in range(1, 700))}]", {"l": numbers(size), "a": numbers(size)}
+
+
+def with_query(row, query):
+    """The same document under another query."""
+    return lambda size: (query, row(size)[1])
+
+
+def of_current_nodes(row):
+    """The like of a row: in filters `@` for `$`."""
+
+    def like(size):
+        query, document = row(size)
+        return "$" + query[1:].replace("$", "@"), document
+
+    return like
+
+
+EIGHT = [f"x{i}" for i in range(8)]
+# What the row is, the row, its like, and its sizes.
+ROWS = [
+    ("640 tests behind others", early, of_current_nodes(early), [0, 7, 8, 30]),
+    ("filters in one another", nested, of_current_nodes(nested), [8, 32, 63, 124]),
+    ("queries of 1,652 segments", long_queries, of_current_nodes(long_queries), [9, 18]),
+    ("a count of lists", counted, of_current_nodes(counted), [30, 60, 120]),
+    ("one pattern", searched([LARGE + "0"]), None, [250, 500, 1000]),
+    ("behind eight others", searched([LARGE + "0"], EIGHT), None, [250, 500, 1000]),
+    ("two in turn behind these", searched([LARGE + "0", LARGE + "1"], EIGHT), None, [250, 500, 1000]),
+    ("subset_of", subsets, subsets_like, [200, 400, 800]),
+    ("length", lengths, with_query(lengths, "$.l[?@==5]"), [20000, 40000]),
+    ("unequal lists", differing, with_query(differing, "$.l[?@.a!=@.b]"), [1000, 2000, 4000]),
+    ("699 tests of a list", members, with_query(members, f"$.l[?{ored(f'@==-{i}' for i in range(1, 700))}]"), [2000, 4000, 8000]),
+]
+
+
+def seconds(program, query, text):
+    """The least processor time of three runs."""
+    least = None
+    for _ in range(3):
+        before = resource.getrusage(resource.RUSAGE_CHILDREN)
+        subprocess.run([program, "values", query], input=text, stdout=subprocess.DEVNULL, check=True)
+        after = resource.getrusage(resource.RUSAGE_CHILDREN)
+        spent = after.ru_utime - before.ru_utime + after.ru_stime - before.ru_stime
+        least = spent if least is None else min(least, spent)
+    return least
+
+
+def times(program):
+    for name, row, like, sizes in ROWS:
+        columns = []
+        for made in (row, like):
+            if made is None:
+                columns.append("")
+                continue
+            asked = [made(size) for size in sizes]
+            columns.append("/".join(f"{seconds(program, query, json.dumps(document).encode()):.3f}" for query, document in asked))
+        print(f"| {name}, {'/'.join(map(str, sizes))} | {columns[0]} | {columns[1]} |", flush=True)
+
+
+def around(levels):
+    """Lists around one object."""
+    return "[" * levels + '{"x":1}' + "]" * levels
+
+
+def filters_joined(count):
+    return "$..[?@.x&&" * count + "@.x" + "]" * count
+
+
+def filters(count):
+    return "$" + "[?@" * count + ".x" + "]" * count
+
+
+def parentheses(count):
+    return "$..[?" + "(" * count + "@.x" + ")" * count + "]"
+
+
+def queries(steps):
+    """A function of a count: so many queries of these steps in one another, each in a filter of the one before."""
+
+    return lambda count: f"${steps}" + f"[?${steps}" * (count - 1) + "]" * (count - 1)
+
+
+# The query, what makes it of a count, and the counts at depth 128 and at depth 999.
+STACKS = [
+    ("`$..[?@.x&&$..[?@.x&&..`", filters_joined, [89, 125], [997]),
+    ("`$` and 124 `[0]`, a filter with the like, and so on", queries("[0]" * 124), [120], []),
+    ("`.*` in their place", queries(".*" * 124), [120], []),
+    ("50 `.*`", queries(".*" * 50), [], [990]),
+    ("`$[?@[?@[?@..`", filters, [125], [996]),
+    ("parentheses", parentheses, [124], [995]),
+]
+
+
+def suffices(words, kilobytes, text):
+    """Whether the run ends well on a stack of so many KB."""
+    limit = kilobytes * 1024
+    run = subprocess.run(
+        words,
+        input=text,
+        stdout=subprocess.DEVNULL,
+        stderr=subprocess.DEVNULL,
+        preexec_fn=lambda: resource.setrlimit(resource.RLIMIT_STACK, (limit, limit)),
+    )
+    return run.returncode == 0
+
+
+def least_stack(words, text):
+    """In KB, to within 64; it doubles the stack until it suffices, and then halves what is between."""
+    enough = 64
+    while not suffices(words, enough, text):
+        enough *= 2
+        if enough > 1 << 20:
+            return None
+    less = enough // 2
+    while enough - less > 64:
+        middle = (enough + less) // 2
+        if suffices(words, middle, text):
+            enough = middle
+        else:
+            less = middle
+    return enough
+
+
+def stack(program):
+    text = around(126).encode()
+    for name, query, *columns in STACKS:
+        found = []
+        for depth, counts in zip(("128", "999"), columns):
+            runs = [[program, "nodes", "--depth", depth, query(count)] for count in counts]
+            found.append("/".join(str(least_stack(words, text)) for words in runs))
+        print(f"| {name}, {columns[0]}, {columns[1]} | {found[0]} | {found[1]} |", flush=True)
+
+
+if __name__ == "__main__":
+    tables = {"times": times, "stack": stack}
+    if len(sys.argv) != 3 or sys.argv[1] not in tables:
+        sys.exit(__doc__)
+    tables[sys.argv[1]](sys.argv[2])
