@@ -173,15 +173,19 @@ STACKS = [
 
 
 def suffices(words, kilobytes, text):
-    """Whether the run ends well on a stack of so many KB."""
+    """Whether the run ends well on a stack of so many KB, a fourth of which its words may take."""
     limit = kilobytes * 1024
-    run = subprocess.run(
-        words,
-        input=text,
-        stdout=subprocess.DEVNULL,
-        stderr=subprocess.DEVNULL,
-        preexec_fn=lambda: resource.setrlimit(resource.RLIMIT_STACK, (limit, limit)),
-    )
+    try:
+        run = subprocess.run(
+            words,
+            env={},
+            input=text,
+            stdout=subprocess.DEVNULL,
+            stderr=subprocess.DEVNULL,
+            preexec_fn=lambda: resource.setrlimit(resource.RLIMIT_STACK, (limit, limit)),
+        )
+    except OSError:
+        return False
     return run.returncode == 0
 
 
@@ -209,7 +213,7 @@ def stack(program):
         for depth, counts in zip(("128", "999"), columns):
             runs = [[program, "nodes", "--depth", depth, query(count)] for count in counts]
             found.append("/".join(str(least_stack(words, text)) for words in runs))
-        print(f"| {name}, {columns[0]}, {columns[1]} | {found[0]} | {found[1]} |", flush=True)
+        print(f"| {name}, {columns[0]} and {columns[1]} | {found[0]} | {found[1]} |", flush=True)
 
 
 if __name__ == "__main__":
