@@ -22,7 +22,7 @@ pub enum Fault {
     NotWhole,
     /// A read, a write or a flush failed.
     Io,
-    /// A growth was refused.
+    /// Memory ran out.
     Memory,
 }
 

@@ -81,6 +81,7 @@ fn read_to_end<R: Read>(alloc: Global, reader: &mut R) -> Result<Vec<u8>, Fault>
 {
     let mut bytes = Vec::new(alloc);
     let mut buffer = read_buffer(alloc)?;
+    // Bounded, so that it ends whatever the reader does: no input takes so many reads.
     for _ in 0..u64::MAX {
         match reader.read(&mut buffer) {
             Ok(0) => return Ok(bytes),

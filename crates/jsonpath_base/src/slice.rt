@@ -117,7 +117,7 @@ pub fn slice_places(
     }
 }
 
-/// The places of [`slice_places`] as a list, in time and memory linear in their number. Errs with `OutOfMemory` alone.
+/// The places of [`slice_places`] as a list, in time and memory linear in their number. It refuses by `OutOfMemory` alone.
 pub fn picked(
     alloc: Global,
     start: Option<i64>,

@@ -1,5 +1,5 @@
 -- How the parts of filters lie in the text that they are read from.
-use Rattle.std.proofs.Common.{◌≡◌, ℕ, ◌<◌, true, ℤ, List, [], ◌∷◌, ◌++◌, drop, codes, Option, Some, refl, sym, ap, ◌∙◌, subst, append_assoc, append-nil}
+use Rattle.std.proofs.Common.{◌≡◌, ℕ, ◌<◌, true, ℤ, List, [], ◌∷◌, ◌++◌, drop, codes, Option, Some, sym, ap, ◌∙◌, subst, append_assoc, append-nil}
 use Rattle.std.proofs.lemmas.Bool.{and_parts}
 use Rattle.jsonpath_parser.specs.Grammar.{Between, Behind, Then, IsNothing, SpellsArgument, SpellsArguments}
 use Rattle.jsonpath_parser.specs.inner.ReadingGrammar.{is_twice}

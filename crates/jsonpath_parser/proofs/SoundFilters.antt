@@ -1,9 +1,8 @@
 -- What is read is spelled so: calls, operands, comparisons, groups, and what `&&` and `||` join.
 --
 -- What an argument of a call reads is taken as a premise, so no law is mutual.
-use Rattle.std.proofs.Common.{◌≡◌, ℕ, suc, ◌<◌, Bool, true, false, ◌==◌, bytes_eq, ℤ, List, [], ◌∷◌, ◌++◌, length, drop, codes, Option, Some, option_map, refl, sym, ap, ◌∙◌, subst, inl, inr, append_assoc, append-nil, arith}
-use Rattle.std.proofs.lemmas.Bool.{and_parts}
-use Rattle.jsonpath_parser.specs.Grammar.{Between, Behind, Then, IsNothing, IsNoBareTest, SpellsNot, SpellsCalled, SpellsLiteral, SpellsConjunction, SpellsOperand, SpellsMoreOr, SpellsMoreAnd, SpellsComparable, SpellsTest, SpellsCall, SpellsArgument, SpellsArguments, SpellsMoreArguments}
+use Rattle.std.proofs.Common.{◌≡◌, ℕ, suc, Bool, true, false, ◌==◌, bytes_eq, ℤ, List, [], ◌∷◌, ◌++◌, length, drop, codes, Option, Some, option_map, refl, sym, ap, ◌∙◌, subst, inl, inr, append_assoc, arith}
+use Rattle.jsonpath_parser.specs.Grammar.{IsNoBareTest, SpellsNot, SpellsCalled, SpellsLiteral, SpellsConjunction, SpellsOperand, SpellsMoreOr, SpellsMoreAnd, SpellsComparable, SpellsTest, SpellsCall, SpellsArgument, SpellsArguments, SpellsMoreArguments}
 use Rattle.jsonpath_parser.specs.words.Lexical.{IsBlank, IsFunctionName, is_quote}
 use Rattle.jsonpath_parser.specs.words.inner.Reading.{Read, first, after_byte, skip_blank}
 use Rattle.jsonpath_parser.specs.inner.ReadingGrammar.{operand_behind, steps_of, comparable_of, filter_of, negated_of, is_int_first, word_at, word_literal, is_operator_first, operator_at, is_twice, logical_at, all_segments_at, all_arguments_at, called_at, word_operand_at, operand_at, group_at, negated_at, compared_at, plain_at, basic_at, ands_at, conjunction_at, ors_at, disjunction_at}
@@ -14,7 +13,7 @@ use Rattle.jsonpath_parser.specs.tree.Typing.{one_argument, two_arguments, call_
 use Rattle.jsonpath_parser.proofs.laws.words.Fronts.{skip_split}
 use Rattle.jsonpath_parser.proofs.FilterPieces.{twice_front, marked, marked_others, call_pieces, group_pieces, compared_pieces, within, one_spelled, SpellsTwo, two_spelled}
 use Rattle.jsonpath_parser.proofs.SoundLists.{sound_many, many_some, sound_separated}
-use Rattle.jsonpath_parser.proofs.SoundParts.{bind_ok, map_ok, chosen, at_front, two_front, byte_read, Spelled, same_parts, moved, glue, same_word, word_sound, sound_operator, word_spelled}
+use Rattle.jsonpath_parser.proofs.SoundParts.{bind_ok, map_ok, chosen, at_front, byte_read, Spelled, same_parts, moved, glue, same_word, word_sound, sound_operator, word_spelled}
 use Rattle.jsonpath_parser.proofs.SoundSegments.{gathered, steps_spelled, sound_logical, sound_all_segments}
 use Rattle.jsonpath_parser.proofs.laws.words.StringSound.{sound_string}
 

@@ -40,7 +40,7 @@ pub enum JsonPathError {
     /// More brackets stand open in the text than this depth.
     #[error("JSONPath nesting depth exceeds the maximum of {0}")]
     MaxNestingDepthExceeded(usize),
-    /// A growth was refused.
+    /// Memory ran out.
     #[error("out of memory")]
     OutOfMemory,
 }

@@ -143,6 +143,7 @@ pub fn parse_json_path_within(alloc: Global, text: &str, depth: usize) -> Parsed
     ensures refused { IfErr result (IsRefusal depth text.now) }
     ensures too_deep { depth < spec.depth text.now → result ≡ Err (JsonPathError.MaxNestingDepthExceeded depth) }
 {
+    // The two arms are the two cases of the contract: the lemmas above serve one each.
     match read_within(alloc, text, depth) {
         Ok(query) => Ok(query),
         Err(error) => Err(error),

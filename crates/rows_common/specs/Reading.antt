@@ -1,7 +1,8 @@
 -- What a text is read as.
 use Rattle.std.specs.Prelude.{ℕ, List, ⊤}
-use Rattle.jsonpath_parser.specs.Derives.{Derives}
-use Rattle.jsonpath_parser.specs.tree.Syntax.{Query}
+use Rattle.jsonpath_rust.specs.Derives.{Derives}
+use Rattle.jsonpath_rust.specs.parser.declared.parse.TheConstants.{MAX_NESTING_DEPTH}
+use Rattle.jsonpath_rust.specs.Syntax.{Query}
 use Rattle.rows_common.specs.declared.members.Depth.{Depth}
 use Rattle.rows_common.specs.declared.members.Depth.TheVariants.{Default, Limit}
 use Rattle.rows_common.specs.declared.reading.Reading.{Reading}
@@ -9,7 +10,7 @@ use Rattle.rows_common.specs.declared.reading.Reading.TheVariants.{Tree}
 
 -- how many brackets may stand open
 abbrev pub limit_of : Depth → ℕ
-limit_of Default = 128
+limit_of Default = MAX_NESTING_DEPTH
 limit_of (Limit depth) = depth
 
 -- the text derives a query, at this depth

@@ -2,7 +2,7 @@
 ghost use Rattle.std.specs.Prelude.{◌≡◌};
 ghost use Rattle.rows_common.specs.Reading.{limit_of};
 
-use jsonpath_parser::MAX_NESTING_DEPTH;
+use jsonpath_rust::parser::MAX_NESTING_DEPTH;
 use serde_json::Value;
 
 /// The text of that member.

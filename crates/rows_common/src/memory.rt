@@ -2,7 +2,7 @@
 ghost use Rattle.std.specs.Prelude.{◌≡◌, true, IsTrue};
 ghost use Rattle.std.specs.Result.{result_ok};
 
-use jsonpath_parser::errors::JsonPathError;
+use jsonpath_rust::parser::errors::JsonPathError;
 use std::alloc::{AllocError, AllocFailed, Global};
 use std::cell::Cell;
 use std::io;

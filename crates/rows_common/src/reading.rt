@@ -1,14 +1,14 @@
 //! What a query text is read as.
 ghost use Rattle.std.specs.Prelude.{◌≢◌, IfOk};
-ghost use Rattle.jsonpath_parser.specs.Derives.{Derives};
-ghost use Rattle.jsonpath_parser.specs.tree.View.{query_view};
+ghost use Rattle.jsonpath_rust.specs.Derives.{Derives};
+ghost use Rattle.jsonpath_rust.specs.View.{query_view};
 ghost use Rattle.rows_common.specs.Reading.{limit_of, IsReadSo};
 
 use crate::members::Depth;
 use crate::memory::Memory;
-use jsonpath_parser::errors::{JsonPathError, Parsed};
-use jsonpath_parser::model::JpQuery;
-use jsonpath_parser::{let_go, parse_json_path, parse_json_path_within};
+use jsonpath_rust::parser::errors::{JsonPathError, Parsed};
+use jsonpath_rust::parser::model::JpQuery;
+use jsonpath_rust::parser::{let_go, parse_json_path, parse_json_path_within};
 use std::alloc::Global;
 
 /// What a text is read as.

@@ -1,6 +1,6 @@
 //! The kinds of refusals, as rows name them.
 use crate::memory::Memory;
-use jsonpath_parser::errors::JsonPathError;
+use jsonpath_rust::parser::errors::JsonPathError;
 
 /// Whether the answer is a refusal of that kind, of a text of that length.
 pub fn is_refused<T: Drop>(

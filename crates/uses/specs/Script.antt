@@ -1,5 +1,6 @@
 -- What a list of edits makes of a document.
 use Rattle.std.specs.Prelude.{◌≡◌, ℕ, List, [], ◌∷◌, Bool, true, false, Some, IsTrue, nat_lt, string_bytes, take, slice_get}
+use Rattle.jsonpath_rust.specs.parser.declared.parse.TheConstants.{MAX_NESTING_DEPTH}
 use Rattle.jsonpath_rust.specs.JsonPathError.{JsonPathError}
 use Rattle.jsonpath_rust.specs.JsonPathError.TheVariants.{OutOfMemory}
 use Rattle.jsonpath_rust.specs.SetFunctions.{set_function}
@@ -23,12 +24,12 @@ IsWholeEdit (Replace path new) = IsTrue (value_is_whole new)
 
 -- whether an edit found something to remove or to replace in a tree, and the tree that it leaves
 abbrev pub Leaves : Edit → Tree → Bool → Tree → Type 0
-Leaves (Delete path) t found u = (n : ℕ) × Deletes 128 (string_bytes path) (value_document t) u n × (found ≡ nat_lt 0 n)
+Leaves (Delete path) t found u = (n : ℕ) × Deletes MAX_NESTING_DEPTH (string_bytes path) (value_document t) u n × (found ≡ nat_lt 0 n)
 Leaves (Replace path new) t found u = IsReplaced (string_bytes path) (value_document t) (value_tree new) found u
 
 -- why an edit of a tree is refused
 abbrev pub IsEditRefusal : Edit → Tree → JsonPathError → Type 0
-IsEditRefusal (Delete path) t e = IsQueryRefusal 128 (string_bytes path) (value_document t) e
+IsEditRefusal (Delete path) t e = IsQueryRefusal MAX_NESTING_DEPTH (string_bytes path) (value_document t) e
 IsEditRefusal (Replace path new) t e = e ≡ OutOfMemory
 
 -- Each edit in turn, made of what those before it leave, finds something; the last leaves this tree.

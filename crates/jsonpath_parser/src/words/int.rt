@@ -14,7 +14,7 @@ const MAX_INT: u64 = 9007199254740991;
 fn magnitude(s: &str) -> Result<(u64, &str), Stop>
     ensures value { Reads (λ n. n) result (spec.magnitude_at s.now) }
     ensures shorter { IfOk result (λ p. length p.1.now < length s.now) }
-    ensures small { IfOk result (λ p. p.0 ≤ 9007199254740991) }
+    ensures small { IfOk result (λ p. p.0 ≤ MAX_INT) }
     ensures no_memory { IfErr result (λ e. e ≢ Stop.Memory) }
 {
     let (digits, rest) = digit_run(s);

@@ -6,7 +6,7 @@ use std::alloc::{AllocError, AllocFailed};
 /// What a reading function returns where it has no tree.
 #[derive(Debug, Drop)]
 pub enum Stop {
-    /// A growth was refused.
+    /// Memory ran out.
     Memory,
     /// The text does not go on as the grammar says; so many bytes were left.
     Syntax(usize),

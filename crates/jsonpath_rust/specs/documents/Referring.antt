@@ -1,6 +1,7 @@
 -- The one location that a singular query means, and what is read and written there (RFC 9535, 2.3.5.1).
 use Rattle.std.specs.Prelude.{◌≡◌, ℕ, List, [], ◌∷◌, Bool, Option, Some, None, IsTrue, IfSome, is_some}
 use Rattle.jsonpath_parser.specs.Derives.{Derives}
+use Rattle.jsonpath_parser.specs.declared.parse.TheConstants.{MAX_NESTING_DEPTH}
 use Rattle.jsonpath_parser.specs.Location.{Location}
 use Rattle.jsonpath_parser.specs.tree.Syntax.{Query}
 use Rattle.jsonpath_parser.specs.tree.Typing.{is_singular}
@@ -13,7 +14,7 @@ use Rattle.jsonpath_rust.specs.documents.Meaning.{selected}
 -- The text is a query, each segment of it one name or one index, and it selects this location alone.
 pub record Refers (text : List ℕ) (doc : Document) (l : Location) : Type 0 where
   pub query : Query
-  pub derived : Derives 128 text query
+  pub derived : Derives MAX_NESTING_DEPTH text query
   pub singular : IsTrue (is_singular query)
   pub only : selected query doc ≡ l ∷ []
 

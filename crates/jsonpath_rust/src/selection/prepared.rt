@@ -1,5 +1,5 @@
 //! A query that is prepared once, to be asked of many documents.
-ghost use Rattle.std.specs.Prelude.{◌≡◌, ◌↔◌, [], map, All, IsTrue, IsFalse, IfOk, IfErr, IfSome, IfNone, string_bytes};
+ghost use Rattle.std.specs.Prelude.{◌≡◌, ◌↔◌, [], map, All, IsTrue, IsFalse, IfOk, IfErr, IfSome, IfNone, string_bytes, vec_len};
 ghost use Rattle.std.specs.List.{AllZip};
 ghost use Rattle.jsonpath_parser.specs.tree.View.{query_view};
 ghost use Rattle.jsonpath_parser.specs.declared.errors.JsonPathError.TheVariants.{OutOfMemory};
@@ -133,7 +133,9 @@ impl Prepared {
     }
 
     /// What asks its patterns, with none asked yet.
-    pub(crate) fn finders(&self, alloc: Global) -> QueryFinders<'_> {
+    pub(crate) fn finders(&self, alloc: Global) -> QueryFinders<'_>
+        ensures { vec_len result.finders ≡ 0 }
+    {
         QueryFinders::new(alloc, &self.cells)
     }
 

@@ -6,7 +6,7 @@ ghost use Rattle.jsonpath_parser.specs.tree.inner.Refusals.{IsSaid};
 use crate::errors::JsonPathError;
 use std::alloc::Global;
 
-/// `InvalidJsonPath` with these words and this text, or `OutOfMemory` where a growth for them was refused.
+/// `InvalidJsonPath` with these words and this text, or `OutOfMemory` where memory ran out.
 pub fn invalid(alloc: Global, words: &str, text: &str) -> JsonPathError
     ensures refused { IsMakersRefusal true result }
     ensures said { IsSaid (words.now ++ text.now) result }

@@ -10,6 +10,7 @@ use Rattle.jsonpath_rust.specs.documents.Meaning.{replaced, indexed}
 use Rattle.jsonpath_rust.specs.documents.Node.{Node, root_node, below, children, children_at, element_nodes, member_nodes}
 use Rattle.jsonpath_rust.proofs.laws.documents.Trees.{named_some, named_none}
 use Rattle.jsonpath_rust.proofs.laws.selection.Walks.{flat_map-alone}
+use Rattle.jsonpath_rust.specs.declared.documents.value.TheConstants.{GREATEST_COUNT}
 use Rattle.jsonpath_rust.specs.selection.inner.Sinks.{Seen, any, count, nothing, values, start, give, add}
 use Rattle.jsonpath_rust.proofs.laws.selection.Sinks.{give-full, give-count}
 use Rattle.jsonpath_rust.specs.selection.inner.Walking.{through}
@@ -110,7 +111,7 @@ any_of k (n ∷ ns) e =
     let some : nat_lt 0 k ≡ true = grind (arith, e) in
     ap any some ∙ sym (give-full (any true) ns refl)
 
-pub count_of : (k : ℕ) (ns : List Node) → length ns ≡ k → count (min k 9223372036854775807) ≡ give (count 0) ns
+pub count_of : (k : ℕ) (ns : List Node) → length ns ≡ k → count (min k GREATEST_COUNT) ≡ give (count 0) ns
 count_of k ns e = ap count (omega (arith, e)) ∙ sym (give-count 0 ns (omega arith))
 
 -- ---- what is given

@@ -13,6 +13,7 @@ use Rattle.jsonpath_base.specs.declared.removal.Removal.{Removal}
 use Rattle.jsonpath_base.proofs.Removed.{set_begun}
 use Rattle.jsonpath_rust.specs.documents.Node.{Node, has_node}
 use Rattle.jsonpath_rust.specs.documents.Functions.{count_value, count_of, only_value}
+use Rattle.jsonpath_rust.specs.declared.documents.value.TheConstants.{GREATEST_COUNT}
 use Rattle.jsonpath_rust.specs.selection.inner.Sinks as sinks
 use Rattle.jsonpath_rust.specs.selection.inner.Sinks.{Seen, nodes, paths, values, locations, removal, any, count, nothing, one, several, first, add, give, full, any_in, only_in, first_in, nodes_in, nodes_whole, paths_in, locations_in, removal_in, values_in, values_whole, path_and_tree, IsRemovalOf, Took}
 
@@ -69,11 +70,11 @@ pub any_given : (ns : List Node) → any_in (give (any false) ns) ≡ has_node n
 any_given [] = refl
 any_given (n ∷ ns) = ap any_in (give-full (any true) ns refl)
 
-pub give-count : (k : ℕ) (ns : List Node) → k ≤ 9223372036854775807 → give (count k) ns ≡ count (min (k + length ns) 9223372036854775807)
+pub give-count : (k : ℕ) (ns : List Node) → k ≤ GREATEST_COUNT → give (count k) ns ≡ count (min (k + length ns) GREATEST_COUNT)
 give-count k [] h = ap count (omega (arith, h))
-give-count k (n ∷ ns) h = give-count (min (suc k) 9223372036854775807) ns (omega arith) ∙ ap count (omega (arith, h))
+give-count k (n ∷ ns) h = give-count (min (suc k) GREATEST_COUNT) ns (omega arith) ∙ ap count (omega (arith, h))
 
-twice : (n : ℕ) → min (min (0 + n) 9223372036854775807) 9223372036854775807 ≡ min n 9223372036854775807
+twice : (n : ℕ) → min (min (0 + n) GREATEST_COUNT) GREATEST_COUNT ≡ min n GREATEST_COUNT
 twice n = omega arith
 
 pub counted_all : (ns : List Node) → Some (count_value (sinks.count_in (give (count 0) ns))) ≡ count_of ns
