@@ -45,7 +45,7 @@ pub fn arg_lit(literal: Literal) -> FnArg
 /// `OutOfMemory` where memory ran out.
 pub fn arg_test(alloc: Global, test: Test) -> Parsed<FnArg>
     ensures made { IfOk result (λ a. argument_view a ≡ tree.test_argument (test_view test)) }
-    ensures refused { IfErr result (λ e. e ≡ OutOfMemory) }
+    ensures memory { IfErr result (λ e. e ≡ OutOfMemory) }
 {
     Ok(FnArg::Test(Box::new(alloc, test)?))
 }

@@ -33,7 +33,7 @@ pub fn test_abs(query: JpQuery) -> Test
 /// `OutOfMemory` where memory ran out.
 pub fn test_function(alloc: Global, call: TestFunction) -> Parsed<Test>
     ensures made { IfOk result (λ t. test_view t ≡ tree.call (call_view call)) }
-    ensures refused { IfErr result (λ e. e ≡ OutOfMemory) }
+    ensures memory { IfErr result (λ e. e ≡ OutOfMemory) }
 {
     Ok(Test::Function(Box::new(alloc, call)?))
 }
@@ -66,7 +66,7 @@ pub fn filter(atom: FilterAtom) -> Filter
 /// `OutOfMemory` where memory ran out.
 pub fn atom(alloc: Global, expr: Filter) -> Parsed<FilterAtom>
     ensures made { IfOk result (λ a. atom_view a ≡ tree.group false (filter_view expr)) }
-    ensures refused { IfErr result (λ e. e ≡ OutOfMemory) }
+    ensures memory { IfErr result (λ e. e ≡ OutOfMemory) }
 {
     FilterAtom::filter(alloc, expr, false)
 }
@@ -78,7 +78,7 @@ pub fn atom(alloc: Global, expr: Filter) -> Parsed<FilterAtom>
 /// `OutOfMemory` where memory ran out.
 pub fn atom_not(alloc: Global, expr: Filter) -> Parsed<FilterAtom>
     ensures made { IfOk result (λ a. atom_view a ≡ tree.group true (filter_view expr)) }
-    ensures refused { IfErr result (λ e. e ≡ OutOfMemory) }
+    ensures memory { IfErr result (λ e. e ≡ OutOfMemory) }
 {
     FilterAtom::filter(alloc, expr, true)
 }
@@ -90,7 +90,7 @@ pub fn atom_not(alloc: Global, expr: Filter) -> Parsed<FilterAtom>
 /// `OutOfMemory` where memory ran out.
 pub fn atom_test(alloc: Global, expr: Test) -> Parsed<FilterAtom>
     ensures made { IfOk result (λ a. atom_view a ≡ tree.Atom.test false (test_view expr)) }
-    ensures refused { IfErr result (λ e. e ≡ OutOfMemory) }
+    ensures memory { IfErr result (λ e. e ≡ OutOfMemory) }
 {
     FilterAtom::test(alloc, expr, false)
 }
@@ -102,7 +102,7 @@ pub fn atom_test(alloc: Global, expr: Test) -> Parsed<FilterAtom>
 /// `OutOfMemory` where memory ran out.
 pub fn atom_test_not(alloc: Global, expr: Test) -> Parsed<FilterAtom>
     ensures made { IfOk result (λ a. atom_view a ≡ tree.Atom.test true (test_view expr)) }
-    ensures refused { IfErr result (λ e. e ≡ OutOfMemory) }
+    ensures memory { IfErr result (λ e. e ≡ OutOfMemory) }
 {
     FilterAtom::test(alloc, expr, true)
 }

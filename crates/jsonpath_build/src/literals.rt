@@ -29,7 +29,7 @@ pub fn lit_bool(truth: bool) -> Literal
 /// `OutOfMemory` where memory ran out.
 pub fn lit_str(alloc: Global, text: &str) -> Parsed<Literal>
     ensures made { IfOk result (λ l. literal_view l ≡ tree.string text.now) }
-    ensures refused { IfErr result (λ e. e ≡ OutOfMemory) }
+    ensures memory { IfErr result (λ e. e ≡ OutOfMemory) }
 {
     Ok(Literal::String(String::from_str(alloc, text)?))
 }

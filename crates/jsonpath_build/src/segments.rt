@@ -4,9 +4,8 @@ ghost use Rattle.jsonpath_parser.specs.tree.Syntax as tree;
 ghost use Rattle.jsonpath_parser.specs.tree.View.{filter_view, query_view, segment_view, segments_view, selector_view, selectors_view};
 ghost use Rattle.jsonpath_parser.specs.declared.errors.JsonPathError.TheVariants.{OutOfMemory};
 
-use crate::slices::SliceParts;
 use jsonpath_parser::errors::Parsed;
-use jsonpath_parser::model::{Filter, JpQuery, Segment, Selector, slice_from};
+use jsonpath_parser::model::{Filter, JpQuery, Segment, Selector, SliceParts, slice_from};
 use std::alloc::Global;
 
 /// The selector `*`.
@@ -37,7 +36,7 @@ pub fn selector_slice(parts: SliceParts) -> Selector
 /// `OutOfMemory` where memory ran out.
 pub fn selector_name(alloc: Global, name: &str) -> Parsed<Selector>
     ensures made { IfOk result (λ s. selector_view s ≡ tree.name name.now) }
-    ensures refused { IfErr result (λ e. e ≡ OutOfMemory) }
+    ensures memory { IfErr result (λ e. e ≡ OutOfMemory) }
 {
     Ok(Selector::Name(String::from_str(alloc, name)?))
 }
@@ -56,7 +55,7 @@ pub fn selector_index(index: i64) -> Selector
 /// `OutOfMemory` where memory ran out.
 pub fn segment_descendant(alloc: Global, segment: Segment) -> Parsed<Segment>
     ensures made { IfOk result (λ g. segment_view g ≡ tree.descendant (segment_view segment)) }
-    ensures refused { IfErr result (λ e. e ≡ OutOfMemory) }
+    ensures memory { IfErr result (λ e. e ≡ OutOfMemory) }
 {
     Ok(Segment::Descendant(Box::new(alloc, segment)?))
 }

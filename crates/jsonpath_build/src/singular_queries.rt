@@ -1,7 +1,7 @@
 //! Queries of at most one node, and their steps (RFC 9535, 2.3.5.1).
-ghost use Rattle.std.specs.Prelude.{◌≡◌, [], ◌∷◌, map, IfOk, IfErr};
+ghost use Rattle.std.specs.Prelude.{◌≡◌, [], ◌∷◌, IfOk, IfErr};
 ghost use Rattle.jsonpath_parser.specs.tree.Syntax as tree;
-ghost use Rattle.jsonpath_parser.specs.tree.View.{step_view, singular_view};
+ghost use Rattle.jsonpath_parser.specs.tree.View.{step_view, steps_view, singular_view};
 ghost use Rattle.jsonpath_parser.specs.declared.errors.JsonPathError.TheVariants.{OutOfMemory};
 
 use jsonpath_parser::errors::Parsed;
@@ -15,7 +15,7 @@ use std::alloc::Global;
 /// `OutOfMemory` where memory ran out.
 pub fn q_name(alloc: Global, name: &str) -> Parsed<SingularQuerySegment>
     ensures made { IfOk result (λ s. step_view s ≡ tree.name_step name.now) }
-    ensures refused { IfErr result (λ e. e ≡ OutOfMemory) }
+    ensures memory { IfErr result (λ e. e ≡ OutOfMemory) }
 {
     Ok(SingularQuerySegment::Name(String::from_str(alloc, name)?))
 }
@@ -37,7 +37,7 @@ pub fn q_segments_one(
     step: SingularQuerySegment,
 ) -> Parsed<Vec<SingularQuerySegment>>
     ensures made { IfOk result (λ v. v.items ≡ step ∷ []) }
-    ensures refused { IfErr result (λ e. e ≡ OutOfMemory) }
+    ensures memory { IfErr result (λ e. e ≡ OutOfMemory) }
 {
     q_segments(alloc, step, Vec::new(alloc))
 }
@@ -55,7 +55,7 @@ pub fn q_segments(
     mut rest: Vec<SingularQuerySegment>,
 ) -> Parsed<Vec<SingularQuerySegment>>
     ensures made { IfOk result (λ v. v.items ≡ step ∷ rest.items) }
-    ensures refused { IfErr result (λ e. e ≡ OutOfMemory) }
+    ensures memory { IfErr result (λ e. e ≡ OutOfMemory) }
 {
     rest.insert(0, step)?;
     Ok(rest)
@@ -63,14 +63,14 @@ pub fn q_segments(
 
 /// The query `@` and these steps.
 pub fn singular_current(steps: Vec<SingularQuerySegment>) -> SingularQuery
-    ensures { singular_view result ≡ tree.current (map step_view steps.items) }
+    ensures { singular_view result ≡ tree.current (steps_view steps) }
 {
     SingularQuery::Current(steps)
 }
 
 /// The query `$` and these steps.
 pub fn singular_root(steps: Vec<SingularQuerySegment>) -> SingularQuery
-    ensures { singular_view result ≡ tree.root (map step_view steps.items) }
+    ensures { singular_view result ≡ tree.root (steps_view steps) }
 {
     SingularQuery::Root(steps)
 }

@@ -1,8 +1,7 @@
 //! Slices by their start, end and step, each of which may be left out (RFC 9535, 2.3.4).
 ghost use Rattle.std.specs.Prelude.{◌≡◌, Some, None};
 
-/// Start, end and step.
-pub(crate) type SliceParts = (Option<i64>, Option<i64>, Option<i64>);
+use jsonpath_parser::model::SliceParts;
 
 /// The parts of `:`.
 pub fn slice_all() -> SliceParts

@@ -2,10 +2,10 @@
 use Rattle.std.proofs.Common.{◌≡◌, ℕ, zero, suc, ◌<◌, ◌≤◌, true, ℤ, pos, unwrap_or, List, [], ◌∷◌, ◌++◌, length, Option, Some, None, refl, append-nil, arith}
 use Rattle.jsonpath_parser.specs.Grammar.{SpellsArgument, Spells}
 use Rattle.jsonpath_parser.specs.words.inner.Reading.{Read, first, skip_blank}
-use Rattle.jsonpath_parser.specs.inner.ReadingGrammar.{number_reading, is_int_first, all_segments_at, argument_at, query_at, whole_query}
+use Rattle.jsonpath_parser.specs.inner.ReadingGrammar.{number_reading, is_int_first, all_segments_at, argument_at, query_at, whole_query, IsAny}
 use Rattle.jsonpath_parser.specs.words.inner.ReadingNumbers.{number_at}
 use Rattle.jsonpath_parser.specs.tree.Syntax.{Argument, Segments, Query}
-use Rattle.jsonpath_parser.specs.Values.{IsValued, IsAny}
+use Rattle.jsonpath_parser.specs.Values.{IsValued}
 use Rattle.jsonpath_parser.specs.declared.grammar.literals.Numbers.TheVariants.{Valued, Any}
 use Rattle.jsonpath_parser.proofs.NumberComplete.{EndsNumber, number_start, complete_number}
 use Rattle.jsonpath_parser.proofs.CompleteParts.{EndsLogical}

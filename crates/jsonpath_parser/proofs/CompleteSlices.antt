@@ -31,10 +31,6 @@ logical_other b h = (grind (arith, nat_tests), grind (arith, nat_tests))
 pub blank_digit : (c : ℕ) → is_blank c ≡ true → is_ascii_digit c ≡ false
 blank_digit c h = grind (arith, nat_tests)
 
--- three pieces, or four, and a rest
-regroup : (a b c d : List ℕ) → (a ++ (b ++ c)) ++ d ≡ a ++ (b ++ (c ++ d))
-regroup a b c d = simp append_assoc
-
 -- what follows a bound: no digit, and behind blanks no int
 abbrev pub EndsBound : List ℕ → Type 0
 EndsBound next = (is_ascii_digit (first next) ≡ false) × (is_int_first (first (skip_blank next)) ≡ false)

@@ -5,14 +5,14 @@ use Rattle.jsonpath_parser.specs.Grammar.{Spells, SpellsArgument, SpellsSegments
 use Rattle.jsonpath_parser.specs.words.Numbers.{SpellsNumber}
 use Rattle.jsonpath_parser.specs.Parts.{Spelling, SpellsRelative, SpellsChild, SpellsSliceParts, SpellsSteps, SpellsSingular, always}
 use Rattle.jsonpath_parser.specs.words.inner.Reading.{Read, first, skip_blank}
-use Rattle.jsonpath_parser.specs.inner.ReadingGrammar.{number_reading, is_int_first, filter_of, comparable_of, steps_of, numbered_at, shorthand_at, selection_at, descendant_at, argument_at}
+use Rattle.jsonpath_parser.specs.inner.ReadingGrammar.{number_reading, is_int_first, filter_of, comparable_of, steps_of, numbered_at, shorthand_at, selection_at, descendant_at, argument_at, IsAny}
 use Rattle.jsonpath_parser.specs.inner.ReadingParts.{taken_at, inner_at, operand_in, basic_in, conjunction_in, logical_in, segments_in, segment_in, selector_in, child_in, literal_in, test_in, call_in, relative_in, query_in, singular_of, singular_in, atom_of, atom_in, comparison_of_atom, comparison_in, slice_in}
 use Rattle.jsonpath_parser.specs.tree.Syntax.{Literal, SingularStep, SingularQuery, Selector, name, wildcard, index, slice, filter, Segment, one, several, descendant, Segments, Filter, or, and, atom, Atom, group, test, comparison, Comparison, Comparable, literal, function, singular, Test, relative, absolute, call, Call, Argument, literal_argument, test_argument, filter_argument, Query}
 use Rattle.jsonpath_parser.specs.tree.Typing.{is_typed, is_typed_segment, is_typed_selector, is_typed_filter, is_typed_atom, is_typed_comparison, is_typed_comparable, is_typed_truth, is_typed_call}
 use Rattle.jsonpath_parser.specs.declared.grammar.literals.Numbers.{Numbers}
 use Rattle.jsonpath_parser.specs.declared.grammar.literals.Numbers.TheVariants.{Valued, Any}
 use Rattle.jsonpath_parser.specs.Unambiguous.{IsUnambiguous}
-use Rattle.jsonpath_parser.specs.Values.{IsValued, IsAny}
+use Rattle.jsonpath_parser.specs.Values.{IsValued}
 use Rattle.jsonpath_parser.proofs.Complete.{valued_start, valued_over, any_start, any_over, complete_argument}
 use Rattle.jsonpath_parser.proofs.CompleteFilters.{complete_basic, complete_conjunction}
 use Rattle.jsonpath_parser.proofs.CompleteOperands.{singles, steps_singles, spells_singles, comparable_argument, comparable_back, complete_literal, complete_test, complete_comparable}

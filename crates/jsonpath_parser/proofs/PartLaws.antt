@@ -4,11 +4,12 @@ use Rattle.std.proofs.Math.Seq.{drop-append_seam}
 use Rattle.std.proofs.lemmas.Str.{IsCharBoundary-from_drop}
 use Rattle.std.specs.Borrow.{Bor}
 use Rattle.std.specs.Str.{IsUtf8, IsCharBoundary}
+use Rattle.jsonpath_parser.specs.inner.ReadingGrammar.{IsAny}
 use Rattle.jsonpath_parser.specs.words.Numbers.{SpellsNumber}
 use Rattle.jsonpath_parser.specs.Parts.{text_of, rest_of, Spelling, IsPartRefusal, ReadsPart}
 use Rattle.jsonpath_parser.specs.words.inner.Reading.{Read, Gives, Reads}
 use Rattle.jsonpath_parser.specs.inner.ReadingParts.{IsCursorRefusal, taken_at, Takes, StaysInText, IsAnswer}
-use Rattle.jsonpath_parser.specs.Values.{IsValued, IsAny}
+use Rattle.jsonpath_parser.specs.Values.{IsValued}
 use Rattle.jsonpath_parser.specs.declared.errors.JsonPathError.{JsonPathError}
 use Rattle.jsonpath_parser.specs.declared.errors.JsonPathError.TheVariants as error
 use Rattle.jsonpath_parser.specs.declared.grammar.literals.Numbers.{Numbers}

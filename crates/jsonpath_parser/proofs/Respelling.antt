@@ -1,10 +1,10 @@
 -- What is spelled with some number literals is spelled as another tree with others in their place, typed as it is.
 use Rattle.std.proofs.Common.{◌≡◌, refl, ap, inl, inr, ℕ, ℤ, pos, Bool, true, false, not, ◌&&◌, Option, Some, unwrap_or, List, ◌++◌, codes}
+use Rattle.jsonpath_parser.specs.inner.ReadingGrammar.{IsAny}
 use Rattle.jsonpath_parser.specs.words.Numbers.{SpellsNumber}
 use Rattle.jsonpath_parser.specs.Grammar.{Between, Behind, Then, IsSeveral, IsPlural, IsNoBareTest, SpellsLiteral, SpellsSelector, SpellsSelectors, SpellsMoreSelectors, SpellsSegment, SpellsSegments, SpellsLogical, SpellsConjunction, SpellsOperand, SpellsOr, SpellsMoreOr, SpellsAnd, SpellsMoreAnd, SpellsBasic, SpellsComparison, SpellsComparable, SpellsTest, SpellsCall, SpellsArgument, SpellsArguments, SpellsMoreArguments, Spells}
 use Rattle.jsonpath_parser.specs.tree.Syntax.{Literal, number, string, bool, null, Selector, name, wildcard, index, slice, filter, Selectors, no_selectors, selector, Segment, one, several, descendant, Segments, no_segments, segment, Filter, or, and, atom, Filters, no_filters, filter_then, Atom, group, test, comparison, Comparison, compare, Comparable, literal, function, singular, Test, relative, absolute, call, Call, custom_call, length_call, value_call, count_call, search_call, match_call, Argument, literal_argument, test_argument, filter_argument, Arguments, no_arguments, argument, Query}
 use Rattle.jsonpath_parser.specs.tree.Typing.{gives_value, is_step, is_singular, is_value_test, is_query_test, is_truth_test, is_value_argument, is_query_argument, is_typed, is_typed_segment, is_typed_selector, are_typed_selectors, is_typed_filter, are_typed_filters, is_typed_atom, is_typed_comparison, is_typed_comparable, is_typed_test, is_typed_call, is_typed_argument, are_typed_arguments}
-use Rattle.jsonpath_parser.specs.Values.{IsAny}
 
 -- a number literal as it is written, whatever stands for it
 pub from_any : (v : Option ℤ) (a : List ℕ) → IsAny v a → (w : Option ℤ) × SpellsNumber w a

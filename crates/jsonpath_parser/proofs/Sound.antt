@@ -5,10 +5,10 @@ use Rattle.std.proofs.lemmas.Option.{cond_some}
 use Rattle.jsonpath_parser.specs.declared.grammar.literals.Numbers.TheVariants.{Valued, Any}
 use Rattle.jsonpath_parser.specs.Grammar.{SpellsArgument, Spells}
 use Rattle.jsonpath_parser.specs.words.inner.Reading.{Read, after_byte}
-use Rattle.jsonpath_parser.specs.inner.ReadingGrammar.{number_reading, argument_at, query_at, whole_query}
+use Rattle.jsonpath_parser.specs.inner.ReadingGrammar.{number_reading, argument_at, query_at, whole_query, IsAny}
 use Rattle.jsonpath_parser.specs.words.inner.ReadingNumbers.{number_at}
 use Rattle.jsonpath_parser.specs.tree.Syntax.{Argument, Query}
-use Rattle.jsonpath_parser.specs.Values.{IsValued, IsAny}
+use Rattle.jsonpath_parser.specs.Values.{IsValued}
 use Rattle.jsonpath_parser.proofs.NumberSound.{sound_number}
 use Rattle.jsonpath_parser.proofs.SoundFilters.{sound_disjunction}
 use Rattle.jsonpath_parser.proofs.SoundParts.{bind_ok, byte_read, Spelled, moved}

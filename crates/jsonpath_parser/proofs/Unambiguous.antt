@@ -5,13 +5,13 @@ use Rattle.jsonpath_parser.specs.words.Numbers.{SpellsNumber}
 use Rattle.jsonpath_parser.specs.Parts.{Spelling, SpellsRelative, SpellsChild, SpellsSliceParts, SpellsSteps, SpellsSingular}
 use Rattle.jsonpath_parser.specs.tree.Syntax.{current, equal, slice, filter, one, descendant, no_segments, segment, Filter, or, and, atom, test, comparison, compare, literal, singular, relative, call}
 use Rattle.jsonpath_parser.specs.Unambiguous.{NoTextDerivesTwoTrees, SpellsOneTree, IsUnambiguous}
-use Rattle.jsonpath_parser.specs.Values.{IsValued, IsAny}
+use Rattle.jsonpath_parser.specs.Values.{IsValued}
 use Rattle.jsonpath_parser.specs.words.inner.Reading.{Read, first}
 use Rattle.jsonpath_parser.specs.inner.ReadingGrammar.{number_reading, is_int_first}
 use Rattle.jsonpath_parser.specs.words.inner.ReadingNumbers.{number_at}
 use Rattle.jsonpath_parser.specs.inner.ReadingParts.{slice_in}
-use Rattle.jsonpath_parser.specs.declared.grammar.literals.Numbers.TheVariants.{Valued, Any}
-use Rattle.jsonpath_parser.proofs.Complete.{complete_query, valued_start, valued_over, any_start, any_over}
+use Rattle.jsonpath_parser.specs.declared.grammar.literals.Numbers.TheVariants.{Valued}
+use Rattle.jsonpath_parser.proofs.Complete.{complete_query, valued_start, valued_over}
 use Rattle.jsonpath_parser.proofs.NumberComplete.{EndsNumber, number_start, complete_number}
 
 -- ---- queries
@@ -27,7 +27,6 @@ query_one Number number_first literal_at number_over t u text h k =
 pub query_unambiguous : IsUnambiguous Spells
 query_unambiguous = record {
   valued = query_one IsValued valued_start (number_reading Valued) valued_over;
-  any = query_one IsAny any_start (number_reading Any) any_over;
   written = query_one SpellsNumber number_start number_at complete_number;
 }
 
@@ -44,7 +43,6 @@ within : {V W : Type 0} (spells : Spelling V) (outer : Spelling W) (make : V →
     → IsUnambiguous outer → IsUnambiguous spells
 within spells outer make around injective stands law = record {
   valued = λ v w text h k. injective v w (law.valued (make v) (make w) (around text) (stands IsValued v text h) (stands IsValued w text k));
-  any = λ v w text h k. injective v w (law.any (make v) (make w) (around text) (stands IsAny v text h) (stands IsAny w text k));
   written = λ v w text h k. injective v w (law.written (make v) (make w) (around text) (stands SpellsNumber v text h) (stands SpellsNumber w text k));
 }
 

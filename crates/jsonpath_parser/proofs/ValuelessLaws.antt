@@ -1,11 +1,10 @@
 -- What is said of a number literal without a value stands in the text.
-use Rattle.std.proofs.Common.{◌≡◌, ℕ, ℤ, List, [], ◌++◌, ◌-◌, length, take, drop, Option, Some, None, refl, sym, ap, ◌∙◌, subst, inl, inr, append_assoc, length-append, take-append-drop, arith}
+use Rattle.std.proofs.Common.{◌≡◌, ℕ, ℤ, List, [], ◌++◌, ◌-◌, length, take, drop, Option, Some, None, sym, ap, ◌∙◌, subst, inl, inr, append_assoc, length-append, take-append-drop, arith}
 use Rattle.std.proofs.lemmas.List.{take_at}
 use Rattle.std.proofs.lemmas.Str.{IsCharBoundary-at_seam}
 use Rattle.std.specs.Str.{IsUtf8, IsCharBoundary}
 use Rattle.jsonpath_parser.specs.words.Numbers.{SpellsNumber}
 use Rattle.jsonpath_parser.specs.words.inner.ReadingNumbers.{number_at}
-use Rattle.jsonpath_parser.specs.inner.ReadingQuery.{valueless_of, valueless_at}
 use Rattle.jsonpath_parser.specs.Valueless.{IsValuelessIn}
 use Rattle.jsonpath_parser.proofs.NumberSound.{sound_number}
 
@@ -21,16 +20,10 @@ number_boundary text rest v place read is utf8 =
     subst (IsCharBoundary text) size (IsCharBoundary-at_seam text a rest e utf8)
 
 -- what stands at the front stands in the text
-valueless_front : (text : List ℕ) → IsValuelessIn text (valueless_at text)
-unfolding valueless_at
-valueless_front text = by_reading (number_at text) refl
-  where
-    by_reading : (o : Option (Option ℤ × List ℕ)) → number_at text ≡ o → IsValuelessIn text (valueless_of text o)
-    by_reading None read = inl refl
-    by_reading (Some (Some v, rest)) read = inl refl
-    by_reading (Some (None, rest)) read =
-        let (a, h, e) = sound_number None text rest read in
-        inr (subst (λ s. SpellsNumber None s × ((before after : List ℕ) × (text ≡ before ++ (s ++ after)))) (sym (front_is text a rest e)) (h, ([], rest, e)))
+pub valueless_front : (text rest said : List ℕ) → number_at text ≡ Some (None, rest) → said ≡ take (length text - length rest) text → IsValuelessIn text said
+valueless_front text rest said read is =
+    let (a, h, e) = sound_number None text rest read in
+    inr (subst (λ s. SpellsNumber None s × ((before after : List ℕ) × (text ≡ before ++ (s ++ after)))) (sym (is ∙ front_is text a rest e)) (h, ([], rest, e)))
 
 -- and what stands behind a place of it
 behind : (k : ℕ) (text said : List ℕ) → IsValuelessIn (drop k text) said → IsValuelessIn text said
@@ -38,6 +31,5 @@ behind k text said (inl e) = inl e
 behind k text said (inr (h, (before, after, e))) =
     inr (h, (take k text ++ before, after, sym (take-append-drop k text) ∙ ap (λ s. take k text ++ s) e ∙ sym (append_assoc (take k text) before (said ++ after))))
 
--- what is read at a place of the text stands in it
-pub valueless_within : (k : ℕ) (text start said : List ℕ) → start ≡ drop k text → said ≡ valueless_at start → IsValuelessIn text said
-valueless_within k text start said at is = subst (IsValuelessIn text) (sym is) (behind k text (valueless_at start) (subst (λ t. IsValuelessIn t (valueless_at start)) at (valueless_front start)))
+pub valueless_behind : (k : ℕ) (text start said : List ℕ) → start ≡ drop k text → IsValuelessIn start said → IsValuelessIn text said
+valueless_behind k text start said at h = behind k text said (subst (λ t. IsValuelessIn t said) at h)

@@ -3,12 +3,12 @@ use Rattle.std.proofs.Common.{◌≡◌, ℕ, ◌≤◌, Bool, true, false, is_s
 use Rattle.jsonpath_parser.specs.words.Depth.{depth}
 use Rattle.jsonpath_parser.specs.Derives.{Derives, SpellsTyped, SpellsValueless, IsRefusal}
 use Rattle.jsonpath_parser.specs.Grammar.{Spells}
-use Rattle.jsonpath_parser.specs.inner.ReadingGrammar.{whole_query, number_reading}
+use Rattle.jsonpath_parser.specs.inner.ReadingGrammar.{whole_query, number_reading, IsAny}
 use Rattle.jsonpath_parser.specs.inner.ReadingQuery.{typed_query, IsReadRefusal}
 use Rattle.jsonpath_parser.specs.words.Numbers.{SpellsNumber}
 use Rattle.jsonpath_parser.specs.tree.Syntax.{Query}
 use Rattle.jsonpath_parser.specs.tree.Typing.{Typed, is_typed}
-use Rattle.jsonpath_parser.specs.Values.{IsValued, IsAny}
+use Rattle.jsonpath_parser.specs.Values.{IsValued}
 use Rattle.jsonpath_parser.specs.declared.errors.JsonPathError.{JsonPathError}
 use Rattle.jsonpath_parser.specs.declared.errors.JsonPathError.TheVariants.{PestError, InvalidNumber, MaxNestingDepthExceeded, OutOfMemory}
 use Rattle.jsonpath_parser.specs.declared.grammar.literals.Numbers.TheVariants.{Valued, Any}

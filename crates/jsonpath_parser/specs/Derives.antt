@@ -1,5 +1,6 @@
 -- When a text is a query, and which refusal it gets when it is none.
-use Rattle.std.specs.Prelude.{◌≡◌, ◌≤◌, ◌<◌, ℕ, List, Result, MatchResult, length, string_bytes}
+use Rattle.std.specs.Prelude.{◌≡◌, ◌≤◌, ◌<◌, ℕ, List, Result, MatchResult, string_bytes}
+use Rattle.std.specs.Str.{IsCharBoundary}
 use Rattle.jsonpath_parser.specs.words.Depth.{depth}
 use Rattle.jsonpath_parser.specs.words.Numbers.{SpellsNumber}
 use Rattle.jsonpath_parser.specs.Grammar.{Spells}
@@ -31,11 +32,11 @@ abbrev pub Answers : Result JpQuery JsonPathError → Query → Type 0
 Answers r tree = MatchResult r (λ q. query_view q ≡ tree) (λ e. e ≡ OutOfMemory)
 
 -- The refusals, each with what it means: brackets nest too deep; the text is no query for its number literals alone, and what is said is nothing, or a number
--- literal without a value that stands in it; it spells no well-typed tree, its number literals with a value or without, and the place is at most the text's
--- length; memory ran out.
+-- literal without a value that stands in it; it spells no well-typed tree, its number literals with a value or without, and the place stands between two
+-- characters of the text or at an end of it; memory ran out.
 abbrev pub IsRefusal : ℕ → List ℕ → JsonPathError → Type 0
 IsRefusal limit text (MaxNestingDepthExceeded n) = (n ≡ limit) × (limit < depth text)
 IsRefusal limit text (InvalidNumber said) = (depth text ≤ limit) × IsValuelessIn text (string_bytes said) × ((t : Query) × SpellsValueless text t) × ((t : Query) → Derives limit text t → ⊥)
-IsRefusal limit text (PestError place) = (depth text ≤ limit) × (place ≤ length text) × ((t : Query) → SpellsTyped text t → ⊥)
+IsRefusal limit text (PestError place) = (depth text ≤ limit) × IsCharBoundary text place × ((t : Query) → SpellsTyped text t → ⊥)
 IsRefusal limit text OutOfMemory = depth text ≤ limit
 IsRefusal limit text _ = ⊥

@@ -1,4 +1,4 @@
--- What the public contracts of this crate cite of the crates below it, so that a caller names it here and lists this crate alone.
+-- What the public contracts of this crate cite; `inner` has what only proofs and private contracts do.
 pub mod Equality
 pub mod Errors
 pub mod Location

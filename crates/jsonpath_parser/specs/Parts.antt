@@ -1,5 +1,6 @@
 -- What the grammar functions of a cursor answer: each reads one kind of tree at the cursor's place (RFC 9535, 2.1 to 2.5).
-use Rattle.std.specs.Prelude.{◌≡◌, ℕ, ◌≤◌, ◌-◌, Bool, true, ℤ, List, [], ◌++◌, length, codes, Option, Result, MatchResult, IfOk, IfErr, OnErr, string_bytes, ⊤}
+use Rattle.std.specs.Prelude.{◌≡◌, ℕ, ◌-◌, Bool, true, ℤ, List, [], ◌++◌, length, codes, Option, Result, MatchResult, IfOk, IfErr, OnErr, string_bytes, ⊤}
+use Rattle.std.specs.Str.{IsCharBoundary}
 use Rattle.jsonpath_parser.specs.Grammar.{SpellsSlice, SpellsSingularSteps, SpellsSingularQuery, SpellsSegment, SpellsTest}
 use Rattle.jsonpath_parser.specs.words.Numbers.{SpellsNumber}
 use Rattle.jsonpath_parser.specs.tree.Syntax.{SingularStep, SingularQuery, Segment, descendant, Segments, relative}
@@ -56,10 +57,10 @@ pub record IsPart {V : Type 0} (spells : Spelling V) (typed : V → Bool) (v : V
   pub one_tree : (w : V) → spells SpellsNumber w part → w ≡ v
   pub moved : rest_of old ≡ part ++ rest_of new
 
--- The refusals, each with what it means: the rest spells such a tree as it is written, but not with each number literal as its value, and what is said is nothing, or a number literal without a value that stands in the rest; it spells no such tree, its number literals with a value or without, and the place is at most the text's length; memory ran out.
+-- The refusals, each with what it means: the rest spells such a tree as it is written, but not with each number literal as its value, and what is said is nothing, or a number literal without a value that stands in the rest; it spells no such tree, its number literals with a value or without, and the place stands between two characters of the text or at an end of it; memory ran out.
 abbrev pub IsPartRefusal : {V : Type 0} → Spelling V → (V → Bool) → Cursor → JsonPathError → Type 0
 IsPartRefusal {V} spells typed c (InvalidNumber said) = IsValuelessIn (rest_of c) (string_bytes said) × ((v : V) × spells SpellsNumber v (rest_of c) × (typed v ≡ true) × (spells IsValued v (rest_of c) → ⊥))
-IsPartRefusal {V} spells typed c (PestError place) = (place ≤ length (text_of c)) × ((v : V) → spells SpellsNumber v (rest_of c) → typed v ≡ true → ⊥)
+IsPartRefusal {V} spells typed c (PestError place) = IsCharBoundary (text_of c) place × ((v : V) → spells SpellsNumber v (rest_of c) → typed v ≡ true → ⊥)
 IsPartRefusal spells typed c OutOfMemory = ⊤
 IsPartRefusal spells typed c _ = ⊥
 

@@ -4,7 +4,7 @@ use Rattle.jsonpath_parser.specs.Derives.{Derives}
 use Rattle.jsonpath_parser.specs.words.Numbers.{SpellsNumber}
 use Rattle.jsonpath_parser.specs.Parts.{Spelling}
 use Rattle.jsonpath_parser.specs.tree.Syntax.{Query}
-use Rattle.jsonpath_parser.specs.Values.{IsValued, IsAny}
+use Rattle.jsonpath_parser.specs.Values.{IsValued}
 
 -- No text derives two trees, whatever the limits of depth.
 abbrev pub NoTextDerivesTwoTrees : Type 0
@@ -14,8 +14,7 @@ NoTextDerivesTwoTrees = (m n : ℕ) (text : List ℕ) (t u : Query) → Derives 
 abbrev pub SpellsOneTree : {V : Type 0} → Spelling V → (Option ℤ → List ℕ → Type 0) → Type 0
 SpellsOneTree {V} spells Number = (v w : V) (text : List ℕ) → spells Number v text → spells Number w text → v ≡ w
 
--- However number literals are taken, no text spells two trees of this kind: each as its value; one without a value as 0; or each as it is written, with a value or without.
+-- However number literals are taken, no text spells two trees of this kind: each as its value; or each as it is written, with a value or without.
 pub record IsUnambiguous {V : Type 0} (spells : Spelling V) : Type 0 where
   pub valued : SpellsOneTree spells IsValued
-  pub any : SpellsOneTree spells IsAny
   pub written : SpellsOneTree spells SpellsNumber

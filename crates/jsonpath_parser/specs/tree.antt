@@ -4,4 +4,3 @@ pub mod View
 pub mod Typing
 pub mod Making
 pub mod Shown
-pub mod inner

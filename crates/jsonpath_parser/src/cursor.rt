@@ -19,7 +19,10 @@ pub use self::queries::{
 ///
 /// The grammar functions read forward from there, each one kind of tree. Where the whole rest of the text spells such a
 /// tree, that is returned and the cursor stands at the end. Where it does not, a beginning of the rest may be read, or
-/// the text is refused. At a refusal the cursor stays where it was. They look at no limit of depth.
+/// the text is refused. At a refusal the cursor stays where it was.
+///
+/// They know no limit of depth, and the stack that they take grows with the depth of the text: for a stranger's text ask
+/// [`nests_deeper`](crate::nests_deeper) first.
 ///
 /// # Errors
 ///
@@ -27,13 +30,14 @@ pub use self::queries::{
 ///
 /// - `InvalidNumber(literal)` where the rest would spell such a tree if each number literal in it had a value. No number
 ///   literal stands in a slice or a singular query, so these are never refused so.
-/// - `PestError(place)` where the rest spells no such tree for another cause; the place is at most the length of the text.
+/// - `PestError(place)` where the rest spells no such tree for another cause. The place is where reading stopped, a count of
+///   bytes from the start of the text: it is at most the text's length and stands between two characters.
 /// - `OutOfMemory` where memory ran out.
 ///
 /// The time is linear in the length of the rest. Only a text that is refused is read twice.
 // Its methods stand in place.rt: the words of their contracts rest on this struct, and a struct with a ghost field
 // imports all that its file does.
-#[derive(Debug, Drop)]
+#[derive(Clone, Copy, Debug)]
 pub struct Cursor<'t> {
     text: &'t str,
     rest: &'t str,

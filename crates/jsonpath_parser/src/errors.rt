@@ -13,7 +13,7 @@ use thiserror::Error;
 /// `MaxNestingDepthExceeded` and `OutOfMemory`; the other variants are for callers.
 #[derive(Debug, Drop, PartialEq, Error)]
 pub enum JsonPathError {
-    /// The text is no query; the place is a count of bytes, at most the text's length.
+    /// The text is no query; the place is a count of bytes, at most the text's length, and stands between two characters.
     #[error("Failed to parse rule: at byte {0}")]
     PestError(usize),
     #[error("Unexpected rule `{0}` when trying to parse `{1}`")]

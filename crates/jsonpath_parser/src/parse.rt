@@ -1,5 +1,5 @@
 //! Query texts to query trees, at a limit of depth (RFC 9535, 2.1 and 4.1).
-ghost use Rattle.std.specs.Prelude.{◌≡◌, ◌-◌, ◌<◌, ◌≤◌, length, drop, Some, IfOk, IfErr};
+ghost use Rattle.std.specs.Prelude.{◌≡◌, ◌<◌, ◌≤◌, Some, IfOk, IfErr};
 ghost use Rattle.std.specs.Str.{IsCharBoundary};
 ghost use Rattle.jsonpath_parser.specs.words.Depth as spec;
 ghost use Rattle.jsonpath_parser.specs.words.inner.Reading.{Gives};
@@ -20,7 +20,7 @@ use crate::errors::{JsonPathError, Parsed};
 use crate::grammar::{Numbers, whole_query};
 use crate::tree::is_typed;
 use crate::tree::model::JpQuery;
-use crate::words::depth::exceeds;
+use crate::words::depth::nests_deeper;
 use crate::words::number::number;
 use crate::words::stop::Stop;
 use std::alloc::Global;
@@ -41,9 +41,9 @@ fn typed_query(alloc: Global, numbers: Numbers, text: &str) -> Result<JpQuery, S
 }
 
 /// The number literal without a value at the front, or no text where none stands there.
-#[tactic(auto, using(crate::proofs::ValuelessLaws::number_boundary), unfolding(crate::specs::inner::ReadingQuery::valueless_at))]
+#[tactic(auto, using(crate::proofs::ValuelessLaws::number_boundary, crate::proofs::ValuelessLaws::valueless_front))]
 fn valueless(s: &str) -> &str
-    ensures { result.now ≡ reading.valueless_at s.now }
+    ensures { IsValuelessIn s.now result.now }
 {
     match number(s) {
         Ok((None, rest)) => s.split_at(s.len().saturating_sub(rest.len())).0,
@@ -51,16 +51,20 @@ fn valueless(s: &str) -> &str
     }
 }
 
-/// The number literal without a value that stands where so many bytes are left, or no text where none stands there.
-#[tactic(auto, using(crate::proofs::ValuelessLaws::valueless_within))]
-pub fn literal_at(text: &str, left: usize) -> &str
-    ensures value { let place = length text.now - left in IsCharBoundary text.now place → result.now ≡ reading.valueless_at (drop place text.now) }
-    ensures within { IsValuelessIn text.now result.now }
+/// The place where so many bytes are left, between two characters or at an end of the text.
+pub fn place_at(text: &str, left: usize) -> usize
+    ensures { IsCharBoundary text.now result }
 {
-    match text.split_at_checked(text.len().saturating_sub(left)) {
-        Some((_, start)) => valueless(start),
-        None => "",
-    }
+    // What is left is an end of the text, so this is its start.
+    text.floor_char_boundary(text.len().saturating_sub(left))
+}
+
+/// The number literal without a value that stands where so many bytes are left, or no text where none stands there.
+pub fn literal_at(text: &str, left: usize) -> &str
+    ensures { IsValuelessIn text.now result.now }
+{
+    let (_, start) = text.split_at(place_at(text, left));
+    valueless(start)
 }
 
 /// The refusal of a text that is no query, whose reading stopped where so many bytes were left.
@@ -73,7 +77,7 @@ fn refusal(alloc: Global, text: &str, left: usize) -> JsonPathError
             Err(_) => JsonPathError::OutOfMemory,
         },
         Err(Stop::Memory) => JsonPathError::OutOfMemory,
-        Err(Stop::Syntax(left)) => JsonPathError::PestError(text.len().saturating_sub(left)),
+        Err(Stop::Syntax(left)) => JsonPathError::PestError(place_at(text, left)),
     }
 }
 
@@ -84,7 +88,7 @@ fn read_within(alloc: Global, text: &str, depth: usize) -> Parsed<JpQuery>
     ensures refused { IfErr result (IsReadRefusal depth text.now) }
     ensures too_deep { depth < spec.depth text.now → result ≡ Err (JsonPathError.MaxNestingDepthExceeded depth) }
 {
-    if exceeds(text, depth) {
+    if nests_deeper(text, depth) {
         return Err(JsonPathError::MaxNestingDepthExceeded(depth));
     }
     match typed_query(alloc, Numbers::Valued, text) {
@@ -104,7 +108,8 @@ fn read_within(alloc: Global, text: &str, depth: usize) -> Parsed<JpQuery>
 ///   -2^63 to 2^63 - 1. It is the first such literal, as written.
 /// - `PestError(place)` where the text is no query for another cause: its spelling, an index or a part of a slice
 ///   outside -(2^53 - 1) to 2^53 - 1, or a function that does not take its arguments or stands where it may not (2.4.3).
-///   The place is where reading stopped: a count of bytes from the start, at most the text's length.
+///   The place is where reading stopped, a count of bytes from the start: it is at most the text's length and stands
+///   between two characters, so `&text[..place]` can be shown.
 /// - `OutOfMemory` where memory ran out.
 ///
 /// The time is linear in the length of the text. Only a text that is refused is read twice.

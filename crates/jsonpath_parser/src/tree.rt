@@ -1,4 +1,4 @@
-//! Query trees (RFC 9535, 2.1 to 2.5): what stands below `jsonpath_parser`, which re-exports what of it is public.
+//! Query trees (RFC 9535, 2.1 to 2.5): their types, makers and copies, how they are shown, their typing, and `==`.
 mod equality;
 pub mod model;
 mod release;

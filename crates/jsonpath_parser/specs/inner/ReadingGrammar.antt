@@ -1,8 +1,9 @@
 -- What the reading functions of the grammar compute: a tree and the text after it, or nothing. Only contracts inside the crate cite it; the laws of proofs/ join it to the grammar, so a user need not believe it.
 --
 -- An argument of a call is the widest production: a literal, a query or a call alone, or a logical expression. So it is read once, and what stands in its place makes of it what it wants.
-use Rattle.std.specs.Prelude.{ℕ, zero, suc, Bool, true, false, ◌&&◌, ◌||◌, ◌==◌, ℤ, pos, unwrap_or, if◌then◌else◌, List, [], ◌∷◌, length, drop, slice_index, codes, bytes_eq, Option, Some, None}
+use Rattle.std.specs.Prelude.{◌≡◌, ℕ, zero, suc, Bool, true, false, ◌&&◌, ◌||◌, ◌==◌, ℤ, pos, unwrap_or, if◌then◌else◌, List, [], ◌∷◌, length, drop, slice_index, codes, bytes_eq, Option, Some, None}
 use Rattle.std.specs.Char.{is_ascii_digit}
+use Rattle.jsonpath_parser.specs.words.Numbers.{SpellsNumber}
 use Rattle.jsonpath_parser.specs.words.Lexical.{is_function_first, is_function_byte, is_quote}
 use Rattle.jsonpath_parser.specs.words.inner.Reading.{Read, ◌>>=◌, split_while, skip_blank, first, after_byte, int_at, name_at}
 use Rattle.jsonpath_parser.specs.inner.ReadingLists.{found_then, many_at, separated_at}
@@ -19,6 +20,10 @@ use Rattle.jsonpath_parser.specs.tree.Typing.{call_of}
 unfoldable pub number_reading : Numbers → List ℕ → Read (Option ℤ)
 number_reading Valued text = number_at text >>= (λ n. n.0 >>= (λ v. Some (Some v, n.1)))
 number_reading Any text = number_at text >>= (λ n. Some (Some (unwrap_or n.0 (pos 0)), n.1))
+
+-- what the second takes: any number literal; one without a value stands as 0
+abbrev pub IsAny : Option ℤ → List ℕ → Type 0
+IsAny v text = (w : Option ℤ) × SpellsNumber w text × (v ≡ Some (unwrap_or w (pos 0)))
 
 -- ---- what a part becomes
 

@@ -1,6 +1,7 @@
 -- What the parts of a query are read as, each by itself, and which refusal they get. The laws of proofs/ join it to the grammar, so a user need not believe it.
-use Rattle.std.specs.Prelude.{◌≡◌, ◌⊎◌, ℕ, suc, ◌≤◌, ◌==◌, Bool, true, false, if◌then◌else◌, ℤ, List, [], length, Option, Some, None, Result, Ok, Err, MatchResult, IsOkAnd, IfOk, IfErr, OnErr, ◌-◌, drop, string_bytes, ⊤}
+use Rattle.std.specs.Prelude.{◌≡◌, ◌⊎◌, ℕ, suc, ◌==◌, Bool, true, false, if◌then◌else◌, ℤ, List, [], length, Option, Some, None, Result, Ok, Err, MatchResult, IsOkAnd, IfOk, IfErr, OnErr, ◌-◌, drop, string_bytes, ⊤}
 use Rattle.std.specs.Borrow.{Bor}
+use Rattle.std.specs.Str.{IsCharBoundary}
 use Rattle.jsonpath_parser.specs.Parts.{text_of, rest_of}
 use Rattle.jsonpath_parser.specs.words.inner.Reading.{Read, ◌>>=◌, first}
 use Rattle.jsonpath_parser.specs.inner.ReadingGrammar.{number_reading, comparable_of, filter_of, shorthand_at, selection_at, operand_at, basic_at, conjunction_at, all_segments_at, segment_at, selector_at, logical_at, argument_at}
@@ -118,10 +119,10 @@ module _ (numbers : Numbers) (text : List ℕ) where
 
 -- ---- refusals
 
--- The refusal at a cursor, where reading stopped; `again` is what it is read as with any number literals. The place is at most the text's length.
+-- The refusal at a cursor, where reading stopped; `again` is what it is read as with any number literals. The place stands between two characters of the text or at an end of it.
 abbrev pub IsCursorRefusal : {T : Type 0} → Cursor → Stop → Result (T × Bor (List ℕ)) Stop → JsonPathError → Type 0
 IsCursorRefusal c stop again (InvalidNumber said) = (stop ≡ Memory → ⊥) × IsValuelessIn (rest_of c) (string_bytes said) × IsOkAnd again (λ p. p.1.now ≡ [])
-IsCursorRefusal c stop again (PestError place) = (place ≤ length (text_of c)) × (stop ≡ Memory → ⊥) × MatchResult again (λ p. p.1.now ≡ [] → ⊥) (λ e. e ≡ Memory → ⊥)
+IsCursorRefusal c stop again (PestError place) = IsCharBoundary (text_of c) place × (stop ≡ Memory → ⊥) × MatchResult again (λ p. p.1.now ≡ [] → ⊥) (λ e. e ≡ Memory → ⊥)
 IsCursorRefusal c stop again OutOfMemory = ⊤
 IsCursorRefusal c stop again _ = ⊥
 

@@ -1,9 +1,9 @@
 -- Which tree a whole text is read as, and which refusal it gets. The laws of proofs/ join it to the grammar, so a user need not believe it.
-use Rattle.std.specs.Prelude.{◌≡◌, ◌<◌, ◌≤◌, ℕ, true, is_some, if◌then◌else◌, List, [], length, take, ◌-◌, ℤ, Option, Some, None, string_bytes, ⊤}
+use Rattle.std.specs.Prelude.{◌≡◌, ◌<◌, ◌≤◌, ℕ, true, is_some, if◌then◌else◌, List, Option, Some, None, string_bytes, ⊤}
+use Rattle.std.specs.Str.{IsCharBoundary}
 use Rattle.jsonpath_parser.specs.words.Depth.{depth}
 use Rattle.jsonpath_parser.specs.words.inner.Reading.{◌>>=◌}
 use Rattle.jsonpath_parser.specs.inner.ReadingGrammar.{number_reading, whole_query}
-use Rattle.jsonpath_parser.specs.words.inner.ReadingNumbers.{number_at}
 use Rattle.jsonpath_parser.specs.tree.Syntax.{Query}
 use Rattle.jsonpath_parser.specs.tree.Typing.{is_typed}
 use Rattle.jsonpath_parser.specs.Valueless.{IsValuelessIn}
@@ -16,20 +16,10 @@ use Rattle.jsonpath_parser.specs.declared.grammar.literals.Numbers.TheVariants.{
 unfoldable pub typed_query : Numbers → List ℕ → Option Query
 typed_query numbers text = whole_query (number_reading numbers) text >>= (λ q. if is_typed q then Some q else None)
 
--- the number literal that was read, where it has no value, or nothing
-abbrev pub valueless_of : List ℕ → Option (Option ℤ × List ℕ) → List ℕ
-valueless_of text None = []
-valueless_of text (Some (Some v, rest)) = []
-valueless_of text (Some (None, rest)) = take (length text - length rest) text
-
--- the number literal without a value at the front, or nothing
-unfoldable pub valueless_at : List ℕ → List ℕ
-valueless_at text = valueless_of text (number_at text)
-
--- The refusals of a text that is no query: it would be one if each number literal had a value, or it is none. The place is at most the text's length.
+-- The refusals of a text that is no query: it would be one if each number literal had a value, or it is none. The place stands between two characters of the text or at an end of it.
 abbrev pub IsTextRefusal : List ℕ → JsonPathError → Type 0
 IsTextRefusal text (InvalidNumber literal) = IsValuelessIn text (string_bytes literal) × (is_some (typed_query Any text) ≡ true)
-IsTextRefusal text (PestError place) = (place ≤ length text) × (typed_query Any text ≡ None)
+IsTextRefusal text (PestError place) = IsCharBoundary text place × (typed_query Any text ≡ None)
 IsTextRefusal text OutOfMemory = ⊤
 IsTextRefusal text _ = ⊥
 

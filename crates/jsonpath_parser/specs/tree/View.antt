@@ -31,9 +31,12 @@ abbrev pub step_view : SingularQuerySegment → tree.SingularStep
 step_view (Index i) = tree.index_step i
 step_view (Name s) = tree.name_step (string_bytes s)
 
+abbrev pub steps_view : Vec SingularQuerySegment Global → List tree.SingularStep
+steps_view v = map step_view v.items
+
 abbrev pub singular_view : SingularQuery → tree.SingularQuery
-singular_view (Current v) = tree.current (map step_view v.items)
-singular_view (Root v) = tree.root (map step_view v.items)
+singular_view (Current v) = tree.current (steps_view v)
+singular_view (Root v) = tree.root (steps_view v)
 
 abbrev pub operator_view : Operator → tree.Operator
 operator_view Equal = tree.equal

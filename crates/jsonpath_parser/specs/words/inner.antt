@@ -1,4 +1,4 @@
--- What the reading functions' own contracts and proofs say. The laws of jsonpath_parser join it to the grammar, so a user need not believe it.
+-- What the reading functions' own contracts and proofs say. The laws of proofs/ join it to the grammar, so a user need not believe it.
 pub mod Places
 pub mod Reading
 pub mod ReadingNumbers

@@ -6,7 +6,7 @@ ghost use Rattle.jsonpath_parser.specs.declared.grammar.literals.Numbers.TheVari
 use super::Cursor;
 use crate::errors::{JsonPathError, Parsed};
 use crate::grammar::Numbers;
-use crate::parse::literal_at;
+use crate::parse::{literal_at, place_at};
 use crate::words::stop::Stop;
 use std::alloc::Global;
 
@@ -22,7 +22,7 @@ pub fn refusal<T: Drop>(
     let Stop::Syntax(left) = stop else {
         return JsonPathError::OutOfMemory;
     };
-    let place = cursor.text.len().saturating_sub(left);
+    let place = place_at(cursor.text, left);
     match again {
         Ok((_, rest)) => {
             if !rest.is_empty() {

@@ -1,15 +1,16 @@
 //! The grammar functions for queries, segments and selectors (RFC 9535, 2.1 to 2.3.4, 2.3.5.1 and 2.5).
-ghost use Rattle.std.specs.Prelude.{map};
 ghost use Rattle.jsonpath_parser.specs.Grammar.{Spells, SpellsSegments, SpellsSegment, SpellsSelector};
 ghost use Rattle.jsonpath_parser.specs.Parts.{ReadsPart, SpellsRelative, SpellsChild, SpellsSliceParts, SpellsSteps, SpellsSingular, always};
 ghost use Rattle.jsonpath_parser.specs.tree.Typing as typed;
-ghost use Rattle.jsonpath_parser.specs.tree.View.{query_view, segments_view, segment_view, selector_view, singular_view, step_view};
+ghost use Rattle.jsonpath_parser.specs.tree.View.{query_view, segments_view, segment_view, selector_view, singular_view, steps_view};
 
 use super::Cursor;
 use super::part::part;
 use crate::errors::Parsed;
 use crate::grammar::productions;
-use crate::tree::model::{JpQuery, Segment, Selector, SingularQuery, SingularQuerySegment};
+use crate::tree::model::{
+    JpQuery, Segment, Selector, SingularQuery, SingularQuerySegment, SliceParts,
+};
 use crate::tree::typing;
 use std::alloc::Global;
 
@@ -43,7 +44,7 @@ pub fn rel_query(alloc: Global, cursor: &mut Cursor<'_>) -> Parsed<Vec<Segment>>
         cursor,
         productions::operand,
         productions::relative_in,
-        |tree| typing::segments(tree),
+        |relative| typing::segments(relative),
     )
 }
 
@@ -60,7 +61,7 @@ pub fn segments(alloc: Global, cursor: &mut Cursor<'_>) -> Parsed<Vec<Segment>>
         cursor,
         productions::segments,
         productions::as_read,
-        |tree| typing::segments(tree),
+        |segments| typing::segments(segments),
     )
 }
 
@@ -121,10 +122,7 @@ pub fn selector(alloc: Global, cursor: &mut Cursor<'_>) -> Parsed<Selector>
 /// # Errors
 ///
 /// Those of [`Cursor`].
-pub fn slice_selector(
-    alloc: Global,
-    cursor: &mut Cursor<'_>,
-) -> Parsed<(Option<i64>, Option<i64>, Option<i64>)>
+pub fn slice_selector(alloc: Global, cursor: &mut Cursor<'_>) -> Parsed<SliceParts>
     ensures { ReadsPart SpellsSliceParts always (λ p. p) cursor.old cursor.new result }
 {
     part(
@@ -162,7 +160,7 @@ pub fn singular_query_segments(
     alloc: Global,
     cursor: &mut Cursor<'_>,
 ) -> Parsed<Vec<SingularQuerySegment>>
-    ensures { ReadsPart SpellsSteps always (λ v. map step_view v.items) cursor.old cursor.new result }
+    ensures { ReadsPart SpellsSteps always steps_view cursor.old cursor.new result }
 {
     part(
         alloc,

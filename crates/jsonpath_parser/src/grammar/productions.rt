@@ -15,7 +15,7 @@ use super::slices;
 use super::words::shorthand;
 use crate::tree::model::{
     Comparison, Filter, FilterAtom, FnArg, JpQuery, Literal, Segment, Selector, SingularQuery,
-    Test, TestFunction,
+    SliceParts, Test, TestFunction,
 };
 use crate::words::stop::Stop;
 use crate::words::text::first;
@@ -136,10 +136,7 @@ pub fn comparison_in(argument: FnArg, left: usize) -> Result<Comparison, Stop>
 }
 
 /// The start, the end and the step, where the selector is a slice.
-pub fn slice_in(
-    selector: Selector,
-    left: usize,
-) -> Result<(Option<i64>, Option<i64>, Option<i64>), Stop>
+pub fn slice_in(selector: Selector, left: usize) -> Result<SliceParts, Stop>
     ensures { Gives (λ p. p) result (spec.slice_in (selector_view selector)) }
 {
     match selector {

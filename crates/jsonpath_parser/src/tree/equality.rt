@@ -1,6 +1,6 @@
 //! What `==` of query trees decides.
-ghost use Rattle.jsonpath_parser.specs.Equality.{IsEqualityOf};
-ghost use Rattle.jsonpath_parser.specs.tree.View.{query_view, segment_view, selector_view, filter_view, atom_view, comparison_view, comparable_view, singular_view, step_view, test_view, call_view, argument_view, literal_view};
+ghost use Rattle.jsonpath_parser.specs.Equality.{IsEqualityOf, items_equal};
+ghost use Rattle.jsonpath_parser.specs.tree.View.{query_view, segment_view, selector_view, filter_view, atom_view, comparison_view, comparable_view, singular_view, step_view, test_view, call_view, argument_view, literal_view, operator_view, segments_view, steps_view};
 ghost use Rattle.jsonpath_parser.specs.contracts.tree.model.JpQueryPartialEq.TheImpl as jp_query;
 ghost use Rattle.jsonpath_parser.specs.contracts.tree.model.SegmentPartialEq.TheImpl as segment;
 ghost use Rattle.jsonpath_parser.specs.contracts.tree.model.SelectorPartialEq.TheImpl as selector;
@@ -14,8 +14,10 @@ ghost use Rattle.jsonpath_parser.specs.contracts.tree.model.TestPartialEq.TheImp
 ghost use Rattle.jsonpath_parser.specs.contracts.tree.model.TestFunctionPartialEq.TheImpl as test_function;
 ghost use Rattle.jsonpath_parser.specs.contracts.tree.model.FnArgPartialEq.TheImpl as fn_arg;
 ghost use Rattle.jsonpath_parser.specs.contracts.tree.model.LiteralPartialEq.TheImpl as literal;
+ghost use Rattle.jsonpath_parser.specs.contracts.tree.model.operator.OperatorPartialEq.TheImpl as operator;
 
-/// States laws and does nothing: for each type of a query's parts, `==` is equality of the trees that its values stand for.
+/// States laws and does nothing: for each type of a query's parts, for `Operator`, and for the lists that `segments` and
+/// `singular_query_segments` return, `==` is equality of what the values stand for.
 pub fn equal_parts_are_one_tree()
     ensures jp_query { IsEqualityOf query_view jp_query.eq-value.it }
     ensures segment { IsEqualityOf segment_view segment.eq-value.it }
@@ -30,4 +32,7 @@ pub fn equal_parts_are_one_tree()
     ensures test_function { IsEqualityOf call_view test_function.eq-value.it }
     ensures fn_arg { IsEqualityOf argument_view fn_arg.eq-value.it }
     ensures literal { IsEqualityOf literal_view literal.eq-value.it }
+    ensures operator { IsEqualityOf operator_view operator.eq-value.it }
+    ensures segments { IsEqualityOf segments_view (items_equal segment.eq-value.it) }
+    ensures singular_query_segments { IsEqualityOf steps_view (items_equal singular_query_segment.eq-value.it) }
 {}

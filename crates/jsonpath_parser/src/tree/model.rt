@@ -2,7 +2,7 @@
 ghost use Rattle.std.specs.Prelude.{◌≡◌, IfOk, IfErr, IsOk, IsSome};
 ghost use Rattle.jsonpath_parser.specs.tree.Making.{Makes, comparison_of, operator_of, sides};
 ghost use Rattle.jsonpath_parser.specs.tree.Syntax as tree;
-ghost use Rattle.jsonpath_parser.specs.tree.View.{segment_view, selector_view, filter_view, atom_view, comparison_view, comparable_view, operator_view, test_view};
+ghost use Rattle.jsonpath_parser.specs.tree.View.{query_view, segment_view, segments_view, selector_view, filter_view, atom_view, comparison_view, comparable_view, operator_view, test_view};
 ghost use Rattle.jsonpath_parser.specs.declared.errors.JsonPathError.TheVariants.{OutOfMemory};
 
 pub(crate) mod call;
@@ -178,7 +178,8 @@ pub enum Literal {
 impl JpQuery {
     /// The query of these segments.
     pub fn new(segments: Vec<Segment>) -> Self
-        ensures { result.segments ≡ segments }
+        ensures made { query_view result ≡ segments_view segments }
+        ensures segments { result.segments ≡ segments }
     {
         JpQuery { segments }
     }
@@ -191,15 +192,18 @@ impl Segment {
     ///
     /// `OutOfMemory` where memory ran out.
     pub fn name(alloc: Global, name: &str) -> Parsed<Self>
-        ensures named { IfOk result (λ g. segment_view g ≡ tree.one (tree.name name.now)) }
-        ensures refused { IfErr result (λ e. e ≡ OutOfMemory) }
+        ensures made { IfOk result (λ g. segment_view g ≡ tree.one (tree.name name.now)) }
+        ensures memory { IfErr result (λ e. e ≡ OutOfMemory) }
     {
         Ok(Segment::Selector(Selector::Name(String::from_str(alloc, name)?)))
     }
 }
 
+/// The start, the end and the step of a slice; a part that is left out is `None` (2.3.4).
+pub type SliceParts = (Option<i64>, Option<i64>, Option<i64>);
+
 /// The slice of this start, end and step (2.3.4).
-pub fn slice_from(parts: (Option<i64>, Option<i64>, Option<i64>)) -> Selector
+pub fn slice_from(parts: SliceParts) -> Selector
     ensures { selector_view result ≡ tree.slice parts.0 parts.1 parts.2 }
 {
     let (start, end, step) = parts;
@@ -213,8 +217,8 @@ impl FilterAtom {
     ///
     /// `OutOfMemory` where memory ran out.
     pub fn filter(alloc: Global, expr: Filter, not: bool) -> Parsed<Self>
-        ensures grouped { IfOk result (λ a. atom_view a ≡ tree.group not (filter_view expr)) }
-        ensures refused { IfErr result (λ e. e ≡ OutOfMemory) }
+        ensures made { IfOk result (λ a. atom_view a ≡ tree.group not (filter_view expr)) }
+        ensures memory { IfErr result (λ e. e ≡ OutOfMemory) }
     {
         Ok(FilterAtom::Filter {
             expr: Box::new(alloc, expr)?,
@@ -228,8 +232,8 @@ impl FilterAtom {
     ///
     /// `OutOfMemory` where memory ran out.
     pub fn test(alloc: Global, expr: Test, not: bool) -> Parsed<Self>
-        ensures tested { IfOk result (λ a. atom_view a ≡ tree.Atom.test not (test_view expr)) }
-        ensures refused { IfErr result (λ e. e ≡ OutOfMemory) }
+        ensures made { IfOk result (λ a. atom_view a ≡ tree.Atom.test not (test_view expr)) }
+        ensures memory { IfErr result (λ e. e ≡ OutOfMemory) }
     {
         Ok(FilterAtom::Test {
             expr: Box::new(alloc, expr)?,

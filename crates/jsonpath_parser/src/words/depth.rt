@@ -40,16 +40,19 @@ fn nesting_after(place: Place, nesting: usize, byte: u8, limit: usize) -> Option
     }
 }
 
-/// Whether more than `limit` brackets stand open at once somewhere in the text, those in strings left out. It takes
-/// no memory, and reads the text once at most.
+/// Whether the text nests deeper than this: whether more than `depth` brackets, `[` and `(`, stand open at once somewhere
+/// in it, those in strings left out. Any text may be asked, also one that is no query. Ask it before a text of unknown
+/// depth is read at a [`Cursor`](crate::Cursor), for the stack that reading takes grows with the depth.
+///
+/// It takes no memory and no stack that grows, and the time is linear in the length of the text.
 #[tactic(auto, using(crate::proofs::laws::words::Depths::depth_within, crate::proofs::laws::words::Depths::depth_over, crate::proofs::laws::words::Depths::depth_end))]
-pub fn exceeds(text: &str, limit: usize) -> bool
-    ensures { result ≡ nat_lt limit (spec.depth text.now) }
+pub fn nests_deeper(text: &str, depth: usize) -> bool
+    ensures { result ≡ nat_lt depth (spec.depth text.now) }
 {
     let mut nesting = 0;
     let mut place = Place::Outside;
     for byte in text.as_bytes() {
-        let Some(after) = nesting_after(place, nesting, *byte, limit) else {
+        let Some(after) = nesting_after(place, nesting, *byte, depth) else {
             return true;
         };
         nesting = after;

@@ -6,7 +6,7 @@ use Rattle.std.specs.Cmp.Lexicographic.{pointwise}
 use Rattle.std.specs.Option.{option_eq}
 use Rattle.jsonpath_parser.proofs.Deciding.{under, both, under_two, differ, string_same}
 use Rattle.jsonpath_parser.specs.tree.Syntax as tree
-use Rattle.jsonpath_parser.specs.tree.View.{literal_view, step_view, singular_view, segments_of, selectors_of, filters_of, arguments_of, comparable_view, comparison_view, filter_view, atom_view, argument_view, segment_view, selector_view, test_view, call_view, query_view}
+use Rattle.jsonpath_parser.specs.tree.View.{literal_view, step_view, singular_view, operator_view, segments_of, selectors_of, filters_of, arguments_of, comparable_view, comparison_view, filter_view, atom_view, argument_view, segment_view, selector_view, test_view, call_view, query_view}
 use Rattle.jsonpath_parser.proofs.laws.tree.ViewEquations.{query_view-segments}
 use Rattle.jsonpath_parser.specs.declared.tree.model.Filter.{the_lemmas}
 use Rattle.jsonpath_parser.specs.declared.tree.model.Literal.{Literal}
@@ -16,7 +16,10 @@ use Rattle.jsonpath_parser.specs.declared.tree.model.SingularQuery.TheVariants a
 use Rattle.jsonpath_parser.specs.declared.tree.model.SingularQuerySegment.{SingularQuerySegment}
 use Rattle.jsonpath_parser.specs.declared.tree.model.SingularQuerySegment.TheVariants as step
 use Rattle.jsonpath_parser.specs.declared.tree.model.JpQuery.{JpQuery}
+use Rattle.jsonpath_parser.specs.declared.tree.model.operator.Operator.{Operator}
+use Rattle.jsonpath_parser.specs.declared.tree.model.operator.Operator.TheVariants as operator
 use Rattle.jsonpath_parser.specs.contracts.tree.model.LiteralPartialEq.TheImpl as literal_eq
+use Rattle.jsonpath_parser.specs.contracts.tree.model.operator.OperatorPartialEq.TheImpl as operator_eq
 use Rattle.jsonpath_parser.specs.contracts.tree.model.SingularQuerySegmentPartialEq.TheImpl as step_eq
 use Rattle.jsonpath_parser.specs.contracts.tree.model.SingularQueryPartialEq.TheImpl as singular_eq
 use Rattle.jsonpath_parser.specs.contracts.tree.model.JpQueryPartialEq.TheImpl as query_eq
@@ -83,12 +86,21 @@ literal_same (lit.Bool a) (lit.Bool b) = under tree.bool (λ s t h. cc) (bool_sa
 literal_same lit.Null lit.Null = (λ _. refl, λ _. refl)
 literal_same a b = differ refl (λ h. cc)
 
+pub operator_same : (a b : Operator) → Decides (operator_eq.eq-value.it a b) (operator_view a ≡ operator_view b)
+operator_same operator.Equal operator.Equal = (λ _. refl, λ _. refl)
+operator_same operator.NotEqual operator.NotEqual = (λ _. refl, λ _. refl)
+operator_same operator.Greater operator.Greater = (λ _. refl, λ _. refl)
+operator_same operator.GreaterOrEqual operator.GreaterOrEqual = (λ _. refl, λ _. refl)
+operator_same operator.Less operator.Less = (λ _. refl, λ _. refl)
+operator_same operator.LessOrEqual operator.LessOrEqual = (λ _. refl, λ _. refl)
+operator_same a b = differ refl (λ h. cc)
+
 pub step_same : (a b : SingularQuerySegment) → Decides (step_eq.eq-value.it a b) (step_view a ≡ step_view b)
 step_same (step.Index a) (step.Index b) = under tree.index_step (λ s t h. cc) (Decides-int_eq a b) refl refl refl
 step_same (step.Name a) (step.Name b) = under tree.name_step (λ s t h. cc) (string_same a b) refl refl refl
 step_same a b = differ refl (λ h. cc)
 
-steps_same : (xs ys : List SingularQuerySegment) → Decides (pointwise step_eq.eq-value.it xs ys) (map step_view xs ≡ map step_view ys)
+pub steps_same : (xs ys : List SingularQuerySegment) → Decides (pointwise step_eq.eq-value.it xs ys) (map step_view xs ≡ map step_view ys)
 steps_same [] [] = (λ _. refl, λ _. refl)
 steps_same [] (y ∷ ys) = differ refl (λ h. cc)
 steps_same (x ∷ xs) [] = differ refl (λ h. cc)
@@ -348,7 +360,7 @@ mutual
   arguments_same (more_of-FnArg x k) end_of-FnArg = differ refl (λ h. cc)
   arguments_same (more_of-FnArg x k) (more_of-FnArg y l) = under_two tree.argument (λ a c b d h. (cc, cc)) (argument_same x y) (arguments_same k l) refl refl refl
 
-query_items : (xs ys : List Segment) → Decides (pointwise segment_eq.eq-value.it xs ys) (segments_of (map segment_view xs) ≡ segments_of (map segment_view ys))
+pub query_items : (xs ys : List Segment) → Decides (pointwise segment_eq.eq-value.it xs ys) (segments_of (map segment_view xs) ≡ segments_of (map segment_view ys))
 query_items [] [] = (λ _. refl, λ _. refl)
 query_items [] (y ∷ ys) = differ refl (λ h. cc)
 query_items (x ∷ xs) [] = differ refl (λ h. cc)

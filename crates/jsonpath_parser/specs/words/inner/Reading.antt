@@ -1,4 +1,4 @@
--- What the reading functions compute: a tree and the text after it, or nothing. Only contracts of this crate, and private ones of `jsonpath_parser`, cite it; the laws of proofs/ join it to the grammar, so a user need not believe it.
+-- What the reading functions compute: a tree and the text after it, or nothing. Only private contracts of this crate cite it; the laws of proofs/ join it to the grammar, so a user need not believe it.
 use Rattle.std.specs.Prelude.{◌≡◌, ℕ, Bool, ◌&&◌, ◌||◌, ◌==◌, not, nat_le, ℤ, pos, neg_ℤ, if◌then◌else◌, List, length, take, drop, slice_index, Option, Some, None, option_and_then, Result, MatchResult}
 use Rattle.std.specs.Borrow.{Bor}
 use Rattle.std.specs.List.{prefix_len}

@@ -1,4 +1,4 @@
--- What the functions that read a number literal compute. Only contracts of this crate, and private ones of `jsonpath_parser`, cite it; the laws of proofs/ join it to the grammar, so a user need not believe it.
+-- What the functions that read a number literal compute. Only private contracts of this crate cite it; the laws of proofs/ join it to the grammar, so a user need not believe it.
 use Rattle.std.specs.Prelude.{◌≡◌, ◌≢◌, ℕ, ◌+◌, ◌*◌, ◌/◌, ◌%◌, ◌^◌, ◌<◌, Bool, true, false, ◌==◌, nat_lt, nat_le, ℤ, pos, neg_ℤ, if◌then◌else◌, Option, Some, None, List, [], ◌++◌, length, take, drop, unwrap_or}
 use Rattle.std.specs.Str.Parse.{digits_value}
 use Rattle.std.specs.Char.{is_ascii_digit}

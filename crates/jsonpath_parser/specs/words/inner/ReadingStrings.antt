@@ -1,4 +1,4 @@
--- What the reading functions of strings compute: a value and the text after it, or nothing. Only contracts of this crate, and private ones of `jsonpath_parser`, cite it; the laws of proofs/ join it to `SpellsString`, so a user need not believe it.
+-- What the reading functions of strings compute: a value and the text after it, or nothing. Only private contracts of this crate cite it; the laws of proofs/ join it to `SpellsString`, so a user need not believe it.
 use Rattle.std.specs.Prelude.{ℕ, zero, suc, ◌&&◌, ◌==◌, if◌then◌else◌, List, [], ◌∷◌, ◌++◌, length, drop, slice_index, Option, Some, None}
 use Rattle.std.specs.Char.{encode_utf8}
 use Rattle.std.specs.Str.Parse.{digits_value}

@@ -7,7 +7,7 @@ ghost use Rattle.jsonpath_parser.specs.tree.View.{comparable_view, comparison_vi
 use super::{Comparable, Comparison};
 
 /// How two values are compared (2.3.5.2.2).
-#[derive(Clone, Copy, Debug)]
+#[derive(Clone, Copy, Debug, PartialEq)]
 pub enum Operator {
     /// `==`
     Equal,

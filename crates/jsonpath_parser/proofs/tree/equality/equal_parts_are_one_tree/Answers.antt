@@ -1,4 +1,4 @@
-use Rattle.jsonpath_parser.proofs.laws.tree.TreeEquality.{query_same, segment_same, selector_same, filter_same, atom_same, comparison_same, comparable_same, singular_same, step_same, test_same, call_same, argument_same, literal_same}
+use Rattle.jsonpath_parser.proofs.laws.tree.TreeEquality.{query_same, segment_same, selector_same, filter_same, atom_same, comparison_same, comparable_same, singular_same, step_same, test_same, call_same, argument_same, literal_same, operator_same, query_items, steps_same}
 use Rattle.jsonpath_parser.proofs.tree.equality.equal_parts_are_one_tree.Goals as goal
 
 pub returns-clause-jp_query : goal.returns-clause-jp_query
@@ -39,3 +39,12 @@ returns-clause-fn_arg c = argument_same
 
 pub returns-clause-literal : goal.returns-clause-literal
 returns-clause-literal c = literal_same
+
+pub returns-clause-operator : goal.returns-clause-operator
+returns-clause-operator c = operator_same
+
+pub returns-clause-segments : goal.returns-clause-segments
+returns-clause-segments c v w = query_items v.items w.items
+
+pub returns-clause-singular_query_segments : goal.returns-clause-singular_query_segments
+returns-clause-singular_query_segments c v w = steps_same v.items w.items
