@@ -13,8 +13,8 @@ use Rattle.std.specs.List.Sorted.{IsStrictlySortedBy}
 use Rattle.std.specs.Map.{lookup, set_value, keys_of}
 use Rattle.std.specs.Ordering.{match_ordering}
 use Rattle.jsonpath_parser.specs.Location.{Step, name, index, Location}
-use Rattle.jsonpath_base.specs.Without.{is_same_step, is_location}
-use Rattle.jsonpath_base.specs.inner.Marks.{to_member, is_key, in_set, marked, marked_by, marked_below, HasAlso, total, marks_count}
+use Rattle.jsonpath_base.specs.Without.{is_same_step, is_location, HasAlso}
+use Rattle.jsonpath_base.specs.inner.Marks.{to_member, is_key, in_set, marked, marked_by, marked_below, total, marks_count}
 use Rattle.jsonpath_base.specs.declared.marks.Marks.{Marks, the_lemmas}
 use Rattle.jsonpath_base.specs.declared.marks.Marks.TheViews.{out-Marks, roll-Marks}
 

@@ -12,8 +12,8 @@ use Rattle.jsonpath_parser.specs.Location.{name, index, Location}
 use Rattle.jsonpath_base.specs.Tree.{Tree, list, object, Trees, no_trees, tree, Members, no_members, member, pairs, are_distinct, has_distinct_names, trees_distinct, members_distinct}
 use Rattle.jsonpath_base.specs.Values.{value_tree, tree_of, tree_of_number, trees_of, members_of, has_whole_numbers, items_whole, members_whole}
 use Rattle.jsonpath_base.specs.Without as without
-use Rattle.jsonpath_base.specs.Without.{thinned, elements_thinned, is_among, is_location, is_same_step, distinct_count}
-use Rattle.jsonpath_base.specs.inner.Marks.{HasAlso, also, counted_with, set_with}
+use Rattle.jsonpath_base.specs.Without.{thinned, elements_thinned, is_among, is_location, is_same_step, distinct_count, HasAlso, also, counted_with}
+use Rattle.jsonpath_base.specs.inner.Marks.{set_with}
 use Rattle.jsonpath_base.specs.inner.Thinning.{data_thinned, items_thinned, members_thinned}
 use Rattle.jsonpath_base.proofs.Views.{data_whole}
 use Rattle.jsonpath_base.proofs.Marking.{same_step, step_itself}

@@ -94,18 +94,6 @@ past_below j m es i (item d ds) h =
     let other : nat_eq i j ≡ false = ne_eqb i j (λ e. omega (arith, h, e)) in
     rw (other, past_below j m es (suc i) ds (omega (arith, h)))
 
--- what is removed itself may stay as it is until then
-pub here_below : (j : ℕ) (m : Marks) (es : List (ℕ × Marks)) (i : ℕ) (ds : Items) → lookup (is_key index (index j)) es ≡ None → marked m [] ≡ true → thinned_below ((j, m) ∷ es) i ds ≡ thinned_below es i ds
-here_below j m es i no_items none here = refl
-here_below j m es i (item d ds) none here = pick (nat_eq i j) refl (here_below j m es (suc i) ds none here)
-  where
-    pick : (b : Bool) → nat_eq i j ≡ b → thinned_below ((j, m) ∷ es) (suc i) ds ≡ thinned_below es (suc i) ds → thinned_below ((j, m) ∷ es) i (item d ds) ≡ thinned_below es i (item d ds)
-    pick true e more =
-        let same : i ≡ j = eqb-true i j e in
-        let none_here : lookup (is_key index (index i)) es ≡ None = ap (λ k. lookup (is_key index (index k)) es) same ∙ none in
-        rw (e, none_here, here, more)
-    pick false e more = rw (e, more)
-
 -- one element more is as its marks say
 pub write_below : (vs : List Value) (n i j : ℕ) (x w : Value) (m : Marks) (es : List (ℕ × Marks)) → j ≡ i + n → n < length vs → x ≡ get_or vs n x → lookup (is_key index (index j)) es ≡ None
     → marked m [] ≡ false → view w ≡ data_thinned (marked m) (view x) → thinned_below es i (items_view (set vs n w)) ≡ thinned_below ((j, m) ∷ es) i (items_view vs)

@@ -4,16 +4,18 @@ pub mod Steps
 pub mod Put
 pub mod Lending
 pub mod Without
+pub mod RemovalViews
 pub mod Values
 pub mod Pattern
 pub mod PatternViews
+pub mod Engine
 pub mod Same
 pub mod SetFunctions
 pub mod Slice
 pub mod SliceSteps
 pub mod Texts
 pub mod inner
--- What the public contracts of this crate cite of the crates below it, so that a caller names it here and lists this crate alone.
+-- What the public contracts of this crate cite of jsonpath_parser, so that a caller names it here and lists this crate alone.
 pub use Rattle.jsonpath_parser.specs.Errors
 pub use Rattle.jsonpath_parser.specs.Equality
 pub use Rattle.jsonpath_parser.specs.Location

@@ -6,6 +6,8 @@ use Rattle.jsonpath_parser.specs.declared.errors.JsonPathError.{JsonPathError}
 use Rattle.jsonpath_parser.specs.declared.errors.JsonPathError.TheVariants.{OutOfMemory, InvalidJsonPath}
 use Rattle.jsonpath_base.specs.declared.pattern.Extent.{Extent}
 use Rattle.jsonpath_base.specs.declared.pattern.Extent.TheVariants.{Entire, Substring}
+use Rattle.jsonpath_base.specs.declared.pattern.unbuilt.Unbuilt.{Unbuilt}
+use Rattle.jsonpath_base.specs.declared.pattern.unbuilt.Unbuilt.TheVariants.{Memory, TooLarge}
 
 -- the character is the one of this text
 abbrev pub is_char : List ℕ → ℕ → Bool
@@ -67,6 +69,11 @@ IsInvalid (InvalidJsonPath _) = ⊤
 IsInvalid _ = ⊥
 
 -- why what looks for it cannot be built: memory ran out, or there is something to look for, and `regex` refused it for its size
+abbrev pub IsUnbuilt : Option Re → Unbuilt → Type 0
+IsUnbuilt sought Memory = ⊤
+IsUnbuilt sought TooLarge = IsSome sought
+
+-- the error that a caller is told of it
 abbrev pub IsPatternRefusal : Option Re → JsonPathError → Type 0
 IsPatternRefusal sought OutOfMemory = ⊤
 IsPatternRefusal sought (InvalidJsonPath _) = IsSome sought

@@ -1,5 +1,5 @@
 -- A tree without the values at a set of locations (RFC 9535, 1.1), all removed at once. A set is a test of locations.
-use Rattle.std.specs.Prelude.{ℕ, suc, List, [], ◌∷◌, Bool, true, false, ◌&&◌, nat_eq, if◌then◌else◌}
+use Rattle.std.specs.Prelude.{◌≡◌, ℕ, suc, List, [], ◌∷◌, Bool, true, false, ◌&&◌, ◌||◌, nat_eq, if◌then◌else◌}
 use Rattle.std.specs.Str.{bytes_eq}
 use Rattle.std.specs.List.{list_any}
 use Rattle.jsonpath_parser.specs.Location.{Step, name, index, Location}
@@ -25,6 +25,18 @@ is_among ls l = list_any (λ m. is_location m l) ls
 abbrev pub distinct_count : List Location → ℕ
 distinct_count [] = 0
 distinct_count (l ∷ ls) = if is_among ls l then distinct_count ls else suc (distinct_count ls)
+
+-- the set with this location too
+abbrev pub also : Location → (Location → Bool) → Location → Bool
+also at set l = is_location at l || set l
+
+-- The set has this location too, and else what it had.
+pub record HasAlso (old : Location → Bool) (at : Location) (new : Location → Bool) : Type 0 where
+  pub each : (l : Location) → new l ≡ also at old l
+
+-- how many locations a set of so many has with this one too
+abbrev pub counted_with : Location → (Location → Bool) → ℕ → ℕ
+counted_with at set n = if set at then n else suc n
 
 -- ---- trees
 

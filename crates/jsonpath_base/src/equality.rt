@@ -1,16 +1,11 @@
 //! When two values of `serde_json` are the same (RFC 9535, 2.3.5.2.2).
 ghost use Rattle.std.specs.Prelude.{◌≡◌, IsTrue, All};
 ghost use Rattle.serde_json.specs.View.{items_view, members_view};
-ghost use Rattle.jsonpath_base.specs.Same.{same, same_trees, SameIsAnEquivalence};
+ghost use Rattle.jsonpath_base.specs.Same.{same, same_trees};
 ghost use Rattle.jsonpath_base.specs.Tree.{object};
 ghost use Rattle.jsonpath_base.specs.Values.{value_tree, value_is_whole, trees_of, members_of};
 
 use serde_json::{Map, Value};
-
-/// States a law and does nothing: on trees with distinct names, such as those of whole values, being the same is an equivalence.
-pub fn same_is_an_equivalence()
-    ensures { SameIsAnEquivalence }
-{}
 
 /// Whether two values are the same: of one kind, scalars equal, lists of one length the same place by place, objects
 /// with the same names the same name by name, in any order (RFC 9535, 2.3.5.2.2). Takes no memory, and time linear in

@@ -3,26 +3,28 @@
 //! locations.
 #![tactic(auto)]
 
-pub mod equality;
-pub mod lending;
+pub mod engine;
+mod equality;
+pub mod laws;
+mod lending;
 mod marks;
-pub mod pattern;
-pub mod place;
-pub mod removal;
-pub mod set_functions;
-pub mod slice;
-pub mod step;
-pub mod text;
-pub mod value;
-pub mod way;
+mod pattern;
+mod place;
+mod removal;
+mod set_functions;
+mod slice;
+mod step;
+mod text;
+mod value;
+mod way;
 
-pub use equality::{same, same_is_an_equivalence};
+pub use equality::same;
 pub use lending::at_mut;
-pub use pattern::{Extent, Finder, Pattern, found, found_again};
-pub use place::{at, put_at, put_is_there, put_leaves_the_rest};
+pub use pattern::{Extent, Finder, Pattern, found};
+pub use place::{at, put_at};
 pub use removal::{Removal, remove_all};
 pub use set_functions::set_function;
 pub use slice::{SlicePlaces, picked, slice_places};
-pub use step::{Step, StepRef, add_index, add_name, push_index, push_name};
+pub use step::{Step, StepRef, add_index, add_name};
 pub use text::{text_length, text_less};
 pub use value::whole;

@@ -3,7 +3,8 @@ ghost use Rattle.std.specs.Prelude.{◌≡◌, IfOk, OnOk, not, ◌∷◌, [], f
 ghost use Rattle.jsonpath_parser.specs.Location as location;
 ghost use Rattle.jsonpath_parser.specs.Location.{Location};
 ghost use Rattle.jsonpath_base.specs.Steps.{lent_location};
-ghost use Rattle.jsonpath_base.specs.inner.Marks.{to_member, marked, marked_below, HasAlso};
+ghost use Rattle.jsonpath_base.specs.Without.{HasAlso};
+ghost use Rattle.jsonpath_base.specs.inner.Marks.{to_member, marked, marked_below};
 
 use crate::step::StepRef;
 use std::alloc::{AllocError, Global};

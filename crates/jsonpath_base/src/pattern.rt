@@ -1,17 +1,17 @@
 //! The patterns of `match` and `search` (RFC 9535, 2.4.6 and 2.4.7): read (`Pattern`), asked of many texts (`Finder`), and kept
-//! with what asks them for the length of a call (`cells`, `finders`, `lent`, `recent`).
-ghost use Rattle.std.specs.Prelude.{◌≡◌, ◌↔◌, ◌++◌, ◌==◌, IsTrue, false, Option, IsSome, is_some, chars, codes, IfOk, IfErr, OnOk, string_bytes, encode_utf8_all};
-ghost use Rattle.regex.specs.Patterns.{Re};
-ghost use Rattle.jsonpath_parser.specs.declared.errors.JsonPathError.TheVariants as error;
-ghost use Rattle.jsonpath_base.specs.Pattern.{translated, reading, wrapped, is_entire, sought, pattern_sought, found, IsInvalid, IsPatternRefusal};
+//! with what asks them for the length of a call (`cells`, `finders`, `lent`, `recent`). `unbuilt` has why one cannot be built.
+ghost use Rattle.std.specs.Prelude.{◌≡◌, ◌↔◌, ◌++◌, ◌==◌, IsTrue, false, is_some, chars, codes, IfOk, IfErr, OnOk, string_bytes, encode_utf8_all};
+ghost use Rattle.jsonpath_base.specs.Pattern.{translated, reading, wrapped, is_entire, sought, pattern_sought, found, IsPatternRefusal, IsUnbuilt};
 ghost use Rattle.jsonpath_base.specs.inner.PatternParts.{written, inside_after, escaped_after, FindsSame, MatchesSame};
 
 pub mod cells;
 pub mod finders;
 mod lent;
 mod recent;
+pub mod unbuilt;
 
-use jsonpath_parser::errors::{JsonPathError, Parsed};
+use crate::pattern::unbuilt::{Built, Unbuilt};
+use jsonpath_parser::errors::Parsed;
 use regex::{Error, Matcher, Regex};
 use regex_syntax::{Config, ErrorKind, parse};
 use std::alloc::{AllocError, Global};
@@ -58,6 +58,18 @@ impl Pattern {
         ensures source { IfOk result (λ p. source_of p ≡ pattern.now) }
         ensures extent { IfOk result (λ p. is_for_match p ≡ is_entire extent) }
         ensures refused { IfErr result (IsPatternRefusal (pattern_sought (is_entire extent) pattern.now)) }
+    {
+        match Pattern::build(alloc, pattern, extent) {
+            Ok(read) => Ok(read),
+            Err(unbuilt) => Err(unbuilt.told(alloc)),
+        }
+    }
+
+    /// Reads a pattern as [`Pattern::new`] does, and makes no text where it is refused.
+    pub(crate) fn build(alloc: Global, pattern: &str, extent: Extent) -> Built<Pattern>
+        ensures source { IfOk result (λ p. source_of p ≡ pattern.now) }
+        ensures extent { IfOk result (λ p. is_for_match p ≡ is_entire extent) }
+        ensures refused { IfErr result (IsUnbuilt (pattern_sought (is_entire extent) pattern.now)) }
     {
         let regex = built_for(alloc, pattern, extent)?;
         let source = String::from_str(alloc, pattern)?;
@@ -143,42 +155,31 @@ impl<'p> Finder<'p> {
     }
 }
 
-/// What `match` returns for a text and a pattern, or `search`, by the extent. It reads the pattern anew each time: see
+/// What `match` returns for a text and a pattern, where `whole`, or else `search`. It reads the pattern anew each time: see
 /// [`Pattern`]. It refuses as [`Pattern::new`] does.
-pub fn found(alloc: Global, text: &str, pattern: &str, extent: Extent) -> Parsed<bool>
-    ensures value { IfOk result (λ b. b ≡ found (is_entire extent) pattern.now text.now) }
-    ensures refused { IfErr result (IsPatternRefusal (pattern_sought (is_entire extent) pattern.now)) }
+pub fn found(alloc: Global, text: &str, pattern: &str, whole: bool) -> Parsed<bool>
+    ensures value { IfOk result (λ b. b ≡ found whole pattern.now text.now) }
+    ensures refused { IfErr result (IsPatternRefusal (pattern_sought whole pattern.now)) }
 {
-    let read = Pattern::new(alloc, pattern, extent)?;
+    let read = Pattern::new(alloc, pattern, extent_of(whole))?;
     Ok(read.is_found(alloc, text)?)
 }
 
-/// The same, where `kept` holds the pattern that was asked last, or None: it is read anew only where it was another.
-pub fn found_again(
-    alloc: Global,
-    kept: &mut Option<Pattern>,
-    text: &str,
-    pattern: &str,
-    extent: Extent,
-) -> Parsed<bool>
-    ensures value { IfOk result (λ b. b ≡ found (is_entire extent) pattern.now text.now) }
-    ensures refused { IfErr result (IsPatternRefusal (pattern_sought (is_entire extent) pattern.now)) }
+/// The entire text where `whole`, else some substring.
+fn extent_of(whole: bool) -> Extent
+    ensures { is_entire result ≡ whole }
 {
-    if let Some(read) = kept.as_ref() {
-        if read.is_of(pattern, extent) {
-            return Ok(read.is_found(alloc, text)?);
-        }
+    if whole {
+        Extent::Entire
+    } else {
+        Extent::Substring
     }
-    let read = Pattern::new(alloc, pattern, extent)?;
-    let is_found = read.is_found(alloc, text)?;
-    *kept = Some(read);
-    Ok(is_found)
 }
 
 /// What looks for a pattern, or None where there is nothing to look for.
-fn built_for(alloc: Global, pattern: &str, extent: Extent) -> Parsed<Option<Regex>>
+fn built_for(alloc: Global, pattern: &str, extent: Extent) -> Built<Option<Regex>>
     ensures same { IfOk result (FindsSame (pattern_sought (is_entire extent) pattern.now)) }
-    ensures refused { IfErr result (IsPatternRefusal (pattern_sought (is_entire extent) pattern.now)) }
+    ensures refused { IfErr result (IsUnbuilt (pattern_sought (is_entire extent) pattern.now)) }
 {
     let text = translate(alloc, pattern)?;
     if !extent.is_entire() {
@@ -192,28 +193,16 @@ fn built_for(alloc: Global, pattern: &str, extent: Extent) -> Parsed<Option<Rege
 }
 
 /// The regex of a text, or None where it has no reading.
-fn built(alloc: Global, text: &str) -> Parsed<Option<Regex>>
+fn built(alloc: Global, text: &str) -> Built<Option<Regex>>
     ensures same { IfOk result (FindsSame (reading (chars text.now))) }
-    ensures refused { IfErr result (IsPatternRefusal (reading (chars text.now))) }
+    ensures refused { IfErr result (IsUnbuilt (reading (chars text.now))) }
 {
     match Regex::new(alloc, text) {
         Ok(regex) => Ok(Some(regex)),
         Err(Error::Syntax(_)) => Ok(None),
-        Err(Error::OutOfMemory) => Err(JsonPathError::OutOfMemory),
-        Err(Error::CompiledTooBig) => Err(too_large(alloc)),
-        Err(Error::Internal) => Err(too_large(alloc)),
-    }
-}
-
-/// The error for a pattern that has a reading and is refused for its size: `InvalidJsonPath`, or `OutOfMemory` where there is no
-/// memory for its text.
-pub fn too_large(alloc: Global) -> JsonPathError
-    ensures refused { (sought : Option Re) → IsSome sought → IsPatternRefusal sought result }
-    ensures invalid { (result ≡ error.OutOfMemory → ⊥) → IsInvalid result }
-{
-    match String::from_str(alloc, "a pattern is too large") {
-        Ok(text) => JsonPathError::InvalidJsonPath(text),
-        Err(_) => JsonPathError::OutOfMemory,
+        Err(Error::OutOfMemory) => Err(Unbuilt::Memory),
+        Err(Error::CompiledTooBig) => Err(Unbuilt::TooLarge),
+        Err(Error::Internal) => Err(Unbuilt::TooLarge),
     }
 }
 

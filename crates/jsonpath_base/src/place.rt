@@ -1,7 +1,7 @@
 //! The value at a location, to be read and to be written.
 ghost use Rattle.std.specs.Prelude.{◌≡◌, IfSome, IsTrue, option_map, is_some};
 ghost use Rattle.jsonpath_base.specs.Places as places;
-ghost use Rattle.jsonpath_base.specs.Put.{put, PutIsSeenAbove, PutIsThere, PutLeavesTheRest};
+ghost use Rattle.jsonpath_base.specs.Put.{put};
 ghost use Rattle.jsonpath_base.specs.Steps.{location_view, owned_step};
 ghost use Rattle.jsonpath_base.specs.Values.{value_tree, value_is_whole};
 
@@ -68,15 +68,3 @@ pub fn put_at(value: &mut Value, steps: &[Step], new: Value) -> bool
         },
     }
 }
-
-/// States two laws and does nothing. Where something was, what was written stands there, with all its parts; above the
-/// location stands what was there, with the same write in it.
-pub fn put_is_there()
-    ensures there { PutIsThere }
-    ensures above { PutIsSeenAbove }
-{}
-
-/// States a law and does nothing: a write changes no value but those inside its location and those above it.
-pub fn put_leaves_the_rest()
-    ensures { PutLeavesTheRest }
-{}

@@ -6,8 +6,8 @@ ghost use Rattle.jsonpath_parser.specs.Location as location;
 ghost use Rattle.jsonpath_parser.specs.Location.{Location};
 ghost use Rattle.jsonpath_base.specs.Steps.{location_view, lent_location};
 ghost use Rattle.jsonpath_base.specs.Values.{value_tree, value_is_whole};
-ghost use Rattle.jsonpath_base.specs.Without.{without, is_among, distinct_count};
-ghost use Rattle.jsonpath_base.specs.inner.Marks.{to_member, marked, marked_below, counted_with, HasAlso};
+ghost use Rattle.jsonpath_base.specs.Without.{without, is_among, distinct_count, counted_with, HasAlso};
+ghost use Rattle.jsonpath_base.specs.inner.Marks.{to_member, marked, marked_below};
 ghost use Rattle.jsonpath_base.specs.inner.Thinning.{data_thinned, items_thinned, members_thinned, sieved};
 
 use crate::marks::{Marks, mark};
@@ -22,15 +22,17 @@ use std::mem;
 /// held once.
 #[derive(Drop)]
 pub struct Removal {
-    pub marks: Marks,
-    pub count: usize,
+    marks: Marks,
+    count: usize,
 }
 
 impl Removal {
+    ghost use Rattle.jsonpath_base.specs.RemovalViews.{removal_set, removal_count};
+
     /// Of no location.
     pub fn new(alloc: Global) -> Self
-        ensures none { (l : Location) → marked result.marks l ≡ false }
-        ensures count { result.count ≡ 0 }
+        ensures none { (l : Location) → removal_set result l ≡ false }
+        ensures count { removal_count result ≡ 0 }
     {
         Removal {
             marks: Marks::new(alloc),
@@ -41,24 +43,31 @@ impl Removal {
     /// Adds the location of these steps. It refuses by `OutOfMemory` alone. Time linear in the steps and in the names that they
     /// hold, times the logarithm of the locations.
     pub fn add(&mut self, alloc: Global, steps: &[StepRef<'_>]) -> Parsed<()>
-        ensures added { OnOk result (HasAlso (marked self.old.marks) (lent_location steps.now) (marked self.new.marks)) }
-        ensures count { OnOk result (self.new.count ≡ counted_with (lent_location steps.now) (marked self.old.marks) self.old.count) }
+        ensures added { OnOk result (HasAlso (removal_set self.old) (lent_location steps.now) (removal_set self.new)) }
+        ensures count { OnOk result (removal_count self.new ≡ counted_with (lent_location steps.now) (removal_set self.old) (removal_count self.old)) }
         ensures memory { IfErr result (λ e. e ≡ JsonPathError.OutOfMemory) }
     {
         if mark(alloc, &mut self.marks, steps)? {
             // No memory holds so many marks that this fails.
-            let Some(count) = self.count.checked_add(1) else {
-                return Err(JsonPathError::OutOfMemory);
-            };
-            self.count = count;
+            match self.count.checked_add(1) {
+                Some(count) => self.count = count,
+                None => return Err(JsonPathError::OutOfMemory),
+            }
         }
         Ok(())
+    }
+
+    /// How many distinct locations there are.
+    pub fn count(&self) -> usize
+        ensures { result ≡ removal_count self.now }
+    {
+        self.count
     }
 
     /// Removes the locations from the value, all at once and each by its original place. One where nothing is changes nothing;
     /// where the root is one of them, null is left. It takes no memory.
     pub fn remove_from(&self, value: &mut Value)
-        ensures removed { value_tree value.new ≡ without (marked self.now.marks) (value_tree value.old) }
+        ensures removed { value_tree value.new ≡ without (removal_set self.now) (value_tree value.old) }
         ensures whole { IsTrue (value_is_whole value.old) → IsTrue (value_is_whole value.new) }
     {
         if self.marks.here {

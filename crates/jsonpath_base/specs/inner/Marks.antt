@@ -1,9 +1,9 @@
--- The set of locations that marks hold, for the contracts of removal alone.
-use Rattle.std.specs.Prelude.{◌≡◌, ℕ, ◌+◌, suc, List, [], ◌∷◌, Bool, false, ◌||◌, if◌then◌else◌, Option, Some, None, String, string_bytes}
+-- The set of locations that marks hold, for the contracts of marks and of removal alone.
+use Rattle.std.specs.Prelude.{ℕ, ◌+◌, suc, List, [], ◌∷◌, Bool, false, Option, Some, None, String, string_bytes}
 use Rattle.std.specs.Global.{Global}
 use Rattle.std.specs.Map.{lookup}
 use Rattle.jsonpath_parser.specs.Location.{Step, name, index, Location}
-use Rattle.jsonpath_base.specs.Without.{is_same_step, is_location}
+use Rattle.jsonpath_base.specs.Without.{is_same_step, also, counted_with}
 use Rattle.jsonpath_base.specs.declared.marks.Marks.{Marks, fold-Marks}
 use Rattle.jsonpath_base.specs.declared.marks.Marks.TheOpen.{Marks-F}
 
@@ -37,18 +37,6 @@ marked_by (Some m) l = marked m l
 abbrev pub marked_below : {K : Type 0} → (K → Step) → List (K × Marks) → Location → Bool
 marked_below to es [] = false
 marked_below to es (s ∷ l) = marked_by (lookup (is_key to s) es) l
-
--- the set with this location too
-abbrev pub also : Location → (Location → Bool) → Location → Bool
-also at set l = is_location at l || set l
-
--- The set has this location too, and else what it had.
-pub record HasAlso (old : Location → Bool) (at : Location) (new : Location → Bool) : Type 0 where
-  pub each : (l : Location) → new l ≡ also at old l
-
--- how many locations a set has with this one too
-abbrev pub counted_with : Location → (Location → Bool) → ℕ → ℕ
-counted_with at set n = if set at then n else suc n
 
 -- a set of so many locations, with these too, one after the other
 abbrev pub set_with : List Location → (Location → Bool) → ℕ → (Location → Bool) × ℕ

@@ -24,9 +24,11 @@ pub struct QueryCells {
 }
 
 impl QueryCells {
+    ghost use Rattle.jsonpath_base.specs.Engine.{cell_count};
+
     /// So many, all empty.
     pub fn new(alloc: Global, pattern_count: usize) -> Result<Self, AllocError>
-        ensures { IfOk result (λ made. vec_len made.cells ≡ pattern_count) }
+        ensures { IfOk result (λ made. cell_count made ≡ pattern_count) }
     {
         let cells = empty_cells(alloc, pattern_count)?;
         Ok(QueryCells { cells })

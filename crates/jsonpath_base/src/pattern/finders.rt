@@ -1,13 +1,13 @@
 //! What asks patterns (RFC 9535, 2.4.6 and 2.4.7). One that stands in the query is built when it is first asked, unless an
 //! earlier call has built it, and is then kept with what asks it, at its number.
-ghost use Rattle.std.specs.Prelude.{◌≡◌, IfOk, IfErr, IfSome, box_value, vec_len};
-ghost use Rattle.jsonpath_base.specs.Pattern.{is_entire, pattern_sought, found, IsPatternRefusal};
+ghost use Rattle.std.specs.Prelude.{◌≡◌, IfOk, IfErr, IfSome, box_value};
+ghost use Rattle.jsonpath_base.specs.Pattern.{is_entire, pattern_sought, found, IsUnbuilt};
 ghost use Rattle.jsonpath_base.specs.PatternViews.{source_of, is_for_match};
 
 use crate::pattern::cells::{LentCells, Origin, PatternCell, QueryCells};
 use crate::pattern::lent::LentFinders;
+use crate::pattern::unbuilt::Built;
 use crate::pattern::{Extent, Finder, Pattern};
-use jsonpath_parser::errors::Parsed;
 use std::alloc::{AllocError, Global};
 
 /// A pattern, and what of a text it has to match.
@@ -18,14 +18,23 @@ pub struct Asked<'p> {
 }
 
 impl<'p> Asked<'p> {
-    /// Builds the pattern. It refuses as `Pattern::new` does.
-    pub(crate) fn built(self, alloc: Global) -> Parsed<Box<Pattern>>
+    /// Builds the pattern.
+    pub(crate) fn built(self, alloc: Global) -> Built<Box<Pattern>>
         ensures source { IfOk result (λ p. source_of (box_value p) ≡ self.entry.pattern.now) }
         ensures extent { IfOk result (λ p. is_for_match (box_value p) ≡ is_entire self.entry.extent) }
-        ensures refused { IfErr result (IsPatternRefusal (pattern_sought (is_entire self.entry.extent) self.entry.pattern.now)) }
+        ensures refused { IfErr result (IsUnbuilt (pattern_sought (is_entire self.entry.extent) self.entry.pattern.now)) }
     {
-        let pattern = Pattern::new(alloc, self.pattern, self.extent)?;
+        let pattern = Pattern::build(alloc, self.pattern, self.extent)?;
         Ok(Box::new(alloc, pattern)?)
+    }
+
+    /// What `match` or `search` returns for a text. It builds the pattern anew each time.
+    pub fn is_found(self, alloc: Global, text: &str) -> Built<bool>
+        ensures value { IfOk result (λ b. b ≡ found (is_entire self.entry.extent) self.entry.pattern.now text.now) }
+        ensures refused { IfErr result (IsUnbuilt (pattern_sought (is_entire self.entry.extent) self.entry.pattern.now)) }
+    {
+        let pattern = Pattern::build(alloc, self.pattern, self.extent)?;
+        Ok(pattern.is_found(alloc, text)?)
     }
 
     /// What the finder returns for a text, if it is one of this pattern.
@@ -50,11 +59,13 @@ pub struct QueryFinders<'p> {
 }
 
 impl<'p> QueryFinders<'p> {
+    ghost use Rattle.jsonpath_base.specs.Engine.{cells_of, finder_count};
+
     /// With these cells, and nothing that asks yet. Nothing is allocated.
     #[inline(always)]
     pub fn new(alloc: Global, cells: &'p QueryCells) -> Self
-        ensures cells { result.cells ≡ cells.entry }
-        ensures none { vec_len result.finders ≡ 0 }
+        ensures cells { cells_of result ≡ cells.entry }
+        ensures none { finder_count result ≡ 0 }
     {
         QueryFinders {
             cells,
@@ -72,8 +83,8 @@ impl<'p> QueryFinders<'p> {
     }
 
     /// Makes what asks the pattern of this number, if it is this one, or none was built there yet.
-    fn make(&mut self, alloc: Global, number: usize, asked: Asked<'_>) -> Parsed<()>
-        ensures { IfErr result (IsPatternRefusal (pattern_sought (is_entire asked.entry.extent) asked.entry.pattern.now)) }
+    fn make(&mut self, alloc: Global, number: usize, asked: Asked<'_>) -> Built<()>
+        ensures { IfErr result (IsUnbuilt (pattern_sought (is_entire asked.entry.extent) asked.entry.pattern.now)) }
     {
         let cells = self.cells;
         let Some(cell) = cells.cell(number) else {
@@ -127,18 +138,18 @@ impl<'s, 'p> Finders<'s, 'p> {
         }
     }
 
-    /// What `match` or `search` returns for a text and a pattern. It refuses as [`Pattern::new`] does. A number tells only
-    /// where to look: where there is no such cell, or another pattern was built in it, the pattern is asked as one that comes
-    /// from the document.
+    /// What `match` or `search` returns for a text and a pattern. It refuses where [`Pattern::new`] does. A number tells
+    /// only where to look: where there is no such cell, or another pattern was built in it, the pattern is asked as one that
+    /// comes from the document.
     pub fn is_found(
         &mut self,
         alloc: Global,
         text: &str,
         asked: Asked<'_>,
         origin: Origin,
-    ) -> Parsed<bool>
+    ) -> Built<bool>
         ensures value { IfOk result (λ b. b ≡ found (is_entire asked.entry.extent) asked.entry.pattern.now text.now) }
-        ensures refused { IfErr result (IsPatternRefusal (pattern_sought (is_entire asked.entry.extent) asked.entry.pattern.now)) }
+        ensures refused { IfErr result (IsUnbuilt (pattern_sought (is_entire asked.entry.extent) asked.entry.pattern.now)) }
     {
         if let Origin::Query(number) = origin {
             if let Some(found) = self.query.ask(number, text, asked) {

@@ -5,13 +5,13 @@
 //! pattern that is asked again and again gets one at last, and there are few of them, however many patterns a document has. Of
 //! the others the few that were asked last are kept built, with no finder.
 ghost use Rattle.std.specs.Prelude.{◌≡◌, IfOk, IfErr, IfSome};
-ghost use Rattle.jsonpath_base.specs.Pattern.{is_entire, pattern_sought, found, IsPatternRefusal};
+ghost use Rattle.jsonpath_base.specs.Pattern.{is_entire, pattern_sought, found, IsUnbuilt};
 
+use crate::pattern::Finder;
 use crate::pattern::cells::{LentCells, PatternCell};
 use crate::pattern::finders::Asked;
 use crate::pattern::recent::{Loose, Recent};
-use crate::pattern::{Finder, found};
-use jsonpath_parser::errors::Parsed;
+use crate::pattern::unbuilt::Built;
 use std::alloc::{AllocError, Global};
 
 /// What asks the patterns that come from the document.
@@ -46,9 +46,9 @@ impl<'p> LentFinders<'p> {
 
     /// What `match` or `search` returns for a text and a pattern. It refuses where the pattern cannot be built, and where
     /// memory ran out.
-    pub fn is_found(&mut self, alloc: Global, text: &str, asked: Asked<'_>) -> Parsed<bool>
+    pub fn is_found(&mut self, alloc: Global, text: &str, asked: Asked<'_>) -> Built<bool>
         ensures value { IfOk result (λ b. b ≡ found (is_entire asked.entry.extent) asked.entry.pattern.now text.now) }
-        ensures refused { IfErr result (IsPatternRefusal (pattern_sought (is_entire asked.entry.extent) asked.entry.pattern.now)) }
+        ensures refused { IfErr result (IsUnbuilt (pattern_sought (is_entire asked.entry.extent) asked.entry.pattern.now)) }
     {
         if let Some(found) = self.ask(self.last, text, asked) {
             return Ok(found);
@@ -92,9 +92,9 @@ impl<'p> LentFinders<'p> {
         loose: Loose,
         text: &str,
         asked: Asked<'_>,
-    ) -> Parsed<bool>
+    ) -> Built<bool>
         ensures value { IfOk result (λ b. b ≡ found (is_entire asked.entry.extent) asked.entry.pattern.now text.now) }
-        ensures refused { IfErr result (IsPatternRefusal (pattern_sought (is_entire asked.entry.extent) asked.entry.pattern.now)) }
+        ensures refused { IfErr result (IsUnbuilt (pattern_sought (is_entire asked.entry.extent) asked.entry.pattern.now)) }
     {
         let index = self.finders.len();
         if loose.asks >= self.price {
@@ -103,7 +103,7 @@ impl<'p> LentFinders<'p> {
                 if let Some(found) = self.ask(index, text, asked) {
                     return Ok(found);
                 }
-                return found(alloc, text, asked.pattern, asked.extent);
+                return asked.is_found(alloc, text);
             }
         }
         let answer = loose.is_found(alloc, text, asked)?;

@@ -1,10 +1,10 @@
 //! Patterns that come from the document and are kept built with no finder, as long as they are among those asked last.
 ghost use Rattle.std.specs.Prelude.{◌≡◌, IfOk, IfErr};
-ghost use Rattle.jsonpath_base.specs.Pattern.{is_entire, pattern_sought, found, IsPatternRefusal};
+ghost use Rattle.jsonpath_base.specs.Pattern.{is_entire, pattern_sought, found, IsUnbuilt};
 
+use crate::pattern::Pattern;
 use crate::pattern::finders::Asked;
-use crate::pattern::{Pattern, found};
-use jsonpath_parser::errors::Parsed;
+use crate::pattern::unbuilt::Built;
 use std::alloc::{AllocError, Global};
 
 /// A pattern that stands in no cell, and how often it was asked.
@@ -15,9 +15,9 @@ pub struct Loose {
 }
 
 impl Loose {
-    /// This pattern, not asked yet. It refuses as `Pattern::new` does.
-    pub fn new(alloc: Global, asked: Asked<'_>) -> Parsed<Self>
-        ensures { IfErr result (IsPatternRefusal (pattern_sought (is_entire asked.entry.extent) asked.entry.pattern.now)) }
+    /// This pattern, not asked yet.
+    pub fn new(alloc: Global, asked: Asked<'_>) -> Built<Self>
+        ensures { IfErr result (IsUnbuilt (pattern_sought (is_entire asked.entry.extent) asked.entry.pattern.now)) }
     {
         let pattern = asked.built(alloc)?;
         Ok(Loose { pattern, asks: 0 })
@@ -29,14 +29,14 @@ impl Loose {
     }
 
     /// What `match` or `search` returns for a text and this pattern, which is read anew where it is another.
-    pub fn is_found(&self, alloc: Global, text: &str, asked: Asked<'_>) -> Parsed<bool>
+    pub fn is_found(&self, alloc: Global, text: &str, asked: Asked<'_>) -> Built<bool>
         ensures value { IfOk result (λ b. b ≡ found (is_entire asked.entry.extent) asked.entry.pattern.now text.now) }
-        ensures refused { IfErr result (IsPatternRefusal (pattern_sought (is_entire asked.entry.extent) asked.entry.pattern.now)) }
+        ensures refused { IfErr result (IsUnbuilt (pattern_sought (is_entire asked.entry.extent) asked.entry.pattern.now)) }
     {
         if self.pattern.is_of(asked.pattern, asked.extent) {
             return Ok(self.pattern.is_found(alloc, text)?);
         }
-        found(alloc, text, asked.pattern, asked.extent)
+        asked.is_found(alloc, text)
     }
 }
 

@@ -4,8 +4,8 @@ use Rattle.std.specs.BTreeMap.{insert_entry}
 use Rattle.std.specs.BTreeMap.Entry.{entry_value}
 use Rattle.jsonpath_parser.specs.Location.{name, index, Location}
 use Rattle.jsonpath_base.specs.Steps.{lent_step, lent_location}
-use Rattle.jsonpath_base.specs.Without.{is_location, is_same_step}
-use Rattle.jsonpath_base.specs.inner.Marks.{to_member, is_key, marked, marked_by, HasAlso}
+use Rattle.jsonpath_base.specs.Without.{is_location, is_same_step, HasAlso}
+use Rattle.jsonpath_base.specs.inner.Marks.{to_member, is_key, marked, marked_by}
 use Rattle.jsonpath_base.proofs.Marking.{marked_member, marked_element, also_member, also_element, also_below, on_ok, lookup-alike, member_test, element_test, set_found, set_apart, insert_found, insert_apart, name_test, index_test, marked_or, also_alike}
 use Rattle.jsonpath_base.proofs.marks.+mark.Goals as goal
 

@@ -13,4 +13,4 @@ returns-in-Err-Syntax-clause-same c =
 
 pub returns-in-Err-CompiledTooBig-clause-refused : goal.returns-in-Err-CompiledTooBig-clause-refused
 returns-in-Err-CompiledTooBig-clause-refused c =
-    c.too_large.ensures.refused _ (IsSome-pattern c.args.text.now (rw c.in-Err-CompiledTooBig.field-0-is at c.in-Err-CompiledTooBig.ensures.kind))
+    IsSome-pattern c.args.text.now (rw c.in-Err-CompiledTooBig.field-0-is at c.in-Err-CompiledTooBig.ensures.kind)

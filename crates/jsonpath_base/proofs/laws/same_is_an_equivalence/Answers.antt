@@ -1,5 +1,5 @@
 use Rattle.jsonpath_base.proofs.SameLaws.{same_is_an_equivalence}
-use Rattle.jsonpath_base.proofs.equality.same_is_an_equivalence.Goals as goal
+use Rattle.jsonpath_base.proofs.laws.same_is_an_equivalence.Goals as goal
 
 pub returns : goal.returns
 returns c = same_is_an_equivalence

@@ -1,5 +1,5 @@
 use Rattle.jsonpath_base.proofs.PutLaws.{put_leaves_the_rest}
-use Rattle.jsonpath_base.proofs.place.put_leaves_the_rest.Goals as goal
+use Rattle.jsonpath_base.proofs.laws.put_leaves_the_rest.Goals as goal
 
 pub returns : goal.returns
 returns c = put_leaves_the_rest

@@ -1,0 +1,58 @@
+//! Why a pattern cannot be built. It becomes an error once, where a caller is told, so that nothing before carries a text.
+ghost use Rattle.std.specs.Prelude.{◌≡◌, Option};
+ghost use Rattle.regex.specs.Patterns.{Re};
+ghost use Rattle.jsonpath_parser.specs.declared.errors.JsonPathError.TheVariants as error;
+ghost use Rattle.jsonpath_base.specs.Pattern.{IsInvalid, IsPatternRefusal, IsUnbuilt};
+ghost use Rattle.jsonpath_base.specs.declared.pattern.unbuilt.Unbuilt.TheVariants.{Memory};
+
+use jsonpath_parser::errors::JsonPathError;
+use std::alloc::{AllocError, AllocFailed, Global};
+
+/// Why a pattern cannot be built.
+#[derive(Clone, Copy)]
+pub enum Unbuilt {
+    /// Memory ran out.
+    Memory,
+    /// `regex` can read it and refuses it for its size.
+    TooLarge,
+}
+
+/// What a call returns that has to build a pattern.
+pub type Built<T> = Result<T, Unbuilt>;
+
+impl Unbuilt {
+    /// What a caller is told: `OutOfMemory`, or `InvalidJsonPath` where there is memory for its text.
+    pub fn told(self, alloc: Global) -> JsonPathError
+        ensures memory { self ≡ Memory → result ≡ error.OutOfMemory }
+        ensures refused { (sought : Option Re) → IsUnbuilt sought self → IsPatternRefusal sought result }
+        ensures invalid { (result ≡ error.OutOfMemory → ⊥) → IsInvalid result }
+    {
+        match self {
+            Unbuilt::Memory => JsonPathError::OutOfMemory,
+            Unbuilt::TooLarge => match String::from_str(alloc, "a pattern is too large") {
+                Ok(text) => JsonPathError::InvalidJsonPath(text),
+                Err(_) => JsonPathError::OutOfMemory,
+            },
+        }
+    }
+}
+
+impl From<AllocError> for Unbuilt {
+    ghost use Rattle.jsonpath_base.specs.declared.pattern.unbuilt.Unbuilt.TheVariants.{Memory};
+
+    ghost from_gives = { λ _ u. u ≡ Memory };
+
+    fn from(_error: AllocError) -> Unbuilt {
+        Unbuilt::Memory
+    }
+}
+
+impl<T: Drop> From<AllocFailed<T>> for Unbuilt {
+    ghost use Rattle.jsonpath_base.specs.declared.pattern.unbuilt.Unbuilt.TheVariants.{Memory};
+
+    ghost from_gives = { λ _ u. u ≡ Memory };
+
+    fn from(_error: AllocFailed<T>) -> Unbuilt {
+        Unbuilt::Memory
+    }
+}
