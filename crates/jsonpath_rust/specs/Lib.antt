@@ -1,5 +1,4 @@
--- What the public contracts of this crate cite of the crates below it, so that a caller names it here and lists this crate alone.
--- Files whose names stand in two crates, by the crate.
+-- The definitions of this crate.
 pub mod documents
 pub mod selection
 pub mod states
@@ -20,6 +19,7 @@ pub use Rattle.jsonpath_rust.specs.states.State
 pub use Rattle.jsonpath_rust.specs.states.Process
 pub use Rattle.jsonpath_rust.specs.states.Asking
 pub use Rattle.jsonpath_rust.specs.states.Processed
+-- What its public contracts cite of the crates below it, so that a caller names it here and lists this crate alone.
 pub use Rattle.jsonpath_parser.specs.Errors
 pub use Rattle.jsonpath_parser.specs.Equality
 pub use Rattle.jsonpath_parser.specs.Location
@@ -52,5 +52,6 @@ pub use Rattle.jsonpath_base.specs.Slice
 pub use Rattle.jsonpath_base.specs.SliceSteps
 pub use Rattle.jsonpath_base.specs.Texts
 pub use Rattle.jsonpath_base.specs.declared.step.Step
+-- Files whose names stand in two crates, by the crate.
 pub use Rattle.jsonpath_parser.specs as parser
 pub use Rattle.jsonpath_base.specs as base

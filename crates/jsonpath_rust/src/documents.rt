@@ -1,6 +1,7 @@
 //! Documents and their nodes, and what a query means of them (RFC 9535, 2.1 to 2.4). A document is any type that is `Queryable`.
-//! `value`, `comparison` and `halt` serve the two evaluators, `selection` and `states`.
+//! `value`, `comparison` and `halt` serve the two evaluators, `selection` and `states`; `depth` serves the walk.
 pub mod comparison;
+pub mod depth;
 pub mod halt;
 mod lending;
 mod node;

@@ -3,8 +3,8 @@
 //!
 //! A query is compiled to a plan (`plan`), once. The walk (`walk`, `children`) goes by the plan; inside filters (`filter`,
 //! `function`, `subquery`) it looks up names and indexes (`singular`, `sides`, `lookup`, `direct`), walks from the node at hand, or takes
-//! what is kept of the root (`cache`, `rooted`, `early`) and of patterns (`pattern` of `jsonpath_base`). The nodes go to a sink
-//! (`sink`) with the way that leads to them (`way` of `jsonpath_base`).
+//! what is kept of the root (`cache`, `rooted`, `early`) and of patterns (`engine` of `jsonpath_base`). The nodes go to a sink
+//! (`sink`) with the way that leads to them (`Way` there).
 mod action;
 mod argument;
 mod budget;

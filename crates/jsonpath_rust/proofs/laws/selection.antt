@@ -1,5 +1,6 @@
 pub mod Answers
 pub mod Arguing
+pub mod CostLaws
 pub mod DirectLaws
 pub mod Entries
 pub mod HaltingLaws

@@ -1,13 +1,16 @@
 -- What the functions of the RFC make of values and nodes (RFC 9535, 2.4.4 to 2.4.8). None stands where there is no value.
-use Rattle.std.specs.Prelude.{ℕ, pos, min, length, List, [], ◌∷◌, map, Bool, false, Option, Some, None, option_to_list, chars}
+use Rattle.std.specs.Prelude.{◌-◌, ◌^◌, ℕ, pos, min, length, List, [], ◌∷◌, map, Bool, false, Option, Some, None, option_to_list, chars}
 use Rattle.jsonpath_base.specs.Tree.{Tree, truth, number, text, list, object, elements, pairs}
 use Rattle.jsonpath_base.specs.Pattern.{found}
 use Rattle.jsonpath_rust.specs.documents.Node.{Node, has_node}
-use Rattle.jsonpath_rust.specs.declared.documents.value.TheConstants.{GREATEST_COUNT}
 
--- a count as a value; it stops at the greatest whole number of 64 bits
+-- where counts stop: the greatest whole number of 64 bits
+abbrev pub greatest_count : ℕ
+greatest_count = 2 ^ 63 - 1
+
+-- a count as a value
 abbrev pub count_value : ℕ → Tree
-count_value n = number (pos (min n GREATEST_COUNT))
+count_value n = number (pos (min n greatest_count))
 
 -- the scalar values of a text, the elements of a list, the members of an object (2.4.4)
 abbrev pub length_of : Option Tree → Option Tree

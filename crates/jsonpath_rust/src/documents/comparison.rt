@@ -9,7 +9,7 @@ ghost use Rattle.jsonpath_rust.specs.documents.inner.Operands.{scalar_tree, side
 
 use crate::documents::queryable::Queryable;
 use crate::documents::value::Scalar;
-use jsonpath_base::text::text_less;
+use jsonpath_base::text_less;
 use jsonpath_parser::model::Operator;
 
 /// A side of a comparison, lent.

@@ -4,7 +4,7 @@ ghost use Rattle.jsonpath_parser.specs.declared.errors.JsonPathError.TheVariants
 ghost use Rattle.jsonpath_base.specs.Pattern.{IsInvalid};
 ghost use Rattle.jsonpath_rust.specs.declared.documents.halt.Halt.TheVariants.{Memory, Pattern};
 
-use jsonpath_base::pattern::too_large;
+use jsonpath_base::engine::Unbuilt;
 use jsonpath_parser::errors::JsonPathError;
 use std::alloc::{AllocError, AllocFailed, Global};
 
@@ -23,26 +23,16 @@ pub enum Halt {
 pub type Walked<T> = Result<T, Halt>;
 
 impl Halt {
-    /// What a caller is told.
+    /// What a caller is told of a walk that may take any amount of work.
     pub fn told(self, alloc: Global) -> JsonPathError
         ensures memory { self ≡ Memory → result ≡ error.OutOfMemory }
         ensures pattern { (result ≡ error.OutOfMemory → ⊥) → IsInvalid result }
     {
         match self {
             Halt::Memory => JsonPathError::OutOfMemory,
-            Halt::Pattern => too_large(alloc),
-            Halt::Spent => too_much_work(alloc),
+            Halt::Pattern => Unbuilt::TooLarge.told(alloc),
+            Halt::Spent => Unbuilt::TooLarge.told(alloc),
         }
-    }
-}
-
-/// The error for a query that took as much work as it may.
-fn too_much_work(alloc: Global) -> JsonPathError
-    ensures { (result ≡ error.OutOfMemory → ⊥) → IsInvalid result }
-{
-    match String::from_str(alloc, "the query takes too much work") {
-        Ok(text) => JsonPathError::InvalidJsonPath(text),
-        Err(_) => JsonPathError::OutOfMemory,
     }
 }
 
@@ -66,7 +56,22 @@ impl<T: Drop> From<AllocFailed<T>> for Halt {
     }
 }
 
-/// Of calls that refuse by `OutOfMemory`, or by another error for a pattern.
+/// Of calls that build a pattern.
+impl From<Unbuilt> for Halt {
+    ghost use Rattle.jsonpath_base.specs.declared.pattern.unbuilt.Unbuilt.TheVariants as unbuilt;
+    ghost use Rattle.jsonpath_rust.specs.declared.documents.halt.Halt.TheVariants.{Memory};
+
+    ghost from_gives = { λ u h. u ≡ unbuilt.Memory → h ≡ Memory };
+
+    fn from(cause: Unbuilt) -> Halt {
+        match cause {
+            Unbuilt::Memory => Halt::Memory,
+            Unbuilt::TooLarge => Halt::Pattern,
+        }
+    }
+}
+
+/// Of calls that refuse by `OutOfMemory` alone.
 impl From<JsonPathError> for Halt {
     ghost use Rattle.jsonpath_parser.specs.declared.errors.JsonPathError.TheVariants.{OutOfMemory};
     ghost use Rattle.jsonpath_rust.specs.declared.documents.halt.Halt.TheVariants.{Memory};

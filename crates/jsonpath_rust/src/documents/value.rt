@@ -10,7 +10,7 @@ ghost use Rattle.jsonpath_rust.specs.documents.inner.Operands.{scalar_tree, oper
 use crate::documents::comparison::Side;
 use crate::documents::halt::Walked;
 use crate::documents::queryable::{Arg, Queryable};
-use jsonpath_base::text::text_length;
+use jsonpath_base::text_length;
 use jsonpath_parser::model::Literal;
 use std::alloc::Global;
 

@@ -112,5 +112,5 @@ pub fn delete_selected(alloc: Global, value: &mut Value, query: &JpQuery) -> Que
 {
     let removal = selected_removal(alloc, query, value)?;
     removal.remove_from(value);
-    Ok(removal.count)
+    Ok(removal.count())
 }

@@ -1,6 +1,6 @@
 //! What an argument of a function or a test is inside the evaluator (RFC 9535, 2.4.1).
 ghost use Rattle.std.specs.Prelude.{◌≡◌, ◌++◌, IsTrue, IfErr, OnOk};
-ghost use Rattle.jsonpath_rust.specs.selection.inner.Arguing.{held, value_held, only_held, count_held, trees_held, truth_held, IsHeld, OnlyIsWhole, HeldAreWhole};
+ghost use Rattle.jsonpath_rust.specs.selection.inner.Arguing.{held, value_held, only_held, count_held, trees_held, IsHeld, OnlyIsWhole, HeldAreWhole};
 ghost use Rattle.jsonpath_rust.specs.documents.inner.Operands.{operand_tree, operand_is_whole, arg_trees, AreWhole};
 ghost use Rattle.jsonpath_rust.specs.selection.inner.Sinks.{seen, values_in, ValuesAreWhole};
 ghost use Rattle.jsonpath_rust.specs.declared.documents.halt.Halt.TheVariants.{Memory};
@@ -55,17 +55,6 @@ impl<'a, 's, T: Queryable> Argument<'a, 's, T> {
         match self {
             Argument::Value(_value) => Operand::Plain(count_scalar(0)),
             Argument::Nodes(nodes) => Operand::Plain(count_scalar(nodes.counted(cache))),
-        }
-    }
-
-    /// Whether there is a node, or the value is true (RFC 9535, 2.3.5.2.1).
-    pub fn is_true(&self, cache: &Cache<'a, 's, T>) -> bool
-        requires { IsHeld T.is_whole self.now }
-        ensures { result ≡ truth_held (held T.tree T.is_whole cache.now self.now) }
-    {
-        match self {
-            Argument::Value(value) => value.is_true(),
-            Argument::Nodes(nodes) => nodes.has_any(cache),
         }
     }
 

@@ -1,10 +1,18 @@
 //! What one call of the evaluator keeps: what was worked out once, by the number of its entry in the plan.
-ghost use Rattle.std.specs.Prelude.{◌≡◌, ◌<◌, ℕ, length, None, Some, option_map, IfOk};
+ghost use Rattle.std.specs.Prelude.{◌≡◌, ◌<◌, ℕ, length, None, Some, option_map, IsTrue, IfOk, IfErr};
 ghost use Rattle.jsonpath_rust.specs.documents.Document.{Document};
-ghost use Rattle.jsonpath_rust.specs.selection.inner.Keeping.{AreEmpty, Keeps, gathered, gave, given_by, nodes, nodes_or_none, slots_of, slot_at};
+ghost use Rattle.jsonpath_parser.specs.tree.Syntax.{Query};
+ghost use Rattle.jsonpath_rust.specs.documents.Meaning.{nodelist};
+ghost use Rattle.jsonpath_rust.specs.documents.Patterns.{segments_patterns};
+ghost use Rattle.jsonpath_rust.specs.declared.selection.budget.Limit.{Limit};
+ghost use Rattle.jsonpath_rust.specs.declared.selection.sink.Wanted.{Wanted};
+ghost use Rattle.jsonpath_rust.specs.selection.inner.Halting.{IsHalt};
+ghost use Rattle.jsonpath_rust.specs.selection.inner.Keeping.{AreEmpty, Keeps, IsGiven, gathered, gave, nodes, nodes_or_none, part_patterns, slots_of, slot_at};
+ghost use Rattle.jsonpath_rust.specs.selection.inner.PlanViews as plan;
 ghost use Rattle.jsonpath_rust.specs.selection.inner.PlanViews.{Kept, part_at};
-ghost use Rattle.jsonpath_rust.specs.selection.inner.Sinks.{seen, any_in, count_in, only_in};
+ghost use Rattle.jsonpath_rust.specs.selection.inner.Sinks.{seen, start, give, any_in, count_in, only_in};
 
+use crate::documents::halt::{Halt, Walked};
 use crate::documents::queryable::Queryable;
 use crate::documents::value::Operand;
 use crate::selection::sink::Sink;
@@ -24,6 +32,8 @@ pub enum Given<'a, 's, T> {
     Nodes(Sink<'a, T>),
     /// A value, if there is one.
     Value(Operand<'a, 's, T>),
+    /// Nothing, for a pattern in it is too large.
+    Refused,
 }
 
 impl<'a, 's, T: Queryable> Cache<'a, 's, T> {
@@ -54,13 +64,44 @@ impl<'a, 's, T: Queryable> Cache<'a, 's, T> {
         }
     }
 
+    /// Whether the nodes of the entry of this number are worked out. Where a pattern in it is too large, the walk halts.
+    #[inline(always)]
+    pub fn has_nodes(&self, number: usize) -> Walked<bool>
+        ensures nodes { (kept : Kept) (doc : Document) (wanted : Wanted) (query : Query) → Keeps T.tree T.is_whole kept doc self.now → part_at kept number ≡ plan.nodes wanted query →
+            IfOk result (λ b. IsTrue b → nodes_or_none (slot_at T.tree T.is_whole (slots_of self.now) number) ≡ give (start wanted) (nodelist query doc)) }
+        ensures refused { (kept : Kept) (doc : Document) (wanted : Wanted) (query : Query) (limit : Limit) → Keeps T.tree T.is_whole kept doc self.now → part_at kept number ≡ plan.nodes wanted query →
+            IfErr result (IsHalt limit (segments_patterns query) doc) }
+    {
+        match self.get(number) {
+            Some(Given::Nodes(_nodes)) => Ok(true),
+            Some(Given::Refused) => Err(Halt::Pattern),
+            _ => Ok(false),
+        }
+    }
+
     /// Keeps what the entry of this number gave.
     pub fn keep(&mut self, number: usize, given: Given<'a, 's, T>)
         requires { number < length (slots_of self.old) }
         ensures value { slot_at T.tree T.is_whole (slots_of self.new) number ≡ Some (gave T.tree T.is_whole given.entry) }
-        ensures right { (kept : Kept) (doc : Document) → gave T.tree T.is_whole given.entry ≡ given_by (part_at kept number) doc → Keeps T.tree T.is_whole kept doc self.old → Keeps T.tree T.is_whole kept doc self.new }
+        ensures right { (kept : Kept) (doc : Document) → IsGiven (gave T.tree T.is_whole given.entry) (part_at kept number) doc → Keeps T.tree T.is_whole kept doc self.old → Keeps T.tree T.is_whole kept doc self.new }
     {
         self.slots[number] = Some(given);
+    }
+
+    /// Keeps that the entry of this number is refused, where that is why the walk halts. Nothing works it out again.
+    pub fn keep_halt(&mut self, number: usize, halt: Halt) -> Halt
+        requires { number < length (slots_of self.old) }
+        ensures same { result ≡ halt }
+        ensures right { (kept : Kept) (doc : Document) (limit : Limit) → IsHalt limit (part_patterns (part_at kept number)) doc halt → Keeps T.tree T.is_whole kept doc self.old → Keeps T.tree T.is_whole kept doc self.new }
+    {
+        match halt {
+            Halt::Pattern => {
+                self.keep(number, Given::Refused);
+                Halt::Pattern
+            }
+            Halt::Memory => Halt::Memory,
+            Halt::Spent => Halt::Spent,
+        }
     }
 }
 

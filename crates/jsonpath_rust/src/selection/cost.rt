@@ -1,6 +1,10 @@
 //! What work is spent for values: where a walk is limited, comparisons, functions and patterns cost what they look at.
-ghost use Rattle.std.specs.Prelude.{◌≡◌, IfErr};
+ghost use Rattle.std.specs.Prelude.{◌≡◌, ◌≤◌, ◌-◌, min, None, map, length, option_map, All, IsTrue, IfOk, IfErr, IfSome};
+ghost use Rattle.jsonpath_base.specs.Tree.{as_list, as_text};
+ghost use Rattle.jsonpath_rust.specs.documents.inner.Operands.{operand_is_whole, AreWhole};
+ghost use Rattle.jsonpath_rust.specs.selection.inner.Costs.{cost, elements_cost, pairs_cost, smaller_cost, valued, compared_cost};
 ghost use Rattle.jsonpath_rust.specs.declared.documents.halt.Halt.TheVariants.{Memory};
+ghost use Rattle.jsonpath_rust.specs.declared.selection.budget.Limit.TheVariants.{Limited};
 
 use crate::documents::halt::Walked;
 use crate::documents::queryable::{Arg, Queryable};
@@ -14,7 +18,9 @@ const BYTES: usize = 16;
 impl Limit {
     /// What it costs to read a text of the document: a unit for each byte.
     #[inline(always)]
-    pub fn text_cost<T: Queryable>(self, operand: &Operand<'_, '_, T>) -> usize {
+    pub fn text_cost<T: Queryable>(self, operand: &Operand<'_, '_, T>) -> usize
+        requires { IsTrue (operand_is_whole T.is_whole operand.now) }
+    {
         match self {
             Limit::Unlimited => 0,
             Limit::Limited => text_bytes(operand),
@@ -29,7 +35,10 @@ impl Limit {
         left: &Operand<'_, '_, T>,
         right: &Operand<'_, '_, T>,
     ) -> Walked<usize>
-        ensures { IfErr result (λ h. h ≡ Memory) }
+        requires left { IsTrue (operand_is_whole T.is_whole left.now) }
+        requires right { IsTrue (operand_is_whole T.is_whole right.now) }
+        ensures cost { IfOk result (λ n. self ≡ Limited → n ≡ compared_cost (valued T.tree left.now) (valued T.tree right.now)) }
+        ensures memory { IfErr result (λ h. h ≡ Memory) }
     {
         match self {
             Limit::Unlimited => Ok(0),
@@ -40,20 +49,24 @@ impl Limit {
         }
     }
 
-    /// What a custom function costs: the product of the sizes of its arguments.
+    /// What a custom function costs: one for each value that it is given, and the product of their sizes.
     #[inline(always)]
     pub fn custom_cost<T: Queryable>(self, alloc: Global, args: &[Arg<'_, T>]) -> Walked<usize>
-        ensures { IfErr result (λ h. h ≡ Memory) }
+        requires { AreWhole T.is_whole args.now }
+        ensures each { IfOk result (λ n. self ≡ Limited → length args.now ≤ n) }
+        ensures memory { IfErr result (λ h. h ≡ Memory) }
     {
         match self {
             Limit::Unlimited => Ok(0),
-            Limit::Limited => product_of_sizes(alloc, args),
+            Limit::Limited => size_of_arguments(alloc, args),
         }
     }
 }
 
 /// How many bytes the text has, if it is one of the document.
-fn text_bytes<T: Queryable>(operand: &Operand<'_, '_, T>) -> usize {
+fn text_bytes<T: Queryable>(operand: &Operand<'_, '_, T>) -> usize
+    requires { IsTrue (operand_is_whole T.is_whole operand.now) }
+{
     match value_in(operand) {
         Some(value) => match value.as_str() {
             Some(text) => text.len(),
@@ -64,7 +77,11 @@ fn text_bytes<T: Queryable>(operand: &Operand<'_, '_, T>) -> usize {
 }
 
 /// The value, if it is one of the document or one that a custom function made.
-fn value_in<'k, T: Queryable>(operand: &'k Operand<'_, '_, T>) -> Option<&'k T> {
+fn value_in<'k, T: Queryable>(operand: &'k Operand<'_, '_, T>) -> Option<&'k T>
+    requires { IsTrue (operand_is_whole T.is_whole operand.now) }
+    ensures value { option_map (λ v. T.tree v.now) result ≡ valued T.tree operand.now }
+    ensures whole { IfSome result (λ v. IsTrue (T.is_whole v.now)) }
+{
     match operand {
         Operand::Lent(value) => Some(*value),
         Operand::Made(value) => Some(value),
@@ -72,86 +89,128 @@ fn value_in<'k, T: Queryable>(operand: &'k Operand<'_, '_, T>) -> Option<&'k T> 
     }
 }
 
-/// The size of the smaller of two values. The cost goes with that, not with the larger one.
+/// The size of the smaller of two values. The time goes with that, not with the larger one.
 fn smaller_size<T: Queryable>(alloc: Global, left: &T, right: &T) -> Walked<usize>
-    ensures { IfErr result (λ h. h ≡ Memory) }
+    requires left { IsTrue (T.is_whole left.now) }
+    requires right { IsTrue (T.is_whole right.now) }
+    ensures size { IfOk result (λ n. n ≡ smaller_cost (T.tree left.now) (T.tree right.now)) }
+    ensures memory { IfErr result (λ h. h ≡ Memory) }
 {
-    let mut most: usize = 64;
-    for _ in 0..10 {
-        let size = size_within(alloc, left, most)?;
-        if size < most {
-            return Ok(size);
+    let most = bound_of_smaller(alloc, left, right)?;
+    let size = size_within(alloc, left, most)?;
+    size_within(alloc, right, size)
+}
+
+/// A bound that the size of the smaller of two values keeps. Each is counted as far as some bound, which is raised until one of
+/// them lies below it.
+fn bound_of_smaller<T: Queryable>(alloc: Global, left: &T, right: &T) -> Walked<usize>
+    requires left { IsTrue (T.is_whole left.now) }
+    requires right { IsTrue (T.is_whole right.now) }
+    ensures bound { IfOk result (λ n. smaller_cost (T.tree left.now) (T.tree right.now) ≤ n) }
+    ensures memory { IfErr result (λ h. h ≡ Memory) }
+{
+    let mut most: usize = 4;
+    while most < usize::MAX {
+        if size_within(alloc, left, most)? < most {
+            return Ok(most);
         }
-        let size = size_within(alloc, right, most)?;
-        if size < most {
-            return Ok(size);
+        if size_within(alloc, right, most)? < most {
+            return Ok(most);
         }
-        most = most.saturating_mul(64);
+        most = most.saturating_mul(4);
     }
     Ok(most)
 }
 
-/// The product of the sizes of these values.
-fn product_of_sizes<T: Queryable>(alloc: Global, args: &[Arg<'_, T>]) -> Walked<usize>
-    ensures { IfErr result (λ h. h ≡ Memory) }
+/// How many these values are, and the product of their sizes.
+fn size_of_arguments<T: Queryable>(alloc: Global, args: &[Arg<'_, T>]) -> Walked<usize>
+    requires { AreWhole T.is_whole args.now }
+    ensures each { IfOk result (λ n. length args.now ≤ n) }
+    ensures memory { IfErr result (λ h. h ≡ Memory) }
 {
     let mut product: usize = 1;
     for arg in args {
         let size = size_within(alloc, arg.get(), usize::MAX)?;
         product = product.saturating_mul(size);
     }
-    Ok(product)
+    Ok(product.saturating_add(args.len()))
 }
 
-/// The size of a value: one for each value in it, and for each few bytes of its texts. Where that is `most` or more, it is not
-/// counted to the end.
+/// The size of a value, or `most` where that is less: one for each value in it, and for each few bytes of its texts and names.
+/// It is not counted further than that, and of a value of which one is wanted nothing is looked at.
 #[cycle(size)]
 fn size_within<T: Queryable>(alloc: Global, value: &T, most: usize) -> Walked<usize>
-    ensures { IfErr result (λ h. h ≡ Memory) }
+    requires { IsTrue (T.is_whole value.now) }
+    ensures size { IfOk result (λ n. n ≡ min (cost (T.tree value.now)) most) }
+    ensures memory { IfErr result (λ h. h ≡ Memory) }
 {
-    if most == 0 {
-        return Ok(0);
+    if most <= 1 {
+        return Ok(most);
     }
     if let Some(text) = value.as_str() {
-        return Ok((text.len() / BYTES).saturating_add(1));
+        return Ok((text.len() / BYTES).saturating_add(1).min(most));
     }
     if let Some(items) = value.as_array() {
-        return elements_size(alloc, items, most - 1);
+        let inside = elements_size(alloc, items, most - 1)?;
+        return Ok(inside.saturating_add(1));
     }
-    match value.as_object(alloc)? {
-        Some(members) => members_size(alloc, &members, most - 1),
-        None => Ok(1),
-    }
+    let inside = inside_size(alloc, value, most - 1)?;
+    Ok(inside.saturating_add(1))
 }
 
-/// The size of a list of these elements.
+/// The sizes of these elements together, or `most` where that is less.
 #[cycle(size)]
 fn elements_size<T: Queryable>(alloc: Global, items: &Vec<T>, most: usize) -> Walked<usize>
-    ensures { IfErr result (λ h. h ≡ Memory) }
+    requires { All (λ x. IsTrue (T.is_whole x)) items.now.items }
+    ensures size { IfOk result (λ n. n ≡ min (elements_cost (map T.tree items.now.items)) most) }
+    ensures memory { IfErr result (λ h. h ≡ Memory) }
 {
-    let mut size: usize = 1;
+    let mut size: usize = 0;
     for item in items {
         if size >= most {
-            return Ok(size);
+            return Ok(most);
         }
         size = size.saturating_add(size_within(alloc, item, most - size)?);
     }
     Ok(size)
 }
 
-/// The size of an object of these members.
+/// The sizes of the members of a value together, with their names, or `most` where that is less. Where an object has so many
+/// members, they are not listed.
+#[cycle(size)]
+fn inside_size<T: Queryable>(alloc: Global, value: &T, most: usize) -> Walked<usize>
+    requires whole { IsTrue (T.is_whole value.now) }
+    requires text { None ≡ as_text (T.tree value.now) }
+    requires list { None ≡ as_list (T.tree value.now) }
+    ensures size { IfOk result (λ n. n ≡ min (cost (T.tree value.now) - 1) most) }
+    ensures memory { IfErr result (λ h. h ≡ Memory) }
+{
+    let count = value.member_count(alloc)?.unwrap_or(0);
+    if count >= most {
+        return Ok(most);
+    }
+    match value.as_object(alloc)? {
+        Some(members) => members_size(alloc, &members, most),
+        None => Ok(0),
+    }
+}
+
+/// The sizes of these members together, with their names, or `most` where that is less.
 #[cycle(size)]
 fn members_size<T: Queryable>(
     alloc: Global,
     members: &Vec<(&str, &T)>,
     most: usize,
 ) -> Walked<usize>
-    ensures { IfErr result (λ h. h ≡ Memory) }
+    requires { All (λ m. IsTrue (T.is_whole m.1.now)) members.now.items }
+    ensures size { IfOk result (λ n. n ≡ min (pairs_cost (map (λ m. (m.0.now, T.tree m.1.now)) members.now.items)) most) }
+    ensures memory { IfErr result (λ h. h ≡ Memory) }
 {
-    let mut size: usize = 1;
+    let mut size: usize = 0;
     for member in members {
+        size = size.saturating_add(member.0.len() / BYTES);
         if size >= most {
-            return Ok(size);
+            return Ok(most);
         }
         size = size.saturating_add(size_within(alloc, member.1, most - size)?);
     }

@@ -18,7 +18,7 @@ use crate::documents::value::count_scalar;
 use crate::selection::lookup::{Followed, follow};
 use crate::selection::plan::{Argument, Call, Nodes, Segment};
 use crate::selection::singular::value_at;
-use jsonpath_base::text::text_length;
+use jsonpath_base::text_length;
 
 /// What a function of nodes that are looked up returns; None where that takes a walk, or memory.
 #[inline(always)]

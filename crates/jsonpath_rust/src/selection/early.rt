@@ -3,22 +3,35 @@ ghost use Rattle.std.specs.Prelude.{◌≡◌, [], IfErr, OnOk};
 ghost use Rattle.jsonpath_rust.specs.declared.documents.halt.Halt.TheVariants.{Memory};
 ghost use Rattle.jsonpath_rust.specs.selection.inner.Keeping.{IsReady};
 
+use crate::documents::depth::is_deeper;
 use crate::documents::halt::{Halt, Walked};
 use crate::documents::queryable::Queryable;
-use crate::selection::plan::{Rooted, Turn};
+use crate::selection::budget::Limit;
+use crate::selection::plan::{MOST_AT_ONCE, Rooted, Turn};
 use crate::selection::sink::Wanted;
 use crate::selection::trail::Trail;
 use crate::selection::walk::Task;
-use jsonpath_base::way::Way;
+use jsonpath_base::engine::Way;
+
+/// How many levels of a document the walks that are on their way at once may stand on, all together: as many as three take in
+/// a document of 127 levels.
+const MOST_LEVELS: usize = 405;
+
+/// What each of them takes beside the document, in levels.
+const LEVELS_BESIDE: usize = 8;
 
 impl<'a: 's, 's, T: Queryable> Task<'a, 's, T> {
-    /// Works out the entries whose turn is early, inner ones first, and comes back to the root.
+    /// Where that would stand too deep, works out the entries whose turn is early, inner ones first. It comes back to the root.
     pub fn work_out_early(&self, trail: &mut Trail<'a, 's, '_, T>) -> Walked<()>
         requires { IsReady T.tree T.is_whole T.custom self.now trail.old.cache }
         ensures ready { OnOk result (IsReady T.tree T.is_whole T.custom self.now trail.new.cache) }
         ensures way { OnOk result (trail.new.way.steps.items ≡ []) }
         ensures memory { IfErr result (λ h. h ≡ Memory) }
     {
+        if !self.stands_deep()? {
+            trail.way = Way::new(self.alloc);
+            return Ok(());
+        }
         for number in 0..self.plan.kept.len() {
             if let Some(wanted) = self.early_want(number) {
                 self.work_out(number, wanted, trail)?;
@@ -26,6 +39,23 @@ impl<'a: 's, 's, T: Queryable> Task<'a, 's, T> {
         }
         trail.way = Way::new(self.alloc);
         Ok(())
+    }
+
+    /// Whether the queries from the root, each asked in the walk of another, may stand on more levels of the document than they
+    /// may. Where the work is limited the document is not looked at.
+    fn stands_deep(&self) -> Walked<bool>
+        ensures { IfErr result (λ h. h ≡ Memory) }
+    {
+        if self.plan.nesting < MOST_AT_ONCE {
+            return Ok(false);
+        }
+        let levels = MOST_LEVELS / self.plan.nesting.saturating_add(1);
+        match self.limit {
+            Limit::Unlimited if levels >= LEVELS_BESIDE => {
+                is_deeper(self.alloc, self.root, levels - LEVELS_BESIDE)
+            }
+            _ => Ok(true),
+        }
     }
 
     /// What is wanted of the entry of this number, if its turn is early.
@@ -37,8 +67,8 @@ impl<'a: 's, 's, T: Queryable> Task<'a, 's, T> {
         }
     }
 
-    /// Works out an entry. Where a pattern in it is refused it is left, for the walk may never ask it. Where no work is left the
-    /// walk finds that out by itself.
+    /// Works out an entry. Where a pattern in it is too large that is kept, for the walk may never ask it. Where no work is left
+    /// the walk finds that out by itself.
     fn work_out(
         &self,
         number: usize,

@@ -25,8 +25,7 @@ use crate::selection::sink::Wanted;
 use crate::selection::trail::Trail;
 use crate::selection::walk::Task;
 use jsonpath_base::Extent;
-use jsonpath_base::pattern::cells::Origin;
-use jsonpath_base::pattern::finders::{Asked, Finders};
+use jsonpath_base::engine::{Asked, Finders, Origin};
 use std::alloc::Global;
 
 impl<'a: 's, 's, T: Queryable> Task<'a, 's, T> {

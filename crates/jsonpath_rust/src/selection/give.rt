@@ -17,9 +17,7 @@ use crate::selection::plan::{Plan, plan_of, release};
 use crate::selection::sink::Sink;
 use crate::selection::trail::Trail;
 use crate::selection::walk::Task;
-use jsonpath_base::pattern::cells::{LentCells, QueryCells};
-use jsonpath_base::pattern::finders::{Finders, QueryFinders};
-use jsonpath_base::way::Way;
+use jsonpath_base::engine::{Finders, LentCells, QueryCells, QueryFinders, Way};
 use jsonpath_parser::model::JpQuery;
 use std::alloc::Global;
 

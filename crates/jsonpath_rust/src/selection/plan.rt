@@ -9,6 +9,7 @@ mod make;
 mod patterns;
 mod steps;
 
+pub use self::keeping::MOST_AT_ONCE;
 pub use self::make::plan_of;
 use crate::selection::sink::Wanted;
 use jsonpath_parser::model::{Literal, Operator, SingularQuerySegment};
@@ -24,6 +25,8 @@ pub struct Plan {
     pub segments: Vec<Segment>,
     /// What is kept, by number. An entry that stands in the filters of another has the smaller number.
     pub kept: Vec<Entry>,
+    /// How many queries from the root stand in one another.
+    pub nesting: usize,
     /// How many patterns have a number. Each is smaller than this.
     pub pattern_count: usize,
     ghost settled: { IsSettled kept.items } by { IsSettled-prop kept.items },
@@ -55,7 +58,7 @@ pub enum Rooted {
 pub enum Turn {
     /// When it is first asked.
     Asked,
-    /// Before the walk, so that never more than a few entries are on their way at once.
+    /// Before the walk where the document is deep, so that never more than a few entries are on their way at once.
     Early,
 }
 

@@ -1,8 +1,9 @@
 //! A query that is prepared once, to be asked of many documents.
-ghost use Rattle.std.specs.Prelude.{◌≡◌, ◌↔◌, [], map, All, IsTrue, IsFalse, IfOk, IfErr, IfSome, IfNone, string_bytes, vec_len};
+ghost use Rattle.std.specs.Prelude.{◌≡◌, ◌↔◌, [], map, All, IsTrue, IsFalse, IfOk, IfErr, IfSome, IfNone, string_bytes};
 ghost use Rattle.std.specs.List.{AllZip};
 ghost use Rattle.jsonpath_parser.specs.tree.View.{query_view};
 ghost use Rattle.jsonpath_parser.specs.declared.errors.JsonPathError.TheVariants.{OutOfMemory};
+ghost use Rattle.jsonpath_base.specs.Engine.{finder_count};
 ghost use Rattle.jsonpath_rust.specs.documents.Answer.{IsNodeAt, IsPathAt, IsValueAt, shown, paths_of};
 ghost use Rattle.jsonpath_rust.specs.documents.Document.{document_of};
 ghost use Rattle.jsonpath_rust.specs.documents.Meaning.{selected};
@@ -16,8 +17,7 @@ use crate::selection::budget::Budget;
 use crate::selection::give::Request;
 use crate::selection::planned::Planned;
 use crate::selection::runner::Runner;
-use jsonpath_base::pattern::cells::QueryCells;
-use jsonpath_base::pattern::finders::QueryFinders;
+use jsonpath_base::engine::{QueryCells, QueryFinders};
 use jsonpath_parser::model::JpQuery;
 use std::alloc::Global;
 
@@ -134,7 +134,7 @@ impl Prepared {
 
     /// What asks its patterns, with none asked yet.
     pub(crate) fn finders(&self, alloc: Global) -> QueryFinders<'_>
-        ensures { vec_len result.finders ≡ 0 }
+        ensures { finder_count result ≡ 0 }
     {
         QueryFinders::new(alloc, &self.cells)
     }

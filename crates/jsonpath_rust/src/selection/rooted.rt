@@ -19,7 +19,7 @@ use crate::selection::plan::Called;
 use crate::selection::singular::value_at;
 use crate::selection::trail::Trail;
 use crate::selection::walk::Task;
-use jsonpath_base::way::Way;
+use jsonpath_base::engine::Way;
 use std::alloc::Global;
 use std::mem;
 

@@ -17,7 +17,7 @@ use crate::selection::budget::Budget;
 use crate::selection::give::give_requested;
 use crate::selection::prepared::Prepared;
 use crate::selection::sink::Sink;
-use jsonpath_base::pattern::finders::QueryFinders;
+use jsonpath_base::engine::QueryFinders;
 use jsonpath_parser::model::JpQuery;
 use std::alloc::Global;
 use std::mem;
@@ -30,12 +30,14 @@ use std::mem;
 ///
 /// - one for each child that a `*`, a slice or `..` looks at, and two for each that a filter is tried on;
 /// - one for each selector of several in one segment, and for each operand of `&&` and `||`;
-/// - one for each value in the smaller side of a comparison, 16 bytes of a text as one;
+/// - one for each value in the smaller side of a comparison, and for each 16 bytes of its texts and names;
 /// - one for each byte of a text, or of a pattern of the document, that `length`, `match` or `search` reads;
-/// - the product of the sizes of its arguments for each custom function; `count` and `value` spend what their walks spend.
+/// - one for each value that a custom function is given, and the product of their sizes, counted so; `count` and `value` spend
+///   what their walks spend.
 ///
-/// Names and indexes cost nothing by themselves. The time of a unit grows with the length of the query alone, but for two things:
-/// a pattern of the document that is built, and the path of a node, which is copied.
+/// Names and indexes cost nothing by themselves. The time of a unit grows with the length of the query alone, but for three
+/// things: a pattern that is built, the path of a node, which is copied, and the members of an object, which are listed where
+/// its type has no `member_count` of its own.
 #[derive(Drop)]
 pub struct Runner<'p> {
     prepared: &'p Prepared,

@@ -1,9 +1,10 @@
 //! What is done with the nodes that a walk meets.
 ghost use Rattle.std.specs.Prelude.{◌≡◌, suc, min, ◌∷◌, [], map, option_map, IsTrue, false, IfOk, IfErr, OnOk, string_bytes};
 ghost use Rattle.jsonpath_base.specs.Steps.{location_view};
-ghost use Rattle.jsonpath_base.specs.inner.Marks.{marked};
+ghost use Rattle.jsonpath_base.specs.RemovalViews.{removal_set, removal_count};
 ghost use Rattle.jsonpath_rust.specs.declared.documents.halt.Halt.TheVariants.{Memory};
 ghost use Rattle.jsonpath_rust.specs.documents.Answer.{shown, paths_of};
+ghost use Rattle.jsonpath_rust.specs.documents.Functions.{greatest_count};
 ghost use Rattle.jsonpath_rust.specs.documents.Node.{Node, root_node};
 ghost use Rattle.jsonpath_rust.specs.selection.inner.Sinks.{Took, seen, seen_only, seen_first, start, add, any_in, count_in, only_in, first_in, nodes_in, nodes_whole, values_in, values_whole, paths_in, locations_in, removal_in};
 ghost use Rattle.jsonpath_rust.specs.selection.inner.Walking.{node_of};
@@ -12,7 +13,7 @@ use crate::documents::halt::Walked;
 use crate::documents::queryable::Queryable;
 use crate::documents::value::GREATEST_COUNT;
 use crate::documents::{QueryPath, QueryRef};
-use jsonpath_base::way::Way;
+use jsonpath_base::engine::Way;
 use jsonpath_base::{Removal, Step};
 use std::alloc::Global;
 
@@ -224,7 +225,7 @@ impl<'a, T: Queryable> Sink<'a, T> {
 
     /// What a `Removal` was given.
     pub fn into_removal(self) -> Option<Box<Removal>>
-        ensures { option_map (λ r. (marked r.value.marks, r.value.count)) result ≡ removal_in (seen T.tree T.is_whole self.entry) }
+        ensures { option_map (λ r. (removal_set r.value, removal_count r.value)) result ≡ removal_in (seen T.tree T.is_whole self.entry) }
     {
         match self {
             Sink::Removal(removal) => Some(removal),
@@ -266,7 +267,7 @@ impl<'a, T: Queryable> Sink<'a, T> {
 /// The count and one, up to [`GREATEST_COUNT`].
 #[inline(always)]
 fn one_more(count: usize) -> usize
-    ensures { result ≡ min (suc count) GREATEST_COUNT }
+    ensures { result ≡ min (suc count) greatest_count }
 {
     if count < GREATEST_COUNT {
         count + 1

@@ -20,7 +20,7 @@ use crate::selection::singular::looked_up;
 use crate::selection::sink::{Sink, Wanted};
 use crate::selection::trail::Trail;
 use crate::selection::walk::Task;
-use jsonpath_base::way::Way;
+use jsonpath_base::engine::Way;
 use std::mem;
 
 impl<'a: 's, 's, T: Queryable> Task<'a, 's, T> {
@@ -72,7 +72,7 @@ impl<'a: 's, 's, T: Queryable> Task<'a, 's, T> {
     }
 
     /// What the nodes of the query from the root that is kept under this number give of what is wanted. They are found when
-    /// that is first asked, and kept.
+    /// that is first asked, and kept; so is that a pattern in it is too large.
     #[cycle(walk)]
     pub fn kept_nodes(
         &self,
@@ -89,14 +89,18 @@ impl<'a: 's, 's, T: Queryable> Task<'a, 's, T> {
         let Some(segments) = self.plan.kept_segments(number, wanted) else {
             return Ok(Gathered::Own(Sink::of_one(self.alloc, wanted, self.root)?));
         };
-        if trail.cache.get(number).is_some() {
+        if trail.cache.has_nodes(number)? {
             return Ok(Gathered::Kept(number));
         }
         let root = Way::new(self.alloc);
         let here = mem::replace(&mut trail.way, root);
-        let nodes = self.gather(segments, wanted, self.root, trail)?;
-        trail.way = here;
-        trail.cache.keep(number, Given::Nodes(nodes));
-        Ok(Gathered::Kept(number))
+        match self.gather(segments, wanted, self.root, trail) {
+            Ok(nodes) => {
+                trail.way = here;
+                trail.cache.keep(number, Given::Nodes(nodes));
+                Ok(Gathered::Kept(number))
+            }
+            Err(halt) => Err(trail.cache.keep_halt(number, halt)),
+        }
     }
 }

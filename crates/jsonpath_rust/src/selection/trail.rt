@@ -1,8 +1,7 @@
 //! What a walk carries along.
 use crate::selection::budget::Budget;
 use crate::selection::cache::Cache;
-use jsonpath_base::pattern::finders::Finders;
-use jsonpath_base::way::Way;
+use jsonpath_base::engine::{Finders, Way};
 
 /// The way to the value at hand, what the call keeps, what asks its patterns, and the work that is left.
 #[derive(Drop)]

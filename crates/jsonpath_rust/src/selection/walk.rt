@@ -25,8 +25,7 @@ use crate::selection::onward::Onward;
 use crate::selection::plan::{Plan, Segment, Selector};
 use crate::selection::sink::Sink;
 use crate::selection::trail::Trail;
-use jsonpath_base::StepRef;
-use jsonpath_base::slice::slice_places;
+use jsonpath_base::{StepRef, slice_places};
 use std::alloc::Global;
 
 /// Start, end and step of a slice (RFC 9535, 2.3.4).

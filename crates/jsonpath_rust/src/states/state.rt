@@ -124,7 +124,7 @@ impl<'a, T: Queryable> State<'a, T> {
         self.content.ok_val()
     }
 
-    /// Whether it holds nothing, which nodes of which there is none are not.
+    /// Whether it holds nothing. A list without nodes is not nothing.
     pub fn is_nothing(&self) -> bool
         ensures { IsTrue result ↔ (content_of T.tree self.now.content ≡ nothing) }
     {

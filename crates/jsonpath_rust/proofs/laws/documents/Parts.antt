@@ -76,15 +76,6 @@ fold_next F f more xs i x was now all h e p v = ap (F (drop (i + 1) xs)) p ∙ s
 
 -- ---- two lists, place by place
 
-pub pair_failed : {X Y : Type 0} (F : List X → List Y → Bool) (f : X → Y → Bool) → ((x : X) (y : Y) (xs : List X) (ys : List Y) → F (x ∷ xs) (y ∷ ys) ≡ (f x y && F xs ys)) → (xs : List X) (ys : List Y) (i : ℕ) (x : X) (y : Y) (w : Bool) → i < length xs → i < length ys → x ≡ get_or xs i x → y ≡ get_or ys i y → f x y ≡ false → F (drop i xs) (drop i ys) ≡ w → false ≡ w
-pair_failed F f more xs ys i x y w h k e g t v = sym (ap (λ b. b && F (drop (i + 1) xs) (drop (i + 1) ys)) t) ∙ sym (more x y (drop (i + 1) xs) (drop (i + 1) ys)) ∙ sym (from_here (F (x ∷ drop (i + 1) xs)) ys i y k g) ∙ sym (from_here (λ zs. F zs (drop i ys)) xs i x h e) ∙ v
-
-pub pair_next : {X Y : Type 0} (F : List X → List Y → Bool) (f : X → Y → Bool) → ((x : X) (y : Y) (xs : List X) (ys : List Y) → F (x ∷ xs) (y ∷ ys) ≡ (f x y && F xs ys)) → (xs : List X) (ys : List Y) (i : ℕ) (x : X) (y : Y) (w : Bool) → i < length xs → i < length ys → x ≡ get_or xs i x → y ≡ get_or ys i y → f x y ≡ true → F (drop i xs) (drop i ys) ≡ w → F (drop (i + 1) xs) (drop (i + 1) ys) ≡ w
-pair_next F f more xs ys i x y w h k e g t v = sym (ap (λ b. b && F (drop (i + 1) xs) (drop (i + 1) ys)) t) ∙ sym (more x y (drop (i + 1) xs) (drop (i + 1) ys)) ∙ sym (from_here (F (x ∷ drop (i + 1) xs)) ys i y k g) ∙ sym (from_here (λ zs. F zs (drop i ys)) xs i x h e) ∙ v
-
-pub pairs_end : {X Y : Type 0} (F : List X → List Y → Bool) (xs : List X) (ys : List Y) (i : ℕ) (w : Bool) → length xs ≤ i → length ys ≤ i → F (drop i xs) (drop i ys) ≡ w → F [] [] ≡ w
-pairs_end F xs ys i w h k v = sym (at_drop_all (F []) ys i k) ∙ sym (at_drop_all (λ zs. F zs (drop i ys)) xs i h) ∙ v
-
 -- lists of two lengths are not the same place by place
 pub pairs_apart : {X Y : Type 0} (F : List X → List Y → Bool) (f : X → Y → Bool) → ((x : X) (y : Y) (xs : List X) (ys : List Y) → F (x ∷ xs) (y ∷ ys) ≡ (f x y && F xs ys)) → ((y : Y) (ys : List Y) → F [] (y ∷ ys) ≡ false) → ((x : X) (xs : List X) → F (x ∷ xs) [] ≡ false) → (xs : List X) (ys : List Y) → (length xs ≡ length ys → ⊥) → false ≡ F xs ys
 pairs_apart F f more left right [] [] h = absurd (h refl)

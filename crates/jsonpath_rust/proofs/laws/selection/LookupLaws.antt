@@ -1,16 +1,15 @@
 -- What is looked up is what the walk would select.
-use Rattle.std.proofs.Common.{◌≡◌, ℕ, suc, ℤ, true, false, nat_lt, min, List, [], ◌∷◌, length, append-nil, refl, sym, ◌∙◌, ap, subst, Some, None, option_map, arith}
+use Rattle.std.proofs.Common.{◌≡◌, ℕ, suc, ℤ, true, false, nat_lt, min, List, [], ◌∷◌, length, append-nil, refl, sym, ◌∙◌, ap, subst, Some, option_map, arith}
 use Rattle.std.specs.List.{flat_map}
 use Rattle.jsonpath_parser.specs.Location.{Location, index}
 use Rattle.jsonpath_parser.specs.tree.Syntax as syntax
 use Rattle.jsonpath_parser.specs.tree.Syntax.{Segment, one, wildcard, Segments, no_segments, segment}
-use Rattle.jsonpath_base.specs.Tree.{Tree, null, truth, number, text, list, object, elements, pairs, as_list, as_members, get}
+use Rattle.jsonpath_base.specs.Tree.{Tree, null, truth, number, text, list, object, elements, pairs, as_list, as_members}
 use Rattle.jsonpath_rust.specs.documents.Document.{Document}
+use Rattle.jsonpath_rust.specs.documents.Functions.{greatest_count}
 use Rattle.jsonpath_rust.specs.documents.Meaning.{replaced, indexed}
 use Rattle.jsonpath_rust.specs.documents.Node.{Node, root_node, below, children, children_at, element_nodes, member_nodes}
-use Rattle.jsonpath_rust.proofs.laws.documents.Trees.{named_some, named_none}
 use Rattle.jsonpath_rust.proofs.laws.selection.Walks.{flat_map-alone}
-use Rattle.jsonpath_rust.specs.declared.documents.value.TheConstants.{GREATEST_COUNT}
 use Rattle.jsonpath_rust.specs.selection.inner.Sinks.{Seen, any, count, nothing, values, start, give, add}
 use Rattle.jsonpath_rust.proofs.laws.selection.Sinks.{give-full, give-count}
 use Rattle.jsonpath_rust.specs.selection.inner.Walking.{through}
@@ -36,12 +35,6 @@ pub leads_nowhere : {A : Type 0} (tree : A → Tree) (g : Segment) (gs : Segment
 leads_nowhere tree g gs t h = record { leads = λ d n e. ap (flat_map (through gs d)) (h.leads d n e) }
 
 -- ---- one step
-
-pub name_there : (g : Segment) (k : List ℕ) (t u : Tree) → g ≡ one (syntax.Selector.name k) → Some u ≡ get k t → (d : Document) (n : Node) → n.tree ≡ t → trees_of (replaced g d n) ≡ u ∷ []
-name_there g k t u s h d n e = ap (λ q. trees_of (replaced q d n)) s ∙ sym (ap trees_of (named_some n.location k n.tree u (h ∙ ap (get k) (sym e))))
-
-pub name_nowhere : (g : Segment) (k : List ℕ) (t : Tree) → g ≡ one (syntax.Selector.name k) → None ≡ get k t → (d : Document) (n : Node) → n.tree ≡ t → replaced g d n ≡ []
-name_nowhere g k t s h d n e = ap (λ q. replaced q d n) s ∙ named_none n.location k n.tree (h ∙ ap (get k) (sym e))
 
 pub index_there : {X : Type 0} (tree : X → Tree) (g : Segment) (i : ℤ) (t : Tree) (k : ℕ) (x : X) → g ≡ one (syntax.Selector.index i) → ((l : Location) → below l (index k) (tree x) ∷ [] ≡ indexed i (record { location = l; tree = t })) → (d : Document) (n : Node) → n.tree ≡ t → trees_of (replaced g d n) ≡ tree x ∷ []
 index_there tree g i t k x s h d n e =
@@ -95,14 +88,6 @@ object_count (truth b) k h = absurd cc
 object_count (number n) k h = absurd cc
 object_count (text s) k h = absurd cc
 
-pub leaf_count : (t : Tree) → None ≡ as_list t → None ≡ option_map (λ ms. length ms) (as_members t) → 0 ≡ length (children (root_node t))
-leaf_count (object us) h k = absurd cc
-leaf_count (list us) h k = absurd cc
-leaf_count null h k = refl
-leaf_count (truth b) h k = refl
-leaf_count (number n) h k = refl
-leaf_count (text s) h k = refl
-
 -- ---- as many nodes as there are children
 
 pub any_of : (k : ℕ) (ns : List Node) → length ns ≡ k → any (nat_lt 0 k) ≡ give (any false) ns
@@ -111,7 +96,7 @@ any_of k (n ∷ ns) e =
     let some : nat_lt 0 k ≡ true = grind (arith, e) in
     ap any some ∙ sym (give-full (any true) ns refl)
 
-pub count_of : (k : ℕ) (ns : List Node) → length ns ≡ k → count (min k GREATEST_COUNT) ≡ give (count 0) ns
+pub count_of : (k : ℕ) (ns : List Node) → length ns ≡ k → count (min k greatest_count) ≡ give (count 0) ns
 count_of k ns e = ap count (omega (arith, e)) ∙ sym (give-count 0 ns (omega arith))
 
 -- ---- what is given

@@ -81,9 +81,6 @@ made_start m view source xs ys e = made_none m (λ kept. map (view kept) xs) (ma
 pub made_end : {Y A : Type 0} {old new : Maker} (part : Kept → List A) (source : Y → A) (ys : List Y) (i : ℕ) → length ys ≤ i → Made old new part (map source (take i ys)) → Made old new part (map source ys)
 made_end part source ys i h m = record { grows = m.grows; says = λ kept x. m.says kept x ∙ ap (map source) (take_all i ys h); right = m.right }
 
-pub map_next : {X Y A : Type 0} (view : X → A) (source : Y → A) (xs zs : List X) (x : X) (ys : List Y) (i : ℕ) (y : Y) → zs ≡ xs ++ x ∷ [] → i < length ys → y ≡ get_or ys i y → map view xs ≡ map source (take i ys) → view x ≡ source y → map view zs ≡ map source (take (i + 1) ys)
-map_next view source xs zs x ys i y p h e m n = ap (map view) p ∙ map-append view xs (x ∷ []) ∙ ap (λ l. l ++ view x ∷ []) m ∙ ap (λ a. map source (take i ys) ++ a ∷ []) (n ∙ ap source e) ∙ sym (map_more source ys i y h)
-
 -- one more of a list
 pub made_next : {X Y A : Type 0} {old mid new : Maker} (view : Kept → X → A) (source : Y → A) (xs zs : List X) (x : X) (ys : List Y) (i : ℕ) (y : Y) → zs ≡ xs ++ x ∷ [] → i < length ys → y ≡ get_or ys i y → Made old mid (λ kept. map (view kept) xs) (map source (take i ys)) → Made mid new (λ kept. view kept x) (source y) → Made old new (λ kept. map (view kept) zs) (map source (take (i + 1) ys))
 made_next view source xs zs x ys i y p h e m n = made_both (λ done a. done ++ a ∷ []) _ _ (λ kept. ap (map (view kept)) p ∙ map-append (view kept) xs (x ∷ [])) (map_more source ys i y h ∙ ap (λ z. map source (take i ys) ++ source z ∷ []) (sym e)) m n
@@ -132,17 +129,6 @@ made_kept {old = old} {mid = mid} {new = new} part s n k root m =
             rooted = ap (list_all part_is_rooted) grown ∙ list_all-append part_is_rooted (kept_in mid) (p ∷ []) ∙ and_from _ _ was.rooted (and_from _ _ (root was.rooted) refl);
           };
     }
-
--- one part, and then another one
-made_past : {A B : Type 0} {old mid new : Maker} {part : Kept → A} {other : Kept → B} {a : A} {b : B} → Made old mid part a → Made mid new other b → Made old new other b
-made_past {old = old} {mid = mid} {new = new} m n = record {
-  grows = extends_on (kept_in old) (kept_in mid) (kept_in new) m.grows n.grows;
-  says = n.says;
-  right = λ r. n.right (m.right r);
-}
-
-pub numbered_found : (old new : Maker) (part : Rooted) (s : Source) (n : ℕ) → IsBeside old new → IsNumberOf old.met.items s n → IsNumbered old new part s n
-numbered_found old new part s n b h = record { made = λ m root. made_past m (made_found old new s n b h) }
 
 pub numbered_kept : (old mid new : Maker) (part : Rooted) (s : Source) (n : ℕ) → IsBeside old mid → IsKept mid new part s n → IsNumbered old new part s n
 numbered_kept old mid new part s n b k = record { made = λ m root. made_kept part s n k (λ r. root (subst AreRooted (ap parts_of b.met) r)) (made_before b m) }

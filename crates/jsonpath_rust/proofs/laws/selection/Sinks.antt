@@ -7,13 +7,13 @@ use Rattle.std.specs.List.{AllByRecursion}
 use Rattle.jsonpath_parser.specs.Location.{Location}
 use Rattle.jsonpath_parser.specs.Normal.{normal}
 use Rattle.jsonpath_base.specs.Tree.{Tree, number}
-use Rattle.jsonpath_base.specs.Without.{is_among, distinct_count}
-use Rattle.jsonpath_base.specs.inner.Marks.{marked, also, counted_with, set_with}
+use Rattle.jsonpath_base.specs.RemovalViews.{removal_set, removal_count}
+use Rattle.jsonpath_base.specs.Without.{is_among, distinct_count, also, counted_with}
+use Rattle.jsonpath_base.specs.inner.Marks.{set_with}
 use Rattle.jsonpath_base.specs.declared.removal.Removal.{Removal}
 use Rattle.jsonpath_base.proofs.Removed.{set_begun}
 use Rattle.jsonpath_rust.specs.documents.Node.{Node, has_node}
-use Rattle.jsonpath_rust.specs.documents.Functions.{count_value, count_of, only_value}
-use Rattle.jsonpath_rust.specs.declared.documents.value.TheConstants.{GREATEST_COUNT}
+use Rattle.jsonpath_rust.specs.documents.Functions.{greatest_count, count_value, count_of, only_value}
 use Rattle.jsonpath_rust.specs.selection.inner.Sinks as sinks
 use Rattle.jsonpath_rust.specs.selection.inner.Sinks.{Seen, nodes, paths, values, locations, removal, any, count, nothing, one, several, first, add, give, full, any_in, only_in, first_in, nodes_in, nodes_whole, paths_in, locations_in, removal_in, values_in, values_whole, path_and_tree, IsRemovalOf, Took}
 
@@ -70,11 +70,11 @@ pub any_given : (ns : List Node) → any_in (give (any false) ns) ≡ has_node n
 any_given [] = refl
 any_given (n ∷ ns) = ap any_in (give-full (any true) ns refl)
 
-pub give-count : (k : ℕ) (ns : List Node) → k ≤ GREATEST_COUNT → give (count k) ns ≡ count (min (k + length ns) GREATEST_COUNT)
+pub give-count : (k : ℕ) (ns : List Node) → k ≤ greatest_count → give (count k) ns ≡ count (min (k + length ns) greatest_count)
 give-count k [] h = ap count (omega (arith, h))
-give-count k (n ∷ ns) h = give-count (min (suc k) GREATEST_COUNT) ns (omega arith) ∙ ap count (omega (arith, h))
+give-count k (n ∷ ns) h = give-count (min (suc k) greatest_count) ns (omega arith) ∙ ap count (omega (arith, h))
 
-twice : (n : ℕ) → min (min (0 + n) GREATEST_COUNT) GREATEST_COUNT ≡ min n GREATEST_COUNT
+twice : (n : ℕ) → min (min (0 + n) greatest_count) greatest_count ≡ min n greatest_count
 twice n = omega arith
 
 pub counted_all : (ns : List Node) → Some (count_value (sinks.count_in (give (count 0) ns))) ≡ count_of ns
@@ -156,15 +156,15 @@ pub given_removal : (set : Location → Bool) (k : ℕ) (z : Seen) (ns : List No
 given_removal set k z ns none is e = ap removal_in (e ∙ give-removal set k ns) ∙ ap Some (set_begun set k (map (λ n. n.location) ns) none is)
 
 -- a removal that was begun with no location is of those of the nodes that it was given
-pub removal_is : (begun r : Removal) (z : Seen) (ns : List Node) → ((l : Location) → marked begun.marks l ≡ false) → begun.count ≡ 0 → z ≡ give (removal (marked begun.marks) begun.count) ns
-    → Some (marked r.marks, r.count) ≡ removal_in z → IsRemovalOf r (map (λ n. n.location) ns)
+pub removal_is : (begun r : Removal) (z : Seen) (ns : List Node) → ((l : Location) → removal_set begun l ≡ false) → removal_count begun ≡ 0 → z ≡ give (removal (removal_set begun) (removal_count begun)) ns
+    → Some (removal_set r, removal_count r) ≡ removal_in z → IsRemovalOf r (map (λ n. n.location) ns)
 removal_is begun r z ns none is e h =
-    let all = h ∙ given_removal (marked begun.marks) begun.count z ns none is e in
-    let both : (marked r.marks, r.count) ≡ (is_among (map (λ n. n.location) ns), distinct_count (map (λ n. n.location) ns)) = ap (λ o. unwrap_or o (marked r.marks, r.count)) all in
+    let all = h ∙ given_removal (removal_set begun) (removal_count begun) z ns none is e in
+    let both : (removal_set r, removal_count r) ≡ (is_among (map (λ n. n.location) ns), distinct_count (map (λ n. n.location) ns)) = ap (λ o. unwrap_or o (removal_set r, removal_count r)) all in
     record { set = ap (λ p. p.0) both; count = ap (λ p. p.1) both }
 
-pub removal_there : {A : Type 0} (begun : Removal) (z : Seen) (ns : List Node) → ((l : Location) → marked begun.marks l ≡ false) → begun.count ≡ 0 → z ≡ give (removal (marked begun.marks) begun.count) ns → None ≡ removal_in z → A
-removal_there begun z ns none is e h = missed _ (h ∙ given_removal (marked begun.marks) begun.count z ns none is e)
+pub removal_there : {A : Type 0} (begun : Removal) (z : Seen) (ns : List Node) → ((l : Location) → removal_set begun l ≡ false) → removal_count begun ≡ 0 → z ≡ give (removal (removal_set begun) (removal_count begun)) ns → None ≡ removal_in z → A
+removal_there begun z ns none is e h = missed _ (h ∙ given_removal (removal_set begun) (removal_count begun) z ns none is e)
   where
     missed : {A X : Type 0} (x : X) → None ≡ Some x → A
     missed x h = absurd cc

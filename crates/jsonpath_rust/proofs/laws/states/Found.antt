@@ -1,6 +1,6 @@
 -- What is found below a pointer: the children of its value, and the lists and objects there and below.
-use Rattle.std.proofs.Common.{◌≡◌, ℕ, suc, ◌+◌, ◌<◌, ◌≤◌, List, [], ◌∷◌, ◌++◌, map, filter, cond, length, get_or, drop, drop-cons, add-one, append_assoc, append-nil, refl, sym, ◌∙◌, ap, arith, Bool, true, false, Option, Some, None, option_map}
-use Rattle.std.proofs.lemmas.List.{map-append, at_drop_all}
+use Rattle.std.proofs.Common.{◌≡◌, ℕ, suc, ◌+◌, ◌<◌, List, [], ◌∷◌, ◌++◌, map, filter, cond, length, get_or, append_assoc, append-nil, refl, sym, ◌∙◌, ap, arith, Bool, true, false, Option, Some, None}
+use Rattle.std.proofs.lemmas.List.{map-append}
 use Rattle.std.specs.List.{flat_map}
 use Rattle.jsonpath_parser.specs.Location.{Location, name, index}
 use Rattle.jsonpath_parser.specs.Normal.{step_text, steps_text}
@@ -8,57 +8,12 @@ use Rattle.jsonpath_base.specs.Tree as base
 use Rattle.jsonpath_base.specs.Tree.{Tree, null, truth, number, text, list, object, Trees, no_trees, Members, no_members, elements, pairs, as_list, as_members}
 use Rattle.jsonpath_rust.specs.documents.Node.{Node, root_node, element_nodes, member_nodes, children, children_at, subtree, subtree_at, subtrees_at, member_subtrees}
 use Rattle.jsonpath_rust.specs.states.Process.{lists_same, lists_targets}
-use Rattle.jsonpath_rust.specs.states.State.{Target, refs, under, found_from, has_parts, parents_in, parents_from, in_parts, some, target_of}
+use Rattle.jsonpath_rust.specs.states.State.{Target, refs, under, found_from, has_parts, parents_in, in_parts, target_of}
 use Rattle.jsonpath_rust.specs.states.inner.Evaluating.{parts_from}
 use Rattle.jsonpath_rust.specs.declared.states.state.pointer.Pointer.{Pointer}
 use Rattle.jsonpath_rust.proofs.laws.documents.Parts.{filter_more}
 use Rattle.jsonpath_rust.proofs.laws.documents.Trees.{subtree-children, total, sizes_at}
 use Rattle.jsonpath_rust.specs.documents.inner.Size.{size, trees_size, members_size}
-
--- ---- a loop that counts: G k gives what is left from the k-th element on, g k gives that element
-
-pub counted_next : {X Y : Type 0} (G : ℕ → List X → List Y) (g : ℕ → X → List Y) → ((k : ℕ) (x : X) (xs : List X) → G k (x ∷ xs) ≡ g k x ++ G (suc k) xs) → (xs : List X) (i : ℕ) (x : X) (was now all : List Y) → i < length xs → x ≡ get_or xs i x → now ≡ was ++ g i x → was ++ G i (drop i xs) ≡ all → now ++ G (i + 1) (drop (i + 1) xs) ≡ all
-counted_next G g more xs i x was now all h e p v =
-    ap (λ ys. ys ++ G (i + 1) (drop (i + 1) xs)) p ∙ append_assoc was (g i x) (G (i + 1) (drop (i + 1) xs))
-    ∙ ap (λ ys. was ++ ys) (ap (λ j. g i x ++ G j (drop j xs)) (add-one i) ∙ sym (more i x (drop (suc i) xs)) ∙ ap (λ y. G i (y ∷ drop (suc i) xs)) e ∙ ap (G i) (sym (drop-cons xs i x h))) ∙ v
-
-pub counted_end : {X Y : Type 0} (G : ℕ → List X → List Y) → ((k : ℕ) → G k [] ≡ []) → (xs : List X) (i : ℕ) (was all : List Y) → length xs ≤ i → was ++ G i (drop i xs) ≡ all → was ≡ all
-counted_end G none xs i was all h v = sym (append-nil was) ∙ ap (λ ys. was ++ ys) (sym (none i) ∙ sym (at_drop_all (G i) xs i h)) ∙ v
-
--- ---- the children of a list or an object
-
-pub parts-list : (p : Target) (ts : List Tree) → Some ts ≡ as_list p.tree → Some (map (under p.path) (element_nodes [] 0 ts)) ≡ parts_from p
-parts-list p ts h = of_tree p.path p.tree ts h
-  where
-    of_tree : (path : List ℕ) (t : Tree) (ts : List Tree) → Some ts ≡ as_list t → Some (map (under path) (element_nodes [] 0 ts)) ≡ parts_from (record { path = path; tree = t })
-    of_tree path (list us) ts h = ap (λ o. option_map (λ xs. map (under path) (element_nodes [] 0 xs)) o) h
-    of_tree path (object us) ts h = cc
-    of_tree path null ts h = cc
-    of_tree path (truth b) ts h = cc
-    of_tree path (number n) ts h = cc
-    of_tree path (text s) ts h = cc
-
-pub parts-members : (p : Target) (ms : List (List ℕ × Tree)) → Some ms ≡ as_members p.tree → Some (map (under p.path) (member_nodes [] ms)) ≡ parts_from p
-parts-members p ms h = of_tree p.path p.tree ms h
-  where
-    of_tree : (path : List ℕ) (t : Tree) (ms : List (List ℕ × Tree)) → Some ms ≡ as_members t → Some (map (under path) (member_nodes [] ms)) ≡ parts_from (record { path = path; tree = t })
-    of_tree path (object us) ms h = ap (λ o. option_map (λ xs. map (under path) (member_nodes [] xs)) o) h
-    of_tree path (list us) ms h = cc
-    of_tree path null ms h = cc
-    of_tree path (truth b) ms h = cc
-    of_tree path (number n) ms h = cc
-    of_tree path (text s) ms h = cc
-
-pub parts-none : (p : Target) → None ≡ as_list p.tree → None ≡ as_members p.tree → None ≡ parts_from p
-parts-none p h k = of_tree p.path p.tree h k
-  where
-    of_tree : (path : List ℕ) (t : Tree) → None ≡ as_list t → None ≡ as_members t → None ≡ parts_from (record { path = path; tree = t })
-    of_tree path (list us) h k = cc
-    of_tree path (object us) h k = cc
-    of_tree path null h k = refl
-    of_tree path (truth b) h k = refl
-    of_tree path (number n) h k = refl
-    of_tree path (text s) h k = refl
 
 -- ---- the nodes of a subtree, from another path
 
@@ -139,28 +94,6 @@ parents-some p ps e = here (has_parts p.tree) refl
     here : (b : Bool) → has_parts p.tree ≡ b → parents_in p ≡ p ∷ flat_map parents_in ps
     here true h = parents-parts p ∙ ap (λ b. cond b (p ∷ []) [] ++ flat_map parents_in (found_from p children)) h ∙ ap (λ qs. p ∷ qs) (same_parts ps (found_from p children) (e ∙ ap (λ b. cond b (Some (found_from p children)) None) h))
     here false h = cc
-
-pub parents-none : (p : Target) → None ≡ parts_from p → parents_in p ≡ []
-parents-none p e = of_tree p.path p.tree e
-  where
-    of_tree : (path : List ℕ) (t : Tree) → None ≡ parts_from (record { path = path; tree = t }) → parents_in (record { path = path; tree = t }) ≡ []
-    of_tree path (list us) h = cc
-    of_tree path (object us) h = cc
-    of_tree path null h = refl
-    of_tree path (truth b) h = refl
-    of_tree path (number n) h = refl
-    of_tree path (text s) h = refl
-
--- the lists and objects there and below are some exactly where there is a list or an object
-pub parents-from : (p : Target) → some (parents_in p) ≡ parents_from p
-parents-from p = here (has_parts p.tree) refl
-  where
-    none_parents : (q : Target) → has_parts q.tree ≡ false → parents_in q ≡ []
-    none_parents q h = parents-none q (sym (ap (λ b. cond b (Some (found_from q children)) None) h))
-
-    here : (b : Bool) → has_parts p.tree ≡ b → some (parents_in p) ≡ in_parts (has_parts p.tree) (parents_in p)
-    here true h = ap some (parents-parts p) ∙ ap (λ b. some (cond b (p ∷ []) [] ++ flat_map parents_in (found_from p children))) h ∙ ap (λ b. refs (cond b (p ∷ []) [] ++ flat_map parents_in (found_from p children))) (sym h) ∙ ap refs (sym (parents-parts p)) ∙ ap (λ b. in_parts b (parents_in p)) (sym h)
-    here false h = ap some (none_parents p h) ∙ ap (λ b. in_parts b (parents_in p)) (sym h)
 
 -- ---- each part is smaller
 

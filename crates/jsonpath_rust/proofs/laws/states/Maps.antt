@@ -1,5 +1,5 @@
 -- What `flat_map` makes of its closure's answers.
-use Rattle.std.proofs.Common.{◌≡◌, ℕ, length, arith, append-nil, List, [], ◌∷◌, ◌++◌, append_assoc, sym, ◌∙◌, ap, subst, refl, map, Vec, Global, Bool, IsTrue, IfOk, Result, Ok, Err, inl, inr, ◌⊎◌}
+use Rattle.std.proofs.Common.{◌≡◌, ℕ, length, arith, append-nil, List, [], ◌∷◌, ◌++◌, append_assoc, sym, ◌∙◌, ap, subst, refl, map, Vec, Global, Bool, IsTrue, inl, inr, ◌⊎◌}
 use Rattle.std.proofs.lemmas.List.Elements.{All-append, All-cons, All-nil, All-head, All-tail}
 use Rattle.std.proofs.lemmas.List.{map-append}
 use Rattle.std.specs.List.{AllZip, AllByRecursion, flat_map}
@@ -91,18 +91,10 @@ made_whole whole gives h (Refs ps) d w m = refs_whole whole d _ m.2 (whole_all w
 made_whole whole gives h (Value x) d w m = nothing_whole whole d m
 made_whole whole gives h Nothing d w m = nothing_whole whole d m
 
--- an answer of a closure is whole
-pub answer_whole : {D E : Type 0} (Post : Result D E → Type 0) (IsSo : D → Type 0) (r : Result D E) → ((d : D) → Post (Ok d) → IsSo d) → Post r → IfOk r IsSo
-answer_whole Post IsSo (Ok d) h post = h d post
-answer_whole Post IsSo (Err e) h post = tt
-
 -- each node is whole
 each_whole : {A : Type 0} (whole : A → Bool) (P : Pointer A → Type 0) → ((p : Pointer A) → IsTrue (whole p.inner.now) → P p) → (ps : List (Pointer A)) → PointersAreWhole whole ps → AllByRecursion P ps
 each_whole whole P h [] w = tt
 each_whole whole P h (p ∷ ps) w = (h p (All-head (λ q. IsTrue (whole q.inner.now)) p ps w), each_whole whole P h ps (All-tail (λ q. IsTrue (whole q.inner.now)) p ps w))
-
-pub may_ask : {A : Type 0} (whole : A → Bool) (P : Pointer A → Type 0) → ((p : Pointer A) → IsTrue (whole p.inner.now) → P p) → (d : Data A) → DataIsWhole whole d → AllByRecursion P (pointers d)
-may_ask whole P h d w = each_whole whole P h (pointers d) (whole_pointers whole d w)
 
 pub some_memory : {X : Type 0} (P : X → Type 0) (Q : Type 0) → ((x : X) → P x → Q) → (xs : List X) → SomeHas P xs → Q
 some_memory P Q h [] k = absurd k

@@ -9,6 +9,7 @@ use Rattle.jsonpath_rust.specs.declared.selection.plan.Turn.{Turn}
 use Rattle.jsonpath_rust.specs.declared.selection.plan.keeping.Source.{Source}
 use Rattle.jsonpath_rust.specs.declared.selection.plan.keeping.Source.TheVariants as source
 use Rattle.jsonpath_rust.specs.declared.selection.plan.keeping.Met.{Met}
+use Rattle.jsonpath_rust.specs.declared.selection.plan.keeping.Nesting.{Nesting}
 use Rattle.jsonpath_rust.specs.declared.selection.plan.make.Maker.{Maker}
 
 -- from the current node, or from the root
@@ -57,8 +58,8 @@ pub record IsKept (old new : Maker) (part : Rooted) (s : Source) (n : ℕ) : Typ
   pub number : n ≡ length old.met.items
   pub turn : Turn
   pub entries : new.kept.items ≡ old.kept.items ++ record { part = part; turn = turn } ∷ []
-  pub run : ℕ
-  pub met : new.met.items ≡ old.met.items ++ record { source = s; run = run } ∷ []
+  pub nesting : Nesting
+  pub met : new.met.items ≡ old.met.items ++ record { source = s; nesting = nesting } ∷ []
 
 -- the number of an entry that keeps what is sought
 pub record IsNumberOf (met : List Met) (sought : Source) (n : ℕ) : Type 0 where

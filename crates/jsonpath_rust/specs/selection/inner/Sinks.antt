@@ -4,11 +4,12 @@ use Rattle.jsonpath_parser.specs.Location.{Location}
 use Rattle.jsonpath_parser.specs.Normal.{normal}
 use Rattle.jsonpath_base.specs.Steps.{location_view}
 use Rattle.jsonpath_base.specs.Tree.{Tree}
-use Rattle.jsonpath_base.specs.Without.{is_among, distinct_count}
-use Rattle.jsonpath_base.specs.inner.Marks.{marked, also, counted_with}
+use Rattle.jsonpath_base.specs.RemovalViews.{removal_set, removal_count}
+use Rattle.jsonpath_base.specs.Without.{is_among, distinct_count, also, counted_with}
 use Rattle.jsonpath_base.specs.declared.removal.Removal.{Removal}
 use Rattle.jsonpath_rust.specs.documents.Node.{Node}
 use Rattle.jsonpath_rust.specs.documents.Answer.{shown, paths_of}
+use Rattle.jsonpath_rust.specs.documents.Functions.{greatest_count}
 use Rattle.jsonpath_rust.specs.declared.selection.sink.Sink.{Sink}
 use Rattle.jsonpath_rust.specs.declared.selection.sink.Sink.TheVariants as sink
 use Rattle.jsonpath_rust.specs.declared.selection.sink.Only.{Only}
@@ -16,7 +17,6 @@ use Rattle.jsonpath_rust.specs.declared.selection.sink.Only.TheVariants.{Nothing
 use Rattle.jsonpath_rust.specs.declared.selection.sink.Wanted.{Wanted}
 use Rattle.jsonpath_rust.specs.declared.selection.sink.Wanted.TheVariants as wanted
 use Rattle.jsonpath_rust.specs.declared.documents.node.QueryRef.{QueryRef}
-use Rattle.jsonpath_rust.specs.declared.documents.value.TheConstants.{GREATEST_COUNT}
 
 -- a node as it is answered: its Normalized Path and its tree
 abbrev pub path_and_tree : Node → List ℕ × Tree
@@ -49,7 +49,7 @@ seen tree whole (sink.Nodes refs) = nodes (map (λ r. whole r.val.now) refs.item
 seen tree whole (sink.Paths ps) = paths (paths_of ps.items)
 seen tree whole (sink.Values vs) = values (map (λ v. whole v.now) vs.items) (map (λ v. tree v.now) vs.items)
 seen tree whole (sink.Locations ls) = locations (map (λ l. location_view l.items) ls.items)
-seen tree whole (sink.Removal r) = removal (marked r.value.marks) r.value.count
+seen tree whole (sink.Removal r) = removal (removal_set r.value) (removal_count r.value)
 seen tree whole (sink.Any b) = any b
 seen tree whole (sink.Count n) = count n
 seen tree whole (sink.Only o) = seen_only tree whole o
@@ -70,7 +70,7 @@ add (values bs ts) n = values (bs ++ true ∷ []) (ts ++ n.tree ∷ [])
 add (locations ls) n = locations (ls ++ n.location ∷ [])
 add (removal set k) n = removal (also n.location set) (counted_with n.location set k)
 add (any b) n = any true
-add (count k) n = count (min (suc k) GREATEST_COUNT)
+add (count k) n = count (min (suc k) greatest_count)
 add nothing n = one true n.tree
 add (one b t) n = several
 add several n = several
@@ -152,5 +152,5 @@ pub record Took (s : Seen) (ns : List Node) (s' : Seen) (goes_on : Bool) : Type 
 
 -- The removal is of these locations.
 pub record IsRemovalOf (r : Removal) (ls : List Location) : Type 0 where
-  pub set : marked r.marks ≡ is_among ls
-  pub count : r.count ≡ distinct_count ls
+  pub set : removal_set r ≡ is_among ls
+  pub count : removal_count r ≡ distinct_count ls

@@ -30,29 +30,52 @@ pub enum Source<'q> {
 #[derive(Clone, Copy)]
 pub struct Met<'q> {
     pub source: Source<'q>,
-    /// How many queries from the root may be on their way at once when this one is first asked: it, where it is one, and
-    /// those that stand in it and are then first asked, one in the other. 0 where it is worked out before the walk, and where
-    /// it is a value.
+    pub nesting: Nesting,
+}
+
+/// How many queries from the root may be on their way at once when an entry is first asked: it, where it is one, and those
+/// that stand in it, one in the other. 0 where it is a value.
+#[derive(Clone, Copy)]
+pub struct Nesting {
+    /// Where those are worked out before the walk whose turn is early. 0 where it is one of them.
     pub run: usize,
+    /// Where none is.
+    pub whole: usize,
 }
 
-/// No run is as long as this. An entry that had this run is worked out before the walk.
-const MOST_AT_ONCE: usize = 3;
+/// No run is as long as this. An entry that had this run has an early turn.
+pub const MOST_AT_ONCE: usize = 3;
 
-/// The run of a query from the root, where this is the greatest of the entries that stand in it.
-fn run_over(inner: usize) -> usize {
-    if inner < MOST_AT_ONCE - 1 {
-        inner + 1
-    } else {
-        0
+impl Nesting {
+    /// Of no query.
+    pub const NONE: Nesting = Nesting { run: 0, whole: 0 };
+
+    /// The greater one of both.
+    fn max(self, other: Nesting) -> Nesting {
+        Nesting {
+            run: self.run.max(other.run),
+            whole: self.whole.max(other.whole),
+        }
     }
-}
 
-/// When a query from the root of this run is worked out.
-fn turn_of(run: usize) -> Turn {
-    match run {
-        0 => Turn::Early,
-        _ => Turn::Asked,
+    /// That of a query from the root, where this is the greatest of the entries that stand in it.
+    fn around(self) -> Nesting {
+        Nesting {
+            run: if self.run < MOST_AT_ONCE - 1 {
+                self.run + 1
+            } else {
+                0
+            },
+            whole: self.whole.saturating_add(1),
+        }
+    }
+
+    /// When a query from the root that has it is worked out.
+    fn turn(self) -> Turn {
+        match self.run {
+            0 => Turn::Early,
+            _ => Turn::Asked,
+        }
     }
 }
 
@@ -63,34 +86,34 @@ impl<'q> Maker<'q> {
         ensures beside { IsBeside self.old self.new }
     {
         let number = near_entry(&self.met, source)?;
-        self.run = self.run.max(self.met[number].run);
+        self.nesting = self.nesting.max(self.met[number].nesting);
         Some(number)
     }
 
-    /// Begins a part: what is met from now on stands in it. The result is the greatest run that was met around it.
-    pub fn begin(&mut self) -> usize
+    /// Begins a part: what is met from now on stands in it. The result is the greatest nesting that was met around it.
+    pub fn begin(&mut self) -> Nesting
         ensures { IsBeside self.old self.new }
     {
-        mem::replace(&mut self.run, 0)
+        mem::replace(&mut self.nesting, Nesting::NONE)
     }
 
-    /// Ends the part. The result is the greatest run that was met in it.
-    pub fn end(&mut self, around: usize) -> usize
+    /// Ends the part. The result is the greatest nesting that was met in it.
+    pub fn end(&mut self, around: Nesting) -> Nesting
         ensures { IsBeside self.old self.new }
     {
-        let inner = self.run;
-        self.run = around.max(inner);
+        let inner = self.nesting;
+        self.nesting = around.max(inner);
         inner
     }
 
     /// Makes the entry of a query from the root that was begun, and tells its number.
-    pub fn keep_query(&mut self, part: Rooted, source: Source<'q>, around: usize) -> Parsed<usize>
+    pub fn keep_query(&mut self, part: Rooted, source: Source<'q>, around: Nesting) -> Parsed<usize>
         ensures kept { IfOk result (λ n. IsKept self.old self.new part source.entry n) }
         ensures memory { IfErr result (λ e. e ≡ OutOfMemory) }
     {
-        let run = run_over(self.run);
-        self.run = around.max(run);
-        self.keep(part, turn_of(run), Met { source, run })
+        let nesting = self.nesting.around();
+        self.nesting = around.max(nesting);
+        self.keep(part, nesting.turn(), Met { source, nesting })
     }
 
     /// The number of a part that is made of this: that of an entry that is made of the same, or of one more.
@@ -124,16 +147,16 @@ impl<'q> Maker<'q> {
         source: Source<'q>,
         operator: Operator,
         sides: (Side, Side),
-        around: usize,
+        around: Nesting,
     ) -> Parsed<Filter>
         ensures made { IfOk result (λ f. IsCompared self.old self.new (Comparison operator sides.0 sides.1) source.entry f) }
         ensures memory { IfErr result (λ e. e ≡ OutOfMemory) }
     {
-        let run = self.end(around);
+        let nesting = self.end(around);
         let (left, right) = sides;
         if are_rooted_sides(&left, &right) {
             let part = Rooted::Comparison(operator, left, right);
-            let number = self.number(part, Met { source, run })?;
+            let number = self.number(part, Met { source, nesting })?;
             return Ok(Filter::Kept(number));
         }
         Ok(Filter::Comparison(operator, left, right))

@@ -10,14 +10,14 @@ ghost use Rattle.jsonpath_rust.specs.declared.selection.sink.Wanted.{Wanted};
 ghost use Rattle.jsonpath_rust.specs.declared.selection.sink.Wanted.TheVariants.{Only, Values};
 
 use super::absolute::is_rooted_call;
-use super::keeping::{Met, Source};
+use super::keeping::{Met, Nesting, Source};
 use super::steps::{steps_again, steps_of};
 use super::{
     Argument, Call, Called, Entry, Filter, Nodes, Plan, Rooted, Segment, Selector, Side, Turn,
 };
 use crate::selection::sink::Wanted;
 use jsonpath_base::Extent;
-use jsonpath_base::pattern::finders::Asked;
+use jsonpath_base::engine::Asked;
 use jsonpath_parser::errors::Parsed;
 use jsonpath_parser::model as tree;
 use jsonpath_parser::model::{JpQuery, Operator, SingularQuery};
@@ -32,7 +32,7 @@ pub fn plan_of(alloc: Global, query: &JpQuery) -> Parsed<Plan>
         alloc,
         kept: Vec::new(alloc),
         met: Vec::new(alloc),
-        run: 0,
+        nesting: Nesting::NONE,
         patterns: Vec::new(alloc),
     };
     let segments = maker.segments(&query.segments)?;
@@ -40,6 +40,7 @@ pub fn plan_of(alloc: Global, query: &JpQuery) -> Parsed<Plan>
     Ok(Plan {
         segments,
         kept: maker.kept,
+        nesting: maker.nesting.whole,
         pattern_count,
     })
 }
@@ -52,8 +53,8 @@ pub struct Maker<'q> {
     pub kept: Vec<Entry>,
     /// What each of them is made of.
     pub met: Vec<Met<'q>>,
-    /// The greatest run of the entries that were met since the one at hand began.
-    pub run: usize,
+    /// The greatest nesting of the entries that were met since the one at hand began.
+    pub nesting: Nesting,
     /// The patterns that have a number.
     pub patterns: Vec<Asked<'q>>,
 }
@@ -252,7 +253,8 @@ impl<'q> Maker<'q> {
                     return Ok(Side::Kept(number));
                 }
                 let part = Rooted::Value(steps_again(self.alloc, steps)?);
-                Ok(Side::Kept(self.keep(part, Turn::Asked, Met { source, run: 0 })?))
+                let nesting = Nesting::NONE;
+                Ok(Side::Kept(self.keep(part, Turn::Asked, Met { source, nesting })?))
             }
         }
     }
@@ -294,10 +296,10 @@ impl<'q> Maker<'q> {
     {
         let around = self.begin();
         let made = self.call(call)?;
-        let run = self.end(around);
+        let nesting = self.end(around);
         if is_rooted_call(&made) {
             let source = Source::Call(call);
-            let number = self.number(Rooted::Answer(made), Met { source, run })?;
+            let number = self.number(Rooted::Answer(made), Met { source, nesting })?;
             return Ok(Called::Kept(number));
         }
         Ok(Called::Here(Box::new(self.alloc, made)?))

@@ -11,7 +11,7 @@ ghost use Rattle.jsonpath_rust.specs.declared.selection.sink.Wanted.TheVariants.
 use super::Argument;
 use super::make::Maker;
 use jsonpath_base::Extent;
-use jsonpath_base::pattern::finders::Asked;
+use jsonpath_base::engine::Asked;
 use jsonpath_parser::errors::Parsed;
 use jsonpath_parser::model as tree;
 

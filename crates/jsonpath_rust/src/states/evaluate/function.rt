@@ -14,7 +14,8 @@ use crate::documents::queryable::{Arg, Queryable};
 use crate::documents::value::length_of;
 use crate::states::evaluate::value::{count_data, plain_value, truth_data};
 use crate::states::state::Data;
-use jsonpath_base::{Extent, found};
+use jsonpath_base::Extent;
+use jsonpath_base::engine::Asked;
 use std::alloc::Global;
 
 /// What `length` returns.
@@ -112,7 +113,10 @@ fn is_matched<T: Queryable>(
 {
     match (text, pattern) {
         (Some(text), Some(pattern)) => match (text.as_str(), pattern.as_str()) {
-            (Some(text), Some(pattern)) => Ok(found(alloc, text, pattern, extent)?),
+            (Some(text), Some(pattern)) => {
+                let asked = Asked { pattern, extent };
+                Ok(asked.is_found(alloc, text)?)
+            }
             _ => Ok(false),
         },
         _ => Ok(false),

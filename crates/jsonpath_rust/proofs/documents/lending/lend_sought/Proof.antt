@@ -38,8 +38,8 @@ use Rattle.jsonpath_rust.specs.contracts.documents.lending.is_found as g₀
 use Rattle.jsonpath_rust.proofs.documents.lending.is_found.Met.{met as met₀}
 use Rattle.jsonpath_rust.specs.contracts.documents.lending.steps_in as g₁
 use Rattle.jsonpath_rust.proofs.documents.lending.steps_in.Met.{met as met₁}
-use Rattle.jsonpath_base.specs.contracts.lending.at_mut as g₂
-use Rattle.jsonpath_base.proofs.lending.at_mut.Met.{met as met₂}
+use Rattle.jsonpath_base.specs.contracts.at_mut as g₂
+use Rattle.jsonpath_base.proofs.at_mut.Met.{met as met₂}
 
 abbrev stayed : Stays f.ended.signature.params f.ended.kept
 stayed = (stay_dropped (mut_ref_to (0 ∷ []) tt (plain (λ _. R))) no, (stay_dropped (RefOf (1 ∷ []) tt (plain (λ _. N)) (λ _. tt)) yes, tt))
@@ -91,7 +91,7 @@ lend_sought_spec 𝓤 𝓛 𝓜 𝓡 wired =
     let z₂ : G₂.Ghost = ((κs, qs, tt, (value, (steps, tt)), (mut_vals value, (shr_slice_vals steps, tt))), tt) in
     nothing ! $ move ! (1 ∷ 0 ∷ []) $ join ! $ move ! (3 ∷ 0 ∷ []) $ join ! $ move ! (1 ∷ 2 ∷ []) $ join ! $ move ! (2 ∷ 0 ∷ []) $ join ! $ join ! $
     use0 𝓛 (raw (emp 𝓤)) (id⊢ 𝓤 _) $ move ! (1 ∷ 0 ∷ []) $ use2 𝓛 (raw (G₂.pre z₂)) (id⊢ 𝓤 _) $
-    calls_at ! (framed 𝓤 𝓛.H 𝓜 𝓣) G₂ (met₂ 𝓤 𝓛 𝓜 𝓡 (code.calls-jsonpath_base::lending::at_mut 𝓡.env wired)) z₂ (and_then ! (get ! refl) (and_then ! (get ! refl) (no_more !))) (λ v₂.
+    calls_at ! (framed 𝓤 𝓛.H 𝓜 𝓣) G₂ (met₂ 𝓤 𝓛 𝓜 𝓡 (code.calls-jsonpath_base::at_mut 𝓡.env wired)) z₂ (and_then ! (get ! refl) (and_then ! (get ! refl) (no_more !))) (λ v₂.
     use1 𝓛 (later (some (λ (r : Option (MutBor R.Denot)). ((‵ (flft κ q) ⊛ Ts ⊛ ‵ ftrue) ⊛ ‵ (O.own_val r (v₂ ∷ []))) ⊛
     some (λ (ws : Lasts g₂.ended z₂.0.0 z₂.0.3). ‵ (lasts g₂.ended z₂.0.0 z₂.0.3 ws) ⊛ ‵ (LendsAt (location_view steps.now) value r) ⊛ (raw (fact 𝓤 (option_map (λ v. value_tree v.now) r ≡ at (location_view steps.now) doc)) ⊛ raw (fact 𝓤 (IsTrue (value_is_whole value.now) → IfSome r (λ v. IsTrue (value_is_whole v.now))))))))) (id⊢ 𝓤 _) $
     await ! tt $ pick ! (λ lent. split ! $ split ! $ split ! $ move ! (1 ∷ []) $ split ! $ move ! (4 ∷ []) $ pick ! (λ ws₂. split ! $ drop ! $ split ! $ move ! (1 ∷ []) $ split ! $ heard ! _ (λ lent_is. heard ! _ (λ lent_whole.

@@ -8,7 +8,7 @@ use Rattle.std.specs.List.{flat_map}
 use Rattle.jsonpath_parser.specs.Location.{name, index}
 use Rattle.jsonpath_parser.specs.tree.View.{operator_view, step_view}
 use Rattle.jsonpath_parser.specs.declared.tree.model.SingularQuerySegment.{SingularQuerySegment}
-use Rattle.jsonpath_rust.specs.selection.inner.PlanViews.{segments_meant, segment_view, selectors_meant, selector_view, filters_meant, filter_view, nodes_view, side_view, call_view, called_view, call_in, comparison_in, arguments_meant, argument_view, steps_query}
+use Rattle.jsonpath_rust.specs.selection.inner.PlanViews.{query_at, segments_meant, segment_view, selectors_meant, selector_view, filters_meant, filter_view, nodes_view, side_view, call_view, called_view, call_in, comparison_in, arguments_meant, argument_view, steps_query}
 use Rattle.jsonpath_rust.specs.selection.inner.PlanViews as plan
 use Rattle.jsonpath_rust.specs.declared.selection.plan.Argument.{Argument}
 use Rattle.jsonpath_rust.specs.declared.selection.plan.Filter.{Filter}
@@ -26,7 +26,7 @@ use Rattle.jsonpath_rust.specs.documents.Patterns.{segments_patterns, selectors_
 use Rattle.jsonpath_base.specs.Steps.{lent_step, lent_location}
 use Rattle.jsonpath_rust.specs.selection.inner.Walking.{action_patterns, through, node_of, acted}
 use Rattle.jsonpath_rust.specs.selection.inner.Sinks.{seen, give, start}
-use Rattle.jsonpath_rust.specs.selection.inner.Keeping.{document, gave, given_by, kept_of, nodes_or_none, slot_at, slots_of, value_by}
+use Rattle.jsonpath_rust.specs.selection.inner.Keeping.{document, given_by, kept_of, nodes_or_none, part_patterns, value_by}
 use Rattle.jsonpath_rust.specs.selection.inner.Keeping as keeping
 use Rattle.jsonpath_base.specs.declared.step.StepRef.TheVariants.{Name, Index}
 use Rattle.jsonpath_rust.proofs.laws.selection.Sinks.{took_none, took_as, took_stop, result_as, result_then, true_false}
@@ -36,7 +36,7 @@ use Rattle.jsonpath_rust.proofs.laws.documents.NodesAt.{member_there}
 use Rattle.jsonpath_rust.proofs.laws.selection.HaltingLaws.{asked_as, asked_left, asked_right, asked_rest, asked_at, asked_at_or, halts_as, halts_so, pattern_asked}
 use Rattle.jsonpath_rust.proofs.laws.documents.Trees.{child_there, all_at, element_size, pair_size, member_size, element_at, sliced-list, named_some, named_none}
 use Rattle.jsonpath_rust.proofs.laws.documents.Parts.{part_of, kept_true, kept_false, some_found, some_next, each_failed, each_next, parts_end, ok_as, ok_through, differs, passed_on, joined_next}
-use Rattle.jsonpath_rust.proofs.laws.selection.Kept.{kept_query, found_there, gave_or_none, of_some, err_is}
+use Rattle.jsonpath_rust.proofs.laws.selection.Kept.{kept_query, of_some, err_is}
 use Rattle.jsonpath_rust.proofs.laws.selection.RootedLaws.{answer_as, answer_kept, comparison_as, comparison_kept, kept_call_same, kept_comparison_same}
 use Rattle.jsonpath_rust.specs.documents.Comparing.{compares}
 use Rattle.jsonpath_rust.specs.documents.Functions.{length_of, as_value, as_trees, as_truth, is_matched, is_true}
@@ -1286,46 +1286,61 @@ kept_nodes-gather-requires g t c κs within =
     (down _ _ _ _ _ _ c.decreases (omega (arith, ap segments_weight e)) (omega arith), (within, root))
 
 pub kept_nodes-keep-requires : goal.kept_nodes-keep-requires
-kept_nodes-keep-requires g t c = subst (λ k. c.args.number < k) (sym c.in_ok-nodes.ensures.returns.ready.kept.room) c.in-Some.ensures.within
+kept_nodes-keep-requires g t c = subst (λ k. c.args.number < k) (sym c.in-Ok.ensures.returns.ready.kept.room) c.in-Some.ensures.within
+
+pub kept_nodes-keep_halt-requires : goal.kept_nodes-keep_halt-requires
+kept_nodes-keep_halt-requires g t c = subst (λ k. c.args.number < k) (sym c.in-Err.ensures.ready.kept.room) c.in-Some.ensures.within
 
 pub kept_nodes-returns-in_default-clause-given : goal.kept_nodes-returns-in_default-clause-given
 kept_nodes-returns-in_default-clause-given g t c =
     let d = document g.T.Queryable.tree g.T.Queryable.custom c.args.self.now in
     c.in_ok-of_one.ensures.given ∙ sym (ap (λ q. give (start c.args.wanted) (nodelist q d)) c.in_default.ensures.none)
 
-pub kept_nodes-returns-then-is_some-clause-given : goal.kept_nodes-returns-then-is_some-clause-given
-kept_nodes-returns-then-is_some-clause-given g t c =
+pub kept_nodes-returns-then-branch-clause-given : goal.kept_nodes-returns-then-branch-clause-given
+kept_nodes-returns-then-branch-clause-given g t c =
     let kept = kept_of c.args.self.now in
-    let tree = g.T.Queryable.tree in
-    let whole = g.T.Queryable.is_whole in
-    let d = document tree g.T.Queryable.custom c.args.self.now in
-    let slot = slot_at tree whole (slots_of c.args.trail.now.cache) c.args.number in
-    let there : slot ≡ Some (gave_or_none slot) = found_there (λ s. gave tree whole s.now) c.get.result slot c.get.ensures (sym c.is_some.ensures ∙ c.if-is_some.true) in
-    ap nodes_or_none there ∙ ap (λ s. nodes_or_none (Some s)) (c.requires.kept.right c.args.number _ there ∙ ap (λ p. given_by p d) c.in-Some.ensures.part) ∙ ap (λ q. give (start c.args.wanted) (nodelist q d)) (sym (kept_query kept c.args.number c.args.wanted _ c.in-Some.ensures.part))
+    let d = document g.T.Queryable.tree g.T.Queryable.custom c.args.self.now in
+    let q = c.in-Some.ensures.part in
+    c.in_ok-has_nodes.ensures.nodes kept d c.args.wanted _ c.requires.kept q c.if-branch.true ∙ ap (λ x. give (start c.args.wanted) (nodelist x d)) (sym (kept_query kept c.args.number c.args.wanted _ q))
 
-pub kept_nodes-returns-then-is_some-clause-returns : goal.kept_nodes-returns-then-is_some-clause-returns
-kept_nodes-returns-then-is_some-clause-returns g t c = stays c.requires
+pub kept_nodes-returns-then-branch-clause-returns : goal.kept_nodes-returns-then-branch-clause-returns
+kept_nodes-returns-then-branch-clause-returns g t c = stays c.requires
 
-pub kept_nodes-returns-clause-given : goal.kept_nodes-returns-clause-given
-kept_nodes-returns-clause-given g t c =
+pub kept_nodes-returns-in-Ok-clause-given : goal.kept_nodes-returns-in-Ok-clause-given
+kept_nodes-returns-in-Ok-clause-given g t c =
     let kept = kept_of c.args.self.now in
     let tree = g.T.Queryable.tree in
     let d = document tree g.T.Queryable.custom c.args.self.now in
     let gs = segments_meant kept c.in-Some.segments.now in
     let at = λ (q : List StepRef). through gs d (node_of tree q c.args.self.now.root.now) in
     let all = ap at (ap (λ w. w.steps.items) c.replace-here.ensures.after ∙ c.new-root.ensures) ∙ nodelist-through gs d ∙ ap (λ q. nodelist q d) (sym (kept_query kept c.args.number c.args.wanted _ c.in-Some.ensures.part)) in
-    ap nodes_or_none c.keep.ensures.value ∙ c.in_ok-nodes.ensures.given ∙ ap (give (start c.args.wanted)) all
+    ap nodes_or_none c.keep.ensures.value ∙ c.in-Ok.ensures.given ∙ ap (give (start c.args.wanted)) all
 
-pub kept_nodes-returns-clause-returns : goal.kept_nodes-returns-clause-returns
-kept_nodes-returns-clause-returns g t c =
+pub kept_nodes-returns-in-Ok-clause-returns : goal.kept_nodes-returns-in-Ok-clause-returns
+kept_nodes-returns-in-Ok-clause-returns g t c =
     let kept = kept_of c.args.self.now in
     let tree = g.T.Queryable.tree in
     let d = document tree g.T.Queryable.custom c.args.self.now in
     let gs = segments_meant kept c.in-Some.segments.now in
     let at = λ (q : List StepRef). through gs d (node_of tree q c.args.self.now.root.now) in
     let all = ap at (ap (λ w. w.steps.items) c.replace-here.ensures.after ∙ c.new-root.ensures) ∙ nodelist-through gs d in
-    let given = ap keeping.nodes (c.in_ok-nodes.ensures.given ∙ ap (give (start c.args.wanted)) all) ∙ sym (ap (λ p. given_by p d) c.in-Some.ensures.part) in
-    record { same = ap (λ w. w.steps.items) c.replace-here.ensures.value; ready = record { root = c.requires.root; kept = c.keep.ensures.right kept d given c.in_ok-nodes.ensures.returns.ready.kept } }
+    let given = ap keeping.nodes (c.in-Ok.ensures.given ∙ ap (give (start c.args.wanted)) all) ∙ sym (ap (λ p. given_by p d) c.in-Some.ensures.part) in
+    record { same = ap (λ w. w.steps.items) c.replace-here.ensures.value; ready = record { root = c.requires.root; kept = c.keep.ensures.right kept d given c.in-Ok.ensures.returns.ready.kept } }
+
+pub kept_nodes-returns-clause-ready : goal.kept_nodes-returns-clause-ready
+kept_nodes-returns-clause-ready g t c =
+    let kept = kept_of c.args.self.now in
+    let d = document g.T.Queryable.tree g.T.Queryable.custom c.args.self.now in
+    let halt = subst (λ p. IsHalt c.args.self.now.limit (part_patterns p) d c.in-Err.halt) (sym c.in-Some.ensures.part) c.in-Err.ensures.refused in
+    record { root = c.requires.root; kept = c.keep_halt.ensures.right kept d c.args.self.now.limit halt c.in-Err.ensures.ready.kept }
+
+pub kept_nodes-returns-clause-refused : goal.kept_nodes-returns-clause-refused
+kept_nodes-returns-clause-refused g t c =
+    let kept = kept_of c.args.self.now in
+    let d = document g.T.Queryable.tree g.T.Queryable.custom c.args.self.now in
+    let query = kept_query kept c.args.number c.args.wanted _ c.in-Some.ensures.part in
+    subst (λ h. IsHalt c.args.self.now.limit (segments_patterns (query_at kept c.args.wanted c.args.number)) d h) (sym c.keep_halt.ensures.same)
+    (subst (λ q. IsHalt c.args.self.now.limit (segments_patterns q) d c.in-Err.halt) (sym query) c.in-Err.ensures.refused)
 
 pub called-answer-requires : goal.called-answer-requires
 called-answer-requires g t c κs within =
@@ -1500,7 +1515,7 @@ pub custom-returns-in_err-cost-clause-refused : goal.custom-returns-in_err-cost-
 custom-returns-in_err-cost-clause-refused g t c =
     let d = document g.T.Queryable.tree g.T.Queryable.custom c.args.self.now in
     let ps = arguments_patterns (arguments_meant (kept_of c.args.self.now) c.args.args.now) in
-    passed_on c.from_residual-in_err-cost.result _ (IsHalt c.args.self.now.limit ps d) c.from_residual-in_err-cost.ensures.1 (λ y e. λ memory spent. absurd (memory (e ∙ c.in_err-cost.ensures)))
+    passed_on c.from_residual-in_err-cost.result _ (IsHalt c.args.self.now.limit ps d) c.from_residual-in_err-cost.ensures.1 (λ y e. λ memory spent. absurd (memory (e ∙ c.in_err-cost.ensures.memory)))
 
 pub custom-returns-in_err-extension_custom-clause-refused : goal.custom-returns-in_err-extension_custom-clause-refused
 custom-returns-in_err-extension_custom-clause-refused g t c =

@@ -244,10 +244,10 @@ comparison-returns-in_ok-side-in-Lte-2-clause-made t c =
 
 pub called-returns-then-is_rooted_call-clause-made : goal.called-returns-then-is_rooted_call-clause-made
 called-returns-then-is_rooted_call-clause-made t c =
-    let made = made_before c.end-run.ensures (made_after c.begin-around.ensures c.in_ok-made.ensures.made) in
+    let made = made_before c.end-nesting.ensures (made_after c.begin-around.ensures c.in_ok-made.ensures.made) in
     let part = made_as answered _ _ (λ kept. refl) refl made in
     made_as call_in _ _ (λ kept. plan.called_view-Kept kept _) refl (c.in_ok-number.ensures.numbered.made part (source_rooted call_is_rooted made (λ kept r. c.is_rooted_call.ensures c.if-is_rooted_call.true kept r)))
 
 pub called-returns-clause-made : goal.called-returns-clause-made
 called-returns-clause-made t c =
-    made_before c.end-run.ensures (made_after c.begin-around.ensures (made_as (λ x. x) _ _ (λ kept. plan.called_view-Here kept _ ∙ ap (call_view kept) (search rules)) refl c.in_ok-made.ensures.made))
+    made_before c.end-nesting.ensures (made_after c.begin-around.ensures (made_as (λ x. x) _ _ (λ kept. plan.called_view-Here kept _ ∙ ap (call_view kept) (search rules)) refl c.in_ok-made.ensures.made))

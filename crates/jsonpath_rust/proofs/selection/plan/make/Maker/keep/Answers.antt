@@ -6,6 +6,6 @@ returns-clause-kept c = record {
   number = search rules;
   turn = c.args.turn;
   entries = c.in_ok-push.ensures.items;
-  run = c.args.met.run;
+  nesting = c.args.met.nesting;
   met = c.in_ok-push-2.ensures.items;
 }

@@ -1,0 +1,49 @@
+-- What a value costs where the work of a walk is limited, for the contracts of the walk alone: the definitions here are no part of what a query means.
+use Rattle.std.specs.Prelude.{ℕ, ◌+◌, ◌-◌, ◌/◌, ◌^◌, min, List, [], ◌∷◌, length, Option, Some, None}
+use Rattle.jsonpath_base.specs.Tree.{Tree, null, truth, number, text, list, object, Trees, no_trees, tree, Members, no_members, member}
+use Rattle.jsonpath_rust.specs.declared.documents.value.Operand.{Operand}
+use Rattle.jsonpath_rust.specs.declared.documents.value.Operand.TheVariants as operand
+
+-- one for each value in it, and for each 16 bytes of its texts and names
+abbrev mutual
+  pub cost : Tree → ℕ
+  cost null = 1
+  cost (truth b) = 1
+  cost (number n) = 1
+  cost (text s) = length s / 16 + 1
+  cost (list ts) = trees_cost ts + 1
+  cost (object ms) = members_cost ms + 1
+
+  pub trees_cost : Trees → ℕ
+  trees_cost no_trees = 0
+  trees_cost (tree t ts) = cost t + trees_cost ts
+
+  pub members_cost : Members → ℕ
+  members_cost no_members = 0
+  members_cost (member k t ms) = length k / 16 + (cost t + members_cost ms)
+
+-- that of the elements of a list together
+abbrev pub elements_cost : List Tree → ℕ
+elements_cost [] = 0
+elements_cost (t ∷ ts) = cost t + elements_cost ts
+
+-- that of the members of an object together
+abbrev pub pairs_cost : List (List ℕ × Tree) → ℕ
+pairs_cost [] = 0
+pairs_cost (m ∷ ms) = length m.0 / 16 + (cost m.1 + pairs_cost ms)
+
+-- that of the smaller of two values; a number of 64 bits holds it
+abbrev pub smaller_cost : Tree → Tree → ℕ
+smaller_cost t u = min (min (cost t) (cost u)) (2 ^ 64 - 1)
+
+-- the tree of a side, if it is a value of the document or one that a custom function made
+abbrev pub valued : {A : Type 0} → (A → Tree) → Operand A → Option Tree
+valued t operand.Absent = None
+valued t (operand.Lent v) = Some (t v.now)
+valued t (operand.Made v) = Some (t v)
+valued t (operand.Plain s) = None
+
+-- of a comparison
+abbrev pub compared_cost : Option Tree → Option Tree → ℕ
+compared_cost (Some t) (Some u) = smaller_cost t u
+compared_cost _ _ = 1
