@@ -15,7 +15,7 @@ query_line _ = codes "jpath: not a query"
 -- each fault's exit status, and its line without the newline
 abbrev pub ending : fault.Fault → ℕ × List ℕ
 ending (Query e) = (1, query_line e)
-ending Usage = (2, codes "jpath: usage: jpath nodes|values|paths|delete [--depth N] QUERY")
+ending Usage = (2, codes "jpath: usage: jpath nodes, values, paths or delete, then a query")
 ending NotJson = (3, codes "jpath: input is not JSON")
 ending NotWhole = (4, codes "jpath: the document holds a number that is no whole number of 64 bits")
 ending Io = (5, codes "jpath: reading or writing failed")

@@ -61,7 +61,7 @@ impl fmt::Display for Fault {
             ),
             Fault::Query(_) => f.write_str("jpath: not a query"),
             Fault::Usage => f.write_str(
-                "jpath: usage: jpath nodes|values|paths|delete [--depth N] QUERY",
+                "jpath: usage: jpath nodes, values, paths or delete, then a query",
             ),
             Fault::NotJson => f.write_str("jpath: input is not JSON"),
             Fault::NotWhole => {

@@ -1,8 +1,55 @@
-//! What no row asks of a run: streams that give and take little at a time, and that fail.
+//! What no row asks of a run: streams that give and take little at a time, and that fail; and how often it flushes.
 use crate::run::run;
 use std::alloc::Global;
 use std::io;
 use std::io::{ErrorKind, Read, Write};
+
+/// A run, and how it ends where its streams do not fail.
+struct Case {
+    words: &'static [&'static str],
+    document: &'static [u8],
+    status: u8,
+    output: &'static [u8],
+}
+
+static CASES: [Case; 6] = [
+    Case {
+        words: &["nodes", "$[*]"],
+        document: b"[1,2]",
+        status: 0,
+        output: b"$[0]\t1\n$[1]\t2\n",
+    },
+    Case {
+        words: &["values", "$.x"],
+        document: b"{}",
+        status: 0,
+        output: b"",
+    },
+    Case {
+        words: &["paths", "--depth", "2", "$[?@[0]]"],
+        document: b"[[1],2]",
+        status: 0,
+        output: b"$[0]\n",
+    },
+    Case {
+        words: &["delete", "$[0,0]"],
+        document: b"[1,2,3]",
+        status: 0,
+        output: b"1\n[2,3]\n",
+    },
+    Case {
+        words: &["values", "$"],
+        document: b"[1",
+        status: 3,
+        output: b"",
+    },
+    Case {
+        words: &["delete", "$"],
+        document: b"[1.5]",
+        status: 4,
+        output: b"",
+    },
+];
 
 /// Gives a byte at a time, and fails once it has no reads left.
 #[derive(Drop)]
@@ -45,11 +92,12 @@ struct Taking {
     failing: Failing,
 }
 
-/// Takes a few bytes at a time.
+/// Takes a few bytes at a time, and counts the flushes.
 #[derive(Drop)]
 struct SmallWriter {
     written: Vec<u8>,
     left: Taking,
+    flushes: usize,
 }
 
 impl Write for SmallWriter {
@@ -67,6 +115,7 @@ impl Write for SmallWriter {
     }
 
     fn flush(&mut self) -> io::Result<()> {
+        self.flushes = self.flushes.saturating_add(1);
         match self.left.failing {
             Failing::Flush => Err(io::Error::from(ErrorKind::Other)),
             Failing::Write | Failing::EmptyWrite => Ok(()),
@@ -74,22 +123,23 @@ impl Write for SmallWriter {
     }
 }
 
-const DOCUMENT: &[u8] = b"[1,2]";
-
-const OUTPUT: &[u8] = b"$[0]\t1\n$[1]\t2\n";
-
-/// The words `nodes` and `$[*]`.
-fn words(alloc: Global) -> Option<Vec<String>> {
+/// The words of a case, as the program has them.
+fn words_of(alloc: Global, case: &Case) -> Option<Vec<String>> {
     let mut words = Vec::new(alloc);
-    for word in ["nodes", "$[*]"] {
+    for word in case.words {
         words.push(String::from_str(alloc, word).ok()?).ok()?;
     }
     Some(words)
 }
 
-/// The exit status of a run with these words.
-fn status<R: Read, W: Write>(alloc: Global, reader: &mut R, writer: &mut W) -> Option<u8> {
-    let words = words(alloc)?;
+/// The exit status of the run of a case.
+fn status_of<R: Read, W: Write>(
+    alloc: Global,
+    case: &Case,
+    reader: &mut R,
+    writer: &mut W,
+) -> Option<u8> {
+    let words = words_of(alloc, case)?;
     let Some(fault) = run(alloc, &words, reader, writer).err() else {
         return Some(0);
     };
@@ -98,87 +148,102 @@ fn status<R: Read, W: Write>(alloc: Global, reader: &mut R, writer: &mut W) -> O
     Some(status)
 }
 
-/// Whether a run ends by this status and writes this, where a reader gives the document by so many reads.
-fn reads_so(alloc: Global, reads: usize, wanted: (u8, &[u8])) -> Option<bool> {
+/// Whether the run of a case ends as it should where a reader gives a byte at a time and fails behind so many reads.
+fn reads_so(alloc: Global, case: &Case, reads: usize) -> Option<bool> {
     let mut reader = ByteReader {
-        bytes: DOCUMENT,
+        bytes: case.document,
         reads_left: reads,
     };
     let mut written = Vec::new(alloc);
-    let status = status(alloc, &mut reader, &mut written)?;
-    Some(status == wanted.0 && written.as_slice() == wanted.1)
+    let status = status_of(alloc, case, &mut reader, &mut written)?;
+    // A read for each byte, and one of the end.
+    let wanted = if reads <= case.document.len() {
+        (5, "".as_bytes())
+    } else {
+        (case.status, case.output)
+    };
+    Some((status, written.as_slice()) == wanted)
 }
 
 #[test]
 fn failing_reads(rt: HostRuntime) {
-    // Five reads of a byte, and one of the end.
-    for reads in 0..=6 {
-        let wanted: (u8, &[u8]) = if reads < 6 { (5, b"") } else { (0, OUTPUT) };
-        assert_eq!(rt;
-            reads_so(rt.alloc(), reads, wanted),
-            Some(true),
-            "{reads} reads"
-        );
+    for case in &CASES {
+        for reads in 0..=case.document.len().saturating_add(1) {
+            assert_eq!(rt;
+                reads_so(rt.alloc(), case, reads),
+                Some(true),
+                "{:?} and {reads} reads",
+                case.words
+            );
+        }
     }
 }
 
-/// The status of a run whose writer takes so much, and the bytes that it has taken, if they are a beginning of the output.
-fn written(alloc: Global, taking: Taking) -> Option<(u8, usize)> {
-    let mut reader = DOCUMENT;
+/// The status of the run of a case whose writer takes so much, the bytes that it has taken, if they are a beginning of the output, and the flushes.
+fn written(alloc: Global, case: &Case, taking: Taking) -> Option<(u8, usize, usize)> {
+    let mut reader = case.document;
     let mut writer = SmallWriter {
         written: Vec::new(alloc),
         left: taking,
+        flushes: 0,
     };
-    let status = status(alloc, &mut reader, &mut writer)?;
-    if OUTPUT.starts_with(writer.written.as_slice()) {
-        Some((status, writer.written.len()))
+    let status = status_of(alloc, case, &mut reader, &mut writer)?;
+    if case.output.starts_with(writer.written.as_slice()) {
+        Some((status, writer.written.len(), writer.flushes))
     } else {
         None
     }
 }
 
-/// How many writes of five bytes a writer takes and how it fails; the exit status, and how many bytes are written. The
-/// fourteen bytes of the output take three writes.
-static WRITERS: [(usize, Failing, u8, usize); 8] = [
-    (0, Failing::Write, 5, 0),
-    (1, Failing::Write, 5, 5),
-    (2, Failing::Write, 5, 10),
-    (3, Failing::Write, 0, 14),
-    (0, Failing::EmptyWrite, 5, 0),
-    (1, Failing::EmptyWrite, 5, 5),
-    (2, Failing::EmptyWrite, 5, 10),
-    (3, Failing::Flush, 5, 14),
-];
-
-#[test]
-fn failing_writes_and_flushes(rt: HostRuntime) {
-    for (writes, failing, status, length) in &WRITERS {
-        let taking = Taking {
-            at_once: 5,
-            writes: *writes,
-            failing: *failing,
-        };
-        assert_eq!(rt;
-            written(rt.alloc(), taking),
-            Some((*status, *length)),
-            "{failing:?} behind {writes} writes"
-        );
+/// The status, the count of bytes and the count of flushes that are wanted there.
+fn wanted(case: &Case, taking: Taking) -> (u8, usize, usize) {
+    let room = taking.at_once.saturating_mul(taking.writes);
+    let length = case.output.len();
+    match taking.failing {
+        _ if case.status != 0 => (case.status, 0, 0),
+        _ if room < length => (5, room, 0),
+        Failing::Flush => (5, length, 1),
+        Failing::Write | Failing::EmptyWrite => (0, length, 1),
     }
 }
 
-#[test]
-fn failing_writes_of_a_byte(rt: HostRuntime) {
-    for writes in 0..=14 {
+/// How many bytes a writer takes at once, and how it fails.
+static WRITERS: [(usize, Failing); 6] = [
+    (1, Failing::Write),
+    (1, Failing::EmptyWrite),
+    (1, Failing::Flush),
+    (5, Failing::Write),
+    (5, Failing::EmptyWrite),
+    (5, Failing::Flush),
+];
+
+/// The least count of writes of such a writer at which the run of a case does not end as it should.
+fn first_wrong(alloc: Global, case: &Case, writer: (usize, Failing)) -> Option<usize> {
+    for writes in 0..=case.output.len() {
         let taking = Taking {
-            at_once: 1,
+            at_once: writer.0,
             writes,
-            failing: Failing::Write,
+            failing: writer.1,
         };
-        let status = if writes < 14 { 5 } else { 0 };
-        assert_eq!(rt;
-            written(rt.alloc(), taking),
-            Some((status, writes)),
-            "{writes} bytes"
-        );
+        if written(alloc, case, taking) != Some(wanted(case, taking)) {
+            return Some(writes);
+        }
+    }
+    None
+}
+
+#[test]
+fn failing_writes_and_flushes(rt: HostRuntime) {
+    for case in &CASES {
+        for writer in &WRITERS {
+            assert_eq!(rt;
+                first_wrong(rt.alloc(), case, *writer),
+                None,
+                "{:?} and a writer of {} bytes, {:?}",
+                case.words,
+                writer.0,
+                writer.1
+            );
+        }
     }
 }
