@@ -25,16 +25,14 @@ fn answers(memory: &Memory, name: &str, arguments: &[Value], answer: &Value) -> 
         "text_length" | "text_less" | "whole" | "same" | "set_function" => {
             values::answers(name, arguments, answer)
         }
-        "add_name" | "push_name" | "add_index" | "push_index" => {
-            step::answers(memory, name, arguments, answer)
-        }
+        "add_name" | "add_index" => step::answers(memory, name, arguments, answer),
         "picked" => slice::are_picked(memory, arguments, answer),
         "slice_places" => slice::are_places(arguments, answer),
         "at" | "put_at" | "remove_all" => place::answers(memory, name, arguments, answer),
         "found" => pattern::is_found(memory, arguments, answer),
+        "found_each" => pattern::are_found_each(memory, arguments, answer),
         "pattern" => pattern::is_found_by_pattern(memory, arguments, answer),
         "finder" => pattern::are_found(memory, arguments, answer),
-        "found_again" => pattern::are_found_again(memory, arguments, answer),
         _ => false,
     }
 }

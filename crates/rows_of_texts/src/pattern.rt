@@ -1,15 +1,15 @@
-//! Rows on patterns: `found`, `pattern`, `finder`, `found_again`.
-use jsonpath_base::{Extent, Pattern, found, found_again};
+//! Rows on patterns: `found`, `found_each`, `pattern`, `finder`.
+use jsonpath_base::{Extent, Pattern, found};
 use rows_common::Memory;
 use rows_common::members::list;
 use serde_json::Value;
 
-/// A text, a pattern, and what of the text the pattern has to match.
+/// A text, a pattern, and whether the pattern has to match the whole text.
 #[derive(Clone, Copy)]
 struct Search<'r> {
     text: &'r str,
     pattern: &'r str,
-    extent: Extent,
+    whole: bool,
 }
 
 /// What of a text has to match: where `whole`, the entire text.
@@ -26,7 +26,7 @@ fn search_of(arguments: &[Value]) -> Option<Search<'_>> {
         [text, pattern, whole] => Some(Search {
             text: text.as_str()?,
             pattern: pattern.as_str()?,
-            extent: extent_of(whole.as_bool()?),
+            whole: whole.as_bool()?,
         }),
         _ => None,
     }
@@ -39,14 +39,28 @@ pub fn is_found(memory: &Memory, arguments: &[Value], answer: &Value) -> bool {
             Search {
                 text,
                 pattern,
-                extent,
+                whole,
             },
-        ) => is_truth(
-            answer,
-            memory.ok(found(memory.alloc, text, pattern, extent)),
-        ),
+        ) => is_truth(answer, memory.ok(found(memory.alloc, text, pattern, whole))),
         None => false,
     }
+}
+
+/// Whether `found`, asked of each text and its pattern in turn, answers so.
+pub fn are_found_each(memory: &Memory, arguments: &[Value], answer: &Value) -> bool {
+    let Some(answers) = list(answer) else {
+        return false;
+    };
+    for (search, answer) in arguments.iter().zip(answers) {
+        let is_answered = match list(search) {
+            Some(search) => is_found(memory, search, answer),
+            None => false,
+        };
+        if !is_answered {
+            return false;
+        }
+    }
+    arguments.len() == answers.len()
 }
 
 /// Whether there is a truth, and it is the row's answer.
@@ -59,13 +73,14 @@ pub fn is_found_by_pattern(memory: &Memory, arguments: &[Value], answer: &Value)
     let Some(search) = search_of(arguments) else {
         return false;
     };
-    let Some(read) = memory.ok(Pattern::new(memory.alloc, search.pattern, search.extent)) else {
+    let extent = extent_of(search.whole);
+    let Some(read) = memory.ok(Pattern::new(memory.alloc, search.pattern, extent)) else {
         return false;
     };
     read.source() == search.pattern
-        && read.extent().is_entire() == search.extent.is_entire()
-        && read.is_of(search.pattern, search.extent)
-        && !read.is_of(search.pattern, extent_of(!search.extent.is_entire()))
+        && read.extent().is_entire() == search.whole
+        && read.is_of(search.pattern, extent)
+        && !read.is_of(search.pattern, extent_of(!search.whole))
         && is_truth(answer, memory.ok(read.is_found(memory.alloc, search.text)))
 }
 
@@ -103,42 +118,4 @@ fn finds(memory: &Memory, read: &Pattern, texts: &[Value], answers: &[Value]) ->
         }
     }
     texts.len() == answers.len() && finder.is_of(read.source(), read.extent())
-}
-
-/// Whether one kept pattern, asked again and again, answers so.
-pub fn are_found_again(memory: &Memory, arguments: &[Value], answer: &Value) -> bool {
-    let Some(answers) = list(answer) else {
-        return false;
-    };
-    let mut kept = None;
-    for (search, answer) in arguments.iter().zip(answers) {
-        if !is_found_again(memory, &mut kept, search, answer) {
-            return false;
-        }
-    }
-    arguments.len() == answers.len()
-}
-
-fn is_found_again(
-    memory: &Memory,
-    kept: &mut Option<Pattern>,
-    search: &Value,
-    answer: &Value,
-) -> bool {
-    let Some(arguments) = list(search) else {
-        return false;
-    };
-    match search_of(arguments) {
-        Some(
-            Search {
-                text,
-                pattern,
-                extent,
-            },
-        ) => is_truth(
-            answer,
-            memory.ok(found_again(memory.alloc, kept, text, pattern, extent)),
-        ),
-        None => false,
-    }
 }

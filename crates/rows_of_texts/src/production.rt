@@ -1,5 +1,5 @@
-//! Rows on the grammar functions: what each reads from the start of a text, or `calls`, each where the one before it ended;
-//! and how the tree is `shown`.
+//! Rows on the grammar functions: what each reads from the start of a text, or `calls`, each where the one before it ended,
+//! and the `end` of the last; and how the tree is `shown`.
 use jsonpath_rust::parser::errors::Parsed;
 use jsonpath_rust::parser::{
     Cursor, child_segment, comp_expr, comparable, filter_atom, function_expr, jp_query, literal,
@@ -22,21 +22,22 @@ pub fn holds(memory: &Memory, row: &Value) -> bool {
         (Some("parse_json_path"), None) => is_whole(memory, row, text.as_str()),
         (Some(_), None) => is_front(memory, row, &mut Cursor::new(text.as_str())),
         (None, Some(calls)) => {
-            has_only(row, &["text", "calls"]) && are_fronts(memory, calls, text.as_str())
+            has_only(row, &["text", "calls", "end"])
+                && are_fronts(memory, row, calls, text.as_str())
         }
         _ => false,
     }
 }
 
-/// Whether one call after the other, by one cursor, reads as it tells.
-fn are_fronts(memory: &Memory, calls: &[Value], text: &str) -> bool {
+/// Whether one call after the other, by one cursor, reads as it tells, up to the place that the row tells.
+fn are_fronts(memory: &Memory, row: &Value, calls: &[Value], text: &str) -> bool {
     let mut cursor = Cursor::new(text);
     for call in calls {
         if !is_front(memory, call, &mut cursor) {
             return false;
         }
     }
-    cursor.at_end() && cursor.text() == text
+    is_end(row, &cursor) && cursor.text() == text
 }
 
 /// How a reading came out, beside its row.

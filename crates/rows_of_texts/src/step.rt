@@ -1,5 +1,5 @@
-//! Rows on the steps of paths: `add_name`, `push_name`, `add_index`, `push_index`.
-use jsonpath_base::{add_index, add_name, push_index, push_name};
+//! Rows on the steps of paths: `add_name`, `add_index`.
+use jsonpath_base::{add_index, add_name};
 use rows_common::Memory;
 use rows_common::members::size;
 use serde_json::Value;
@@ -14,9 +14,7 @@ pub fn answers(memory: &Memory, name: &str, arguments: &[Value], answer: &Value)
     };
     let added = match (name, step.as_str(), size(step)) {
         ("add_name", Some(name), _) => memory.ok(add_name(memory.alloc, &mut path, name)),
-        ("push_name", Some(name), _) => memory.ok(push_name(&mut path, name)),
         ("add_index", _, Some(index)) => memory.ok(add_index(memory.alloc, &mut path, index)),
-        ("push_index", _, Some(index)) => memory.ok(push_index(&mut path, index)),
         _ => None,
     };
     added.is_some() && answer.as_str() == Some(path.as_str())
