@@ -140,11 +140,19 @@ def times(program):
 
 def around(levels):
     """Lists around one object."""
-    return "[" * levels + '{"x":1}' + "]" * levels
+    return "[" * levels + '{"x":"a"}' + "]" * levels
 
 
 def filters_joined(count):
     return "$..[?@.x&&" * count + "@.x" + "]" * count
+
+
+def patterns(count):
+    return "$..[?@.x&&" * count + "search(@.x,'((a{1000}){1000}){1000}')" + "]" * count
+
+
+def unasked(count):
+    return f"$.none[?{patterns(count)}]"
 
 
 def filters(count):
@@ -164,6 +172,8 @@ def queries(steps):
 # The query, what makes it of a count, and the counts at depth 128 and at depth 999.
 STACKS = [
     ("`$..[?@.x&&$..[?@.x&&..`", filters_joined, [89, 125], [997]),
+    ("the same around a pattern that is too large", patterns, [44, 125], [996]),
+    ("this in `$.none[?..]`", unasked, [124], [995]),
     ("`$` and 124 `[0]`, a filter with the like, and so on", queries("[0]" * 124), [120], []),
     ("`.*` in their place", queries(".*" * 124), [120], []),
     ("50 `.*`", queries(".*" * 50), [], [990]),
@@ -173,7 +183,7 @@ STACKS = [
 
 
 def suffices(words, kilobytes, text):
-    """Whether the run ends well on a stack of so many KB, a fourth of which its words may take."""
+    """Whether the run ends, well or refused, on a stack of so many KB, a fourth of which its words may take."""
     limit = kilobytes * 1024
     try:
         run = subprocess.run(
@@ -186,7 +196,7 @@ def suffices(words, kilobytes, text):
         )
     except OSError:
         return False
-    return run.returncode == 0
+    return run.returncode in (0, 1)
 
 
 def least_stack(words, text):
