@@ -5,3 +5,4 @@ pub mod Parts
 pub mod Size
 pub mod Sought
 pub mod Weight
+pub mod Whole

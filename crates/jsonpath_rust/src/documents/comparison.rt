@@ -1,32 +1,32 @@
 //! How values compare (RFC 9535, 2.3.5.2.2).
-ghost use Rattle.std.specs.Prelude.{◌≡◌, Some, IsTrue, IfSome, option_map, option_and_then};
+ghost use Rattle.std.specs.Prelude.{◌≡◌, None, Some, option_map, option_and_then};
 ghost use Rattle.jsonpath_parser.specs.tree.View.{operator_view};
 ghost use Rattle.jsonpath_base.specs.Tree as tree;
 ghost use Rattle.jsonpath_base.specs.Tree.{as_int};
 ghost use Rattle.jsonpath_base.specs.Same.{same};
 ghost use Rattle.jsonpath_rust.specs.documents.Comparing.{are_equal, is_below, compares};
-ghost use Rattle.jsonpath_rust.specs.documents.inner.Operands.{scalar_tree, side_tree, side_is_whole, is_text_below};
+ghost use Rattle.jsonpath_rust.specs.documents.inner.Operands.{scalar_tree, side_tree, is_text_below};
+ghost use Rattle.jsonpath_rust.specs.documents.inner.Whole.{tree_of};
 
 use crate::documents::queryable::Queryable;
 use crate::documents::value::Scalar;
+use crate::documents::whole::{Whole, WholeRef};
 use jsonpath_base::text_less;
 use jsonpath_parser::model::Operator;
 
 /// A side of a comparison, lent.
 #[derive(Clone, Copy)]
-pub enum Side<'a, 's, T> {
+pub enum Side<'a, 's, T: Queryable> {
     Absent,
-    Lent(&'a T),
+    Lent(WholeRef<'a, T>),
     Plain(Scalar<'s>),
 }
 
 impl<'a, 's, T: Queryable> Side<'a, 's, T> {
     /// A value, if there is one.
     #[inline(always)]
-    pub fn lent(value: Option<&'a T>) -> Self
-        requires { IfSome value (λ v. IsTrue (T.is_whole v.now)) }
-        ensures value { side_tree T.tree result ≡ option_map (λ v. T.tree v.now) value.entry }
-        ensures whole { IsTrue (side_is_whole T.is_whole result) }
+    pub fn lent(value: Option<WholeRef<'a, T>>) -> Self
+        ensures { side_tree result ≡ option_map tree_of value.entry }
     {
         match value {
             Some(value) => Side::Lent(value),
@@ -37,8 +37,7 @@ impl<'a, 's, T: Queryable> Side<'a, 's, T> {
     /// The number, where it is one.
     #[inline(always)]
     fn as_number(&self) -> Option<i64>
-        requires { IsTrue (side_is_whole T.is_whole self.now) }
-        ensures { result ≡ option_and_then as_int (side_tree T.tree self.now) }
+        ensures { result ≡ option_and_then as_int (side_tree self.now) }
     {
         match self {
             Side::Lent(value) => value.as_i64(),
@@ -55,9 +54,7 @@ pub fn compares<'a, 's, T: Queryable>(
     left: &Side<'a, 's, T>,
     right: &Side<'a, 's, T>,
 ) -> bool
-    requires left { IsTrue (side_is_whole T.is_whole left.now) }
-    requires right { IsTrue (side_is_whole T.is_whole right.now) }
-    ensures { result ≡ compares (operator_view operator) (side_tree T.tree left.now) (side_tree T.tree right.now) }
+    ensures { result ≡ compares (operator_view operator) (side_tree left.now) (side_tree right.now) }
 {
     match operator {
         Operator::Equal => are_equal(left, right),
@@ -71,9 +68,7 @@ pub fn compares<'a, 's, T: Queryable>(
 
 /// Whether both are absent, or the same.
 fn are_equal<'a, 's, T: Queryable>(left: &Side<'a, 's, T>, right: &Side<'a, 's, T>) -> bool
-    requires left { IsTrue (side_is_whole T.is_whole left.now) }
-    requires right { IsTrue (side_is_whole T.is_whole right.now) }
-    ensures { result ≡ are_equal (side_tree T.tree left.now) (side_tree T.tree right.now) }
+    ensures { result ≡ are_equal (side_tree left.now) (side_tree right.now) }
 {
     match left {
         Side::Absent => is_absent(right),
@@ -85,7 +80,7 @@ fn are_equal<'a, 's, T: Queryable>(left: &Side<'a, 's, T>, right: &Side<'a, 's, 
 /// Whether it is absent.
 #[inline(always)]
 fn is_absent<'a, 's, T: Queryable>(side: &Side<'a, 's, T>) -> bool
-    ensures { result ≡ are_equal None (side_tree T.tree side.now) }
+    ensures { result ≡ are_equal None (side_tree side.now) }
 {
     match side {
         Side::Absent => true,
@@ -95,10 +90,8 @@ fn is_absent<'a, 's, T: Queryable>(side: &Side<'a, 's, T>) -> bool
 
 /// Whether the side is the same as the value.
 #[inline(always)]
-fn is_value<'a, 's, T: Queryable>(value: &T, side: &Side<'a, 's, T>) -> bool
-    requires left { IsTrue (T.is_whole value.now) }
-    requires right { IsTrue (side_is_whole T.is_whole side.now) }
-    ensures { result ≡ are_equal (Some (T.tree value.now)) (side_tree T.tree side.now) }
+fn is_value<'a, 's, T: Queryable>(value: WholeRef<'_, T>, side: &Side<'a, 's, T>) -> bool
+    ensures { result ≡ are_equal (Some (tree_of value.entry)) (side_tree side.now) }
 {
     match side {
         Side::Absent => false,
@@ -110,8 +103,7 @@ fn is_value<'a, 's, T: Queryable>(value: &T, side: &Side<'a, 's, T>) -> bool
 /// Whether the side is the same as the value without parts.
 #[inline(always)]
 fn is_scalar<'a, 's, T: Queryable>(scalar: Scalar<'_>, side: &Side<'a, 's, T>) -> bool
-    requires { IsTrue (side_is_whole T.is_whole side.now) }
-    ensures { result ≡ are_equal (Some (scalar_tree scalar.entry)) (side_tree T.tree side.now) }
+    ensures { result ≡ are_equal (Some (scalar_tree scalar.entry)) (side_tree side.now) }
 {
     match side {
         Side::Absent => false,
@@ -121,12 +113,11 @@ fn is_scalar<'a, 's, T: Queryable>(scalar: Scalar<'_>, side: &Side<'a, 's, T>) -
 }
 
 #[inline(always)]
-fn value_is_scalar<T: Queryable>(value: &T, scalar: Scalar<'_>) -> bool
-    requires { IsTrue (T.is_whole value.now) }
-    ensures { result ≡ same (T.tree value.now) (scalar_tree scalar.entry) }
+fn value_is_scalar<T: Queryable>(value: WholeRef<'_, T>, scalar: Scalar<'_>) -> bool
+    ensures { result ≡ same (tree_of value.entry) (scalar_tree scalar.entry) }
 {
     match scalar {
-        Scalar::Null => value.equal(&T::null()),
+        Scalar::Null => value.equal(Whole { value: T::null() }.lent()),
         Scalar::Truth(truth) => value.as_bool() == Some(truth),
         Scalar::Number(number) => value.as_i64() == Some(number),
         Scalar::Text(text) => value.as_str() == Some(text),
@@ -134,12 +125,11 @@ fn value_is_scalar<T: Queryable>(value: &T, scalar: Scalar<'_>) -> bool
 }
 
 #[inline(always)]
-fn scalar_is_value<T: Queryable>(scalar: Scalar<'_>, value: &T) -> bool
-    requires { IsTrue (T.is_whole value.now) }
-    ensures { result ≡ same (scalar_tree scalar.entry) (T.tree value.now) }
+fn scalar_is_value<T: Queryable>(scalar: Scalar<'_>, value: WholeRef<'_, T>) -> bool
+    ensures { result ≡ same (scalar_tree scalar.entry) (tree_of value.entry) }
 {
     match scalar {
-        Scalar::Null => T::null().equal(value),
+        Scalar::Null => Whole { value: T::null() }.lent().equal(value),
         Scalar::Truth(truth) => value.as_bool() == Some(truth),
         Scalar::Number(number) => value.as_i64() == Some(number),
         Scalar::Text(text) => value.as_str() == Some(text),
@@ -161,9 +151,7 @@ fn scalars_are_same(left: Scalar<'_>, right: Scalar<'_>) -> bool
 
 /// Whether both are numbers or both are texts, and the left is less.
 pub fn is_below<'a, 's, T: Queryable>(left: &Side<'a, 's, T>, right: &Side<'a, 's, T>) -> bool
-    requires left { IsTrue (side_is_whole T.is_whole left.now) }
-    requires right { IsTrue (side_is_whole T.is_whole right.now) }
-    ensures { result ≡ is_below (side_tree T.tree left.now) (side_tree T.tree right.now) }
+    ensures { result ≡ is_below (side_tree left.now) (side_tree right.now) }
 {
     match (left.as_number(), right.as_number()) {
         (Some(a), Some(b)) => a < b,
@@ -173,9 +161,7 @@ pub fn is_below<'a, 's, T: Queryable>(left: &Side<'a, 's, T>, right: &Side<'a, '
 
 /// Whether both are texts, and the left is less.
 fn is_text_below<'a, 's, T: Queryable>(left: &Side<'a, 's, T>, right: &Side<'a, 's, T>) -> bool
-    requires left { IsTrue (side_is_whole T.is_whole left.now) }
-    requires right { IsTrue (side_is_whole T.is_whole right.now) }
-    ensures { result ≡ is_text_below (side_tree T.tree left.now) (side_tree T.tree right.now) }
+    ensures { result ≡ is_text_below (side_tree left.now) (side_tree right.now) }
 {
     match left {
         Side::Lent(value) => match value.as_str() {
@@ -190,8 +176,7 @@ fn is_text_below<'a, 's, T: Queryable>(left: &Side<'a, 's, T>, right: &Side<'a, 
 /// Whether the side is a text, and this one is less.
 #[inline(always)]
 fn is_less_than<'a, 's, T: Queryable>(text: &str, side: &Side<'a, 's, T>) -> bool
-    requires { IsTrue (side_is_whole T.is_whole side.now) }
-    ensures { result ≡ is_text_below (Some (tree.text text.now)) (side_tree T.tree side.now) }
+    ensures { result ≡ is_text_below (Some (tree.text text.now)) (side_tree side.now) }
 {
     match side {
         Side::Lent(value) => match value.as_str() {

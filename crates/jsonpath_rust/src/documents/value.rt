@@ -1,15 +1,18 @@
 //! Values inside the evaluator: the sides of a comparison, and what functions take and return.
-ghost use Rattle.std.specs.Prelude.{◌≡◌, ◌++◌, [], ◌∷◌, Some, IsTrue, IfOk, IfErr, IfSome, OnOk, option_map, option_and_then, option_to_list};
+ghost use Rattle.std.specs.Prelude.{◌≡◌, ◌++◌, [], ◌∷◌, Some, IfOk, IfErr, OnOk, option_map, option_and_then, option_to_list};
 ghost use Rattle.jsonpath_parser.specs.tree.View.{literal_view};
 ghost use Rattle.jsonpath_rust.specs.declared.documents.halt.Halt.TheVariants.{Memory};
 ghost use Rattle.jsonpath_base.specs.Tree.{as_text};
 ghost use Rattle.jsonpath_rust.specs.documents.Functions.{length_of, count_value, is_true};
 ghost use Rattle.jsonpath_rust.specs.documents.Meaning.{literal_tree};
-ghost use Rattle.jsonpath_rust.specs.documents.inner.Operands.{scalar_tree, operand_tree, operand_is_whole, side_tree, side_is_whole, arg_trees, AreWhole};
+ghost use Rattle.jsonpath_rust.specs.documents.inner.Operands.{scalar_tree, operand_tree, side_tree, arg_trees};
+ghost use Rattle.jsonpath_rust.specs.documents.inner.Whole.{tree_of, own_tree};
 
+use crate::documents::args::Args;
 use crate::documents::comparison::Side;
 use crate::documents::halt::Walked;
-use crate::documents::queryable::{Arg, Queryable};
+use crate::documents::queryable::Queryable;
+use crate::documents::whole::{Whole, WholeRef};
 use jsonpath_base::text_length;
 use jsonpath_parser::model::Literal;
 use std::alloc::Global;
@@ -28,12 +31,12 @@ pub enum Scalar<'s> {
 
 /// A side of a comparison, or what a function returns.
 #[derive(Drop)]
-pub enum Operand<'a, 's, T> {
+pub enum Operand<'a, 's, T: Queryable> {
     Absent,
     /// A value in the document.
-    Lent(&'a T),
+    Lent(WholeRef<'a, T>),
     /// A value that a custom function made.
-    Made(T),
+    Made(Whole<T>),
     Plain(Scalar<'s>),
 }
 
@@ -61,10 +64,8 @@ pub fn count_scalar<'s>(count: usize) -> Scalar<'s>
 impl<'a, 's, T: Queryable> Operand<'a, 's, T> {
     /// A value in the document, if there is one.
     #[inline(always)]
-    pub fn lent(value: Option<&'a T>) -> Self
-        requires { IfSome value (λ v. IsTrue (T.is_whole v.now)) }
-        ensures value { operand_tree T.tree result ≡ option_map (λ v. T.tree v.now) value.entry }
-        ensures whole { IsTrue (operand_is_whole T.is_whole result) }
+    pub fn lent(value: Option<WholeRef<'a, T>>) -> Self
+        ensures { operand_tree result ≡ option_map tree_of value.entry }
     {
         match value {
             Some(value) => Operand::Lent(value),
@@ -75,12 +76,11 @@ impl<'a, 's, T: Queryable> Operand<'a, 's, T> {
     /// The text, where it is one.
     #[inline(always)]
     pub fn as_text(&self) -> Option<&str>
-        requires { IsTrue (operand_is_whole T.is_whole self.now) }
-        ensures { option_map (λ s. s.now) result ≡ option_and_then as_text (operand_tree T.tree self.now) }
+        ensures { option_map (λ s. s.now) result ≡ option_and_then as_text (operand_tree self.now) }
     {
         match self {
             Operand::Lent(value) => value.as_str(),
-            Operand::Made(value) => value.as_str(),
+            Operand::Made(value) => value.lent().as_str(),
             Operand::Plain(Scalar::Text(text)) => Some(*text),
             _ => None,
         }
@@ -89,14 +89,12 @@ impl<'a, 's, T: Queryable> Operand<'a, 's, T> {
     /// As a side of a comparison.
     #[inline(always)]
     pub fn as_side(&self) -> Side<'_, 's, T>
-        requires { IsTrue (operand_is_whole T.is_whole self.now) }
-        ensures value { side_tree T.tree result ≡ operand_tree T.tree self.now }
-        ensures whole { IsTrue (side_is_whole T.is_whole result) }
+        ensures { side_tree result ≡ operand_tree self.now }
     {
         match self {
             Operand::Absent => Side::Absent,
             Operand::Lent(value) => Side::Lent(*value),
-            Operand::Made(value) => Side::Lent(value),
+            Operand::Made(value) => Side::Lent(value.lent()),
             Operand::Plain(scalar) => Side::Plain(*scalar),
         }
     }
@@ -104,12 +102,11 @@ impl<'a, 's, T: Queryable> Operand<'a, 's, T> {
     /// Whether it is the truth true.
     #[inline(always)]
     pub fn is_true(&self) -> bool
-        requires { IsTrue (operand_is_whole T.is_whole self.now) }
-        ensures { result ≡ is_true (operand_tree T.tree self.now) }
+        ensures { result ≡ is_true (operand_tree self.now) }
     {
         match self {
             Operand::Lent(value) => value.as_bool() == Some(true),
-            Operand::Made(value) => value.as_bool() == Some(true),
+            Operand::Made(value) => value.lent().as_bool() == Some(true),
             Operand::Plain(Scalar::Truth(truth)) => *truth,
             _ => false,
         }
@@ -117,14 +114,12 @@ impl<'a, 's, T: Queryable> Operand<'a, 's, T> {
 
     /// The length of a text, a list or an object (RFC 9535, 2.4.4).
     pub fn length(&self, alloc: Global) -> Walked<Operand<'a, 's, T>>
-        requires { IsTrue (operand_is_whole T.is_whole self.now) }
-        ensures value { IfOk result (λ o. operand_tree T.tree o ≡ length_of (operand_tree T.tree self.now)) }
-        ensures whole { IfOk result (λ o. IsTrue (operand_is_whole T.is_whole o)) }
+        ensures value { IfOk result (λ o. operand_tree o ≡ length_of (operand_tree self.now)) }
         ensures memory { IfErr result (λ h. h ≡ Memory) }
     {
         match self {
             Operand::Lent(value) => Ok(counted(length_of(alloc, *value)?)),
-            Operand::Made(value) => Ok(counted(length_of(alloc, value)?)),
+            Operand::Made(value) => Ok(counted(length_of(alloc, value.lent())?)),
             Operand::Plain(Scalar::Text(text)) => Ok(Operand::Plain(count_scalar(text_length(
                 text,
             )))),
@@ -133,21 +128,18 @@ impl<'a, 's, T: Queryable> Operand<'a, 's, T> {
     }
 
     /// Follows the arguments of a custom function by this one, if it is not absent.
-    pub fn push_to(self, alloc: Global, args: &mut Vec<Arg<'a, T>>) -> Walked<()>
-        requires own { IsTrue (operand_is_whole T.is_whole self) }
-        requires others { AreWhole T.is_whole args.old.items }
-        ensures value { OnOk result (arg_trees T.tree args.new.items ≡ arg_trees T.tree args.old.items ++ option_to_list (operand_tree T.tree self.entry)) }
-        ensures whole { OnOk result (AreWhole T.is_whole args.new.items) }
+    pub fn push_to(self, alloc: Global, args: &mut Args<'a, T>) -> Walked<()>
+        ensures value { OnOk result (arg_trees args.new ≡ arg_trees args.old ++ option_to_list (operand_tree self.entry)) }
         ensures memory { IfErr result (λ h. h ≡ Memory) }
     {
         match self {
             Operand::Absent => Ok(()),
             Operand::Lent(value) => {
-                args.push(Arg::Borrowed(value))?;
+                args.push_lent(value)?;
                 Ok(())
             }
             Operand::Made(value) => {
-                args.push(Arg::Owned(value))?;
+                args.push_made(value)?;
                 Ok(())
             }
             Operand::Plain(scalar) => push_scalar(alloc, scalar, args),
@@ -159,42 +151,44 @@ impl<'a, 's, T: Queryable> Operand<'a, 's, T> {
 pub fn push_scalar<'a, T: Queryable>(
     alloc: Global,
     scalar: Scalar<'_>,
-    args: &mut Vec<Arg<'a, T>>,
+    args: &mut Args<'a, T>,
 ) -> Walked<()>
-    requires { AreWhole T.is_whole args.old.items }
-    ensures value { OnOk result (arg_trees T.tree args.new.items ≡ arg_trees T.tree args.old.items ++ scalar_tree scalar.entry ∷ []) }
-    ensures whole { OnOk result (AreWhole T.is_whole args.new.items) }
+    ensures value { OnOk result (arg_trees args.new ≡ arg_trees args.old ++ scalar_tree scalar.entry ∷ []) }
     ensures memory { IfErr result (λ h. h ≡ Memory) }
 {
     let value = made(alloc, scalar)?;
-    args.push(Arg::Owned(value))?;
+    args.push_made(value)?;
     Ok(())
 }
 
 /// A value without parts, as a value of the document's type.
-pub fn made<T: Queryable>(alloc: Global, scalar: Scalar<'_>) -> Walked<T>
-    ensures value { IfOk result (λ v. T.tree v ≡ scalar_tree scalar.entry) }
-    ensures whole { IfOk result (λ v. IsTrue (T.is_whole v)) }
+pub fn made<T: Queryable>(alloc: Global, scalar: Scalar<'_>) -> Walked<Whole<T>>
+    ensures value { IfOk result (λ v. own_tree v ≡ scalar_tree scalar.entry) }
     ensures memory { IfErr result (λ h. h ≡ Memory) }
 {
     match scalar {
-        Scalar::Null => Ok(T::null()),
-        Scalar::Truth(truth) => Ok(T::from_bool(alloc, truth)?),
-        Scalar::Number(number) => Ok(T::from_i64(alloc, number)?),
-        Scalar::Text(text) => Ok(T::from_text(alloc, text)?),
+        Scalar::Null => Ok(Whole { value: T::null() }),
+        Scalar::Truth(truth) => Ok(Whole {
+            value: T::from_bool(alloc, truth)?,
+        }),
+        Scalar::Number(number) => Ok(Whole {
+            value: T::from_i64(alloc, number)?,
+        }),
+        Scalar::Text(text) => Ok(Whole {
+            value: T::from_text(alloc, text)?,
+        }),
     }
 }
 
 /// The length of a value, where it has one (RFC 9535, 2.4.4).
-pub fn length_of<T: Queryable>(alloc: Global, value: &T) -> Walked<Option<usize>>
-    requires { IsTrue (T.is_whole value.now) }
-    ensures value { IfOk result (λ o. option_map count_value o ≡ length_of (Some (T.tree value.now))) }
+pub fn length_of<T: Queryable>(alloc: Global, value: WholeRef<'_, T>) -> Walked<Option<usize>>
+    ensures value { IfOk result (λ o. option_map count_value o ≡ length_of (Some (tree_of value.entry))) }
     ensures memory { IfErr result (λ h. h ≡ Memory) }
 {
     if let Some(text) = value.as_str() {
         return Ok(Some(text_length(text)));
     }
-    if let Some(items) = value.as_array() {
+    if let Some(items) = value.elements() {
         return Ok(Some(items.len()));
     }
     Ok(value.member_count(alloc)?)
@@ -202,8 +196,7 @@ pub fn length_of<T: Queryable>(alloc: Global, value: &T) -> Walked<Option<usize>
 
 /// A count, if there is one.
 fn counted<'a, 's, T: Queryable>(count: Option<usize>) -> Operand<'a, 's, T>
-    ensures value { operand_tree T.tree result ≡ option_map count_value count }
-    ensures whole { IsTrue (operand_is_whole T.is_whole result) }
+    ensures value { operand_tree result ≡ option_map count_value count }
 {
     match count {
         Some(count) => Operand::Plain(count_scalar(count)),

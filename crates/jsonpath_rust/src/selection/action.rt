@@ -2,12 +2,13 @@
 ghost use Rattle.std.specs.Prelude.{◌≡◌, [], IsTrue, IfSome};
 ghost use Rattle.jsonpath_parser.specs.Location.{Location};
 ghost use Rattle.jsonpath_rust.specs.documents.Document.{Document};
+ghost use Rattle.jsonpath_rust.specs.documents.inner.Whole.{tree_of};
 ghost use Rattle.jsonpath_rust.specs.selection.inner.PlanViews.{Kept, segment_view};
 ghost use Rattle.jsonpath_rust.specs.selection.inner.Walking.{acted};
 ghost use Rattle.jsonpath_rust.specs.selection.inner.Passing.{GoesToEachChild};
 
 use crate::documents::queryable::Queryable;
-use crate::documents::queryable::children::is_leaf;
+use crate::documents::whole::WholeRef;
 use crate::selection::plan::{Filter, Segment, Selector};
 
 /// What is done at a child.
@@ -23,12 +24,11 @@ pub enum Action<'s> {
 
 /// Whether the action surely makes no node of the value: a leaf has nothing below.
 #[inline(always)]
-pub fn is_idle<T: Queryable>(action: Action<'_>, value: &T) -> bool
-    requires { IsTrue (T.is_whole value.now) }
-    ensures { IsTrue result → (kept : Kept) (d : Document) (l : Location) → acted kept action.entry d (record { location = l; tree = T.tree value.now }) ≡ [] }
+pub fn is_idle<T: Queryable>(action: Action<'_>, value: WholeRef<'_, T>) -> bool
+    ensures { IsTrue result → (kept : Kept) (d : Document) (l : Location) → acted kept action.entry d (record { location = l; tree = tree_of value.entry }) ≡ [] }
 {
     match action {
-        Action::Below(_) => is_leaf(value),
+        Action::Below(_) => value.is_leaf(),
         _ => false,
     }
 }

@@ -4,6 +4,7 @@ ghost use Rattle.jsonpath_rust.specs.documents.Document.{Document};
 ghost use Rattle.jsonpath_parser.specs.tree.Syntax.{Query};
 ghost use Rattle.jsonpath_rust.specs.documents.Meaning.{nodelist};
 ghost use Rattle.jsonpath_rust.specs.documents.Patterns.{segments_patterns};
+ghost use Rattle.jsonpath_rust.specs.documents.inner.Whole.{tree_of};
 ghost use Rattle.jsonpath_rust.specs.declared.selection.budget.Limit.{Limit};
 ghost use Rattle.jsonpath_rust.specs.declared.selection.sink.Wanted.{Wanted};
 ghost use Rattle.jsonpath_rust.specs.selection.inner.Halting.{IsHalt};
@@ -15,19 +16,20 @@ ghost use Rattle.jsonpath_rust.specs.selection.inner.Sinks.{seen, start, give, a
 use crate::documents::halt::{Halt, Walked};
 use crate::documents::queryable::Queryable;
 use crate::documents::value::Operand;
+use crate::documents::whole::WholeRef;
 use crate::selection::sink::Sink;
 use std::alloc::{AllocError, Global};
 
 /// What is kept for one call.
 #[derive(Drop)]
-pub struct Cache<'a, 's, T> {
+pub struct Cache<'a, 's, T: Queryable> {
     /// What each entry of the plan gave, once it is worked out.
     pub slots: Vec<Option<Given<'a, 's, T>>>,
 }
 
 /// What an entry gave.
 #[derive(Drop)]
-pub enum Given<'a, 's, T> {
+pub enum Given<'a, 's, T: Queryable> {
     /// What was wanted of nodes.
     Nodes(Sink<'a, T>),
     /// A value, if there is one.
@@ -47,7 +49,7 @@ impl<'a, 's, T: Queryable> Cache<'a, 's, T> {
 
     /// For so many entries, none of which is worked out.
     pub fn new(alloc: Global, count: usize) -> Result<Self, AllocError>
-        ensures { IfOk result (λ c. (kept : Kept) (doc : Document) → length kept ≡ count → Keeps T.tree T.is_whole kept doc c) }
+        ensures { IfOk result (λ c. (kept : Kept) (doc : Document) → length kept ≡ count → Keeps kept doc c) }
     {
         let slots = empty_slots(alloc, count)?;
         Ok(Cache { slots })
@@ -56,7 +58,7 @@ impl<'a, 's, T: Queryable> Cache<'a, 's, T> {
     /// What the entry of this number gave, if it is worked out.
     #[inline(always)]
     pub fn get(&self, number: usize) -> Option<&Given<'a, 's, T>>
-        ensures { option_map (λ s. gave T.tree T.is_whole s.now) result ≡ slot_at T.tree T.is_whole (slots_of self.now) number }
+        ensures { option_map (λ s. gave s.now) result ≡ slot_at (slots_of self.now) number }
     {
         match self.slots.get(number) {
             Some(Some(given)) => Some(given),
@@ -67,9 +69,9 @@ impl<'a, 's, T: Queryable> Cache<'a, 's, T> {
     /// Whether the nodes of the entry of this number are worked out. Where a pattern in it is too large, the walk halts.
     #[inline(always)]
     pub fn has_nodes(&self, number: usize) -> Walked<bool>
-        ensures nodes { (kept : Kept) (doc : Document) (wanted : Wanted) (query : Query) → Keeps T.tree T.is_whole kept doc self.now → part_at kept number ≡ plan.nodes wanted query →
-            IfOk result (λ b. IsTrue b → nodes_or_none (slot_at T.tree T.is_whole (slots_of self.now) number) ≡ give (start wanted) (nodelist query doc)) }
-        ensures refused { (kept : Kept) (doc : Document) (wanted : Wanted) (query : Query) (limit : Limit) → Keeps T.tree T.is_whole kept doc self.now → part_at kept number ≡ plan.nodes wanted query →
+        ensures nodes { (kept : Kept) (doc : Document) (wanted : Wanted) (query : Query) → Keeps kept doc self.now → part_at kept number ≡ plan.nodes wanted query →
+            IfOk result (λ b. IsTrue b → nodes_or_none (slot_at (slots_of self.now) number) ≡ give (start wanted) (nodelist query doc)) }
+        ensures refused { (kept : Kept) (doc : Document) (wanted : Wanted) (query : Query) (limit : Limit) → Keeps kept doc self.now → part_at kept number ≡ plan.nodes wanted query →
             IfErr result (IsHalt limit (segments_patterns query) doc) }
     {
         match self.get(number) {
@@ -82,8 +84,8 @@ impl<'a, 's, T: Queryable> Cache<'a, 's, T> {
     /// Keeps what the entry of this number gave.
     pub fn keep(&mut self, number: usize, given: Given<'a, 's, T>)
         requires { number < length (slots_of self.old) }
-        ensures value { slot_at T.tree T.is_whole (slots_of self.new) number ≡ Some (gave T.tree T.is_whole given.entry) }
-        ensures right { (kept : Kept) (doc : Document) → IsGiven (gave T.tree T.is_whole given.entry) (part_at kept number) doc → Keeps T.tree T.is_whole kept doc self.old → Keeps T.tree T.is_whole kept doc self.new }
+        ensures value { slot_at (slots_of self.new) number ≡ Some (gave given.entry) }
+        ensures right { (kept : Kept) (doc : Document) → IsGiven (gave given.entry) (part_at kept number) doc → Keeps kept doc self.old → Keeps kept doc self.new }
     {
         self.slots[number] = Some(given);
     }
@@ -92,7 +94,7 @@ impl<'a, 's, T: Queryable> Cache<'a, 's, T> {
     pub fn keep_halt(&mut self, number: usize, halt: Halt) -> Halt
         requires { number < length (slots_of self.old) }
         ensures same { result ≡ halt }
-        ensures right { (kept : Kept) (doc : Document) (limit : Limit) → IsHalt limit (part_patterns (part_at kept number)) doc halt → Keeps T.tree T.is_whole kept doc self.old → Keeps T.tree T.is_whole kept doc self.new }
+        ensures right { (kept : Kept) (doc : Document) (limit : Limit) → IsHalt limit (part_patterns (part_at kept number)) doc halt → Keeps kept doc self.old → Keeps kept doc self.new }
     {
         match halt {
             Halt::Pattern => {
@@ -122,7 +124,7 @@ fn empty_slots<'a, 's, T: Queryable>(
 
 /// What the nodes of a query gave to a sink: one of its own, or that of the entry of a number.
 #[derive(Drop)]
-pub enum Gathered<'a, T> {
+pub enum Gathered<'a, T: Queryable> {
     Own(Sink<'a, T>),
     Kept(usize),
 }
@@ -131,7 +133,7 @@ impl<'a, T: Queryable> Gathered<'a, T> {
     /// The sink that the nodes were given to.
     #[inline(always)]
     pub fn sink<'k, 's>(&'k self, cache: &'k Cache<'a, 's, T>) -> Option<&'k Sink<'a, T>>
-        ensures { nodes_or_none (option_map (λ s. nodes (seen T.tree T.is_whole s.now)) result) ≡ gathered T.tree T.is_whole cache.now self.now }
+        ensures { nodes_or_none (option_map (λ s. nodes (seen s.now)) result) ≡ gathered cache.now self.now }
     {
         match self {
             Gathered::Own(sink) => Some(sink),
@@ -145,7 +147,7 @@ impl<'a, T: Queryable> Gathered<'a, T> {
     /// Whether there is a node, where that is wanted.
     #[inline(always)]
     pub fn has_any<'s>(&self, cache: &Cache<'a, 's, T>) -> bool
-        ensures { result ≡ any_in (gathered T.tree T.is_whole cache.now self.now) }
+        ensures { result ≡ any_in (gathered cache.now self.now) }
     {
         match self.sink(cache) {
             Some(sink) => sink.has_any(),
@@ -156,7 +158,7 @@ impl<'a, T: Queryable> Gathered<'a, T> {
     /// How many nodes there are, where that is wanted.
     #[inline(always)]
     pub fn counted<'s>(&self, cache: &Cache<'a, 's, T>) -> usize
-        ensures { result ≡ count_in (gathered T.tree T.is_whole cache.now self.now) }
+        ensures { result ≡ count_in (gathered cache.now self.now) }
     {
         match self.sink(cache) {
             Some(sink) => sink.counted(),
@@ -166,8 +168,8 @@ impl<'a, T: Queryable> Gathered<'a, T> {
 
     /// The value of the only node, where that is wanted.
     #[inline(always)]
-    pub fn only<'s>(&self, cache: &Cache<'a, 's, T>) -> Option<&'a T>
-        ensures { option_map (λ v. (T.is_whole v.now, T.tree v.now)) result ≡ only_in (gathered T.tree T.is_whole cache.now self.now) }
+    pub fn only<'s>(&self, cache: &Cache<'a, 's, T>) -> Option<WholeRef<'a, T>>
+        ensures { option_map tree_of result ≡ only_in (gathered cache.now self.now) }
     {
         match self.sink(cache) {
             Some(sink) => sink.only(),

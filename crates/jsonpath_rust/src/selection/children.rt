@@ -1,19 +1,20 @@
 //! The children of a value, one after the other, and what is done at each of them.
-ghost use Rattle.std.specs.Prelude.{◌≡◌, [], ◌∷◌, ◌++◌, map, IfOk, IfErr, OnOk, OnErr};
+ghost use Rattle.std.specs.Prelude.{◌≡◌, [], ◌∷◌, ◌++◌, map, IfOk};
 ghost use Rattle.std.specs.List.{flat_map};
 ghost use Rattle.jsonpath_rust.specs.documents.Node.{below, children, subtree};
 ghost use Rattle.jsonpath_rust.specs.documents.Meaning.{replaced};
 ghost use Rattle.jsonpath_rust.specs.documents.Patterns.{segments_patterns, segment_patterns};
-ghost use Rattle.jsonpath_rust.specs.selection.inner.Halting.{IsHalt};
+ghost use Rattle.jsonpath_rust.specs.documents.inner.Whole.{tree_of};
 ghost use Rattle.jsonpath_rust.specs.selection.inner.PlanViews.{segments_meant, segment_view};
 ghost use Rattle.jsonpath_rust.specs.selection.inner.Sinks.{Took, seen};
-ghost use Rattle.jsonpath_rust.specs.selection.inner.Keeping.{IsReady, document, kept_of};
-ghost use Rattle.jsonpath_rust.specs.selection.inner.Standing.{Stands, Returns, AreMembers};
+ghost use Rattle.jsonpath_rust.specs.selection.inner.Keeping.{document, kept_of};
+ghost use Rattle.jsonpath_rust.specs.selection.inner.Standing.{Stands, Comes, AreMembers};
 ghost use Rattle.jsonpath_base.specs.Steps.{lent_step, lent_location};
 ghost use Rattle.jsonpath_rust.specs.selection.inner.Walking.{through, node_of, acted, action_patterns};
 
 use crate::documents::halt::Walked;
 use crate::documents::queryable::Queryable;
+use crate::documents::whole::WholeRef;
 use crate::selection::action::{Action, is_idle, of_each_child, visit_cost};
 use crate::selection::onward::Onward;
 use crate::selection::plan::Segment;
@@ -24,15 +25,15 @@ use jsonpath_base::StepRef;
 
 /// A child of the value at hand, and the step that leads to it.
 #[derive(Clone, Copy)]
-pub struct Child<'a, 's, T> {
+pub struct Child<'a, 's, T: Queryable> {
     pub step: StepRef<'s>,
-    pub value: &'a T,
+    pub value: WholeRef<'a, T>,
 }
 
 /// An object, and its members in walk order.
 #[derive(Drop)]
-pub struct Members<'a, 'm, T> {
-    pub of: &'a T,
+pub struct Members<'a, 'm, T: Queryable> {
+    pub of: WholeRef<'a, T>,
     pub list: &'m [(&'a str, &'a T)],
 }
 
@@ -42,29 +43,28 @@ impl<'a: 's, 's, T: Queryable> Task<'a, 's, T> {
     pub fn each_child(
         &self,
         onward: Onward<'s, Action<'s>>,
-        at: &'a T,
+        at: WholeRef<'a, T>,
         trail: &mut Trail<'a, 's, '_, T>,
         sink: &mut Sink<'a, T>,
     ) -> Walked<bool>
-        requires { Stands T.tree T.is_whole T.custom self.now at.now trail.old.way.steps.items trail.old.cache }
-        ensures gave { IfOk result (λ b. Took (seen T.tree T.is_whole sink.old)
-            (flat_map (through (segments_meant (kept_of self.now) onward.entry.rest.now) (document T.tree T.custom self.now))
-            (flat_map (acted (kept_of self.now) onward.entry.next (document T.tree T.custom self.now)) (children (node_of T.tree trail.old.way.steps.items at.now))))
-            (seen T.tree T.is_whole sink.new) b) }
-        ensures returns { OnOk result (Returns T.tree T.is_whole T.custom self.now trail.old trail.new) }
-        ensures ready { OnErr result (IsReady T.tree T.is_whole T.custom self.now trail.new.cache) }
-        ensures refused { IfErr result (IsHalt self.now.limit (action_patterns (kept_of self.now) onward.entry.next ++ segments_patterns (segments_meant (kept_of self.now) onward.entry.rest.now)) (document T.tree T.custom self.now)) }
+        requires { Stands self.now at trail.old.way.steps.items trail.old.cache }
+        ensures gave { IfOk result (λ b. Took (seen sink.old)
+            (flat_map (through (segments_meant (kept_of self.now) onward.entry.rest.now) (document self.now))
+            (flat_map (acted (kept_of self.now) onward.entry.next (document self.now)) (children (node_of trail.old.way.steps.items at.entry))))
+            (seen sink.new) b) }
+        ensures comes { Comes self.now trail.old trail.new (action_patterns (kept_of self.now) onward.entry.next ++ segments_patterns (segments_meant (kept_of self.now) onward.entry.rest.now)) result }
     {
-        if let Some(items) = at.as_array() {
+        if let Some(items) = at.elements() {
             let cost = visit_cost(onward.next, items.len());
             trail.budget.spend(self.limit, cost)?;
             for (i, value) in items.iter().enumerate() {
                 let step = StepRef::Index(i);
+                let value = WholeRef { value };
                 if !self.at_child(onward, Child { step, value }, trail, sink)? {
                     return Ok(false);
                 }
             }
-        } else if let Some(listed) = at.as_object(self.alloc)? {
+        } else if let Some(listed) = at.members(self.alloc)? {
             let members = Members {
                 of: at,
                 list: &listed,
@@ -83,21 +83,19 @@ impl<'a: 's, 's, T: Queryable> Task<'a, 's, T> {
         trail: &mut Trail<'a, 's, '_, T>,
         sink: &mut Sink<'a, T>,
     ) -> Walked<bool>
-        requires stands { Stands T.tree T.is_whole T.custom self.now members.now.of.now trail.old.way.steps.items trail.old.cache }
-        requires listed { AreMembers T.tree T.is_whole members.now }
-        ensures gave { IfOk result (λ b. Took (seen T.tree T.is_whole sink.old)
-            (flat_map (through (segments_meant (kept_of self.now) onward.entry.rest.now) (document T.tree T.custom self.now))
-            (flat_map (acted (kept_of self.now) onward.entry.next (document T.tree T.custom self.now)) (children (node_of T.tree trail.old.way.steps.items members.now.of.now))))
-            (seen T.tree T.is_whole sink.new) b) }
-        ensures returns { OnOk result (Returns T.tree T.is_whole T.custom self.now trail.old trail.new) }
-        ensures ready { OnErr result (IsReady T.tree T.is_whole T.custom self.now trail.new.cache) }
-        ensures refused { IfErr result (IsHalt self.now.limit (action_patterns (kept_of self.now) onward.entry.next ++ segments_patterns (segments_meant (kept_of self.now) onward.entry.rest.now)) (document T.tree T.custom self.now)) }
+        requires stands { Stands self.now members.now.of trail.old.way.steps.items trail.old.cache }
+        requires listed { AreMembers members.now }
+        ensures gave { IfOk result (λ b. Took (seen sink.old)
+            (flat_map (through (segments_meant (kept_of self.now) onward.entry.rest.now) (document self.now))
+            (flat_map (acted (kept_of self.now) onward.entry.next (document self.now)) (children (node_of trail.old.way.steps.items members.now.of))))
+            (seen sink.new) b) }
+        ensures comes { Comes self.now trail.old trail.new (action_patterns (kept_of self.now) onward.entry.next ++ segments_patterns (segments_meant (kept_of self.now) onward.entry.rest.now)) result }
     {
         let cost = visit_cost(onward.next, members.list.len());
         trail.budget.spend(self.limit, cost)?;
         for member in members.list {
             let step = StepRef::Name(member.0);
-            let value = member.1;
+            let value = WholeRef { value: member.1 };
             if !self.at_child(onward, Child { step, value }, trail, sink)? {
                 return Ok(false);
             }
@@ -115,14 +113,12 @@ impl<'a: 's, 's, T: Queryable> Task<'a, 's, T> {
         trail: &mut Trail<'a, 's, '_, T>,
         sink: &mut Sink<'a, T>,
     ) -> Walked<bool>
-        requires { Stands T.tree T.is_whole T.custom self.now child.value.now (trail.old.way.steps.items ++ child.step ∷ []) trail.old.cache }
-        ensures gave { IfOk result (λ b. Took (seen T.tree T.is_whole sink.old)
-            (flat_map (through (segments_meant (kept_of self.now) onward.entry.rest.now) (document T.tree T.custom self.now))
-            (acted (kept_of self.now) onward.entry.next (document T.tree T.custom self.now) (below (lent_location trail.old.way.steps.items) (lent_step child.entry.step) (T.tree child.entry.value.now))))
-            (seen T.tree T.is_whole sink.new) b) }
-        ensures returns { OnOk result (Returns T.tree T.is_whole T.custom self.now trail.old trail.new) }
-        ensures ready { OnErr result (IsReady T.tree T.is_whole T.custom self.now trail.new.cache) }
-        ensures refused { IfErr result (IsHalt self.now.limit (action_patterns (kept_of self.now) onward.entry.next ++ segments_patterns (segments_meant (kept_of self.now) onward.entry.rest.now)) (document T.tree T.custom self.now)) }
+        requires { Stands self.now child.value (trail.old.way.steps.items ++ child.step ∷ []) trail.old.cache }
+        ensures gave { IfOk result (λ b. Took (seen sink.old)
+            (flat_map (through (segments_meant (kept_of self.now) onward.entry.rest.now) (document self.now))
+            (acted (kept_of self.now) onward.entry.next (document self.now) (below (lent_location trail.old.way.steps.items) (lent_step child.entry.step) (tree_of child.entry.value))))
+            (seen sink.new) b) }
+        ensures comes { Comes self.now trail.old trail.new (action_patterns (kept_of self.now) onward.entry.next ++ segments_patterns (segments_meant (kept_of self.now) onward.entry.rest.now)) result }
     {
         if is_idle(onward.next, child.value) {
             return Ok(true);
@@ -139,25 +135,23 @@ impl<'a: 's, 's, T: Queryable> Task<'a, 's, T> {
     pub fn act(
         &self,
         onward: Onward<'s, Action<'s>>,
-        at: &'a T,
+        at: WholeRef<'a, T>,
         trail: &mut Trail<'a, 's, '_, T>,
         sink: &mut Sink<'a, T>,
     ) -> Walked<bool>
-        requires { Stands T.tree T.is_whole T.custom self.now at.now trail.old.way.steps.items trail.old.cache }
-        ensures gave { IfOk result (λ b. Took (seen T.tree T.is_whole sink.old)
-            (flat_map (through (segments_meant (kept_of self.now) onward.entry.rest.now) (document T.tree T.custom self.now))
-            (acted (kept_of self.now) onward.entry.next (document T.tree T.custom self.now) (node_of T.tree trail.old.way.steps.items at.now)))
-            (seen T.tree T.is_whole sink.new) b) }
-        ensures returns { OnOk result (Returns T.tree T.is_whole T.custom self.now trail.old trail.new) }
-        ensures ready { OnErr result (IsReady T.tree T.is_whole T.custom self.now trail.new.cache) }
-        ensures refused { IfErr result (IsHalt self.now.limit (action_patterns (kept_of self.now) onward.entry.next ++ segments_patterns (segments_meant (kept_of self.now) onward.entry.rest.now)) (document T.tree T.custom self.now)) }
+        requires { Stands self.now at trail.old.way.steps.items trail.old.cache }
+        ensures gave { IfOk result (λ b. Took (seen sink.old)
+            (flat_map (through (segments_meant (kept_of self.now) onward.entry.rest.now) (document self.now))
+            (acted (kept_of self.now) onward.entry.next (document self.now) (node_of trail.old.way.steps.items at.entry)))
+            (seen sink.new) b) }
+        ensures comes { Comes self.now trail.old trail.new (action_patterns (kept_of self.now) onward.entry.next ++ segments_patterns (segments_meant (kept_of self.now) onward.entry.rest.now)) result }
     {
         let rest = onward.rest;
         match onward.next {
-            Action::All => self.go_on(rest, at, trail, sink),
+            Action::All => self.walk(rest, at, trail, sink),
             Action::If(filter) => {
                 if self.filter_holds(filter, at, trail)? {
-                    self.go_on(rest, at, trail, sink)
+                    self.walk(rest, at, trail, sink)
                 } else {
                     Ok(true)
                 }
@@ -172,18 +166,16 @@ impl<'a: 's, 's, T: Queryable> Task<'a, 's, T> {
     fn descend(
         &self,
         onward: Onward<'s, &'s Segment>,
-        at: &'a T,
+        at: WholeRef<'a, T>,
         trail: &mut Trail<'a, 's, '_, T>,
         sink: &mut Sink<'a, T>,
     ) -> Walked<bool>
-        requires { Stands T.tree T.is_whole T.custom self.now at.now trail.old.way.steps.items trail.old.cache }
-        ensures gave { IfOk result (λ b. Took (seen T.tree T.is_whole sink.old)
-            (flat_map (through (segments_meant (kept_of self.now) onward.entry.rest.now) (document T.tree T.custom self.now))
-            (flat_map (replaced (segment_view (kept_of self.now) onward.entry.next.now) (document T.tree T.custom self.now)) (subtree (node_of T.tree trail.old.way.steps.items at.now))))
-            (seen T.tree T.is_whole sink.new) b) }
-        ensures returns { OnOk result (Returns T.tree T.is_whole T.custom self.now trail.old trail.new) }
-        ensures ready { OnErr result (IsReady T.tree T.is_whole T.custom self.now trail.new.cache) }
-        ensures refused { IfErr result (IsHalt self.now.limit (segment_patterns (segment_view (kept_of self.now) onward.entry.next.now) ++ segments_patterns (segments_meant (kept_of self.now) onward.entry.rest.now)) (document T.tree T.custom self.now)) }
+        requires { Stands self.now at trail.old.way.steps.items trail.old.cache }
+        ensures gave { IfOk result (λ b. Took (seen sink.old)
+            (flat_map (through (segments_meant (kept_of self.now) onward.entry.rest.now) (document self.now))
+            (flat_map (replaced (segment_view (kept_of self.now) onward.entry.next.now) (document self.now)) (subtree (node_of trail.old.way.steps.items at.entry))))
+            (seen sink.new) b) }
+        ensures comes { Comes self.now trail.old trail.new (segment_patterns (segment_view (kept_of self.now) onward.entry.next.now) ++ segments_patterns (segments_meant (kept_of self.now) onward.entry.rest.now)) result }
     {
         let rest = onward.rest;
         let further = Onward {
@@ -191,7 +183,7 @@ impl<'a: 's, 's, T: Queryable> Task<'a, 's, T> {
             rest,
         };
         if let Some(next) = of_each_child(onward.next) {
-            if let Some(listed) = at.as_object(self.alloc)? {
+            if let Some(listed) = at.members(self.alloc)? {
                 let members = Members {
                     of: at,
                     list: &listed,
@@ -206,29 +198,5 @@ impl<'a: 's, 's, T: Queryable> Task<'a, 's, T> {
             return Ok(false);
         }
         self.each_child(further, at, trail, sink)
-    }
-
-    /// The rest from this value on. Where nothing is left the value is taken here, with no call for it.
-    #[cycle(walk)]
-    #[inline(always)]
-    fn go_on(
-        &self,
-        rest: &'s [Segment],
-        at: &'a T,
-        trail: &mut Trail<'a, 's, '_, T>,
-        sink: &mut Sink<'a, T>,
-    ) -> Walked<bool>
-        requires { Stands T.tree T.is_whole T.custom self.now at.now trail.old.way.steps.items trail.old.cache }
-        ensures gave { IfOk result (λ b. Took (seen T.tree T.is_whole sink.old)
-            (through (segments_meant (kept_of self.now) rest.now) (document T.tree T.custom self.now) (node_of T.tree trail.old.way.steps.items at.now))
-            (seen T.tree T.is_whole sink.new) b) }
-        ensures returns { OnOk result (Returns T.tree T.is_whole T.custom self.now trail.old trail.new) }
-        ensures ready { OnErr result (IsReady T.tree T.is_whole T.custom self.now trail.new.cache) }
-        ensures refused { IfErr result (IsHalt self.now.limit (segments_patterns (segments_meant (kept_of self.now) rest.now)) (document T.tree T.custom self.now)) }
-    {
-        match rest.split_first() {
-            None => sink.take(self.alloc, at, &mut trail.way),
-            Some(_) => self.walk(rest, at, trail, sink),
-        }
     }
 }

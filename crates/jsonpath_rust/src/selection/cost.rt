@@ -1,14 +1,17 @@
 //! What work is spent for values: where a walk is limited, comparisons, functions and patterns cost what they look at.
-ghost use Rattle.std.specs.Prelude.{◌≡◌, ◌≤◌, ◌-◌, min, None, map, length, option_map, All, IsTrue, IfOk, IfErr, IfSome};
+ghost use Rattle.std.specs.Prelude.{◌≡◌, ◌≤◌, ◌-◌, min, None, map, length, option_map, All, IsTrue, IfOk, IfErr};
 ghost use Rattle.jsonpath_base.specs.Tree.{as_list, as_text};
-ghost use Rattle.jsonpath_rust.specs.documents.inner.Operands.{operand_is_whole, AreWhole};
+ghost use Rattle.jsonpath_rust.specs.documents.inner.Operands.{arg_trees};
+ghost use Rattle.jsonpath_rust.specs.documents.inner.Whole.{tree_of};
 ghost use Rattle.jsonpath_rust.specs.selection.inner.Costs.{cost, elements_cost, pairs_cost, smaller_cost, valued, compared_cost};
 ghost use Rattle.jsonpath_rust.specs.declared.documents.halt.Halt.TheVariants.{Memory};
 ghost use Rattle.jsonpath_rust.specs.declared.selection.budget.Limit.TheVariants.{Limited};
 
+use crate::documents::args::Args;
 use crate::documents::halt::Walked;
-use crate::documents::queryable::{Arg, Queryable};
+use crate::documents::queryable::Queryable;
 use crate::documents::value::Operand;
+use crate::documents::whole::WholeRef;
 use crate::selection::budget::Limit;
 use std::alloc::Global;
 
@@ -18,9 +21,7 @@ const BYTES: usize = 16;
 impl Limit {
     /// What it costs to read a text of the document: a unit for each byte.
     #[inline(always)]
-    pub fn text_cost<T: Queryable>(self, operand: &Operand<'_, '_, T>) -> usize
-        requires { IsTrue (operand_is_whole T.is_whole operand.now) }
-    {
+    pub fn text_cost<T: Queryable>(self, operand: &Operand<'_, '_, T>) -> usize {
         match self {
             Limit::Unlimited => 0,
             Limit::Limited => text_bytes(operand),
@@ -35,9 +36,7 @@ impl Limit {
         left: &Operand<'_, '_, T>,
         right: &Operand<'_, '_, T>,
     ) -> Walked<usize>
-        requires left { IsTrue (operand_is_whole T.is_whole left.now) }
-        requires right { IsTrue (operand_is_whole T.is_whole right.now) }
-        ensures cost { IfOk result (λ n. self ≡ Limited → n ≡ compared_cost (valued T.tree left.now) (valued T.tree right.now)) }
+        ensures cost { IfOk result (λ n. self ≡ Limited → n ≡ compared_cost (valued left.now) (valued right.now)) }
         ensures memory { IfErr result (λ h. h ≡ Memory) }
     {
         match self {
@@ -51,9 +50,8 @@ impl Limit {
 
     /// What a custom function costs: one for each value that it is given, and the product of their sizes.
     #[inline(always)]
-    pub fn custom_cost<T: Queryable>(self, alloc: Global, args: &[Arg<'_, T>]) -> Walked<usize>
-        requires { AreWhole T.is_whole args.now }
-        ensures each { IfOk result (λ n. self ≡ Limited → length args.now ≤ n) }
+    pub fn custom_cost<T: Queryable>(self, alloc: Global, args: &Args<'_, T>) -> Walked<usize>
+        ensures each { IfOk result (λ n. self ≡ Limited → length (arg_trees args.now) ≤ n) }
         ensures memory { IfErr result (λ h. h ≡ Memory) }
     {
         match self {
@@ -64,9 +62,7 @@ impl Limit {
 }
 
 /// How many bytes the text has, if it is one of the document.
-fn text_bytes<T: Queryable>(operand: &Operand<'_, '_, T>) -> usize
-    requires { IsTrue (operand_is_whole T.is_whole operand.now) }
-{
+fn text_bytes<T: Queryable>(operand: &Operand<'_, '_, T>) -> usize {
     match value_in(operand) {
         Some(value) => match value.as_str() {
             Some(text) => text.len(),
@@ -77,23 +73,23 @@ fn text_bytes<T: Queryable>(operand: &Operand<'_, '_, T>) -> usize
 }
 
 /// The value, if it is one of the document or one that a custom function made.
-fn value_in<'k, T: Queryable>(operand: &'k Operand<'_, '_, T>) -> Option<&'k T>
-    requires { IsTrue (operand_is_whole T.is_whole operand.now) }
-    ensures value { option_map (λ v. T.tree v.now) result ≡ valued T.tree operand.now }
-    ensures whole { IfSome result (λ v. IsTrue (T.is_whole v.now)) }
+fn value_in<'k, T: Queryable>(operand: &'k Operand<'_, '_, T>) -> Option<WholeRef<'k, T>>
+    ensures { option_map tree_of result ≡ valued operand.now }
 {
     match operand {
         Operand::Lent(value) => Some(*value),
-        Operand::Made(value) => Some(value),
+        Operand::Made(value) => Some(value.lent()),
         _ => None,
     }
 }
 
 /// The size of the smaller of two values. The time goes with that, not with the larger one.
-fn smaller_size<T: Queryable>(alloc: Global, left: &T, right: &T) -> Walked<usize>
-    requires left { IsTrue (T.is_whole left.now) }
-    requires right { IsTrue (T.is_whole right.now) }
-    ensures size { IfOk result (λ n. n ≡ smaller_cost (T.tree left.now) (T.tree right.now)) }
+fn smaller_size<T: Queryable>(
+    alloc: Global,
+    left: WholeRef<'_, T>,
+    right: WholeRef<'_, T>,
+) -> Walked<usize>
+    ensures size { IfOk result (λ n. n ≡ smaller_cost (tree_of left.entry) (tree_of right.entry)) }
     ensures memory { IfErr result (λ h. h ≡ Memory) }
 {
     let most = bound_of_smaller(alloc, left, right)?;
@@ -103,10 +99,12 @@ fn smaller_size<T: Queryable>(alloc: Global, left: &T, right: &T) -> Walked<usiz
 
 /// A bound that the size of the smaller of two values keeps. Each is counted as far as some bound, which is raised until one of
 /// them lies below it.
-fn bound_of_smaller<T: Queryable>(alloc: Global, left: &T, right: &T) -> Walked<usize>
-    requires left { IsTrue (T.is_whole left.now) }
-    requires right { IsTrue (T.is_whole right.now) }
-    ensures bound { IfOk result (λ n. smaller_cost (T.tree left.now) (T.tree right.now) ≤ n) }
+fn bound_of_smaller<T: Queryable>(
+    alloc: Global,
+    left: WholeRef<'_, T>,
+    right: WholeRef<'_, T>,
+) -> Walked<usize>
+    ensures bound { IfOk result (λ n. smaller_cost (tree_of left.entry) (tree_of right.entry) ≤ n) }
     ensures memory { IfErr result (λ h. h ≡ Memory) }
 {
     let mut most: usize = 4;
@@ -123,25 +121,23 @@ fn bound_of_smaller<T: Queryable>(alloc: Global, left: &T, right: &T) -> Walked<
 }
 
 /// How many these values are, and the product of their sizes.
-fn size_of_arguments<T: Queryable>(alloc: Global, args: &[Arg<'_, T>]) -> Walked<usize>
-    requires { AreWhole T.is_whole args.now }
-    ensures each { IfOk result (λ n. length args.now ≤ n) }
+fn size_of_arguments<T: Queryable>(alloc: Global, args: &Args<'_, T>) -> Walked<usize>
+    ensures each { IfOk result (λ n. length (arg_trees args.now) ≤ n) }
     ensures memory { IfErr result (λ h. h ≡ Memory) }
 {
     let mut product: usize = 1;
-    for arg in args {
-        let size = size_within(alloc, arg.get(), usize::MAX)?;
+    for arg in &args.list {
+        let size = size_within(alloc, WholeRef { value: arg.get() }, usize::MAX)?;
         product = product.saturating_mul(size);
     }
-    Ok(product.saturating_add(args.len()))
+    Ok(product.saturating_add(args.list.len()))
 }
 
 /// The size of a value, or `most` where that is less: one for each value in it, and for each few bytes of its texts and names.
 /// It is not counted further than that, and of a value of which one is wanted nothing is looked at.
 #[cycle(size)]
-fn size_within<T: Queryable>(alloc: Global, value: &T, most: usize) -> Walked<usize>
-    requires { IsTrue (T.is_whole value.now) }
-    ensures size { IfOk result (λ n. n ≡ min (cost (T.tree value.now)) most) }
+fn size_within<T: Queryable>(alloc: Global, value: WholeRef<'_, T>, most: usize) -> Walked<usize>
+    ensures size { IfOk result (λ n. n ≡ min (cost (tree_of value.entry)) most) }
     ensures memory { IfErr result (λ h. h ≡ Memory) }
 {
     if most <= 1 {
@@ -150,7 +146,7 @@ fn size_within<T: Queryable>(alloc: Global, value: &T, most: usize) -> Walked<us
     if let Some(text) = value.as_str() {
         return Ok((text.len() / BYTES).saturating_add(1).min(most));
     }
-    if let Some(items) = value.as_array() {
+    if let Some(items) = value.elements() {
         let inside = elements_size(alloc, items, most - 1)?;
         return Ok(inside.saturating_add(1));
     }
@@ -170,7 +166,7 @@ fn elements_size<T: Queryable>(alloc: Global, items: &Vec<T>, most: usize) -> Wa
         if size >= most {
             return Ok(most);
         }
-        size = size.saturating_add(size_within(alloc, item, most - size)?);
+        size = size.saturating_add(size_within(alloc, WholeRef { value: item }, most - size)?);
     }
     Ok(size)
 }
@@ -178,18 +174,17 @@ fn elements_size<T: Queryable>(alloc: Global, items: &Vec<T>, most: usize) -> Wa
 /// The sizes of the members of a value together, with their names, or `most` where that is less. Where an object has so many
 /// members, they are not listed.
 #[cycle(size)]
-fn inside_size<T: Queryable>(alloc: Global, value: &T, most: usize) -> Walked<usize>
-    requires whole { IsTrue (T.is_whole value.now) }
-    requires text { None ≡ as_text (T.tree value.now) }
-    requires list { None ≡ as_list (T.tree value.now) }
-    ensures size { IfOk result (λ n. n ≡ min (cost (T.tree value.now) - 1) most) }
+fn inside_size<T: Queryable>(alloc: Global, value: WholeRef<'_, T>, most: usize) -> Walked<usize>
+    requires text { None ≡ as_text (tree_of value) }
+    requires list { None ≡ as_list (tree_of value) }
+    ensures size { IfOk result (λ n. n ≡ min (cost (tree_of value.entry) - 1) most) }
     ensures memory { IfErr result (λ h. h ≡ Memory) }
 {
     let count = value.member_count(alloc)?.unwrap_or(0);
     if count >= most {
         return Ok(most);
     }
-    match value.as_object(alloc)? {
+    match value.members(alloc)? {
         Some(members) => members_size(alloc, &members, most),
         None => Ok(0),
     }
@@ -212,7 +207,7 @@ fn members_size<T: Queryable>(
         if size >= most {
             return Ok(most);
         }
-        size = size.saturating_add(size_within(alloc, member.1, most - size)?);
+        size = size.saturating_add(size_within(alloc, WholeRef { value: member.1 }, most - size)?);
     }
     Ok(size)
 }

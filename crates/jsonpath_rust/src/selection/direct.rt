@@ -1,12 +1,13 @@
 //! Functions of what is looked up (RFC 9535, 2.4): they are worked out from borrowed values, and nothing is made for them.
-ghost use Rattle.std.specs.Prelude.{◌≡◌, Some, length, IsTrue, IfSome};
+ghost use Rattle.std.specs.Prelude.{◌≡◌, Some, length, IfSome};
 ghost use Rattle.jsonpath_parser.specs.tree.Syntax.{test_argument};
 ghost use Rattle.jsonpath_rust.specs.documents.Document.{Document};
 ghost use Rattle.jsonpath_rust.specs.documents.Functions as functions;
 ghost use Rattle.jsonpath_rust.specs.documents.Functions.{as_nodes, as_truth, as_value, only_value};
 ghost use Rattle.jsonpath_rust.specs.documents.Meaning.{answer, tested};
 ghost use Rattle.jsonpath_rust.specs.documents.Node.{Node};
-ghost use Rattle.jsonpath_rust.specs.documents.inner.Operands.{side_tree, side_is_whole};
+ghost use Rattle.jsonpath_rust.specs.documents.inner.Operands.{side_tree};
+ghost use Rattle.jsonpath_rust.specs.documents.inner.Whole.{tree_of};
 ghost use Rattle.jsonpath_rust.specs.selection.inner.PlanViews.{Kept, argument_view, call_view, nodes_view, segments_meant};
 ghost use Rattle.jsonpath_rust.specs.selection.inner.Walking.{through};
 ghost use Rattle.jsonpath_rust.specs.declared.selection.sink.Wanted.{Wanted};
@@ -15,6 +16,7 @@ ghost use Rattle.jsonpath_rust.specs.declared.selection.sink.Wanted.TheVariants.
 use crate::documents::comparison::Side;
 use crate::documents::queryable::Queryable;
 use crate::documents::value::count_scalar;
+use crate::documents::whole::WholeRef;
 use crate::selection::lookup::{Followed, follow};
 use crate::selection::plan::{Argument, Call, Nodes, Segment};
 use crate::selection::singular::value_at;
@@ -22,10 +24,11 @@ use jsonpath_base::text_length;
 
 /// What a function of nodes that are looked up returns; None where that takes a walk, or memory.
 #[inline(always)]
-pub fn direct_answer<'k, 's, T: Queryable>(call: &Call, at: &'k T) -> Option<Side<'k, 's, T>>
-    requires { IsTrue (T.is_whole at.now) }
-    ensures value { (kept : Kept) (d : Document) (n : Node) → n.tree ≡ T.tree at.now → IfSome result (λ s. side_tree T.tree s ≡ answer (call_view kept call.now) d n) }
-    ensures whole { IfSome result (λ s. IsTrue (side_is_whole T.is_whole s)) }
+pub fn direct_answer<'k, 's, T: Queryable>(
+    call: &Call,
+    at: WholeRef<'k, T>,
+) -> Option<Side<'k, 's, T>>
+    ensures { (kept : Kept) (d : Document) (n : Node) → n.tree ≡ tree_of at.entry → IfSome result (λ s. side_tree s ≡ answer (call_view kept call.now) d n) }
 {
     match call {
         Call::Length(arg) => direct_length(nodes_of(arg)?, at),
@@ -48,10 +51,11 @@ fn nodes_of(arg: &Argument) -> Option<&Nodes>
 
 /// The length of the value that is looked up, of a text or a list (2.4.4).
 #[inline(always)]
-fn direct_length<'k, 's, T: Queryable>(nodes: &Nodes, at: &'k T) -> Option<Side<'k, 's, T>>
-    requires { IsTrue (T.is_whole at.now) }
-    ensures value { (kept : Kept) (d : Document) (n : Node) → n.tree ≡ T.tree at.now → IfSome result (λ s. side_tree T.tree s ≡ functions.length_of (as_value (tested (nodes_view kept nodes.now Only) d n))) }
-    ensures whole { IfSome result (λ s. IsTrue (side_is_whole T.is_whole s)) }
+fn direct_length<'k, 's, T: Queryable>(
+    nodes: &Nodes,
+    at: WholeRef<'k, T>,
+) -> Option<Side<'k, 's, T>>
+    ensures { (kept : Kept) (d : Document) (n : Node) → n.tree ≡ tree_of at.entry → IfSome result (λ s. side_tree s ≡ functions.length_of (as_value (tested (nodes_view kept nodes.now Only) d n))) }
 {
     match nodes {
         Nodes::Lookup(steps) => match value_at(steps, at) {
@@ -64,15 +68,13 @@ fn direct_length<'k, 's, T: Queryable>(nodes: &Nodes, at: &'k T) -> Option<Side<
 
 /// The length of a text or a list.
 #[inline(always)]
-fn length_side<'k, 's, T: Queryable>(value: &T) -> Option<Side<'k, 's, T>>
-    requires { IsTrue (T.is_whole value.now) }
-    ensures value { IfSome result (λ s. side_tree T.tree s ≡ functions.length_of (Some (T.tree value.now))) }
-    ensures whole { IfSome result (λ s. IsTrue (side_is_whole T.is_whole s)) }
+fn length_side<'k, 's, T: Queryable>(value: WholeRef<'_, T>) -> Option<Side<'k, 's, T>>
+    ensures { IfSome result (λ s. side_tree s ≡ functions.length_of (Some (tree_of value.entry))) }
 {
     if let Some(text) = value.as_str() {
         return Some(Side::Plain(count_scalar(text_length(text))));
     }
-    match value.as_array() {
+    match value.elements() {
         Some(items) => Some(Side::Plain(count_scalar(items.len()))),
         None => None,
     }
@@ -80,10 +82,8 @@ fn length_side<'k, 's, T: Queryable>(value: &T) -> Option<Side<'k, 's, T>>
 
 /// The value that is looked up (2.4.8).
 #[inline(always)]
-fn direct_value<'k, 's, T: Queryable>(nodes: &Nodes, at: &'k T) -> Option<Side<'k, 's, T>>
-    requires { IsTrue (T.is_whole at.now) }
-    ensures value { (kept : Kept) (d : Document) (n : Node) → n.tree ≡ T.tree at.now → IfSome result (λ s. side_tree T.tree s ≡ only_value (as_nodes (tested (nodes_view kept nodes.now Only) d n))) }
-    ensures whole { IfSome result (λ s. IsTrue (side_is_whole T.is_whole s)) }
+fn direct_value<'k, 's, T: Queryable>(nodes: &Nodes, at: WholeRef<'k, T>) -> Option<Side<'k, 's, T>>
+    ensures { (kept : Kept) (d : Document) (n : Node) → n.tree ≡ tree_of at.entry → IfSome result (λ s. side_tree s ≡ only_value (as_nodes (tested (nodes_view kept nodes.now Only) d n))) }
 {
     match nodes {
         Nodes::Lookup(steps) => Some(Side::lent(value_at(steps, at))),
@@ -93,10 +93,8 @@ fn direct_value<'k, 's, T: Queryable>(nodes: &Nodes, at: &'k T) -> Option<Side<'
 
 /// How many nodes are looked up (2.4.5).
 #[inline(always)]
-fn direct_count<'k, 's, T: Queryable>(nodes: &Nodes, at: &'k T) -> Option<Side<'k, 's, T>>
-    requires { IsTrue (T.is_whole at.now) }
-    ensures value { (kept : Kept) (d : Document) (n : Node) → n.tree ≡ T.tree at.now → IfSome result (λ s. side_tree T.tree s ≡ functions.count_of (as_nodes (tested (nodes_view kept nodes.now Count) d n))) }
-    ensures whole { IfSome result (λ s. IsTrue (side_is_whole T.is_whole s)) }
+fn direct_count<'k, 's, T: Queryable>(nodes: &Nodes, at: WholeRef<'k, T>) -> Option<Side<'k, 's, T>>
+    ensures { (kept : Kept) (d : Document) (n : Node) → n.tree ≡ tree_of at.entry → IfSome result (λ s. side_tree s ≡ functions.count_of (as_nodes (tested (nodes_view kept nodes.now Count) d n))) }
 {
     match nodes {
         Nodes::Walk(segments) => match followed_count(segments, at) {
@@ -109,9 +107,8 @@ fn direct_count<'k, 's, T: Queryable>(nodes: &Nodes, at: &'k T) -> Option<Side<'
 
 /// Whether there is a node (2.3.5.2.1); None where that takes a walk or memory, and where it is kept of the root.
 #[inline(always)]
-pub fn is_there<T: Queryable>(nodes: &Nodes, at: &T) -> Option<bool>
-    requires { IsTrue (T.is_whole at.now) }
-    ensures { (kept : Kept) (d : Document) (n : Node) → n.tree ≡ T.tree at.now → IfSome result (λ b. b ≡ as_truth (tested (nodes_view kept nodes.now Any) d n)) }
+pub fn is_there<T: Queryable>(nodes: &Nodes, at: WholeRef<'_, T>) -> Option<bool>
+    ensures { (kept : Kept) (d : Document) (n : Node) → n.tree ≡ tree_of at.entry → IfSome result (λ b. b ≡ as_truth (tested (nodes_view kept nodes.now Any) d n)) }
 {
     match nodes {
         Nodes::Lookup(steps) => Some(value_at(steps, at).is_some()),
@@ -124,14 +121,13 @@ pub fn is_there<T: Queryable>(nodes: &Nodes, at: &T) -> Option<bool>
 }
 
 /// How many nodes the segments lead to, where that takes neither a walk nor memory.
-pub fn followed_count<T: Queryable>(segments: &[Segment], at: &T) -> Option<usize>
-    requires { IsTrue (T.is_whole at.now) }
-    ensures { (kept : Kept) (d : Document) (n : Node) → n.tree ≡ T.tree at.now → IfSome result (λ k. k ≡ length (through (segments_meant kept segments.now) d n)) }
+pub fn followed_count<T: Queryable>(segments: &[Segment], at: WholeRef<'_, T>) -> Option<usize>
+    ensures { (kept : Kept) (d : Document) (n : Node) → n.tree ≡ tree_of at.entry → IfSome result (λ k. k ≡ length (through (segments_meant kept segments.now) d n)) }
 {
     match follow(segments, at) {
         Followed::To(_value) => Some(1),
         Followed::Nowhere => Some(0),
-        Followed::Children(parent) => match parent.as_array() {
+        Followed::Children(parent) => match parent.elements() {
             Some(items) => Some(items.len()),
             None => None,
         },

@@ -23,8 +23,8 @@ const LEVELS_BESIDE: usize = 8;
 impl<'a: 's, 's, T: Queryable> Task<'a, 's, T> {
     /// Where that would stand too deep, works out the entries whose turn is early, inner ones first. It comes back to the root.
     pub fn work_out_early(&self, trail: &mut Trail<'a, 's, '_, T>) -> Walked<()>
-        requires { IsReady T.tree T.is_whole T.custom self.now trail.old.cache }
-        ensures ready { OnOk result (IsReady T.tree T.is_whole T.custom self.now trail.new.cache) }
+        requires { IsReady self.now trail.old.cache }
+        ensures ready { OnOk result (IsReady self.now trail.new.cache) }
         ensures way { OnOk result (trail.new.way.steps.items ≡ []) }
         ensures memory { IfErr result (λ h. h ≡ Memory) }
     {
@@ -41,8 +41,8 @@ impl<'a: 's, 's, T: Queryable> Task<'a, 's, T> {
         Ok(())
     }
 
-    /// Whether the queries from the root, each asked in the walk of another, may stand on more levels of the document than they
-    /// may. Where the work is limited the document is not looked at.
+    /// Whether queries from the root that are asked in one another's walks could stand on more than `MOST_LEVELS` levels of the
+    /// document, all together. Where the work is limited the answer is yes: the document is not looked at.
     fn stands_deep(&self) -> Walked<bool>
         ensures { IfErr result (λ h. h ≡ Memory) }
     {
@@ -52,7 +52,7 @@ impl<'a: 's, 's, T: Queryable> Task<'a, 's, T> {
         let levels = MOST_LEVELS / self.plan.nesting.saturating_add(1);
         match self.limit {
             Limit::Unlimited if levels >= LEVELS_BESIDE => {
-                is_deeper(self.alloc, self.root, levels - LEVELS_BESIDE)
+                is_deeper(self.alloc, self.root.value, levels - LEVELS_BESIDE)
             }
             _ => Ok(true),
         }
@@ -75,8 +75,8 @@ impl<'a: 's, 's, T: Queryable> Task<'a, 's, T> {
         wanted: Wanted,
         trail: &mut Trail<'a, 's, '_, T>,
     ) -> Walked<()>
-        requires { IsReady T.tree T.is_whole T.custom self.now trail.old.cache }
-        ensures ready { IsReady T.tree T.is_whole T.custom self.now trail.new.cache }
+        requires { IsReady self.now trail.old.cache }
+        ensures ready { IsReady self.now trail.new.cache }
         ensures memory { IfErr result (λ h. h ≡ Memory) }
     {
         match self.kept_nodes(number, wanted, trail) {

@@ -1,15 +1,14 @@
 //! Whether filters hold (RFC 9535, 2.3.5).
-ghost use Rattle.std.specs.Prelude.{◌≡◌, ◌++◌, IsTrue, IfOk, IfErr, OnOk, OnErr};
+ghost use Rattle.std.specs.Prelude.{◌≡◌, ◌++◌, IfOk};
 ghost use Rattle.jsonpath_parser.specs.tree.View.{operator_view};
 ghost use Rattle.jsonpath_rust.specs.documents.Comparing.{compares};
 ghost use Rattle.jsonpath_rust.specs.documents.Functions.{as_truth};
 ghost use Rattle.jsonpath_rust.specs.documents.Meaning.{holds, some_holds, each_holds, tested, value_of};
 ghost use Rattle.jsonpath_rust.specs.documents.Patterns.{filter_patterns, filters_patterns, comparable_patterns, test_patterns};
-ghost use Rattle.jsonpath_rust.specs.documents.inner.Operands.{operand_tree, operand_is_whole};
-ghost use Rattle.jsonpath_rust.specs.selection.inner.Halting.{IsHalt};
-ghost use Rattle.jsonpath_rust.specs.selection.inner.Keeping.{IsReady, document, kept_of};
+ghost use Rattle.jsonpath_rust.specs.documents.inner.Operands.{operand_tree};
+ghost use Rattle.jsonpath_rust.specs.selection.inner.Keeping.{document, kept_of};
 ghost use Rattle.jsonpath_rust.specs.selection.inner.PlanViews.{filter_view, filters_meant, nodes_view, side_view};
-ghost use Rattle.jsonpath_rust.specs.selection.inner.Standing.{Stands, Returns};
+ghost use Rattle.jsonpath_rust.specs.selection.inner.Standing.{Stands, Comes};
 ghost use Rattle.jsonpath_rust.specs.selection.inner.Walking.{node_of};
 ghost use Rattle.jsonpath_rust.specs.declared.selection.sink.Wanted.TheVariants.{Any};
 
@@ -17,6 +16,7 @@ use crate::documents::comparison::compares;
 use crate::documents::halt::Walked;
 use crate::documents::queryable::Queryable;
 use crate::documents::value::{Operand, scalar_of};
+use crate::documents::whole::WholeRef;
 use crate::selection::direct::is_there;
 use crate::selection::plan::{Filter, Nodes, Side};
 use crate::selection::singular::value_at;
@@ -31,14 +31,12 @@ impl<'a: 's, 's, T: Queryable> Task<'a, 's, T> {
     pub fn filter_holds(
         &self,
         filter: &'s Filter,
-        at: &'a T,
+        at: WholeRef<'a, T>,
         trail: &mut Trail<'a, 's, '_, T>,
     ) -> Walked<bool>
-        requires { Stands T.tree T.is_whole T.custom self.now at.now trail.old.way.steps.items trail.old.cache }
-        ensures holds { IfOk result (λ b. b ≡ holds (filter_view (kept_of self.now) filter.now) (document T.tree T.custom self.now) (node_of T.tree trail.old.way.steps.items at.now)) }
-        ensures returns { OnOk result (Returns T.tree T.is_whole T.custom self.now trail.old trail.new) }
-        ensures ready { OnErr result (IsReady T.tree T.is_whole T.custom self.now trail.new.cache) }
-        ensures refused { IfErr result (IsHalt self.now.limit (filter_patterns (filter_view (kept_of self.now) filter.now)) (document T.tree T.custom self.now)) }
+        requires { Stands self.now at trail.old.way.steps.items trail.old.cache }
+        ensures holds { IfOk result (λ b. b ≡ holds (filter_view (kept_of self.now) filter.now) (document self.now) (node_of trail.old.way.steps.items at.entry)) }
+        ensures comes { Comes self.now trail.old trail.new (filter_patterns (filter_view (kept_of self.now) filter.now)) result }
     {
         match filter {
             Filter::Or(parts) => self.some_holds(parts, at, trail),
@@ -58,14 +56,12 @@ impl<'a: 's, 's, T: Queryable> Task<'a, 's, T> {
     fn some_holds(
         &self,
         parts: &'s [Filter],
-        at: &'a T,
+        at: WholeRef<'a, T>,
         trail: &mut Trail<'a, 's, '_, T>,
     ) -> Walked<bool>
-        requires { Stands T.tree T.is_whole T.custom self.now at.now trail.old.way.steps.items trail.old.cache }
-        ensures holds { IfOk result (λ b. b ≡ some_holds (filters_meant (kept_of self.now) parts.now) (document T.tree T.custom self.now) (node_of T.tree trail.old.way.steps.items at.now)) }
-        ensures returns { OnOk result (Returns T.tree T.is_whole T.custom self.now trail.old trail.new) }
-        ensures ready { OnErr result (IsReady T.tree T.is_whole T.custom self.now trail.new.cache) }
-        ensures refused { IfErr result (IsHalt self.now.limit (filters_patterns (filters_meant (kept_of self.now) parts.now)) (document T.tree T.custom self.now)) }
+        requires { Stands self.now at trail.old.way.steps.items trail.old.cache }
+        ensures holds { IfOk result (λ b. b ≡ some_holds (filters_meant (kept_of self.now) parts.now) (document self.now) (node_of trail.old.way.steps.items at.entry)) }
+        ensures comes { Comes self.now trail.old trail.new (filters_patterns (filters_meant (kept_of self.now) parts.now)) result }
     {
         trail.budget.spend(self.limit, parts.len())?;
         for part in parts {
@@ -81,14 +77,12 @@ impl<'a: 's, 's, T: Queryable> Task<'a, 's, T> {
     fn each_holds(
         &self,
         parts: &'s [Filter],
-        at: &'a T,
+        at: WholeRef<'a, T>,
         trail: &mut Trail<'a, 's, '_, T>,
     ) -> Walked<bool>
-        requires { Stands T.tree T.is_whole T.custom self.now at.now trail.old.way.steps.items trail.old.cache }
-        ensures holds { IfOk result (λ b. b ≡ each_holds (filters_meant (kept_of self.now) parts.now) (document T.tree T.custom self.now) (node_of T.tree trail.old.way.steps.items at.now)) }
-        ensures returns { OnOk result (Returns T.tree T.is_whole T.custom self.now trail.old trail.new) }
-        ensures ready { OnErr result (IsReady T.tree T.is_whole T.custom self.now trail.new.cache) }
-        ensures refused { IfErr result (IsHalt self.now.limit (filters_patterns (filters_meant (kept_of self.now) parts.now)) (document T.tree T.custom self.now)) }
+        requires { Stands self.now at trail.old.way.steps.items trail.old.cache }
+        ensures holds { IfOk result (λ b. b ≡ each_holds (filters_meant (kept_of self.now) parts.now) (document self.now) (node_of trail.old.way.steps.items at.entry)) }
+        ensures comes { Comes self.now trail.old trail.new (filters_patterns (filters_meant (kept_of self.now) parts.now)) result }
     {
         trail.budget.spend(self.limit, parts.len())?;
         for part in parts {
@@ -102,12 +96,15 @@ impl<'a: 's, 's, T: Queryable> Task<'a, 's, T> {
     /// Whether there is a node (RFC 9535, 2.3.5.2.1). Names and indexes are looked up, and nothing is made for them.
     #[cycle(walk)]
     #[inline(always)]
-    fn exists(&self, nodes: &'s Nodes, at: &'a T, trail: &mut Trail<'a, 's, '_, T>) -> Walked<bool>
-        requires { Stands T.tree T.is_whole T.custom self.now at.now trail.old.way.steps.items trail.old.cache }
-        ensures holds { IfOk result (λ b. b ≡ as_truth (tested (nodes_view (kept_of self.now) nodes.now Any) (document T.tree T.custom self.now) (node_of T.tree trail.old.way.steps.items at.now))) }
-        ensures returns { OnOk result (Returns T.tree T.is_whole T.custom self.now trail.old trail.new) }
-        ensures ready { OnErr result (IsReady T.tree T.is_whole T.custom self.now trail.new.cache) }
-        ensures refused { IfErr result (IsHalt self.now.limit (test_patterns (nodes_view (kept_of self.now) nodes.now Any)) (document T.tree T.custom self.now)) }
+    fn exists(
+        &self,
+        nodes: &'s Nodes,
+        at: WholeRef<'a, T>,
+        trail: &mut Trail<'a, 's, '_, T>,
+    ) -> Walked<bool>
+        requires { Stands self.now at trail.old.way.steps.items trail.old.cache }
+        ensures holds { IfOk result (λ b. b ≡ as_truth (tested (nodes_view (kept_of self.now) nodes.now Any) (document self.now) (node_of trail.old.way.steps.items at.entry))) }
+        ensures comes { Comes self.now trail.old trail.new (test_patterns (nodes_view (kept_of self.now) nodes.now Any)) result }
     {
         if let Some(there) = is_there(nodes, at) {
             return Ok(there);
@@ -122,16 +119,14 @@ impl<'a: 's, 's, T: Queryable> Task<'a, 's, T> {
         &self,
         operator: Operator,
         sides: (&'s Side, &'s Side),
-        at: &'a T,
+        at: WholeRef<'a, T>,
         trail: &mut Trail<'a, 's, '_, T>,
     ) -> Walked<bool>
-        requires { Stands T.tree T.is_whole T.custom self.now at.now trail.old.way.steps.items trail.old.cache }
+        requires { Stands self.now at trail.old.way.steps.items trail.old.cache }
         ensures holds { IfOk result (λ b. b ≡ compares (operator_view operator)
-            (value_of (side_view (kept_of self.now) sides.entry.0.now) (document T.tree T.custom self.now) (node_of T.tree trail.old.way.steps.items at.now))
-            (value_of (side_view (kept_of self.now) sides.entry.1.now) (document T.tree T.custom self.now) (node_of T.tree trail.old.way.steps.items at.now))) }
-        ensures returns { OnOk result (Returns T.tree T.is_whole T.custom self.now trail.old trail.new) }
-        ensures ready { OnErr result (IsReady T.tree T.is_whole T.custom self.now trail.new.cache) }
-        ensures refused { IfErr result (IsHalt self.now.limit (comparable_patterns (side_view (kept_of self.now) sides.entry.0.now) ++ comparable_patterns (side_view (kept_of self.now) sides.entry.1.now)) (document T.tree T.custom self.now)) }
+            (value_of (side_view (kept_of self.now) sides.entry.0.now) (document self.now) (node_of trail.old.way.steps.items at.entry))
+            (value_of (side_view (kept_of self.now) sides.entry.1.now) (document self.now) (node_of trail.old.way.steps.items at.entry))) }
+        ensures comes { Comes self.now trail.old trail.new (comparable_patterns (side_view (kept_of self.now) sides.entry.0.now) ++ comparable_patterns (side_view (kept_of self.now) sides.entry.1.now)) result }
     {
         if let Some(held) = self.lent_compare(operator, sides, at, &trail.cache) {
             return Ok(held);
@@ -148,15 +143,12 @@ impl<'a: 's, 's, T: Queryable> Task<'a, 's, T> {
     fn side(
         &self,
         side: &'s Side,
-        at: &'a T,
+        at: WholeRef<'a, T>,
         trail: &mut Trail<'a, 's, '_, T>,
     ) -> Walked<Operand<'a, 's, T>>
-        requires { Stands T.tree T.is_whole T.custom self.now at.now trail.old.way.steps.items trail.old.cache }
-        ensures value { IfOk result (λ o. operand_tree T.tree o ≡ value_of (side_view (kept_of self.now) side.now) (document T.tree T.custom self.now) (node_of T.tree trail.old.way.steps.items at.now)) }
-        ensures whole { IfOk result (λ o. IsTrue (operand_is_whole T.is_whole o)) }
-        ensures returns { OnOk result (Returns T.tree T.is_whole T.custom self.now trail.old trail.new) }
-        ensures ready { OnErr result (IsReady T.tree T.is_whole T.custom self.now trail.new.cache) }
-        ensures refused { IfErr result (IsHalt self.now.limit (comparable_patterns (side_view (kept_of self.now) side.now)) (document T.tree T.custom self.now)) }
+        requires { Stands self.now at trail.old.way.steps.items trail.old.cache }
+        ensures value { IfOk result (λ o. operand_tree o ≡ value_of (side_view (kept_of self.now) side.now) (document self.now) (node_of trail.old.way.steps.items at.entry)) }
+        ensures comes { Comes self.now trail.old trail.new (comparable_patterns (side_view (kept_of self.now) side.now)) result }
     {
         match side {
             Side::Literal(literal) => Ok(Operand::Plain(scalar_of(literal))),

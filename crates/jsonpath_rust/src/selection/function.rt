@@ -1,23 +1,24 @@
 //! Functions and their arguments (RFC 9535, 2.4).
-ghost use Rattle.std.specs.Prelude.{◌≡◌, ◌∷◌, ◌++◌, Some, string_bytes, IsTrue, IfOk, IfErr, OnOk, OnErr};
+ghost use Rattle.std.specs.Prelude.{◌≡◌, ◌∷◌, ◌++◌, Some, string_bytes, IfOk, IfErr};
 ghost use Rattle.jsonpath_base.specs.Tree.{truth};
 ghost use Rattle.jsonpath_rust.specs.documents.Functions.{is_matched, as_value};
 ghost use Rattle.jsonpath_rust.specs.documents.Meaning.{answer, argued, all_trees};
 ghost use Rattle.jsonpath_rust.specs.documents.Patterns.{IsPattern, call_patterns, argument_patterns, arguments_patterns};
 ghost use Rattle.jsonpath_base.specs.Pattern.{is_entire};
-ghost use Rattle.jsonpath_rust.specs.documents.inner.Operands.{operand_tree, operand_is_whole};
-ghost use Rattle.jsonpath_rust.specs.selection.inner.Arguing.{held, holding, IsHeld};
-ghost use Rattle.jsonpath_rust.specs.selection.inner.Halting.{IsHalt};
-ghost use Rattle.jsonpath_rust.specs.selection.inner.Keeping.{IsReady, document, kept_of};
+ghost use Rattle.jsonpath_rust.specs.documents.inner.Operands.{operand_tree};
+ghost use Rattle.jsonpath_rust.specs.selection.inner.Arguing.{held, holding};
+ghost use Rattle.jsonpath_rust.specs.selection.inner.Keeping.{document, kept_of};
 ghost use Rattle.jsonpath_rust.specs.selection.inner.PlanViews.{argument_view, arguments_meant, call_view};
-ghost use Rattle.jsonpath_rust.specs.selection.inner.Standing.{Stands, Returns};
+ghost use Rattle.jsonpath_rust.specs.selection.inner.Standing.{Stands, Comes};
 ghost use Rattle.jsonpath_rust.specs.selection.inner.Walking.{node_of};
 ghost use Rattle.jsonpath_rust.specs.declared.documents.halt.Halt.TheVariants.{Memory};
 ghost use Rattle.jsonpath_rust.specs.declared.selection.sink.Wanted.TheVariants.{Only};
 
+use crate::documents::args::Args;
 use crate::documents::halt::Walked;
 use crate::documents::queryable::Queryable;
 use crate::documents::value::{Operand, Scalar, scalar_of};
+use crate::documents::whole::{Whole, WholeRef};
 use crate::selection::argument::Argument;
 use crate::selection::plan;
 use crate::selection::plan::Call;
@@ -34,15 +35,12 @@ impl<'a: 's, 's, T: Queryable> Task<'a, 's, T> {
     pub fn answer(
         &self,
         call: &'s Call,
-        at: &'a T,
+        at: WholeRef<'a, T>,
         trail: &mut Trail<'a, 's, '_, T>,
     ) -> Walked<Operand<'a, 's, T>>
-        requires { Stands T.tree T.is_whole T.custom self.now at.now trail.old.way.steps.items trail.old.cache }
-        ensures value { IfOk result (λ o. operand_tree T.tree o ≡ answer (call_view (kept_of self.now) call.now) (document T.tree T.custom self.now) (node_of T.tree trail.old.way.steps.items at.now)) }
-        ensures whole { IfOk result (λ o. IsTrue (operand_is_whole T.is_whole o)) }
-        ensures returns { OnOk result (Returns T.tree T.is_whole T.custom self.now trail.old trail.new) }
-        ensures ready { OnErr result (IsReady T.tree T.is_whole T.custom self.now trail.new.cache) }
-        ensures refused { IfErr result (IsHalt self.now.limit (call_patterns (call_view (kept_of self.now) call.now)) (document T.tree T.custom self.now)) }
+        requires { Stands self.now at trail.old.way.steps.items trail.old.cache }
+        ensures value { IfOk result (λ o. operand_tree o ≡ answer (call_view (kept_of self.now) call.now) (document self.now) (node_of trail.old.way.steps.items at.entry)) }
+        ensures comes { Comes self.now trail.old trail.new (call_patterns (call_view (kept_of self.now) call.now)) result }
     {
         match call {
             Call::Custom(name, args) => self.custom(name, args, at, trail),
@@ -80,17 +78,14 @@ impl<'a: 's, 's, T: Queryable> Task<'a, 's, T> {
         &self,
         args: (&'s plan::Argument, &'s plan::Argument),
         extent: Extent,
-        at: &'a T,
+        at: WholeRef<'a, T>,
         trail: &mut Trail<'a, 's, '_, T>,
     ) -> Walked<Operand<'a, 's, T>>
-        requires { Stands T.tree T.is_whole T.custom self.now at.now trail.old.way.steps.items trail.old.cache }
-        ensures value { IfOk result (λ o. operand_tree T.tree o ≡ Some (truth (is_matched (is_entire extent)
-            (as_value (argued (argument_view (kept_of self.now) args.entry.0.now Only) (document T.tree T.custom self.now) (node_of T.tree trail.old.way.steps.items at.now)))
-            (as_value (argued (argument_view (kept_of self.now) args.entry.1.now Only) (document T.tree T.custom self.now) (node_of T.tree trail.old.way.steps.items at.now)))))) }
-        ensures whole { IfOk result (λ o. IsTrue (operand_is_whole T.is_whole o)) }
-        ensures returns { OnOk result (Returns T.tree T.is_whole T.custom self.now trail.old trail.new) }
-        ensures ready { OnErr result (IsReady T.tree T.is_whole T.custom self.now trail.new.cache) }
-        ensures refused { IfErr result (IsHalt self.now.limit ((is_entire extent, argument_view (kept_of self.now) args.entry.1.now Only) ∷ (argument_patterns (argument_view (kept_of self.now) args.entry.0.now Only) ++ argument_patterns (argument_view (kept_of self.now) args.entry.1.now Only))) (document T.tree T.custom self.now)) }
+        requires { Stands self.now at trail.old.way.steps.items trail.old.cache }
+        ensures value { IfOk result (λ o. operand_tree o ≡ Some (truth (is_matched (is_entire extent)
+            (as_value (argued (argument_view (kept_of self.now) args.entry.0.now Only) (document self.now) (node_of trail.old.way.steps.items at.entry)))
+            (as_value (argued (argument_view (kept_of self.now) args.entry.1.now Only) (document self.now) (node_of trail.old.way.steps.items at.entry)))))) }
+        ensures comes { Comes self.now trail.old trail.new ((is_entire extent, argument_view (kept_of self.now) args.entry.1.now Only) ∷ (argument_patterns (argument_view (kept_of self.now) args.entry.0.now Only) ++ argument_patterns (argument_view (kept_of self.now) args.entry.1.now Only))) result }
     {
         let origin = origin_of(args.1);
         let text = self.value(args.0, at, trail)?;
@@ -109,24 +104,22 @@ impl<'a: 's, 's, T: Queryable> Task<'a, 's, T> {
         &self,
         name: &'s String,
         args: &'s [plan::Argument],
-        at: &'a T,
+        at: WholeRef<'a, T>,
         trail: &mut Trail<'a, 's, '_, T>,
     ) -> Walked<Operand<'a, 's, T>>
-        requires { Stands T.tree T.is_whole T.custom self.now at.now trail.old.way.steps.items trail.old.cache }
-        ensures value { IfOk result (λ o. operand_tree T.tree o ≡ Some (T.custom (string_bytes name.now) (all_trees (arguments_meant (kept_of self.now) args.now) (document T.tree T.custom self.now) (node_of T.tree trail.old.way.steps.items at.now)))) }
-        ensures whole { IfOk result (λ o. IsTrue (operand_is_whole T.is_whole o)) }
-        ensures returns { OnOk result (Returns T.tree T.is_whole T.custom self.now trail.old trail.new) }
-        ensures ready { OnErr result (IsReady T.tree T.is_whole T.custom self.now trail.new.cache) }
-        ensures refused { IfErr result (IsHalt self.now.limit (arguments_patterns (arguments_meant (kept_of self.now) args.now)) (document T.tree T.custom self.now)) }
+        requires { Stands self.now at trail.old.way.steps.items trail.old.cache }
+        ensures value { IfOk result (λ o. operand_tree o ≡ Some ((document self.now).custom (string_bytes name.now) (all_trees (arguments_meant (kept_of self.now) args.now) (document self.now) (node_of trail.old.way.steps.items at.entry)))) }
+        ensures comes { Comes self.now trail.old trail.new (arguments_patterns (arguments_meant (kept_of self.now) args.now)) result }
     {
-        let mut values = Vec::new(self.alloc);
+        let mut values = Args::new(self.alloc);
         for arg in args {
             let argument = self.argument(arg, Wanted::Values, at, trail)?;
             argument.push_to(self.alloc, &trail.cache, &mut values)?;
         }
         let cost = self.limit.custom_cost(self.alloc, &values)?;
         trail.budget.spend(self.limit, cost)?;
-        Ok(Operand::Made(T::extension_custom(self.alloc, name, &values)?))
+        let value = T::extension_custom(self.alloc, name, &values.list)?;
+        Ok(Operand::Made(Whole { value }))
     }
 
     /// An argument as a value (RFC 9535, 2.4.2).
@@ -134,15 +127,12 @@ impl<'a: 's, 's, T: Queryable> Task<'a, 's, T> {
     fn value(
         &self,
         arg: &'s plan::Argument,
-        at: &'a T,
+        at: WholeRef<'a, T>,
         trail: &mut Trail<'a, 's, '_, T>,
     ) -> Walked<Operand<'a, 's, T>>
-        requires { Stands T.tree T.is_whole T.custom self.now at.now trail.old.way.steps.items trail.old.cache }
-        ensures value { IfOk result (λ o. operand_tree T.tree o ≡ as_value (argued (argument_view (kept_of self.now) arg.now Only) (document T.tree T.custom self.now) (node_of T.tree trail.old.way.steps.items at.now))) }
-        ensures whole { IfOk result (λ o. IsTrue (operand_is_whole T.is_whole o)) }
-        ensures returns { OnOk result (Returns T.tree T.is_whole T.custom self.now trail.old trail.new) }
-        ensures ready { OnErr result (IsReady T.tree T.is_whole T.custom self.now trail.new.cache) }
-        ensures refused { IfErr result (IsHalt self.now.limit (argument_patterns (argument_view (kept_of self.now) arg.now Only)) (document T.tree T.custom self.now)) }
+        requires { Stands self.now at trail.old.way.steps.items trail.old.cache }
+        ensures value { IfOk result (λ o. operand_tree o ≡ as_value (argued (argument_view (kept_of self.now) arg.now Only) (document self.now) (node_of trail.old.way.steps.items at.entry))) }
+        ensures comes { Comes self.now trail.old trail.new (argument_patterns (argument_view (kept_of self.now) arg.now Only)) result }
     {
         let argument = self.argument(arg, Wanted::Only, at, trail)?;
         Ok(argument.value(&trail.cache))
@@ -154,15 +144,12 @@ impl<'a: 's, 's, T: Queryable> Task<'a, 's, T> {
         &self,
         arg: &'s plan::Argument,
         wanted: Wanted,
-        at: &'a T,
+        at: WholeRef<'a, T>,
         trail: &mut Trail<'a, 's, '_, T>,
     ) -> Walked<Argument<'a, 's, T>>
-        requires { Stands T.tree T.is_whole T.custom self.now at.now trail.old.way.steps.items trail.old.cache }
-        ensures held { IfOk result (λ a. held T.tree T.is_whole trail.new.cache a ≡ holding wanted (argued (argument_view (kept_of self.now) arg.now wanted) (document T.tree T.custom self.now) (node_of T.tree trail.old.way.steps.items at.now))) }
-        ensures within { IfOk result (IsHeld T.is_whole) }
-        ensures returns { OnOk result (Returns T.tree T.is_whole T.custom self.now trail.old trail.new) }
-        ensures ready { OnErr result (IsReady T.tree T.is_whole T.custom self.now trail.new.cache) }
-        ensures refused { IfErr result (IsHalt self.now.limit (argument_patterns (argument_view (kept_of self.now) arg.now wanted)) (document T.tree T.custom self.now)) }
+        requires { Stands self.now at trail.old.way.steps.items trail.old.cache }
+        ensures held { IfOk result (λ a. held trail.new.cache a ≡ holding wanted (argued (argument_view (kept_of self.now) arg.now wanted) (document self.now) (node_of trail.old.way.steps.items at.entry))) }
+        ensures comes { Comes self.now trail.old trail.new (argument_patterns (argument_view (kept_of self.now) arg.now wanted)) result }
     {
         match arg {
             plan::Argument::Literal(literal) => {
@@ -205,10 +192,8 @@ fn is_matched<T: Queryable>(
     extent: Extent,
     origin: Origin,
 ) -> Walked<bool>
-    requires text { IsTrue (operand_is_whole T.is_whole sides.0.now) }
-    requires pattern { IsTrue (operand_is_whole T.is_whole sides.1.now) }
-    ensures value { IfOk result (λ b. b ≡ is_matched (is_entire extent) (operand_tree T.tree sides.entry.0.now) (operand_tree T.tree sides.entry.1.now)) }
-    ensures refused { IfErr result (λ h. (h ≡ Memory → ⊥) → IsPattern (is_entire extent) (operand_tree T.tree sides.entry.1.now)) }
+    ensures value { IfOk result (λ b. b ≡ is_matched (is_entire extent) (operand_tree sides.entry.0.now) (operand_tree sides.entry.1.now)) }
+    ensures refused { IfErr result (λ h. (h ≡ Memory → ⊥) → IsPattern (is_entire extent) (operand_tree sides.entry.1.now)) }
 {
     let (Some(text), Some(pattern)) = (sides.0.as_text(), sides.1.as_text()) else {
         return Ok(false);

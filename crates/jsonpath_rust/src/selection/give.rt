@@ -1,9 +1,9 @@
 //! A walk from its beginning to its end: the nodes of a query, given to a sink.
-ghost use Rattle.std.specs.Prelude.{◌≡◌, IsTrue, IfOk, IfErr};
+ghost use Rattle.std.specs.Prelude.{◌≡◌, IfOk, IfErr};
 ghost use Rattle.jsonpath_parser.specs.tree.View.{query_view};
-ghost use Rattle.jsonpath_rust.specs.documents.Document.{document_of};
 ghost use Rattle.jsonpath_rust.specs.documents.Meaning.{nodelist};
 ghost use Rattle.jsonpath_rust.specs.documents.Patterns.{segments_patterns, IsStop};
+ghost use Rattle.jsonpath_rust.specs.documents.inner.Whole.{document_at};
 ghost use Rattle.jsonpath_rust.specs.selection.inner.Halting.{IsHalt};
 ghost use Rattle.jsonpath_rust.specs.selection.inner.Planned.{plan_view};
 ghost use Rattle.jsonpath_rust.specs.selection.inner.Sinks.{Took, give, seen};
@@ -11,6 +11,7 @@ ghost use Rattle.jsonpath_rust.specs.selection.inner.Sinks.{Took, give, seen};
 use crate::documents::Queried;
 use crate::documents::halt::Walked;
 use crate::documents::queryable::Queryable;
+use crate::documents::whole::WholeRef;
 use crate::selection::budget::Budget;
 use crate::selection::cache::Cache;
 use crate::selection::plan::{Plan, plan_of, release};
@@ -33,12 +34,11 @@ pub struct Request<'s, 'p> {
 pub fn give_nodes<'a, T: Queryable>(
     alloc: Global,
     query: &JpQuery,
-    root: &'a T,
+    root: WholeRef<'a, T>,
     mut sink: Sink<'a, T>,
 ) -> Queried<Sink<'a, T>>
-    requires { IsTrue (T.is_whole root.now) }
-    ensures gave { IfOk result (λ s. seen T.tree T.is_whole s ≡ give (seen T.tree T.is_whole sink.entry) (nodelist (query_view query.now) (document_of T.tree T.custom root.now))) }
-    ensures refused { IfErr result (IsStop (query_view query.now) (document_of T.tree T.custom root.now)) }
+    ensures gave { IfOk result (λ s. seen s ≡ give (seen sink.entry) (nodelist (query_view query.now) (document_at root.entry))) }
+    ensures refused { IfErr result (IsStop (query_view query.now) (document_at root.entry)) }
 {
     match give_planned(alloc, query, root, &mut sink) {
         Ok(_goes_on) => Ok(sink),
@@ -53,13 +53,12 @@ pub fn give_nodes<'a, T: Queryable>(
 fn give_planned<'a, T: Queryable>(
     alloc: Global,
     query: &JpQuery,
-    root: &'a T,
+    root: WholeRef<'a, T>,
     sink: &mut Sink<'a, T>,
 ) -> Queried<bool>
-    requires { IsTrue (T.is_whole root.now) }
-    ensures gave { IfOk result (λ b. Took (seen T.tree T.is_whole sink.old) (nodelist (query_view query.now) (document_of T.tree T.custom root.now))
-        (seen T.tree T.is_whole sink.new) b) }
-    ensures refused { IfErr result (IsStop (query_view query.now) (document_of T.tree T.custom root.now)) }
+    ensures gave { IfOk result (λ b. Took (seen sink.old) (nodelist (query_view query.now) (document_at root.entry))
+        (seen sink.new) b) }
+    ensures refused { IfErr result (IsStop (query_view query.now) (document_at root.entry)) }
 {
     let plan = plan_of(alloc, query)?;
     let given = give_once(alloc, &plan, root, sink);
@@ -71,13 +70,12 @@ fn give_planned<'a, T: Queryable>(
 fn give_once<'a, T: Queryable>(
     alloc: Global,
     plan: &Plan,
-    root: &'a T,
+    root: WholeRef<'a, T>,
     sink: &mut Sink<'a, T>,
 ) -> Queried<bool>
-    requires { IsTrue (T.is_whole root.now) }
-    ensures gave { IfOk result (λ b. Took (seen T.tree T.is_whole sink.old) (nodelist (plan_view plan.now) (document_of T.tree T.custom root.now))
-        (seen T.tree T.is_whole sink.new) b) }
-    ensures refused { IfErr result (IsStop (plan_view plan.now) (document_of T.tree T.custom root.now)) }
+    ensures gave { IfOk result (λ b. Took (seen sink.old) (nodelist (plan_view plan.now) (document_at root.entry))
+        (seen sink.new) b) }
+    ensures refused { IfErr result (IsStop (plan_view plan.now) (document_at root.entry)) }
 {
     let cells = QueryCells::new(alloc, plan.pattern_count)?;
     let request = Request {
@@ -97,13 +95,12 @@ fn give_once<'a, T: Queryable>(
 pub fn give_requested<'a, 'p, T: Queryable>(
     alloc: Global,
     request: Request<'_, 'p>,
-    root: &'a T,
+    root: WholeRef<'a, T>,
     sink: &mut Sink<'a, T>,
 ) -> (Walked<bool>, QueryFinders<'p>)
-    requires { IsTrue (T.is_whole root.now) }
-    ensures gave { IfOk result.0 (λ b. Took (seen T.tree T.is_whole sink.old) (nodelist (plan_view request.entry.plan.now) (document_of T.tree T.custom root.now))
-        (seen T.tree T.is_whole sink.new) b) }
-    ensures refused { IfErr result.0 (IsHalt request.entry.budget.limit (segments_patterns (plan_view request.entry.plan.now)) (document_of T.tree T.custom root.now)) }
+    ensures gave { IfOk result.0 (λ b. Took (seen sink.old) (nodelist (plan_view request.entry.plan.now) (document_at root.entry))
+        (seen sink.new) b) }
+    ensures refused { IfErr result.0 (IsHalt request.entry.budget.limit (segments_patterns (plan_view request.entry.plan.now)) (document_at root.entry)) }
 {
     let Request {
         plan,
@@ -120,13 +117,12 @@ fn give_from_root<'a: 's, 's, 'p, T: Queryable>(
     alloc: Global,
     plan: &'s Plan,
     means: (Finders<'s, 'p>, Budget),
-    root: &'a T,
+    root: WholeRef<'a, T>,
     sink: &mut Sink<'a, T>,
 ) -> (Walked<bool>, QueryFinders<'p>)
-    requires { IsTrue (T.is_whole root.now) }
-    ensures gave { IfOk result.0 (λ b. Took (seen T.tree T.is_whole sink.old) (nodelist (plan_view plan.now) (document_of T.tree T.custom root.now))
-        (seen T.tree T.is_whole sink.new) b) }
-    ensures refused { IfErr result.0 (IsHalt means.entry.1.limit (segments_patterns (plan_view plan.now)) (document_of T.tree T.custom root.now)) }
+    ensures gave { IfOk result.0 (λ b. Took (seen sink.old) (nodelist (plan_view plan.now) (document_at root.entry))
+        (seen sink.new) b) }
+    ensures refused { IfErr result.0 (IsHalt means.entry.1.limit (segments_patterns (plan_view plan.now)) (document_at root.entry)) }
 {
     let (finders, budget) = means;
     let mut trail = Trail {
@@ -144,14 +140,13 @@ fn give_from_root<'a: 's, 's, 'p, T: Queryable>(
 fn give_along<'a: 's, 's, T: Queryable>(
     alloc: Global,
     plan: &'s Plan,
-    root: &'a T,
+    root: WholeRef<'a, T>,
     trail: &mut Trail<'a, 's, '_, T>,
     sink: &mut Sink<'a, T>,
 ) -> Walked<bool>
-    requires { IsTrue (T.is_whole root.now) }
-    ensures gave { IfOk result (λ b. Took (seen T.tree T.is_whole sink.old) (nodelist (plan_view plan.now) (document_of T.tree T.custom root.now))
-        (seen T.tree T.is_whole sink.new) b) }
-    ensures refused { IfErr result (IsHalt trail.old.budget.limit (segments_patterns (plan_view plan.now)) (document_of T.tree T.custom root.now)) }
+    ensures gave { IfOk result (λ b. Took (seen sink.old) (nodelist (plan_view plan.now) (document_at root.entry))
+        (seen sink.new) b) }
+    ensures refused { IfErr result (IsHalt trail.old.budget.limit (segments_patterns (plan_view plan.now)) (document_at root.entry)) }
 {
     let task = Task {
         alloc,

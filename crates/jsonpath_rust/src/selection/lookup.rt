@@ -1,27 +1,28 @@
 //! Short cuts inside filters: names and indexes are followed as far as they lead, and where all children of such a place are only
 //! counted, or asked for one, they are not walked.
-ghost use Rattle.std.specs.Prelude.{◌≡◌, length, IsTrue, IfOk, IfErr, IfSome};
+ghost use Rattle.std.specs.Prelude.{◌≡◌, length, IfOk, IfErr, IfSome};
 ghost use Rattle.jsonpath_parser.specs.tree.Syntax.{one};
 ghost use Rattle.jsonpath_rust.specs.declared.documents.halt.Halt.TheVariants.{Memory};
 ghost use Rattle.jsonpath_rust.specs.documents.Node.{children, root_node};
+ghost use Rattle.jsonpath_rust.specs.documents.inner.Whole.{tree_of};
 ghost use Rattle.jsonpath_rust.specs.selection.inner.PlanViews.{Kept, segment_view, segments_meant, selector_view};
-ghost use Rattle.jsonpath_rust.specs.selection.inner.Lookup.{Leads, LeadsOn, IsWholeThere, GivesThrough, GivesSoMany};
+ghost use Rattle.jsonpath_rust.specs.selection.inner.Lookup.{Leads, LeadsOn, GivesThrough, GivesSoMany};
 
 use crate::documents::halt::Walked;
 use crate::documents::queryable::Queryable;
-use crate::documents::queryable::children::element;
 use crate::documents::value::GREATEST_COUNT;
+use crate::documents::whole::WholeRef;
 use crate::selection::plan::{Segment, Selector};
 use crate::selection::sink::{Sink, Wanted};
 use std::alloc::Global;
 
 /// Where segments lead, from a value on.
 #[derive(Clone, Copy)]
-pub enum Followed<'a, T> {
+pub enum Followed<'a, T: Queryable> {
     /// To one node, of this value.
-    To(&'a T),
+    To(WholeRef<'a, T>),
     /// To all children of this value.
-    Children(&'a T),
+    Children(WholeRef<'a, T>),
     /// To no node.
     Nowhere,
     /// That is left open: a segment is more than one name or one index, and not `[*]` at the end.
@@ -34,10 +35,9 @@ pub fn short_cut<'a, T: Queryable>(
     alloc: Global,
     segments: &[Segment],
     wanted: Wanted,
-    at: &'a T,
+    at: WholeRef<'a, T>,
 ) -> Walked<Option<Sink<'a, T>>>
-    requires { IsTrue (T.is_whole at.now) }
-    ensures given { (kept : Kept) → IfOk result (λ o. IfSome o (GivesThrough T.tree T.is_whole wanted (segments_meant kept segments.now) (T.tree at.now))) }
+    ensures given { (kept : Kept) → IfOk result (λ o. IfSome o (GivesThrough wanted (segments_meant kept segments.now) (tree_of at.entry))) }
     ensures memory { IfErr result (λ h. h ≡ Memory) }
 {
     match follow(segments, at) {
@@ -52,10 +52,9 @@ pub fn short_cut<'a, T: Queryable>(
 fn counted<'a, T: Queryable>(
     alloc: Global,
     wanted: Wanted,
-    parent: &T,
+    parent: WholeRef<'_, T>,
 ) -> Walked<Option<Sink<'a, T>>>
-    requires { IsTrue (T.is_whole parent.now) }
-    ensures given { IfOk result (λ o. IfSome o (GivesSoMany T.tree T.is_whole wanted (length (children (root_node (T.tree parent.now)))))) }
+    ensures given { IfOk result (λ o. IfSome o (GivesSoMany wanted (length (children (root_node (tree_of parent.entry)))))) }
     ensures memory { IfErr result (λ h. h ≡ Memory) }
 {
     match wanted {
@@ -70,12 +69,11 @@ fn counted<'a, T: Queryable>(
 }
 
 /// How many children a value has.
-fn child_count<T: Queryable>(alloc: Global, parent: &T) -> Walked<usize>
-    requires { IsTrue (T.is_whole parent.now) }
-    ensures value { IfOk result (λ k. k ≡ length (children (root_node (T.tree parent.now)))) }
+fn child_count<T: Queryable>(alloc: Global, parent: WholeRef<'_, T>) -> Walked<usize>
+    ensures value { IfOk result (λ k. k ≡ length (children (root_node (tree_of parent.entry)))) }
     ensures memory { IfErr result (λ h. h ≡ Memory) }
 {
-    if let Some(items) = parent.as_array() {
+    if let Some(items) = parent.elements() {
         return Ok(items.len());
     }
     match parent.member_count(alloc)? {
@@ -85,10 +83,8 @@ fn child_count<T: Queryable>(alloc: Global, parent: &T) -> Walked<usize>
 }
 
 /// Where the segments lead.
-pub fn follow<'a, T: Queryable>(segments: &[Segment], at: &'a T) -> Followed<'a, T>
-    requires { IsTrue (T.is_whole at.now) }
-    ensures leads { (kept : Kept) → Leads T.tree (segments_meant kept segments.now) (T.tree at.now) result }
-    ensures whole { IsWholeThere T.is_whole result }
+pub fn follow<'a, T: Queryable>(segments: &[Segment], at: WholeRef<'a, T>) -> Followed<'a, T>
+    ensures { (kept : Kept) → Leads (segments_meant kept segments.now) (tree_of at.entry) result }
 {
     match segments.split_first() {
         None => Followed::To(at),
@@ -106,10 +102,8 @@ pub fn follow<'a, T: Queryable>(segments: &[Segment], at: &'a T) -> Followed<'a,
 
 /// Where one segment leads.
 #[inline(always)]
-fn stepped<'a, T: Queryable>(segment: &Segment, at: &'a T) -> Followed<'a, T>
-    requires { IsTrue (T.is_whole at.now) }
-    ensures leads { (kept : Kept) → LeadsOn T.tree (segment_view kept segment.now) (T.tree at.now) result }
-    ensures whole { IsWholeThere T.is_whole result }
+fn stepped<'a, T: Queryable>(segment: &Segment, at: WholeRef<'a, T>) -> Followed<'a, T>
+    ensures { (kept : Kept) → LeadsOn (segment_view kept segment.now) (tree_of at.entry) result }
 {
     match segment {
         Segment::Selector(selector) => picked(selector, at),
@@ -119,17 +113,15 @@ fn stepped<'a, T: Queryable>(segment: &Segment, at: &'a T) -> Followed<'a, T>
 
 /// Where one selector leads.
 #[inline(always)]
-fn picked<'a, T: Queryable>(selector: &Selector, at: &'a T) -> Followed<'a, T>
-    requires { IsTrue (T.is_whole at.now) }
-    ensures leads { (kept : Kept) → LeadsOn T.tree (one (selector_view kept selector.now)) (T.tree at.now) result }
-    ensures whole { IsWholeThere T.is_whole result }
+fn picked<'a, T: Queryable>(selector: &Selector, at: WholeRef<'a, T>) -> Followed<'a, T>
+    ensures { (kept : Kept) → LeadsOn (one (selector_view kept selector.now)) (tree_of at.entry) result }
 {
     match selector {
-        Selector::Name(name) => match at.get(name) {
+        Selector::Name(name) => match at.member(name) {
             Some(child) => Followed::To(child),
             None => Followed::Nowhere,
         },
-        Selector::Index(index) => match element(at, *index) {
+        Selector::Index(index) => match at.element(*index) {
             Some((_position, child)) => Followed::To(child),
             None => Followed::Nowhere,
         },

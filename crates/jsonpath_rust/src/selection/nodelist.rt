@@ -9,7 +9,9 @@ ghost use Rattle.jsonpath_rust.specs.documents.Meaning.{selected};
 ghost use Rattle.jsonpath_rust.specs.documents.Patterns.{IsStop};
 ghost use Rattle.jsonpath_rust.specs.selection.inner.Sinks.{IsRemovalOf};
 
+use crate::documents::nodes::{WholeNodes, WholeValues};
 use crate::documents::queryable::Queryable;
+use crate::documents::whole::WholeRef;
 use crate::documents::{Queried, QueryPath, QueryRef};
 use crate::selection::give::give_nodes;
 use crate::selection::sink::Sink;
@@ -37,7 +39,8 @@ pub fn selected_nodes<'a, T: Queryable>(
     ensures whole { IfOk result (λ v. All (λ r. IsTrue (T.is_whole r.val.now)) v.items) }
     ensures refused { IfErr result (IsStop (query_view query.now) (document_of T.tree T.custom value.now)) }
 {
-    let sink = give_nodes(alloc, query, value, Sink::Nodes(Vec::new(alloc)))?;
+    let begun = Sink::Nodes(WholeNodes::new(alloc));
+    let sink = give_nodes(alloc, query, WholeRef { value }, begun)?;
     Ok(sink.into_nodes(alloc))
 }
 
@@ -57,7 +60,8 @@ pub fn selected_values<'a, T: Queryable>(
     ensures whole { IfOk result (λ v. All (λ x. IsTrue (T.is_whole x.now)) v.items) }
     ensures refused { IfErr result (IsStop (query_view query.now) (document_of T.tree T.custom value.now)) }
 {
-    let sink = give_nodes(alloc, query, value, Sink::Values(Vec::new(alloc)))?;
+    let begun = Sink::Values(WholeValues::new(alloc));
+    let sink = give_nodes(alloc, query, WholeRef { value }, begun)?;
     Ok(sink.into_values(alloc))
 }
 
@@ -76,7 +80,8 @@ pub fn selected_paths<T: Queryable>(
         (selected (query_view query.now) (document_of T.tree T.custom value.now)) (paths_of v.items)) }
     ensures refused { IfErr result (IsStop (query_view query.now) (document_of T.tree T.custom value.now)) }
 {
-    let sink = give_nodes(alloc, query, value, Sink::Paths(Vec::new(alloc)))?;
+    let begun = Sink::Paths(Vec::new(alloc));
+    let sink = give_nodes(alloc, query, WholeRef { value }, begun)?;
     Ok(sink.into_paths(alloc))
 }
 
@@ -94,7 +99,8 @@ pub fn selected_locations<T: Queryable>(
     ensures locations { IfOk result (λ v. map (λ l. location_view l.items) v.items ≡ selected (query_view query.now) (document_of T.tree T.custom value.now)) }
     ensures refused { IfErr result (IsStop (query_view query.now) (document_of T.tree T.custom value.now)) }
 {
-    let sink = give_nodes(alloc, query, value, Sink::Locations(Vec::new(alloc)))?;
+    let begun = Sink::Locations(Vec::new(alloc));
+    let sink = give_nodes(alloc, query, WholeRef { value }, begun)?;
     Ok(sink.into_locations(alloc))
 }
 
@@ -109,7 +115,7 @@ pub fn selected_removal<T: Queryable>(alloc: Global, query: &JpQuery, value: &T)
     ensures refused { IfErr result (IsStop (query_view query.now) (document_of T.tree T.custom value.now)) }
 {
     let begun = Sink::Removal(Box::new(alloc, Removal::new(alloc))?);
-    let sink = give_nodes(alloc, query, value, begun)?;
+    let sink = give_nodes(alloc, query, WholeRef { value }, begun)?;
     match sink.into_removal() {
         Some(removal) => Ok(Box::into_inner(removal)),
         None => Ok(Removal::new(alloc)),

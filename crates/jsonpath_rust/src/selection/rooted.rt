@@ -1,19 +1,20 @@
 //! Values of the root that are kept: each is worked out when it is first asked.
-ghost use Rattle.std.specs.Prelude.{◌≡◌, IsTrue, IfOk, IfErr, IfSome, OnOk, OnErr};
+ghost use Rattle.std.specs.Prelude.{◌≡◌, IfOk, IfErr, IfSome};
 ghost use Rattle.jsonpath_rust.specs.documents.Meaning.{answer, comparison_holds, value_at};
 ghost use Rattle.jsonpath_rust.specs.documents.Node.{Node};
 ghost use Rattle.jsonpath_rust.specs.documents.Patterns.{call_patterns, comparison_patterns};
 ghost use Rattle.jsonpath_rust.specs.declared.documents.halt.Halt.TheVariants.{Memory};
-ghost use Rattle.jsonpath_rust.specs.documents.inner.Operands.{operand_tree, operand_is_whole};
-ghost use Rattle.jsonpath_rust.specs.selection.inner.Halting.{IsHalt};
+ghost use Rattle.jsonpath_rust.specs.documents.inner.Operands.{operand_tree};
+ghost use Rattle.jsonpath_rust.specs.documents.inner.Whole.{tree_of};
 ghost use Rattle.jsonpath_rust.specs.selection.inner.Keeping.{IsReady, document, kept_of, value_by};
 ghost use Rattle.jsonpath_rust.specs.selection.inner.PlanViews.{call_at, called_view, comparison_at, part_at, steps_at};
-ghost use Rattle.jsonpath_rust.specs.selection.inner.Standing.{Stands, Returns};
+ghost use Rattle.jsonpath_rust.specs.selection.inner.Standing.{Stands, Comes};
 ghost use Rattle.jsonpath_rust.specs.selection.inner.Walking.{node_of};
 
 use crate::documents::halt::Walked;
 use crate::documents::queryable::Queryable;
 use crate::documents::value::{Operand, Scalar};
+use crate::documents::whole::WholeRef;
 use crate::selection::cache::{Cache, Given};
 use crate::selection::plan::Called;
 use crate::selection::singular::value_at;
@@ -28,9 +29,7 @@ fn again<'a, 's, T: Queryable>(
     alloc: Global,
     value: &Operand<'a, 's, T>,
 ) -> Walked<Operand<'a, 's, T>>
-    requires { IsTrue (operand_is_whole T.is_whole value.now) }
-    ensures value { IfOk result (λ o. operand_tree T.tree o ≡ operand_tree T.tree value.now) }
-    ensures whole { IfOk result (λ o. IsTrue (operand_is_whole T.is_whole o)) }
+    ensures value { IfOk result (λ o. operand_tree o ≡ operand_tree value.now) }
     ensures memory { IfErr result (λ h. h ≡ Memory) }
 {
     match value {
@@ -44,9 +43,8 @@ fn again<'a, 's, T: Queryable>(
 impl<'a: 's, 's, T: Queryable> Task<'a, 's, T> {
     /// The value that is kept under this number, if it is worked out.
     fn kept(&self, number: usize, cache: &Cache<'a, 's, T>) -> Walked<Option<Operand<'a, 's, T>>>
-        requires { IsReady T.tree T.is_whole T.custom self.now cache.now }
-        ensures value { IfOk result (λ o. IfSome o (λ v. operand_tree T.tree v ≡ value_by (part_at (kept_of self.now) number) (document T.tree T.custom self.now))) }
-        ensures whole { IfOk result (λ o. IfSome o (λ v. IsTrue (operand_is_whole T.is_whole v))) }
+        requires { IsReady self.now cache.now }
+        ensures value { IfOk result (λ o. IfSome o (λ v. operand_tree v ≡ value_by (part_at (kept_of self.now) number) (document self.now))) }
         ensures memory { IfErr result (λ h. h ≡ Memory) }
     {
         match cache.get(number) {
@@ -61,10 +59,9 @@ impl<'a: 's, 's, T: Queryable> Task<'a, 's, T> {
         number: usize,
         cache: &mut Cache<'a, 's, T>,
     ) -> Walked<Operand<'a, 's, T>>
-        requires { IsReady T.tree T.is_whole T.custom self.now cache.old }
-        ensures value { IfOk result (λ o. operand_tree T.tree o ≡ value_at (steps_at (kept_of self.now) number) (T.tree self.now.root.now)) }
-        ensures whole { IfOk result (λ o. IsTrue (operand_is_whole T.is_whole o)) }
-        ensures ready { IsReady T.tree T.is_whole T.custom self.now cache.new }
+        requires { IsReady self.now cache.old }
+        ensures value { IfOk result (λ o. operand_tree o ≡ value_at (steps_at (kept_of self.now) number) (tree_of self.now.root)) }
+        ensures ready { IsReady self.now cache.new }
         ensures memory { IfErr result (λ h. h ≡ Memory) }
     {
         let Some(steps) = self.plan.kept_steps(number) else {
@@ -83,15 +80,12 @@ impl<'a: 's, 's, T: Queryable> Task<'a, 's, T> {
     pub fn called(
         &self,
         call: &'s Called,
-        at: &'a T,
+        at: WholeRef<'a, T>,
         trail: &mut Trail<'a, 's, '_, T>,
     ) -> Walked<Operand<'a, 's, T>>
-        requires { Stands T.tree T.is_whole T.custom self.now at.now trail.old.way.steps.items trail.old.cache }
-        ensures value { IfOk result (λ o. operand_tree T.tree o ≡ answer (called_view (kept_of self.now) call.now) (document T.tree T.custom self.now) (node_of T.tree trail.old.way.steps.items at.now)) }
-        ensures whole { IfOk result (λ o. IsTrue (operand_is_whole T.is_whole o)) }
-        ensures returns { OnOk result (Returns T.tree T.is_whole T.custom self.now trail.old trail.new) }
-        ensures ready { OnErr result (IsReady T.tree T.is_whole T.custom self.now trail.new.cache) }
-        ensures refused { IfErr result (IsHalt self.now.limit (call_patterns (called_view (kept_of self.now) call.now)) (document T.tree T.custom self.now)) }
+        requires { Stands self.now at trail.old.way.steps.items trail.old.cache }
+        ensures value { IfOk result (λ o. operand_tree o ≡ answer (called_view (kept_of self.now) call.now) (document self.now) (node_of trail.old.way.steps.items at.entry)) }
+        ensures comes { Comes self.now trail.old trail.new (call_patterns (called_view (kept_of self.now) call.now)) result }
     {
         match call {
             Called::Here(call) => self.answer(call, at, trail),
@@ -106,12 +100,9 @@ impl<'a: 's, 's, T: Queryable> Task<'a, 's, T> {
         number: usize,
         trail: &mut Trail<'a, 's, '_, T>,
     ) -> Walked<Operand<'a, 's, T>>
-        requires { IsReady T.tree T.is_whole T.custom self.now trail.old.cache }
-        ensures value { (n : Node) → IfOk result (λ o. operand_tree T.tree o ≡ answer (call_at (kept_of self.now) number) (document T.tree T.custom self.now) n) }
-        ensures whole { IfOk result (λ o. IsTrue (operand_is_whole T.is_whole o)) }
-        ensures returns { OnOk result (Returns T.tree T.is_whole T.custom self.now trail.old trail.new) }
-        ensures ready { OnErr result (IsReady T.tree T.is_whole T.custom self.now trail.new.cache) }
-        ensures refused { IfErr result (IsHalt self.now.limit (call_patterns (call_at (kept_of self.now) number)) (document T.tree T.custom self.now)) }
+        requires { IsReady self.now trail.old.cache }
+        ensures value { (n : Node) → IfOk result (λ o. operand_tree o ≡ answer (call_at (kept_of self.now) number) (document self.now) n) }
+        ensures comes { Comes self.now trail.old trail.new (call_patterns (call_at (kept_of self.now) number)) result }
     {
         let Some(call) = self.plan.kept_call(number) else {
             return Ok(Operand::Absent);
@@ -131,11 +122,9 @@ impl<'a: 's, 's, T: Queryable> Task<'a, 's, T> {
     /// Whether the comparison holds that is kept under this number.
     #[cycle(walk)]
     pub fn kept_comparison(&self, number: usize, trail: &mut Trail<'a, 's, '_, T>) -> Walked<bool>
-        requires { IsReady T.tree T.is_whole T.custom self.now trail.old.cache }
-        ensures holds { (n : Node) → IfOk result (λ b. b ≡ comparison_holds (comparison_at (kept_of self.now) number) (document T.tree T.custom self.now) n) }
-        ensures returns { OnOk result (Returns T.tree T.is_whole T.custom self.now trail.old trail.new) }
-        ensures ready { OnErr result (IsReady T.tree T.is_whole T.custom self.now trail.new.cache) }
-        ensures refused { IfErr result (IsHalt self.now.limit (comparison_patterns (comparison_at (kept_of self.now) number)) (document T.tree T.custom self.now)) }
+        requires { IsReady self.now trail.old.cache }
+        ensures holds { (n : Node) → IfOk result (λ b. b ≡ comparison_holds (comparison_at (kept_of self.now) number) (document self.now) n) }
+        ensures comes { Comes self.now trail.old trail.new (comparison_patterns (comparison_at (kept_of self.now) number)) result }
     {
         let Some((operator, left, right)) = self.plan.kept_comparison(number) else {
             return Ok(false);

@@ -7,11 +7,14 @@ ghost use Rattle.jsonpath_rust.specs.documents.Document.{document_of};
 ghost use Rattle.jsonpath_rust.specs.documents.Meaning.{selected, nodelist};
 ghost use Rattle.jsonpath_rust.specs.documents.Patterns.{segments_patterns, IsStop};
 ghost use Rattle.jsonpath_rust.specs.selection.Prepared.{prepared_view, runner_view, IsFirstNode};
+ghost use Rattle.jsonpath_rust.specs.documents.inner.Whole.{document_at};
 ghost use Rattle.jsonpath_rust.specs.selection.inner.Halting.{IsHalt};
 ghost use Rattle.jsonpath_rust.specs.selection.inner.Sinks.{Took, give, seen};
 
 use crate::documents::halt::{Halt, Walked};
+use crate::documents::nodes::{WholeNodes, WholeValues};
 use crate::documents::queryable::Queryable;
+use crate::documents::whole::WholeRef;
 use crate::documents::{Queried, QueryPath, QueryRef};
 use crate::selection::budget::Budget;
 use crate::selection::give::give_requested;
@@ -37,7 +40,8 @@ use std::mem;
 ///
 /// Names and indexes cost nothing by themselves. The time of a unit grows with the length of the query alone, but for three
 /// things: a pattern that is built, the path of a node, which is copied, and the members of an object, which are listed where
-/// its type has no `member_count` of its own.
+/// its type has no `member_count` of its own. What a comparison or a custom function costs is counted before it is spent, so a
+/// call that returns None may have looked at so much more.
 #[derive(Drop)]
 pub struct Runner<'p> {
     prepared: &'p Prepared,
@@ -75,7 +79,8 @@ impl<'p> Runner<'p> {
         ensures same { runner_view self.new ≡ runner_view self.old }
         ensures refused { IfErr result (IsStop (runner_view self.old) (document_of T.tree T.custom value.now)) }
     {
-        let sink = self.give_all(alloc, value, Sink::Nodes(Vec::new(alloc)))?;
+        let begun = Sink::Nodes(WholeNodes::new(alloc));
+        let sink = self.give_all(alloc, WholeRef { value }, begun)?;
         Ok(sink.into_nodes(alloc))
     }
 
@@ -88,7 +93,8 @@ impl<'p> Runner<'p> {
         ensures same { runner_view self.new ≡ runner_view self.old }
         ensures refused { IfErr result (IsStop (runner_view self.old) (document_of T.tree T.custom value.now)) }
     {
-        let sink = self.give_all(alloc, value, Sink::Values(Vec::new(alloc)))?;
+        let begun = Sink::Values(WholeValues::new(alloc));
+        let sink = self.give_all(alloc, WholeRef { value }, begun)?;
         Ok(sink.into_values(alloc))
     }
 
@@ -100,7 +106,7 @@ impl<'p> Runner<'p> {
         ensures same { runner_view self.new ≡ runner_view self.old }
         ensures refused { IfErr result (IsStop (runner_view self.old) (document_of T.tree T.custom value.now)) }
     {
-        let sink = self.give_all(alloc, value, Sink::Paths(Vec::new(alloc)))?;
+        let sink = self.give_all(alloc, WholeRef { value }, Sink::Paths(Vec::new(alloc)))?;
         Ok(sink.into_paths(alloc))
     }
 
@@ -117,7 +123,7 @@ impl<'p> Runner<'p> {
         ensures same { runner_view self.new ≡ runner_view self.old }
         ensures refused { IfErr result (IsStop (runner_view self.old) (document_of T.tree T.custom value.now)) }
     {
-        let sink = self.give_all(alloc, value, Sink::First(None))?;
+        let sink = self.give_all(alloc, WholeRef { value }, Sink::First(None))?;
         Ok(sink.into_first())
     }
 
@@ -128,7 +134,7 @@ impl<'p> Runner<'p> {
         ensures same { runner_view self.new ≡ runner_view self.old }
         ensures refused { IfErr result (IsStop (runner_view self.old) (document_of T.tree T.custom value.now)) }
     {
-        let sink = self.give_all(alloc, value, Sink::Any(false))?;
+        let sink = self.give_all(alloc, WholeRef { value }, Sink::Any(false))?;
         Ok(sink.into_any())
     }
 
@@ -146,7 +152,8 @@ impl<'p> Runner<'p> {
         ensures same { runner_view self.new ≡ runner_view self.old }
         ensures refused { IfErr result (IsStop (runner_view self.old) (document_of T.tree T.custom value.now)) }
     {
-        match self.give_limited(alloc, units, value, Sink::Nodes(Vec::new(alloc)))? {
+        let begun = Sink::Nodes(WholeNodes::new(alloc));
+        match self.give_limited(alloc, units, WholeRef { value }, begun)? {
             Some(sink) => Ok(Some(sink.into_nodes(alloc))),
             None => Ok(None),
         }
@@ -166,7 +173,8 @@ impl<'p> Runner<'p> {
         ensures same { runner_view self.new ≡ runner_view self.old }
         ensures refused { IfErr result (IsStop (runner_view self.old) (document_of T.tree T.custom value.now)) }
     {
-        match self.give_limited(alloc, units, value, Sink::Values(Vec::new(alloc)))? {
+        let begun = Sink::Values(WholeValues::new(alloc));
+        match self.give_limited(alloc, units, WholeRef { value }, begun)? {
             Some(sink) => Ok(Some(sink.into_values(alloc))),
             None => Ok(None),
         }
@@ -185,7 +193,8 @@ impl<'p> Runner<'p> {
         ensures same { runner_view self.new ≡ runner_view self.old }
         ensures refused { IfErr result (IsStop (runner_view self.old) (document_of T.tree T.custom value.now)) }
     {
-        match self.give_limited(alloc, units, value, Sink::Paths(Vec::new(alloc)))? {
+        let begun = Sink::Paths(Vec::new(alloc));
+        match self.give_limited(alloc, units, WholeRef { value }, begun)? {
             Some(sink) => Ok(Some(sink.into_paths(alloc))),
             None => Ok(None),
         }
@@ -205,7 +214,7 @@ impl<'p> Runner<'p> {
         ensures same { runner_view self.new ≡ runner_view self.old }
         ensures refused { IfErr result (IsStop (runner_view self.old) (document_of T.tree T.custom value.now)) }
     {
-        match self.give_limited(alloc, units, value, Sink::First(None))? {
+        match self.give_limited(alloc, units, WholeRef { value }, Sink::First(None))? {
             Some(sink) => Ok(Some(sink.into_first())),
             None => Ok(None),
         }
@@ -223,7 +232,7 @@ impl<'p> Runner<'p> {
         ensures same { runner_view self.new ≡ runner_view self.old }
         ensures refused { IfErr result (IsStop (runner_view self.old) (document_of T.tree T.custom value.now)) }
     {
-        match self.give_limited(alloc, units, value, Sink::Any(false))? {
+        match self.give_limited(alloc, units, WholeRef { value }, Sink::Any(false))? {
             Some(sink) => Ok(Some(sink.into_any())),
             None => Ok(None),
         }
@@ -233,13 +242,12 @@ impl<'p> Runner<'p> {
     fn give_all<'a, T: Queryable>(
         &mut self,
         alloc: Global,
-        value: &'a T,
+        value: WholeRef<'a, T>,
         mut sink: Sink<'a, T>,
     ) -> Queried<Sink<'a, T>>
-        requires { IsTrue (T.is_whole value.now) }
-        ensures gave { IfOk result (λ s. seen T.tree T.is_whole s ≡ give (seen T.tree T.is_whole sink.entry) (nodelist (runner_view self.old) (document_of T.tree T.custom value.now))) }
+        ensures gave { IfOk result (λ s. seen s ≡ give (seen sink.entry) (nodelist (runner_view self.old) (document_at value.entry))) }
         ensures same { runner_view self.new ≡ runner_view self.old }
-        ensures refused { IfErr result (IsStop (runner_view self.old) (document_of T.tree T.custom value.now)) }
+        ensures refused { IfErr result (IsStop (runner_view self.old) (document_at value.entry)) }
     {
         match self.give(alloc, Budget::unlimited(), value, &mut sink) {
             Ok(_goes_on) => Ok(sink),
@@ -255,13 +263,12 @@ impl<'p> Runner<'p> {
         &mut self,
         alloc: Global,
         units: usize,
-        value: &'a T,
+        value: WholeRef<'a, T>,
         mut sink: Sink<'a, T>,
     ) -> Queried<Option<Sink<'a, T>>>
-        requires { IsTrue (T.is_whole value.now) }
-        ensures gave { IfOk result (λ o. IfSome o (λ s. seen T.tree T.is_whole s ≡ give (seen T.tree T.is_whole sink.entry) (nodelist (runner_view self.old) (document_of T.tree T.custom value.now)))) }
+        ensures gave { IfOk result (λ o. IfSome o (λ s. seen s ≡ give (seen sink.entry) (nodelist (runner_view self.old) (document_at value.entry)))) }
         ensures same { runner_view self.new ≡ runner_view self.old }
-        ensures refused { IfErr result (IsStop (runner_view self.old) (document_of T.tree T.custom value.now)) }
+        ensures refused { IfErr result (IsStop (runner_view self.old) (document_at value.entry)) }
     {
         let given = self.give(alloc, Budget::of(units), value, &mut sink);
         match given {
@@ -282,14 +289,13 @@ impl<'p> Runner<'p> {
         &mut self,
         alloc: Global,
         budget: Budget,
-        value: &'a T,
+        value: WholeRef<'a, T>,
         sink: &mut Sink<'a, T>,
     ) -> Walked<bool>
-        requires { IsTrue (T.is_whole value.now) }
-        ensures gave { IfOk result (λ b. Took (seen T.tree T.is_whole sink.old) (nodelist (runner_view self.old) (document_of T.tree T.custom value.now))
-            (seen T.tree T.is_whole sink.new) b) }
+        ensures gave { IfOk result (λ b. Took (seen sink.old) (nodelist (runner_view self.old) (document_at value.entry))
+            (seen sink.new) b) }
         ensures same { runner_view self.new ≡ runner_view self.old }
-        ensures refused { IfErr result (IsHalt budget.limit (segments_patterns (runner_view self.old)) (document_of T.tree T.custom value.now)) }
+        ensures refused { IfErr result (IsHalt budget.limit (segments_patterns (runner_view self.old)) (document_at value.entry)) }
     {
         let prepared = self.prepared;
         let finders = mem::replace(&mut self.finders, prepared.finders(alloc));

@@ -1,16 +1,18 @@
 //! The sides of a comparison, where none takes a walk or memory: they are lent, and nothing is made for them.
-ghost use Rattle.std.specs.Prelude.{◌≡◌, IsTrue, IfSome};
+ghost use Rattle.std.specs.Prelude.{◌≡◌, IfSome};
 ghost use Rattle.jsonpath_parser.specs.tree.View.{operator_view};
 ghost use Rattle.jsonpath_rust.specs.documents.Comparing.{compares};
 ghost use Rattle.jsonpath_rust.specs.documents.Meaning.{answer, value_of};
 ghost use Rattle.jsonpath_rust.specs.documents.Node.{Node};
-ghost use Rattle.jsonpath_rust.specs.documents.inner.Operands.{side_tree, side_is_whole};
+ghost use Rattle.jsonpath_rust.specs.documents.inner.Operands.{side_tree};
+ghost use Rattle.jsonpath_rust.specs.documents.inner.Whole.{tree_of};
 ghost use Rattle.jsonpath_rust.specs.selection.inner.Keeping.{IsReady, document, kept_of, value_by};
 ghost use Rattle.jsonpath_rust.specs.selection.inner.PlanViews.{called_view, part_at, side_view};
 
 use crate::documents::comparison::{Side, compares};
 use crate::documents::queryable::Queryable;
 use crate::documents::value::scalar_of;
+use crate::documents::whole::WholeRef;
 use crate::selection::budget::Limit;
 use crate::selection::cache::{Cache, Given};
 use crate::selection::direct::direct_answer;
@@ -28,14 +30,13 @@ impl<'a: 's, 's, T: Queryable> Task<'a, 's, T> {
         &self,
         operator: Operator,
         sides: (&'s plan::Side, &'s plan::Side),
-        at: &'a T,
+        at: WholeRef<'a, T>,
         cache: &Cache<'a, 's, T>,
     ) -> Option<bool>
-        requires ready { IsReady T.tree T.is_whole T.custom self.now cache.now }
-        requires whole { IsTrue (T.is_whole at.now) }
-        ensures { (n : Node) → n.tree ≡ T.tree at.now → IfSome result (λ b. b ≡ compares (operator_view operator)
-            (value_of (side_view (kept_of self.now) sides.entry.0.now) (document T.tree T.custom self.now) n)
-            (value_of (side_view (kept_of self.now) sides.entry.1.now) (document T.tree T.custom self.now) n)) }
+        requires { IsReady self.now cache.now }
+        ensures { (n : Node) → n.tree ≡ tree_of at.entry → IfSome result (λ b. b ≡ compares (operator_view operator)
+            (value_of (side_view (kept_of self.now) sides.entry.0.now) (document self.now) n)
+            (value_of (side_view (kept_of self.now) sides.entry.1.now) (document self.now) n)) }
     {
         if let Limit::Limited = self.limit {
             return None;
@@ -50,13 +51,11 @@ impl<'a: 's, 's, T: Queryable> Task<'a, 's, T> {
     fn lent_side<'k>(
         &self,
         side: &'s plan::Side,
-        at: &'k T,
+        at: WholeRef<'k, T>,
         cache: &'k Cache<'a, 's, T>,
     ) -> Option<Side<'k, 's, T>>
-        requires ready { IsReady T.tree T.is_whole T.custom self.now cache.now }
-        requires whole { IsTrue (T.is_whole at.now) }
-        ensures value { (n : Node) → n.tree ≡ T.tree at.now → IfSome result (λ s. side_tree T.tree s ≡ value_of (side_view (kept_of self.now) side.now) (document T.tree T.custom self.now) n) }
-        ensures whole { IfSome result (λ s. IsTrue (side_is_whole T.is_whole s)) }
+        requires { IsReady self.now cache.now }
+        ensures { (n : Node) → n.tree ≡ tree_of at.entry → IfSome result (λ s. side_tree s ≡ value_of (side_view (kept_of self.now) side.now) (document self.now) n) }
     {
         match side {
             plan::Side::Literal(literal) => Some(Side::Plain(scalar_of(literal))),
@@ -74,13 +73,11 @@ impl<'a: 's, 's, T: Queryable> Task<'a, 's, T> {
     fn lent_answer<'k>(
         &self,
         call: &'s Called,
-        at: &'k T,
+        at: WholeRef<'k, T>,
         cache: &'k Cache<'a, 's, T>,
     ) -> Option<Side<'k, 's, T>>
-        requires ready { IsReady T.tree T.is_whole T.custom self.now cache.now }
-        requires whole { IsTrue (T.is_whole at.now) }
-        ensures value { (n : Node) → n.tree ≡ T.tree at.now → IfSome result (λ s. side_tree T.tree s ≡ answer (called_view (kept_of self.now) call.now) (document T.tree T.custom self.now) n) }
-        ensures whole { IfSome result (λ s. IsTrue (side_is_whole T.is_whole s)) }
+        requires { IsReady self.now cache.now }
+        ensures { (n : Node) → n.tree ≡ tree_of at.entry → IfSome result (λ s. side_tree s ≡ answer (called_view (kept_of self.now) call.now) (document self.now) n) }
     {
         match call {
             Called::Here(call) => direct_answer(call, at),
@@ -98,9 +95,8 @@ impl<'a: 's, 's, T: Queryable> Task<'a, 's, T> {
         number: usize,
         cache: &'k Cache<'a, 's, T>,
     ) -> Option<Side<'k, 's, T>>
-        requires ready { IsReady T.tree T.is_whole T.custom self.now cache.now }
-        ensures value { IfSome result (λ s. side_tree T.tree s ≡ value_by (part_at (kept_of self.now) number) (document T.tree T.custom self.now)) }
-        ensures whole { IfSome result (λ s. IsTrue (side_is_whole T.is_whole s)) }
+        requires { IsReady self.now cache.now }
+        ensures { IfSome result (λ s. side_tree s ≡ value_by (part_at (kept_of self.now) number) (document self.now)) }
     {
         match cache.get(number) {
             Some(Given::Value(value)) => Some(value.as_side()),

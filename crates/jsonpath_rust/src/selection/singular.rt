@@ -1,9 +1,10 @@
 //! Names and indexes that are looked up, and not walked (RFC 9535, 2.3.5.1).
-ghost use Rattle.std.specs.Prelude.{◌≡◌, map, option_map, option_and_then, IsTrue, IfOk, IfErr, IfSome};
+ghost use Rattle.std.specs.Prelude.{◌≡◌, map, option_map, option_and_then, IfOk, IfErr};
 ghost use Rattle.jsonpath_parser.specs.tree.View.{step_view};
 ghost use Rattle.jsonpath_rust.specs.documents.Document.{Document};
 ghost use Rattle.jsonpath_rust.specs.documents.Meaning.{stepped, value_at};
 ghost use Rattle.jsonpath_rust.specs.documents.Node.{Node};
+ghost use Rattle.jsonpath_rust.specs.documents.inner.Whole.{tree_of};
 ghost use Rattle.jsonpath_rust.specs.declared.documents.halt.Halt.TheVariants.{Memory};
 ghost use Rattle.jsonpath_rust.specs.selection.inner.PlanViews.{steps_query};
 ghost use Rattle.jsonpath_rust.specs.selection.inner.Sinks.{seen, start, give};
@@ -11,7 +12,7 @@ ghost use Rattle.jsonpath_rust.specs.selection.inner.Walking.{through};
 
 use crate::documents::halt::Walked;
 use crate::documents::queryable::Queryable;
-use crate::documents::queryable::children::element;
+use crate::documents::whole::WholeRef;
 use crate::selection::sink::{Sink, Wanted};
 use jsonpath_parser::model::SingularQuerySegment;
 use std::alloc::Global;
@@ -21,10 +22,9 @@ pub fn looked_up<'a, T: Queryable>(
     alloc: Global,
     steps: &[SingularQuerySegment],
     wanted: Wanted,
-    at: &'a T,
+    at: WholeRef<'a, T>,
 ) -> Walked<Sink<'a, T>>
-    requires { IsTrue (T.is_whole at.now) }
-    ensures given { (d : Document) (n : Node) → n.tree ≡ T.tree at.now → IfOk result (λ s. seen T.tree T.is_whole s ≡ give (start wanted) (through (steps_query (map step_view steps.now)) d n)) }
+    ensures given { (d : Document) (n : Node) → n.tree ≡ tree_of at.entry → IfOk result (λ s. seen s ≡ give (start wanted) (through (steps_query (map step_view steps.now)) d n)) }
     ensures memory { IfErr result (λ h. h ≡ Memory) }
 {
     match value_at(steps, at) {
@@ -34,10 +34,11 @@ pub fn looked_up<'a, T: Queryable>(
 }
 
 /// The value that these steps lead to.
-pub fn value_at<'a, T: Queryable>(steps: &[SingularQuerySegment], at: &'a T) -> Option<&'a T>
-    requires { IsTrue (T.is_whole at.now) }
-    ensures value { option_map (λ v. T.tree v.now) result ≡ value_at (map step_view steps.now) (T.tree at.now) }
-    ensures whole { IfSome result (λ v. IsTrue (T.is_whole v.now)) }
+pub fn value_at<'a, T: Queryable>(
+    steps: &[SingularQuerySegment],
+    at: WholeRef<'a, T>,
+) -> Option<WholeRef<'a, T>>
+    ensures { option_map tree_of result ≡ value_at (map step_view steps.now) (tree_of at.entry) }
 {
     let (first, rest) = match steps.split_first() {
         Some((first, rest)) => (first, rest),
@@ -49,14 +50,15 @@ pub fn value_at<'a, T: Queryable>(steps: &[SingularQuerySegment], at: &'a T) -> 
 
 /// The value that a step leads to.
 #[inline(always)]
-fn stepped<'a, T: Queryable>(step: &SingularQuerySegment, at: &'a T) -> Option<&'a T>
-    requires { IsTrue (T.is_whole at.now) }
-    ensures value { option_map (λ v. T.tree v.now) result ≡ stepped (step_view step.now) (T.tree at.now) }
-    ensures whole { IfSome result (λ v. IsTrue (T.is_whole v.now)) }
+fn stepped<'a, T: Queryable>(
+    step: &SingularQuerySegment,
+    at: WholeRef<'a, T>,
+) -> Option<WholeRef<'a, T>>
+    ensures { option_map tree_of result ≡ stepped (step_view step.now) (tree_of at.entry) }
 {
     match step {
-        SingularQuerySegment::Name(name) => at.get(name),
-        SingularQuerySegment::Index(index) => match element(at, *index) {
+        SingularQuerySegment::Name(name) => at.member(name),
+        SingularQuerySegment::Index(index) => match at.element(*index) {
             Some((_position, child)) => Some(child),
             None => None,
         },

@@ -1,17 +1,20 @@
 //! What is done with the nodes that a walk meets.
-ghost use Rattle.std.specs.Prelude.{◌≡◌, suc, min, ◌∷◌, [], map, option_map, IsTrue, false, IfOk, IfErr, OnOk, string_bytes};
+ghost use Rattle.std.specs.Prelude.{◌≡◌, suc, min, ◌∷◌, [], map, option_map, All, IsTrue, false, IfOk, IfErr, IfSome, OnOk, string_bytes};
 ghost use Rattle.jsonpath_base.specs.Steps.{location_view};
 ghost use Rattle.jsonpath_base.specs.RemovalViews.{removal_set, removal_count};
 ghost use Rattle.jsonpath_rust.specs.declared.documents.halt.Halt.TheVariants.{Memory};
 ghost use Rattle.jsonpath_rust.specs.documents.Answer.{shown, paths_of};
 ghost use Rattle.jsonpath_rust.specs.documents.Functions.{greatest_count};
 ghost use Rattle.jsonpath_rust.specs.documents.Node.{Node, root_node};
-ghost use Rattle.jsonpath_rust.specs.selection.inner.Sinks.{Took, seen, seen_only, seen_first, start, add, any_in, count_in, only_in, first_in, nodes_in, nodes_whole, values_in, values_whole, paths_in, locations_in, removal_in};
+ghost use Rattle.jsonpath_rust.specs.documents.inner.Whole.{tree_of};
+ghost use Rattle.jsonpath_rust.specs.selection.inner.Sinks.{Took, seen, seen_only, seen_first, start, add, any_in, count_in, only_in, first_in, nodes_in, values_in, paths_in, locations_in, removal_in};
 ghost use Rattle.jsonpath_rust.specs.selection.inner.Walking.{node_of};
 
 use crate::documents::halt::Walked;
+use crate::documents::nodes::{WholeNode, WholeNodes, WholeValues};
 use crate::documents::queryable::Queryable;
 use crate::documents::value::GREATEST_COUNT;
+use crate::documents::whole::WholeRef;
 use crate::documents::{QueryPath, QueryRef};
 use jsonpath_base::engine::Way;
 use jsonpath_base::{Removal, Step};
@@ -19,9 +22,9 @@ use std::alloc::Global;
 
 /// The only node of a list, if it has one alone.
 #[derive(Clone, Copy)]
-pub enum Only<'a, T> {
+pub enum Only<'a, T: Queryable> {
     Nothing,
-    One(&'a T),
+    One(WholeRef<'a, T>),
     Several,
 }
 
@@ -40,13 +43,13 @@ pub enum Wanted {
 
 /// Takes the nodes of a walk in their order.
 #[derive(Drop)]
-pub enum Sink<'a, T> {
+pub enum Sink<'a, T: Queryable> {
     /// Keeps each node's value and Normalized Path.
-    Nodes(Vec<QueryRef<'a, T>>),
+    Nodes(WholeNodes<'a, T>),
     /// Keeps each node's Normalized Path.
     Paths(Vec<QueryPath>),
     /// Keeps each node's value, and makes no path.
-    Values(Vec<&'a T>),
+    Values(WholeValues<'a, T>),
     /// Keeps each node's location, with names of its own.
     Locations(Vec<Vec<Step>>),
     /// Marks each node's location to be removed. It stands in a box, so that the other sinks stay small.
@@ -58,27 +61,26 @@ pub enum Sink<'a, T> {
     /// The only node. It stops at the second.
     Only(Only<'a, T>),
     /// The first node's value and Normalized Path. It stops there.
-    First(Option<QueryRef<'a, T>>),
+    First(Option<WholeNode<'a, T>>),
 }
 
 impl<'a, T: Queryable> Sink<'a, T> {
     /// A sink for what is wanted, with no node yet.
     #[inline(always)]
     pub fn start(alloc: Global, wanted: Wanted) -> Self
-        ensures { seen T.tree T.is_whole result ≡ start wanted }
+        ensures { seen result ≡ start wanted }
     {
         match wanted {
             Wanted::Any => Sink::Any(false),
             Wanted::Count => Sink::Count(0),
             Wanted::Only => Sink::Only(Only::Nothing),
-            Wanted::Values => Sink::Values(Vec::new(alloc)),
+            Wanted::Values => Sink::Values(WholeValues::new(alloc)),
         }
     }
 
     /// A sink for what is wanted, that was given one node, of this value.
-    pub fn of_one(alloc: Global, wanted: Wanted, value: &'a T) -> Walked<Self>
-        requires { IsTrue (T.is_whole value.now) }
-        ensures given { IfOk result (λ s. seen T.tree T.is_whole s ≡ add (start wanted) (root_node (T.tree value.now))) }
+    pub fn of_one(alloc: Global, wanted: Wanted, value: WholeRef<'a, T>) -> Walked<Self>
+        ensures given { IfOk result (λ s. seen s ≡ add (start wanted) (root_node (tree_of value.entry))) }
         ensures memory { IfErr result (λ h. h ≡ Memory) }
     {
         match wanted {
@@ -86,7 +88,7 @@ impl<'a, T: Queryable> Sink<'a, T> {
             Wanted::Count => Ok(Sink::Count(1)),
             Wanted::Only => Ok(Sink::Only(Only::One(value))),
             Wanted::Values => {
-                let mut values = Vec::new(alloc);
+                let mut values = WholeValues::new(alloc);
                 values.push(value)?;
                 Ok(Sink::Values(values))
             }
@@ -95,16 +97,15 @@ impl<'a, T: Queryable> Sink<'a, T> {
 
     /// Takes the value that this way leads to. The result says whether the walk goes on.
     #[inline(always)]
-    pub fn take(&mut self, alloc: Global, value: &'a T, way: &mut Way<'_>) -> Walked<bool>
-        requires { IsTrue (T.is_whole value.now) }
-        ensures gave { IfOk result (λ b. Took (seen T.tree T.is_whole self.old) (node_of T.tree way.old.steps.items value.now ∷ []) (seen T.tree T.is_whole self.new) b) }
+    pub fn take(&mut self, alloc: Global, value: WholeRef<'a, T>, way: &mut Way<'_>) -> Walked<bool>
+        ensures gave { IfOk result (λ b. Took (seen self.old) (node_of way.old.steps.items value.entry ∷ []) (seen self.new) b) }
         ensures same { way.new.steps.items ≡ way.old.steps.items }
         ensures memory { IfErr result (λ h. h ≡ Memory) }
     {
         match self {
             Sink::Nodes(nodes) => {
                 let path = way.path(alloc)?;
-                nodes.push(QueryRef { val: value, path })?;
+                nodes.push(value, path)?;
                 Ok(true)
             }
             Sink::Paths(paths) => {
@@ -144,7 +145,7 @@ impl<'a, T: Queryable> Sink<'a, T> {
     /// Whether an `Any` was given a node.
     #[inline(always)]
     pub fn has_any(&self) -> bool
-        ensures { result ≡ any_in (seen T.tree T.is_whole self.now) }
+        ensures { result ≡ any_in (seen self.now) }
     {
         match self {
             Sink::Any(any) => *any,
@@ -154,7 +155,7 @@ impl<'a, T: Queryable> Sink<'a, T> {
 
     /// Whether an `Any` was given a node. The sink is freed.
     pub fn into_any(self) -> bool
-        ensures { result ≡ any_in (seen T.tree T.is_whole self.entry) }
+        ensures { result ≡ any_in (seen self.entry) }
     {
         let any = self.has_any();
         drop(self);
@@ -164,7 +165,7 @@ impl<'a, T: Queryable> Sink<'a, T> {
     /// How many nodes a `Count` was given.
     #[inline(always)]
     pub fn counted(&self) -> usize
-        ensures { result ≡ count_in (seen T.tree T.is_whole self.now) }
+        ensures { result ≡ count_in (seen self.now) }
     {
         match self {
             Sink::Count(count) => *count,
@@ -174,8 +175,8 @@ impl<'a, T: Queryable> Sink<'a, T> {
 
     /// The value of the only node that an `Only` was given.
     #[inline(always)]
-    pub fn only(&self) -> Option<&'a T>
-        ensures { option_map (λ v. (T.is_whole v.now, T.tree v.now)) result ≡ only_in (seen T.tree T.is_whole self.now) }
+    pub fn only(&self) -> Option<WholeRef<'a, T>>
+        ensures { option_map tree_of result ≡ only_in (seen self.now) }
     {
         match self {
             Sink::Only(Only::One(value)) => Some(*value),
@@ -185,11 +186,11 @@ impl<'a, T: Queryable> Sink<'a, T> {
 
     /// The nodes that a `Nodes` was given.
     pub fn into_nodes(self, alloc: Global) -> Vec<QueryRef<'a, T>>
-        ensures nodes { shown T.tree result.items ≡ nodes_in (seen T.tree T.is_whole self.entry) }
-        ensures whole { map (λ r. T.is_whole r.val.now) result.items ≡ nodes_whole (seen T.tree T.is_whole self.entry) }
+        ensures nodes { shown T.tree result.items ≡ nodes_in (seen self.entry) }
+        ensures whole { All (λ r. IsTrue (T.is_whole r.val.now)) result.items }
     {
         match self {
-            Sink::Nodes(nodes) => nodes,
+            Sink::Nodes(nodes) => nodes.list,
             other => {
                 drop(other);
                 Vec::new(alloc)
@@ -199,7 +200,7 @@ impl<'a, T: Queryable> Sink<'a, T> {
 
     /// The paths that a `Paths` was given.
     pub fn into_paths(self, alloc: Global) -> Vec<QueryPath>
-        ensures { paths_of result.items ≡ paths_in (seen T.tree T.is_whole self.entry) }
+        ensures { paths_of result.items ≡ paths_in (seen self.entry) }
     {
         match self {
             Sink::Paths(paths) => paths,
@@ -212,7 +213,7 @@ impl<'a, T: Queryable> Sink<'a, T> {
 
     /// The locations that a `Locations` was given.
     pub fn into_locations(self, alloc: Global) -> Vec<Vec<Step>>
-        ensures { map (λ l. location_view l.items) result.items ≡ locations_in (seen T.tree T.is_whole self.entry) }
+        ensures { map (λ l. location_view l.items) result.items ≡ locations_in (seen self.entry) }
     {
         match self {
             Sink::Locations(locations) => locations,
@@ -225,7 +226,7 @@ impl<'a, T: Queryable> Sink<'a, T> {
 
     /// What a `Removal` was given.
     pub fn into_removal(self) -> Option<Box<Removal>>
-        ensures { option_map (λ r. (removal_set r.value, removal_count r.value)) result ≡ removal_in (seen T.tree T.is_whole self.entry) }
+        ensures { option_map (λ r. (removal_set r.value, removal_count r.value)) result ≡ removal_in (seen self.entry) }
     {
         match self {
             Sink::Removal(removal) => Some(removal),
@@ -238,11 +239,11 @@ impl<'a, T: Queryable> Sink<'a, T> {
 
     /// The values that a `Values` was given.
     pub fn into_values(self, alloc: Global) -> Vec<&'a T>
-        ensures values { map (λ v. T.tree v.now) result.items ≡ values_in (seen T.tree T.is_whole self.entry) }
-        ensures whole { map (λ v. T.is_whole v.now) result.items ≡ values_whole (seen T.tree T.is_whole self.entry) }
+        ensures values { map (λ v. T.tree v.now) result.items ≡ values_in (seen self.entry) }
+        ensures whole { All (λ v. IsTrue (T.is_whole v.now)) result.items }
     {
         match self {
-            Sink::Values(values) => values,
+            Sink::Values(values) => values.list,
             other => {
                 drop(other);
                 Vec::new(alloc)
@@ -252,10 +253,11 @@ impl<'a, T: Queryable> Sink<'a, T> {
 
     /// The node that a `First` was given.
     pub fn into_first(self) -> Option<QueryRef<'a, T>>
-        ensures { option_map (λ r. (T.is_whole r.val.now, (string_bytes r.path, T.tree r.val.now))) result ≡ first_in (seen T.tree T.is_whole self.entry) }
+        ensures node { option_map (λ r. (string_bytes r.path, T.tree r.val.now)) result ≡ first_in (seen self.entry) }
+        ensures whole { IfSome result (λ r. IsTrue (T.is_whole r.val.now)) }
     {
         match self {
-            Sink::First(first) => first,
+            Sink::First(Some(node)) => Some(node.node),
             other => {
                 drop(other);
                 None
@@ -278,9 +280,8 @@ fn one_more(count: usize) -> usize
 
 /// Takes a node; it goes on if that is the first.
 #[inline(always)]
-fn take_only<'a, T: Queryable>(only: &mut Only<'a, T>, value: &'a T) -> bool
-    requires { IsTrue (T.is_whole value.now) }
-    ensures { (n : Node) → n.tree ≡ T.tree value.now → Took (seen_only T.tree T.is_whole only.old) (n ∷ []) (seen_only T.tree T.is_whole only.new) result }
+fn take_only<'a, T: Queryable>(only: &mut Only<'a, T>, value: WholeRef<'a, T>) -> bool
+    ensures { (n : Node) → n.tree ≡ tree_of value.entry → Took (seen_only only.old) (n ∷ []) (seen_only only.new) result }
 {
     match only {
         Only::Nothing => {
@@ -296,19 +297,23 @@ fn take_only<'a, T: Queryable>(only: &mut Only<'a, T>, value: &'a T) -> bool
 
 /// Takes a node, if that is the first.
 fn take_first<'a, T: Queryable>(
-    first: &mut Option<QueryRef<'a, T>>,
+    first: &mut Option<WholeNode<'a, T>>,
     alloc: Global,
-    value: &'a T,
+    value: WholeRef<'a, T>,
     way: &mut Way<'_>,
 ) -> Walked<()>
-    requires { IsTrue (T.is_whole value.now) }
-    ensures gave { OnOk result (Took (seen_first T.tree T.is_whole first.old) (node_of T.tree way.old.steps.items value.now ∷ []) (seen_first T.tree T.is_whole first.new) false) }
+    ensures gave { OnOk result (Took (seen_first first.old) (node_of way.old.steps.items value.entry ∷ []) (seen_first first.new) false) }
     ensures same { way.new.steps.items ≡ way.old.steps.items }
     ensures memory { IfErr result (λ h. h ≡ Memory) }
 {
     if first.is_none() {
         let path = way.path(alloc)?;
-        *first = Some(QueryRef { val: value, path });
+        *first = Some(WholeNode {
+            node: QueryRef {
+                val: value.value,
+                path,
+            },
+        });
     }
     Ok(())
 }

@@ -1,18 +1,18 @@
 //! Queries inside filters, from a value on and from the root.
-ghost use Rattle.std.specs.Prelude.{◌≡◌, IfOk, IfErr, OnOk, OnErr};
+ghost use Rattle.std.specs.Prelude.{◌≡◌, IfOk};
 ghost use Rattle.jsonpath_rust.specs.documents.Meaning.{nodelist, tested};
 ghost use Rattle.jsonpath_rust.specs.documents.Patterns.{segments_patterns, test_patterns};
 ghost use Rattle.jsonpath_rust.specs.selection.inner.Arguing as held;
 ghost use Rattle.jsonpath_rust.specs.selection.inner.Arguing.{holding};
-ghost use Rattle.jsonpath_rust.specs.selection.inner.Halting.{IsHalt};
 ghost use Rattle.jsonpath_rust.specs.selection.inner.Keeping.{IsReady, document, gathered, kept_of};
 ghost use Rattle.jsonpath_rust.specs.selection.inner.PlanViews.{nodes_view, query_at, segments_meant};
 ghost use Rattle.jsonpath_rust.specs.selection.inner.Sinks.{seen, start, give};
-ghost use Rattle.jsonpath_rust.specs.selection.inner.Standing.{Stands, Returns};
+ghost use Rattle.jsonpath_rust.specs.selection.inner.Standing.{Stands, Comes};
 ghost use Rattle.jsonpath_rust.specs.selection.inner.Walking.{node_of, through};
 
 use crate::documents::halt::Walked;
 use crate::documents::queryable::Queryable;
+use crate::documents::whole::WholeRef;
 use crate::selection::cache::{Gathered, Given};
 use crate::selection::lookup::short_cut;
 use crate::selection::plan::{Nodes, Segment};
@@ -30,14 +30,12 @@ impl<'a: 's, 's, T: Queryable> Task<'a, 's, T> {
         &self,
         nodes: &'s Nodes,
         wanted: Wanted,
-        at: &'a T,
+        at: WholeRef<'a, T>,
         trail: &mut Trail<'a, 's, '_, T>,
     ) -> Walked<Gathered<'a, T>>
-        requires { Stands T.tree T.is_whole T.custom self.now at.now trail.old.way.steps.items trail.old.cache }
-        ensures held { IfOk result (λ g. held.nodes (gathered T.tree T.is_whole trail.new.cache g) ≡ holding wanted (tested (nodes_view (kept_of self.now) nodes.now wanted) (document T.tree T.custom self.now) (node_of T.tree trail.old.way.steps.items at.now))) }
-        ensures returns { OnOk result (Returns T.tree T.is_whole T.custom self.now trail.old trail.new) }
-        ensures ready { OnErr result (IsReady T.tree T.is_whole T.custom self.now trail.new.cache) }
-        ensures refused { IfErr result (IsHalt self.now.limit (test_patterns (nodes_view (kept_of self.now) nodes.now wanted)) (document T.tree T.custom self.now)) }
+        requires { Stands self.now at trail.old.way.steps.items trail.old.cache }
+        ensures held { IfOk result (λ g. held.nodes (gathered trail.new.cache g) ≡ holding wanted (tested (nodes_view (kept_of self.now) nodes.now wanted) (document self.now) (node_of trail.old.way.steps.items at.entry))) }
+        ensures comes { Comes self.now trail.old trail.new (test_patterns (nodes_view (kept_of self.now) nodes.now wanted)) result }
     {
         match nodes {
             Nodes::Lookup(steps) => { Ok(Gathered::Own(looked_up(self.alloc, steps, wanted, at)?)) }
@@ -54,14 +52,12 @@ impl<'a: 's, 's, T: Queryable> Task<'a, 's, T> {
         &self,
         segments: &'s [Segment],
         wanted: Wanted,
-        at: &'a T,
+        at: WholeRef<'a, T>,
         trail: &mut Trail<'a, 's, '_, T>,
     ) -> Walked<Sink<'a, T>>
-        requires { Stands T.tree T.is_whole T.custom self.now at.now trail.old.way.steps.items trail.old.cache }
-        ensures given { IfOk result (λ s. seen T.tree T.is_whole s ≡ give (start wanted) (through (segments_meant (kept_of self.now) segments.now) (document T.tree T.custom self.now) (node_of T.tree trail.old.way.steps.items at.now))) }
-        ensures returns { OnOk result (Returns T.tree T.is_whole T.custom self.now trail.old trail.new) }
-        ensures ready { OnErr result (IsReady T.tree T.is_whole T.custom self.now trail.new.cache) }
-        ensures refused { IfErr result (IsHalt self.now.limit (segments_patterns (segments_meant (kept_of self.now) segments.now)) (document T.tree T.custom self.now)) }
+        requires { Stands self.now at trail.old.way.steps.items trail.old.cache }
+        ensures given { IfOk result (λ s. seen s ≡ give (start wanted) (through (segments_meant (kept_of self.now) segments.now) (document self.now) (node_of trail.old.way.steps.items at.entry))) }
+        ensures comes { Comes self.now trail.old trail.new (segments_patterns (segments_meant (kept_of self.now) segments.now)) result }
     {
         if let Some(sink) = short_cut(self.alloc, segments, wanted, at)? {
             return Ok(sink);
@@ -80,11 +76,9 @@ impl<'a: 's, 's, T: Queryable> Task<'a, 's, T> {
         wanted: Wanted,
         trail: &mut Trail<'a, 's, '_, T>,
     ) -> Walked<Gathered<'a, T>>
-        requires { IsReady T.tree T.is_whole T.custom self.now trail.old.cache }
-        ensures given { IfOk result (λ g. gathered T.tree T.is_whole trail.new.cache g ≡ give (start wanted) (nodelist (query_at (kept_of self.now) wanted number) (document T.tree T.custom self.now))) }
-        ensures returns { OnOk result (Returns T.tree T.is_whole T.custom self.now trail.old trail.new) }
-        ensures ready { OnErr result (IsReady T.tree T.is_whole T.custom self.now trail.new.cache) }
-        ensures refused { IfErr result (IsHalt self.now.limit (segments_patterns (query_at (kept_of self.now) wanted number)) (document T.tree T.custom self.now)) }
+        requires { IsReady self.now trail.old.cache }
+        ensures given { IfOk result (λ g. gathered trail.new.cache g ≡ give (start wanted) (nodelist (query_at (kept_of self.now) wanted number) (document self.now))) }
+        ensures comes { Comes self.now trail.old trail.new (segments_patterns (query_at (kept_of self.now) wanted number)) result }
     {
         let Some(segments) = self.plan.kept_segments(number, wanted) else {
             return Ok(Gathered::Own(Sink::of_one(self.alloc, wanted, self.root)?));

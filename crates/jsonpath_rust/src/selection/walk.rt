@@ -2,22 +2,21 @@
 //!
 //! The way to the value at hand stands on a stack of borrowed steps, so nothing is kept for a node that is only passed.
 //! Every method of the cycle asks for a value at hand (`Stands`), and comes back with the way as it was and what is kept
-//! still right (`Returns`). Where it halts, what is kept is right too.
-ghost use Rattle.std.specs.Prelude.{◌≡◌, [], ◌∷◌, ◌++◌, map, IfOk, IfErr, OnOk, OnErr};
+//! still right (`Comes`). Where it halts, what is kept is right too, and it says why.
+ghost use Rattle.std.specs.Prelude.{◌≡◌, [], ◌∷◌, ◌++◌, map, IfOk};
 ghost use Rattle.std.specs.List.{flat_map};
 ghost use Rattle.jsonpath_rust.specs.documents.Node.{below, children};
 ghost use Rattle.jsonpath_rust.specs.documents.Meaning.{picks, all_pick, replaced, sliced};
 ghost use Rattle.jsonpath_rust.specs.documents.Patterns.{segments_patterns, segment_patterns, selectors_patterns, selector_patterns};
-ghost use Rattle.jsonpath_rust.specs.selection.inner.Halting.{IsHalt};
 ghost use Rattle.jsonpath_rust.specs.selection.inner.PlanViews.{segments_meant, segment_view, selectors_meant, selector_view};
 ghost use Rattle.jsonpath_rust.specs.selection.inner.Sinks.{Took, seen};
-ghost use Rattle.jsonpath_rust.specs.selection.inner.Keeping.{IsReady, document, kept_of};
-ghost use Rattle.jsonpath_rust.specs.selection.inner.Standing.{Stands, Returns};
+ghost use Rattle.jsonpath_rust.specs.selection.inner.Keeping.{document, kept_of};
+ghost use Rattle.jsonpath_rust.specs.selection.inner.Standing.{Stands, Comes};
 ghost use Rattle.jsonpath_rust.specs.selection.inner.Walking.{through, node_of, acted};
 
 use crate::documents::halt::Walked;
 use crate::documents::queryable::Queryable;
-use crate::documents::queryable::children::element;
+use crate::documents::whole::WholeRef;
 use crate::selection::action::Action;
 use crate::selection::budget::Limit;
 use crate::selection::children::Child;
@@ -33,31 +32,30 @@ type Bounds = (Option<i64>, Option<i64>, Option<i64>);
 
 /// What is asked: a query by its plan, of a document, and whether the work for it is limited.
 #[derive(Drop)]
-pub struct Task<'a, 's, T> {
+pub struct Task<'a, 's, T: Queryable> {
     pub alloc: Global,
     pub plan: &'s Plan,
-    pub root: &'a T,
+    pub root: WholeRef<'a, T>,
     pub limit: Limit,
 }
 
 impl<'a: 's, 's, T: Queryable> Task<'a, 's, T> {
     /// Gives to the sink what the segments select from a value on, to which the way leads. The result says whether to
-    /// go on.
+    /// go on. Where no segment is left the value is taken here, with no call for it.
     #[cycle(walk)]
+    #[inline(always)]
     pub fn walk(
         &self,
         segments: &'s [Segment],
-        at: &'a T,
+        at: WholeRef<'a, T>,
         trail: &mut Trail<'a, 's, '_, T>,
         sink: &mut Sink<'a, T>,
     ) -> Walked<bool>
-        requires { Stands T.tree T.is_whole T.custom self.now at.now trail.old.way.steps.items trail.old.cache }
-        ensures gave { IfOk result (λ b. Took (seen T.tree T.is_whole sink.old)
-            (through (segments_meant (kept_of self.now) segments.now) (document T.tree T.custom self.now) (node_of T.tree trail.old.way.steps.items at.now))
-            (seen T.tree T.is_whole sink.new) b) }
-        ensures returns { OnOk result (Returns T.tree T.is_whole T.custom self.now trail.old trail.new) }
-        ensures ready { OnErr result (IsReady T.tree T.is_whole T.custom self.now trail.new.cache) }
-        ensures refused { IfErr result (IsHalt self.now.limit (segments_patterns (segments_meant (kept_of self.now) segments.now)) (document T.tree T.custom self.now)) }
+        requires { Stands self.now at trail.old.way.steps.items trail.old.cache }
+        ensures gave { IfOk result (λ b. Took (seen sink.old)
+            (through (segments_meant (kept_of self.now) segments.now) (document self.now) (node_of trail.old.way.steps.items at.entry))
+            (seen sink.new) b) }
+        ensures comes { Comes self.now trail.old trail.new (segments_patterns (segments_meant (kept_of self.now) segments.now)) result }
     {
         match segments.split_first() {
             None => sink.take(self.alloc, at, &mut trail.way),
@@ -67,22 +65,19 @@ impl<'a: 's, 's, T: Queryable> Task<'a, 's, T> {
 
     /// The first segment here, and the rest from each node that it makes of this one.
     #[cycle(walk)]
-    #[inline(always)]
     pub fn pass(
         &self,
         onward: Onward<'s, &'s Segment>,
-        at: &'a T,
+        at: WholeRef<'a, T>,
         trail: &mut Trail<'a, 's, '_, T>,
         sink: &mut Sink<'a, T>,
     ) -> Walked<bool>
-        requires { Stands T.tree T.is_whole T.custom self.now at.now trail.old.way.steps.items trail.old.cache }
-        ensures gave { IfOk result (λ b. Took (seen T.tree T.is_whole sink.old)
-            (flat_map (through (segments_meant (kept_of self.now) onward.entry.rest.now) (document T.tree T.custom self.now))
-            (replaced (segment_view (kept_of self.now) onward.entry.next.now) (document T.tree T.custom self.now) (node_of T.tree trail.old.way.steps.items at.now)))
-            (seen T.tree T.is_whole sink.new) b) }
-        ensures returns { OnOk result (Returns T.tree T.is_whole T.custom self.now trail.old trail.new) }
-        ensures ready { OnErr result (IsReady T.tree T.is_whole T.custom self.now trail.new.cache) }
-        ensures refused { IfErr result (IsHalt self.now.limit (segment_patterns (segment_view (kept_of self.now) onward.entry.next.now) ++ segments_patterns (segments_meant (kept_of self.now) onward.entry.rest.now)) (document T.tree T.custom self.now)) }
+        requires { Stands self.now at trail.old.way.steps.items trail.old.cache }
+        ensures gave { IfOk result (λ b. Took (seen sink.old)
+            (flat_map (through (segments_meant (kept_of self.now) onward.entry.rest.now) (document self.now))
+            (replaced (segment_view (kept_of self.now) onward.entry.next.now) (document self.now) (node_of trail.old.way.steps.items at.entry)))
+            (seen sink.new) b) }
+        ensures comes { Comes self.now trail.old trail.new (segment_patterns (segment_view (kept_of self.now) onward.entry.next.now) ++ segments_patterns (segments_meant (kept_of self.now) onward.entry.rest.now)) result }
     {
         let rest = onward.rest;
         match onward.next {
@@ -103,18 +98,16 @@ impl<'a: 's, 's, T: Queryable> Task<'a, 's, T> {
     fn pick_each(
         &self,
         onward: Onward<'s, &'s [Selector]>,
-        at: &'a T,
+        at: WholeRef<'a, T>,
         trail: &mut Trail<'a, 's, '_, T>,
         sink: &mut Sink<'a, T>,
     ) -> Walked<bool>
-        requires { Stands T.tree T.is_whole T.custom self.now at.now trail.old.way.steps.items trail.old.cache }
-        ensures gave { IfOk result (λ b. Took (seen T.tree T.is_whole sink.old)
-            (flat_map (through (segments_meant (kept_of self.now) onward.entry.rest.now) (document T.tree T.custom self.now))
-            (all_pick (selectors_meant (kept_of self.now) onward.entry.next.now) (document T.tree T.custom self.now) (node_of T.tree trail.old.way.steps.items at.now)))
-            (seen T.tree T.is_whole sink.new) b) }
-        ensures returns { OnOk result (Returns T.tree T.is_whole T.custom self.now trail.old trail.new) }
-        ensures ready { OnErr result (IsReady T.tree T.is_whole T.custom self.now trail.new.cache) }
-        ensures refused { IfErr result (IsHalt self.now.limit (selectors_patterns (selectors_meant (kept_of self.now) onward.entry.next.now) ++ segments_patterns (segments_meant (kept_of self.now) onward.entry.rest.now)) (document T.tree T.custom self.now)) }
+        requires { Stands self.now at trail.old.way.steps.items trail.old.cache }
+        ensures gave { IfOk result (λ b. Took (seen sink.old)
+            (flat_map (through (segments_meant (kept_of self.now) onward.entry.rest.now) (document self.now))
+            (all_pick (selectors_meant (kept_of self.now) onward.entry.next.now) (document self.now) (node_of trail.old.way.steps.items at.entry)))
+            (seen sink.new) b) }
+        ensures comes { Comes self.now trail.old trail.new (selectors_patterns (selectors_meant (kept_of self.now) onward.entry.next.now) ++ segments_patterns (segments_meant (kept_of self.now) onward.entry.rest.now)) result }
     {
         trail.budget.spend(self.limit, onward.next.len())?;
         for selector in onward.next {
@@ -135,18 +128,16 @@ impl<'a: 's, 's, T: Queryable> Task<'a, 's, T> {
     fn pick(
         &self,
         onward: Onward<'s, &'s Selector>,
-        at: &'a T,
+        at: WholeRef<'a, T>,
         trail: &mut Trail<'a, 's, '_, T>,
         sink: &mut Sink<'a, T>,
     ) -> Walked<bool>
-        requires { Stands T.tree T.is_whole T.custom self.now at.now trail.old.way.steps.items trail.old.cache }
-        ensures gave { IfOk result (λ b. Took (seen T.tree T.is_whole sink.old)
-            (flat_map (through (segments_meant (kept_of self.now) onward.entry.rest.now) (document T.tree T.custom self.now))
-            (picks (selector_view (kept_of self.now) onward.entry.next.now) (document T.tree T.custom self.now) (node_of T.tree trail.old.way.steps.items at.now)))
-            (seen T.tree T.is_whole sink.new) b) }
-        ensures returns { OnOk result (Returns T.tree T.is_whole T.custom self.now trail.old trail.new) }
-        ensures ready { OnErr result (IsReady T.tree T.is_whole T.custom self.now trail.new.cache) }
-        ensures refused { IfErr result (IsHalt self.now.limit (selector_patterns (selector_view (kept_of self.now) onward.entry.next.now) ++ segments_patterns (segments_meant (kept_of self.now) onward.entry.rest.now)) (document T.tree T.custom self.now)) }
+        requires { Stands self.now at trail.old.way.steps.items trail.old.cache }
+        ensures gave { IfOk result (λ b. Took (seen sink.old)
+            (flat_map (through (segments_meant (kept_of self.now) onward.entry.rest.now) (document self.now))
+            (picks (selector_view (kept_of self.now) onward.entry.next.now) (document self.now) (node_of trail.old.way.steps.items at.entry)))
+            (seen sink.new) b) }
+        ensures comes { Comes self.now trail.old trail.new (selector_patterns (selector_view (kept_of self.now) onward.entry.next.now) ++ segments_patterns (segments_meant (kept_of self.now) onward.entry.rest.now)) result }
     {
         let rest = onward.rest;
         let all = Onward {
@@ -154,7 +145,7 @@ impl<'a: 's, 's, T: Queryable> Task<'a, 's, T> {
             rest,
         };
         match onward.next {
-            Selector::Name(name) => match at.get(name) {
+            Selector::Name(name) => match at.member(name) {
                 Some(value) => {
                     let step = StepRef::Name(name);
                     self.at_child(all, Child { step, value }, trail, sink)
@@ -162,7 +153,7 @@ impl<'a: 's, 's, T: Queryable> Task<'a, 's, T> {
                 None => Ok(true),
             },
             Selector::Wildcard => self.each_child(all, at, trail, sink),
-            Selector::Index(index) => match element(at, *index) {
+            Selector::Index(index) => match at.element(*index) {
                 Some((position, value)) => {
                     let step = StepRef::Index(position);
                     self.at_child(all, Child { step, value }, trail, sink)
@@ -185,20 +176,18 @@ impl<'a: 's, 's, T: Queryable> Task<'a, 's, T> {
     fn pick_slice(
         &self,
         onward: Onward<'s, Bounds>,
-        at: &'a T,
+        at: WholeRef<'a, T>,
         trail: &mut Trail<'a, 's, '_, T>,
         sink: &mut Sink<'a, T>,
     ) -> Walked<bool>
-        requires { Stands T.tree T.is_whole T.custom self.now at.now trail.old.way.steps.items trail.old.cache }
-        ensures gave { IfOk result (λ b. Took (seen T.tree T.is_whole sink.old)
-            (flat_map (through (segments_meant (kept_of self.now) onward.entry.rest.now) (document T.tree T.custom self.now))
-            (sliced onward.entry.next.0 onward.entry.next.1 onward.entry.next.2 (node_of T.tree trail.old.way.steps.items at.now)))
-            (seen T.tree T.is_whole sink.new) b) }
-        ensures returns { OnOk result (Returns T.tree T.is_whole T.custom self.now trail.old trail.new) }
-        ensures ready { OnErr result (IsReady T.tree T.is_whole T.custom self.now trail.new.cache) }
-        ensures refused { IfErr result (IsHalt self.now.limit (segments_patterns (segments_meant (kept_of self.now) onward.entry.rest.now)) (document T.tree T.custom self.now)) }
+        requires { Stands self.now at trail.old.way.steps.items trail.old.cache }
+        ensures gave { IfOk result (λ b. Took (seen sink.old)
+            (flat_map (through (segments_meant (kept_of self.now) onward.entry.rest.now) (document self.now))
+            (sliced onward.entry.next.0 onward.entry.next.1 onward.entry.next.2 (node_of trail.old.way.steps.items at.entry)))
+            (seen sink.new) b) }
+        ensures comes { Comes self.now trail.old trail.new (segments_patterns (segments_meant (kept_of self.now) onward.entry.rest.now)) result }
     {
-        let Some(items) = at.as_array() else {
+        let Some(items) = at.elements() else {
             return Ok(true);
         };
         let (start, end, step) = onward.next;
@@ -209,7 +198,9 @@ impl<'a: 's, 's, T: Queryable> Task<'a, 's, T> {
         for position in slice_places(start, end, step, items.len()) {
             trail.budget.spend(self.limit, 1)?;
             let step = StepRef::Index(position);
-            let value = &items[position];
+            let value = WholeRef {
+                value: &items[position],
+            };
             if !self.at_child(all, Child { step, value }, trail, sink)? {
                 return Ok(false);
             }

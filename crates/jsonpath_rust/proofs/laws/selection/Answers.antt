@@ -40,39 +40,29 @@ values_answered q doc answer distinct e = subst (AllZip (IsValueAt doc) (selecte
 
 -- ---- where the walk ends at the first node
 
-first_there : (q : Query) (doc : Document) (b : Bool) (answer : List ℕ × Tree) (ns : List Node) → nodelist q doc ≡ ns → AllByRecursion (λ n. at n.location doc.root ≡ Some n.tree) ns → Some (b, answer) ≡ first_in (give (first None) ns) → IsFirstNode q doc answer
-first_there q doc b answer [] e h k = absurd cc
-first_there q doc b answer (n ∷ ns) e h k =
-    let same : ◌≡◌ {A = Bool × (List ℕ × Tree)} (b, answer) (true, path_and_tree n) = cc (k ∙ only_first n ns) in
+first_there : (q : Query) (doc : Document) (answer : List ℕ × Tree) (ns : List Node) → nodelist q doc ≡ ns → AllByRecursion (λ n. at n.location doc.root ≡ Some n.tree) ns → Some answer ≡ first_in (give (first None) ns) → IsFirstNode q doc answer
+first_there q doc answer [] e h k = absurd cc
+first_there q doc answer (n ∷ ns) e h k =
+    let same : answer ≡ path_and_tree n = cc (k ∙ only_first n ns) in
     record {
       location = n.location;
       rest = map (λ m. m.location) ns;
       selects = ap (map (λ m. m.location)) e;
-      node = subst (IsNodeAt doc n.location) (sym (ap (λ p. p.1) same)) ((refl, only_path n.location), h.0);
+      node = subst (IsNodeAt doc n.location) (sym same) ((refl, only_path n.location), h.0);
     }
 
 none_there : (ns : List Node) → None ≡ first_in (give (first None) ns) → ns ≡ []
 none_there [] k = refl
 none_there (n ∷ ns) k = absurd (cc (k ∙ only_first n ns))
 
-first_whole : (b : Bool) (answer : List ℕ × Tree) (ns : List Node) → Some (b, answer) ≡ first_in (give (first None) ns) → IsTrue b
-first_whole b answer [] k = absurd cc
-first_whole b answer (n ∷ ns) k =
-    let same : ◌≡◌ {A = Bool × (List ℕ × Tree)} (b, answer) (true, path_and_tree n) = cc (k ∙ only_first n ns) in
-    ap (λ p. p.0) same
-
 -- what was kept of the first node, where the nodelist was given
-pub first_answered : {X : Type 0} (w : X → Bool) (f : X → List ℕ × Tree) (q : Query) (doc : Document) (o : Option X) → IsTrue (has_distinct_names doc.root) → option_map (λ x. (w x, f x)) o ≡ first_in (give (first None) (nodelist q doc)) → IfSome o (λ x. IsFirstNode q doc (f x))
-first_answered w f q doc None distinct e = tt
-first_answered w f q doc (Some x) distinct e = first_there q doc (w x) (f x) (nodelist q doc) refl (nodes_at q doc distinct) e
+pub first_answered : {X : Type 0} (f : X → List ℕ × Tree) (q : Query) (doc : Document) (o : Option X) → IsTrue (has_distinct_names doc.root) → option_map f o ≡ first_in (give (first None) (nodelist q doc)) → IfSome o (λ x. IsFirstNode q doc (f x))
+first_answered f q doc None distinct e = tt
+first_answered f q doc (Some x) distinct e = first_there q doc (f x) (nodelist q doc) refl (nodes_at q doc distinct) e
 
-pub none_answered : {X : Type 0} (w : X → Bool) (f : X → List ℕ × Tree) (q : Query) (doc : Document) (o : Option X) → option_map (λ x. (w x, f x)) o ≡ first_in (give (first None) (nodelist q doc)) → IfNone o (selected q doc ≡ [])
-none_answered w f q doc None e = ap (map (λ n. n.location)) (none_there (nodelist q doc) e)
-none_answered w f q doc (Some x) e = tt
-
-pub whole_answered : {X : Type 0} (w : X → Bool) (f : X → List ℕ × Tree) (ns : List Node) (o : Option X) → option_map (λ x. (w x, f x)) o ≡ first_in (give (first None) ns) → IfSome o (λ x. IsTrue (w x))
-whole_answered w f ns None e = tt
-whole_answered w f ns (Some x) e = first_whole (w x) (f x) ns e
+pub none_answered : {X : Type 0} (f : X → List ℕ × Tree) (q : Query) (doc : Document) (o : Option X) → option_map f o ≡ first_in (give (first None) (nodelist q doc)) → IfNone o (selected q doc ≡ [])
+none_answered f q doc None e = ap (map (λ n. n.location)) (none_there (nodelist q doc) e)
+none_answered f q doc (Some x) e = tt
 
 -- whether there is a node
 pub no_node : (b : Bool) (ns : List Node) → b ≡ any_in (give (any false) ns) → IsFalse b ↔ (map (λ n. n.location) ns ≡ [])

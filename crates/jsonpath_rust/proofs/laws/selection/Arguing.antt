@@ -1,11 +1,9 @@
 -- What is read of an argument inside the evaluator is what the meaning makes of it.
-use Rattle.std.proofs.Common.{◌≡◌, refl, Option, Some, None, IsTrue, IfSome}
+use Rattle.std.proofs.Common.{◌≡◌, refl}
 use Rattle.jsonpath_rust.specs.documents.Functions.{Evaluated, of_value, of_nodes, as_value, as_nodes, as_trees, as_truth, count_of, only_value}
-use Rattle.jsonpath_rust.specs.selection.inner.Arguing.{holding, value_held, only_held, count_held, trees_held, truth_held, OnlyIsWhole, HeldAreWhole}
-use Rattle.jsonpath_rust.specs.selection.inner.Sinks.{nothing, give, only_in}
+use Rattle.jsonpath_rust.specs.selection.inner.Arguing.{holding, value_held, only_held, count_held, trees_held, truth_held}
 use Rattle.jsonpath_rust.specs.declared.selection.sink.Wanted.TheVariants.{Any, Count, Only, Values}
-use Rattle.jsonpath_rust.proofs.laws.selection.Sinks.{any_given, counted_all, only_all, only_whole, values_all}
-use Rattle.jsonpath_rust.proofs.laws.selection.Kept.{values_are_whole}
+use Rattle.jsonpath_rust.proofs.laws.selection.Sinks.{any_given, counted_all, only_all, values_all}
 
 pub as_value_held : (e : Evaluated) → value_held (holding Only e) ≡ as_value e
 as_value_held (of_value o) = refl
@@ -26,15 +24,3 @@ as_trees_held (of_nodes ns) = values_all ns
 pub as_truth_held : (e : Evaluated) → truth_held (holding Any e) ≡ as_truth e
 as_truth_held (of_value o) = refl
 as_truth_held (of_nodes ns) = any_given ns
-
-some_if : {X : Type 0} (P : X → Type 0) (o : Option X) → ((x : X) → o ≡ Some x → P x) → IfSome o P
-some_if P None h = tt
-some_if P (Some x) h = h x refl
-
-pub only_is_whole : (e : Evaluated) → OnlyIsWhole (holding Only e)
-only_is_whole (of_value o) = tt
-only_is_whole (of_nodes ns) = some_if (λ p. IsTrue p.0) (only_in (give nothing ns)) (only_whole ns)
-
-pub held_are_whole : (e : Evaluated) → HeldAreWhole (holding Values e)
-held_are_whole (of_value o) = tt
-held_are_whole (of_nodes ns) = values_are_whole _ ns refl

@@ -1,5 +1,5 @@
 -- A pattern of a part of a query is one of the query, and a halt for it one of the query.
-use Rattle.std.proofs.Common.{◌≡◌, ℕ, ◌<◌, List, [], ◌∷◌, ◌++◌, length, get_or, arith, refl, sym, ◌∙◌, subst, Bool, Option, Result, IfErr, IsErrAnd, inl, inr, ◌⊎◌}
+use Rattle.std.proofs.Common.{◌≡◌, ℕ, ◌<◌, List, [], ◌∷◌, ◌++◌, length, get_or, arith, refl, sym, subst, Bool, Option, Result, IfErr, inl, inr, ◌⊎◌}
 use Rattle.std.proofs.lemmas.List.Elements.{Contains-append_left, Contains-append_right, Contains-append_cases}
 use Rattle.std.specs.List.{Contains}
 use Rattle.jsonpath_parser.specs.tree.Syntax.{Argument, Query}
@@ -15,7 +15,7 @@ use Rattle.jsonpath_rust.specs.documents.Patterns.{segments_patterns, IsPattern,
 use Rattle.jsonpath_rust.specs.declared.documents.halt.Halt.{Halt}
 use Rattle.jsonpath_rust.specs.declared.selection.budget.Limit.{Limit}
 use Rattle.jsonpath_rust.specs.selection.inner.Halting.{IsHalt}
-use Rattle.jsonpath_rust.proofs.laws.documents.Parts.{contains_part, err_so, passed_on}
+use Rattle.jsonpath_rust.proofs.laws.documents.Parts.{contains_part, err_so}
 
 -- ---- more patterns
 
@@ -54,10 +54,6 @@ asked_at_or f all more others xs i x lt e h = asked_by (f x ++ others) (all xs +
 -- a halt of a part is one of the whole
 pub halts_as : {A : Type 0} {xs ys : List (Bool × Argument)} {d : Document} (limit : Limit) (r : Result A Halt) → IfErr r (IsHalt limit xs d) → (AsksPattern xs d → AsksPattern ys d) → IfErr r (IsHalt limit ys d)
 halts_as limit r h f = err_so r _ _ (λ e k memory spent. f (k memory spent)) h
-
--- of one that a `?` passes on
-pub halts_so : {A : Type 0} {xs ys : List (Bool × Argument)} {d : Document} (limit : Limit) (r : Result A Halt) (e : Halt) → IsErrAnd r (λ y. y ≡ e) → IsHalt limit xs d e → (AsksPattern xs d → AsksPattern ys d) → IfErr r (IsHalt limit ys d)
-halts_so limit r e is h f = passed_on r _ _ is (λ y same memory spent. f (h (λ m. memory (same ∙ m)) (λ s. spent (same ∙ s.0, s.1))))
 
 -- ---- patterns
 

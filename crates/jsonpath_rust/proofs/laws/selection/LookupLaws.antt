@@ -1,6 +1,7 @@
 -- What is looked up is what the walk would select.
 use Rattle.std.proofs.Common.{◌≡◌, ℕ, suc, ℤ, true, false, nat_lt, min, List, [], ◌∷◌, length, append-nil, refl, sym, ◌∙◌, ap, subst, Some, option_map, arith}
 use Rattle.std.specs.List.{flat_map}
+use Rattle.std.specs.declared.fmt.Debug as debug
 use Rattle.jsonpath_parser.specs.Location.{Location, index}
 use Rattle.jsonpath_parser.specs.tree.Syntax as syntax
 use Rattle.jsonpath_parser.specs.tree.Syntax.{Segment, one, wildcard, Segments, no_segments, segment}
@@ -14,6 +15,7 @@ use Rattle.jsonpath_rust.specs.selection.inner.Sinks.{Seen, any, count, nothing,
 use Rattle.jsonpath_rust.proofs.laws.selection.Sinks.{give-full, give-count}
 use Rattle.jsonpath_rust.specs.selection.inner.Walking.{through}
 use Rattle.jsonpath_rust.specs.selection.inner.Lookup.{trees_of, AreThere, Leads, LeadsOn}
+use Rattle.jsonpath_rust.specs.declared.documents.queryable.Queryable.{Ghosts}
 use Rattle.jsonpath_rust.specs.declared.selection.lookup.Followed.{Followed}
 use Rattle.jsonpath_rust.specs.declared.selection.lookup.Followed.TheVariants.{Nowhere}
 use Rattle.jsonpath_rust.specs.declared.selection.sink.Wanted.{Wanted}
@@ -21,18 +23,18 @@ use Rattle.jsonpath_rust.specs.declared.selection.sink.Wanted.TheVariants as wan
 
 -- ---- a step, then the rest
 
-alone : {A : Type 0} (tree : A → Tree) (found : Followed A) (f : Node → List Node) (ns : List Node) (t : Tree) → trees_of ns ≡ t ∷ [] → ((n : Node) → n.tree ≡ t → AreThere tree found (f n)) → AreThere tree found (flat_map f ns)
-alone tree found f [] t e h = absurd cc
-alone tree found f (n ∷ []) t e h =
+alone : {A : Type 0} {R : Ghosts A} {D : debug.Ghosts A} (found : Followed A R D) (f : Node → List Node) (ns : List Node) (t : Tree) → trees_of ns ≡ t ∷ [] → ((n : Node) → n.tree ≡ t → AreThere found (f n)) → AreThere found (flat_map f ns)
+alone found f [] t e h = absurd cc
+alone found f (n ∷ []) t e h =
     let same : n.tree ≡ t = cc in
-    subst (AreThere tree found) (sym (append-nil (f n))) (h n same)
-alone tree found f (n ∷ m ∷ ns) t e h = absurd cc
+    subst (AreThere found) (sym (append-nil (f n))) (h n same)
+alone found f (n ∷ m ∷ ns) t e h = absurd cc
 
-pub leads_on : {A : Type 0} (tree : A → Tree) (g : Segment) (gs : Segments) (t u : Tree) (found : Followed A) → ((d : Document) (n : Node) → n.tree ≡ t → trees_of (replaced g d n) ≡ u ∷ []) → Leads tree gs u found → Leads tree (segment g gs) t found
-leads_on tree g gs t u found h k = record { leads = λ d n e. alone tree found (through gs d) (replaced g d n) u (h d n e) (k.leads d) }
+pub leads_on : {A : Type 0} {R : Ghosts A} {D : debug.Ghosts A} (g : Segment) (gs : Segments) (t u : Tree) (found : Followed A R D) → ((d : Document) (n : Node) → n.tree ≡ t → trees_of (replaced g d n) ≡ u ∷ []) → Leads gs u found → Leads (segment g gs) t found
+leads_on g gs t u found h k = record { leads = λ d n e. alone found (through gs d) (replaced g d n) u (h d n e) (k.leads d) }
 
-pub leads_nowhere : {A : Type 0} (tree : A → Tree) (g : Segment) (gs : Segments) (t : Tree) → LeadsOn tree g t Nowhere → Leads tree (segment g gs) t Nowhere
-leads_nowhere tree g gs t h = record { leads = λ d n e. ap (flat_map (through gs d)) (h.leads d n e) }
+pub leads_nowhere : {A : Type 0} {R : Ghosts A} {D : debug.Ghosts A} (g : Segment) (gs : Segments) (t : Tree) → LeadsOn {A = A} {R = R} {D = D} g t Nowhere → Leads {A = A} {R = R} {D = D} (segment g gs) t Nowhere
+leads_nowhere g gs t h = record { leads = λ d n e. ap (flat_map (through gs d)) (h.leads d n e) }
 
 -- ---- one step
 
@@ -65,8 +67,8 @@ children_at-length l m (object ms) = member_nodes-length l (pairs ms) ∙ sym (m
 pub children_there : (g : Segment) (t : Tree) → g ≡ one wildcard → (d : Document) (n : Node) → n.tree ≡ t → length (replaced g d n) ≡ length (children (root_node t))
 children_there g t s d n e = ap (λ q. length (replaced q d n)) s ∙ children_at-length n.location [] n.tree ∙ ap (λ u. length (children_at [] u)) e
 
-pub children_last : {A : Type 0} (tree : A → Tree) (g : Segment) (t : Tree) (found : Followed A) → LeadsOn tree g t found → Leads tree (segment g no_segments) t found
-children_last tree g t found h = record { leads = λ d n e. subst (AreThere tree found) (sym (flat_map-alone (replaced g d n))) (h.leads d n e) }
+pub children_last : {A : Type 0} {R : Ghosts A} {D : debug.Ghosts A} (g : Segment) (t : Tree) (found : Followed A R D) → LeadsOn g t found → Leads (segment g no_segments) t found
+children_last g t found h = record { leads = λ d n e. subst (AreThere found) (sym (flat_map-alone (replaced g d n))) (h.leads d n e) }
 
 pub list_count : (t : Tree) (ts : List Tree) → Some ts ≡ as_list t → length ts ≡ length (children (root_node t))
 list_count (list us) ts h =
@@ -106,7 +108,7 @@ add_there : (w : Wanted) (n : Node) (t : Tree) → n.tree ≡ t → add (start w
 add_there wanted.Any n t e = refl
 add_there wanted.Count n t e = refl
 add_there wanted.Only n t e = ap (λ u. add nothing (root_node u)) (sym e)
-add_there wanted.Values n t e = ap (λ u. add (values [] []) (root_node u)) (sym e)
+add_there wanted.Values n t e = ap (λ u. add (values []) (root_node u)) (sym e)
 
 pub gives_one : (w : Wanted) (s : Seen) (ns : List Node) (t : Tree) → s ≡ add (start w) (root_node t) → trees_of ns ≡ t ∷ [] → s ≡ give (start w) ns
 gives_one w s [] t h e = absurd cc

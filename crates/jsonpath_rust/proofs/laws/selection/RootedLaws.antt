@@ -113,11 +113,11 @@ kept_comparison_same kept k d n m h = comparison_same (comparison_at kept k) d n
 pub answer_as : (f g : Call) (d : Document) (n m : Node) (t : Option Tree) → g ≡ f → n ≡ m → t ≡ answer f d n → t ≡ answer g d m
 answer_as f g d n m t e k h = h ∙ ap (answer f d) k ∙ sym (ap (λ x. answer x d m) e)
 
-pub answer_kept : (p : KeptPart) (f : Call) (d : Document) (n : Node) (b : Bool) (t : Option Tree) → p ≡ answered f → n ≡ root_node d.root → IsTrue b → t ≡ answer f d n → keeping.value b t ≡ given_by p d
-answer_kept p f d n b t e k w h = ap (λ x. keeping.value x t) w ∙ ap (keeping.value true) (h ∙ ap (answer f d) k) ∙ sym (ap (λ x. given_by x d) e)
+pub answer_kept : (p : KeptPart) (f : Call) (d : Document) (n : Node) (t : Option Tree) → p ≡ answered f → n ≡ root_node d.root → t ≡ answer f d n → keeping.value t ≡ given_by p d
+answer_kept p f d n t e k h = ap keeping.value (h ∙ ap (answer f d) k) ∙ sym (ap (λ x. given_by x d) e)
 
 pub comparison_as : (q r : Comparison) (d : Document) (n m : Node) (b : Bool) → r ≡ q → n ≡ m → b ≡ comparison_holds q d n → b ≡ comparison_holds r d m
 comparison_as q r d n m b e k h = h ∙ ap (comparison_holds q d) k ∙ sym (ap (λ x. comparison_holds x d m) e)
 
-pub comparison_kept : (p : KeptPart) (q : Comparison) (d : Document) (n : Node) (b : Bool) → p ≡ compared q → n ≡ root_node d.root → b ≡ comparison_holds q d n → keeping.value true (Some (truth b)) ≡ given_by p d
-comparison_kept p q d n b e k h = ap (λ x. keeping.value true (Some (truth x))) (h ∙ ap (comparison_holds q d) k) ∙ sym (ap (λ x. given_by x d) e)
+pub comparison_kept : (p : KeptPart) (q : Comparison) (d : Document) (n : Node) (b : Bool) → p ≡ compared q → n ≡ root_node d.root → b ≡ comparison_holds q d n → keeping.value (Some (truth b)) ≡ given_by p d
+comparison_kept p q d n b e k h = ap (λ x. keeping.value (Some (truth x))) (h ∙ ap (comparison_holds q d) k) ∙ sym (ap (λ x. given_by x d) e)

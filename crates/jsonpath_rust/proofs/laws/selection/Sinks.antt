@@ -1,9 +1,7 @@
 -- What a sink has, once it was given nodes.
-use Rattle.std.proofs.Common.{◌≡◌, ℕ, suc, pos, min, ◌+◌, ◌≤◌, List, [], ◌∷◌, ◌++◌, map, length, append-nil, append_assoc, refl, sym, ◌∙◌, ap, arith, Bool, true, false, IsTrue, All, Result, IfOk, Some, None, option_map, unwrap_or}
-use Rattle.std.proofs.lemmas.List.Elements.{All-from_recursion}
+use Rattle.std.proofs.Common.{◌≡◌, ℕ, suc, pos, min, ◌+◌, ◌≤◌, List, [], ◌∷◌, ◌++◌, map, length, append-nil, append_assoc, refl, sym, ◌∙◌, ap, arith, Bool, true, false, Result, IfOk, Some, None, unwrap_or}
 use Rattle.std.proofs.lemmas.Result.{IfOk-weaker}
 use Rattle.std.proofs.lemmas.Bool.{false≢true}
-use Rattle.std.specs.List.{AllByRecursion}
 use Rattle.jsonpath_parser.specs.Location.{Location}
 use Rattle.jsonpath_parser.specs.Normal.{normal}
 use Rattle.jsonpath_base.specs.Tree.{Tree, number}
@@ -15,22 +13,22 @@ use Rattle.jsonpath_base.proofs.Removed.{set_begun}
 use Rattle.jsonpath_rust.specs.documents.Node.{Node, has_node}
 use Rattle.jsonpath_rust.specs.documents.Functions.{greatest_count, count_value, count_of, only_value}
 use Rattle.jsonpath_rust.specs.selection.inner.Sinks as sinks
-use Rattle.jsonpath_rust.specs.selection.inner.Sinks.{Seen, nodes, paths, values, locations, removal, any, count, nothing, one, several, first, add, give, full, any_in, only_in, first_in, nodes_in, nodes_whole, paths_in, locations_in, removal_in, values_in, values_whole, path_and_tree, IsRemovalOf, Took}
+use Rattle.jsonpath_rust.specs.selection.inner.Sinks.{Seen, nodes, paths, values, locations, removal, any, count, nothing, one, several, first, add, give, full, any_in, only_in, first_in, nodes_in, paths_in, locations_in, removal_in, values_in, path_and_tree, IsRemovalOf, Took}
 
 pub give-append : (s : Seen) (xs ys : List Node) → give s (xs ++ ys) ≡ give (give s xs) ys
 give-append s [] ys = refl
 give-append s (x ∷ xs) ys = give-append (add s x) xs ys
 
 add-full : (s : Seen) (n : Node) → full s ≡ true → add s n ≡ s
-add-full (nodes bs ns) n h = absurd (false≢true h)
+add-full (nodes ns) n h = absurd (false≢true h)
 add-full (paths ps) n h = absurd (false≢true h)
-add-full (values bs ts) n h = absurd (false≢true h)
+add-full (values ts) n h = absurd (false≢true h)
 add-full (locations ls) n h = absurd (false≢true h)
 add-full (removal set k) n h = absurd (false≢true h)
 add-full (any b) n h = ap any (sym h)
 add-full (count k) n h = absurd (false≢true h)
 add-full nothing n h = absurd (false≢true h)
-add-full (one b t) n h = absurd (false≢true h)
+add-full (one t) n h = absurd (false≢true h)
 add-full several n h = refl
 add-full (first None) n h = absurd (false≢true h)
 add-full (first (Some p)) n h = refl
@@ -80,28 +78,21 @@ twice n = omega arith
 pub counted_all : (ns : List Node) → Some (count_value (sinks.count_in (give (count 0) ns))) ≡ count_of ns
 counted_all ns = ap (λ s. Some (count_value (sinks.count_in s))) (give-count 0 ns (omega arith)) ∙ ap (λ k. Some (number (pos k))) (twice (length ns))
 
--- the tree of the only node, which is whole
-pub only_all : (ns : List Node) → option_map (λ p. p.1) (only_in (give nothing ns)) ≡ only_value ns
+-- the tree of the only node
+pub only_all : (ns : List Node) → only_in (give nothing ns) ≡ only_value ns
 only_all [] = refl
 only_all (n ∷ []) = refl
-only_all (n ∷ m ∷ ns) = ap (λ s. option_map (λ p. p.1) (only_in s)) (give-full several ns refl)
-
-pub only_whole : (ns : List Node) (p : Bool × Tree) → only_in (give nothing ns) ≡ Some p → IsTrue p.0
-only_whole [] p e = cc
-only_whole (n ∷ []) p e = let h : (true, n.tree) ≡ p = cc in sym (ap (λ q. q.0) h)
-only_whole (n ∷ m ∷ ns) p e = let h : None ≡ Some p = sym (ap only_in (give-full several ns refl)) ∙ e in cc
+only_all (n ∷ m ∷ ns) = ap only_in (give-full several ns refl)
 
 -- ---- what it has in the end
 
 -- the first node is kept
-pub only_first : (n : Node) (ns : List Node) → first_in (give (first None) (n ∷ ns)) ≡ Some (true, path_and_tree n)
-only_first n ns = ap first_in (give-full (first (Some (true, path_and_tree n))) ns refl)
+pub only_first : (n : Node) (ns : List Node) → first_in (give (first None) (n ∷ ns)) ≡ Some (path_and_tree n)
+only_first n ns = ap first_in (give-full (first (Some (path_and_tree n))) ns refl)
 
-give-nodes : (bs : List Bool) (ms : List (List ℕ × Tree)) (ns : List Node) → give (nodes bs ms) ns ≡ nodes (bs ++ map (λ n. true) ns) (ms ++ map path_and_tree ns)
-give-nodes bs ms [] = ap (λ x. nodes x ms) (sym (append-nil bs)) ∙ ap (nodes (bs ++ [])) (sym (append-nil ms))
-give-nodes bs ms (n ∷ ns) =
-    give-nodes (bs ++ true ∷ []) (ms ++ path_and_tree n ∷ []) ns ∙ ap (λ x. nodes x ((ms ++ path_and_tree n ∷ []) ++ map path_and_tree ns)) (append_assoc bs (true ∷ []) (map (λ m. true) ns))
-    ∙ ap (nodes (bs ++ true ∷ map (λ m. true) ns)) (append_assoc ms (path_and_tree n ∷ []) (map path_and_tree ns))
+give-nodes : (ms : List (List ℕ × Tree)) (ns : List Node) → give (nodes ms) ns ≡ nodes (ms ++ map path_and_tree ns)
+give-nodes ms [] = ap nodes (sym (append-nil ms))
+give-nodes ms (n ∷ ns) = give-nodes (ms ++ path_and_tree n ∷ []) ns ∙ ap nodes (append_assoc ms (path_and_tree n ∷ []) (map path_and_tree ns))
 
 give-paths : (ps : List (List ℕ)) (ns : List Node) → give (paths ps) ns ≡ paths (ps ++ map (λ n. normal n.location) ns)
 give-paths ps [] = ap paths (sym (append-nil ps))
@@ -115,34 +106,16 @@ give-removal : (set : Location → Bool) (k : ℕ) (ns : List Node) → give (re
 give-removal set k [] = refl
 give-removal set k (n ∷ ns) = give-removal (also n.location set) (counted_with n.location set k) ns
 
-pub give-values : (bs : List Bool) (ts : List Tree) (ns : List Node) → give (values bs ts) ns ≡ values (bs ++ map (λ n. true) ns) (ts ++ map (λ n. n.tree) ns)
-give-values bs ts [] = ap (λ x. values x ts) (sym (append-nil bs)) ∙ ap (values (bs ++ [])) (sym (append-nil ts))
-give-values bs ts (n ∷ ns) =
-    give-values (bs ++ true ∷ []) (ts ++ n.tree ∷ []) ns ∙ ap (λ x. values x ((ts ++ n.tree ∷ []) ++ map (λ m. m.tree) ns)) (append_assoc bs (true ∷ []) (map (λ m. true) ns))
-    ∙ ap (values (bs ++ true ∷ map (λ m. true) ns)) (append_assoc ts (n.tree ∷ []) (map (λ m. m.tree) ns))
+give-values : (ts : List Tree) (ns : List Node) → give (values ts) ns ≡ values (ts ++ map (λ n. n.tree) ns)
+give-values ts [] = ap values (sym (append-nil ts))
+give-values ts (n ∷ ns) = give-values (ts ++ n.tree ∷ []) ns ∙ ap values (append_assoc ts (n.tree ∷ []) (map (λ m. m.tree) ns))
 
-pub values_all : (ns : List Node) → values_in (give (values [] []) ns) ≡ map (λ n. n.tree) ns
-values_all ns = ap values_in (give-values [] [] ns)
-
-pub trues : (ns : List Node) → All (λ b. IsTrue b) (map (λ n. true) ns)
-trues ns = All-from_recursion (λ b. IsTrue b) (map (λ n. true) ns) (each ns)
-  where
-    each : (ns : List Node) → AllByRecursion (λ b. IsTrue b) (map (λ n. true) ns)
-    each [] = tt
-    each (n ∷ ns) = (refl, each ns)
+pub values_all : (ns : List Node) → values_in (give (values []) ns) ≡ map (λ n. n.tree) ns
+values_all ns = ap values_in (give-values [] ns)
 
 -- what an empty sink has, once it was given these nodes
-given_to_nodes : {X : Type 0} (w : X → Bool) (f : X → List ℕ × Tree) (xs : List X) (z : Seen) (ns : List Node) → xs ≡ [] → z ≡ give (nodes (map w xs) (map f xs)) ns → z ≡ nodes (map (λ n. true) ns) (map path_and_tree ns)
-given_to_nodes w f xs z ns h e = e ∙ ap (λ ys. give (nodes (map w ys) (map f ys)) ns) h ∙ give-nodes [] [] ns
-
-given_to_values : {X : Type 0} (w : X → Bool) (f : X → Tree) (xs : List X) (z : Seen) (ns : List Node) → xs ≡ [] → z ≡ give (values (map w xs) (map f xs)) ns → z ≡ values (map (λ n. true) ns) (map (λ n. n.tree) ns)
-given_to_values w f xs z ns h e = e ∙ ap (λ ys. give (values (map w ys) (map f ys)) ns) h ∙ give-values [] [] ns
-
-pub given_nodes : {X : Type 0} (w : X → Bool) (f : X → List ℕ × Tree) (xs : List X) (z : Seen) (ns : List Node) → xs ≡ [] → z ≡ give (nodes (map w xs) (map f xs)) ns → nodes_in z ≡ map path_and_tree ns
-given_nodes w f xs z ns h e = ap nodes_in (given_to_nodes w f xs z ns h e)
-
-pub given_nodes_whole : {X : Type 0} (w : X → Bool) (f : X → List ℕ × Tree) (xs : List X) (z : Seen) (ns : List Node) → xs ≡ [] → z ≡ give (nodes (map w xs) (map f xs)) ns → nodes_whole z ≡ map (λ n. true) ns
-given_nodes_whole w f xs z ns h e = ap nodes_whole (given_to_nodes w f xs z ns h e)
+pub given_nodes : {X : Type 0} (f : X → List ℕ × Tree) (xs : List X) (z : Seen) (ns : List Node) → xs ≡ [] → z ≡ give (nodes (map f xs)) ns → nodes_in z ≡ map path_and_tree ns
+given_nodes f xs z ns h e = ap nodes_in (e ∙ ap (λ ys. give (nodes (map f ys)) ns) h ∙ give-nodes [] ns)
 
 pub given_paths : {X : Type 0} (f : X → List ℕ) (xs : List X) (z : Seen) (ns : List Node) → xs ≡ [] → z ≡ give (paths (map f xs)) ns → paths_in z ≡ map (λ n. normal n.location) ns
 given_paths f xs z ns h e = ap paths_in (e ∙ ap (λ ys. give (paths (map f ys)) ns) h ∙ give-paths [] ns)
@@ -169,20 +142,5 @@ removal_there begun z ns none is e h = missed _ (h ∙ given_removal (removal_se
     missed : {A X : Type 0} (x : X) → None ≡ Some x → A
     missed x h = absurd cc
 
-pub given_values : {X : Type 0} (w : X → Bool) (f : X → Tree) (xs : List X) (z : Seen) (ns : List Node) → xs ≡ [] → z ≡ give (values (map w xs) (map f xs)) ns → values_in z ≡ map (λ n. n.tree) ns
-given_values w f xs z ns h e = ap values_in (given_to_values w f xs z ns h e)
-
-pub given_values_whole : {X : Type 0} (w : X → Bool) (f : X → Tree) (xs : List X) (z : Seen) (ns : List Node) → xs ≡ [] → z ≡ give (values (map w xs) (map f xs)) ns → values_whole z ≡ map (λ n. true) ns
-given_values_whole w f xs z ns h e = ap values_whole (given_to_values w f xs z ns h e)
-
--- where each test is true, each element passes
-by_tests : {X : Type 0} (w : X → Bool) (xs : List X) (ns : List Node) → map w xs ≡ map (λ n. true) ns → AllByRecursion (λ x. IsTrue (w x)) xs
-by_tests w [] ns e = tt
-by_tests w (x ∷ xs) [] e = cc
-by_tests w (x ∷ xs) (n ∷ ns) e =
-    let first : w x ≡ true = cc in
-    let rest : map w xs ≡ map (λ m. true) ns = cc in
-    (first, by_tests w xs ns rest)
-
-pub all_whole : {X : Type 0} (w : X → Bool) (xs : List X) (ns : List Node) → map w xs ≡ map (λ n. true) ns → All (λ x. IsTrue (w x)) xs
-all_whole w xs ns e = All-from_recursion (λ x. IsTrue (w x)) xs (by_tests w xs ns e)
+pub given_values : {X : Type 0} (f : X → Tree) (xs : List X) (z : Seen) (ns : List Node) → xs ≡ [] → z ≡ give (values (map f xs)) ns → values_in z ≡ map (λ n. n.tree) ns
+given_values f xs z ns h e = ap values_in (e ∙ ap (λ ys. give (values (map f ys)) ns) h ∙ give-values [] ns)

@@ -1,34 +1,63 @@
 -- Where a walk stands, and how it comes back, one call after another.
-use Rattle.std.proofs.Common.{◌≡◌, ℕ, List, [], arith, refl, ◌∙◌, Bool, Result, Ok, Err, OnOk}
-use Rattle.jsonpath_base.specs.Tree.{Tree}
-use Rattle.jsonpath_rust.specs.selection.inner.Keeping.{IsReady}
-use Rattle.jsonpath_rust.specs.selection.inner.Standing.{Stands, Returns}
+use Rattle.std.proofs.Common.{◌≡◌, List, [], arith, refl, ◌∙◌, Bool, Result, Ok, Err, OnOk}
+use Rattle.std.specs.Result.{IsErrAnd}
+use Rattle.std.specs.declared.fmt.Debug as debug
+use Rattle.jsonpath_parser.specs.tree.Syntax.{Argument}
+use Rattle.jsonpath_rust.specs.documents.Patterns.{AsksPattern}
+use Rattle.jsonpath_rust.specs.selection.inner.Halting.{IsHalt}
+use Rattle.jsonpath_rust.specs.selection.inner.Keeping.{IsReady, document}
+use Rattle.jsonpath_rust.specs.selection.inner.Standing.{Stands, Returns, Comes}
+use Rattle.jsonpath_rust.specs.declared.documents.halt.Halt.{Halt}
+use Rattle.jsonpath_rust.specs.declared.documents.queryable.Queryable.{Ghosts}
+use Rattle.jsonpath_rust.specs.declared.documents.whole.WholeRef.{WholeRef}
 use Rattle.jsonpath_rust.specs.declared.selection.cache.Cache.{Cache}
 use Rattle.jsonpath_rust.specs.declared.selection.trail.Trail.{Trail}
 use Rattle.jsonpath_rust.specs.declared.selection.walk.Task.{Task}
 use Rattle.jsonpath_base.specs.declared.step.StepRef.{StepRef}
+use Rattle.jsonpath_rust.proofs.laws.selection.HaltingLaws.{halts_as}
 use Rattle.jsonpath_rust.proofs.laws.selection.Leading.{leads_as}
 
 -- with the same steps in other words
-pub stands_as : {A : Type 0} {tree : A → Tree} {whole : A → Bool} {custom : List ℕ → List Tree → Tree} {task : Task A} {x : A} {p q : List StepRef} {cache : Cache A} → q ≡ p → Stands tree whole custom task x p cache → Stands tree whole custom task x q cache
-stands_as {p = p} {q = q} e s = record { whole = s.whole; within = s.within; here = leads_as q p _ _ e s.here; ready = s.ready }
+pub stands_as : {A : Type 0} {R : Ghosts A} {D : debug.Ghosts A} {task : Task A R D} {x : WholeRef A R D} {p q : List StepRef} {cache : Cache A R D} → q ≡ p → Stands task x p cache → Stands task x q cache
+stands_as {p = p} {q = q} e s = record { within = s.within; here = leads_as q p _ _ e s.here; ready = s.ready }
 
 -- where it stood before a call that came back
-pub still : {A : Type 0} {tree : A → Tree} {whole : A → Bool} {custom : List ℕ → List Tree → Tree} {task : Task A} {x : A} {old new : Trail A} → Stands tree whole custom task x old.way.steps.items old.cache → Returns tree whole custom task old new → Stands tree whole custom task x new.way.steps.items new.cache
-still s r = record { whole = s.whole; within = s.within; here = leads_as _ _ _ _ r.same s.here; ready = r.ready }
+pub still : {A : Type 0} {R : Ghosts A} {D : debug.Ghosts A} {task : Task A R D} {x : WholeRef A R D} {old new : Trail A R D} → Stands task x old.way.steps.items old.cache → Returns task old new → Stands task x new.way.steps.items new.cache
+still s r = record { within = s.within; here = leads_as _ _ _ _ r.same s.here; ready = r.ready }
 
 -- nothing was done
-pub stays : {A : Type 0} {tree : A → Tree} {whole : A → Bool} {custom : List ℕ → List Tree → Tree} {task : Task A} {trail : Trail A} → IsReady tree whole custom task trail.cache → Returns tree whole custom task trail trail
+pub stays : {A : Type 0} {R : Ghosts A} {D : debug.Ghosts A} {task : Task A R D} {trail : Trail A R D} → IsReady task trail.cache → Returns task trail trail
 stays h = record { same = refl; ready = h }
 
 -- at the root
-pub at_root : {A : Type 0} {tree : A → Tree} {whole : A → Bool} {custom : List ℕ → List Tree → Tree} {task : Task A} {steps : List StepRef} {cache : Cache A} → steps ≡ [] → IsReady tree whole custom task cache → Stands tree whole custom task task.root.now steps cache
-at_root e h = record { whole = h.root; within = omega arith; here = leads_as _ [] _ _ e refl; ready = h }
+pub at_root : {A : Type 0} {R : Ghosts A} {D : debug.Ghosts A} {task : Task A R D} {steps : List StepRef} {cache : Cache A R D} → steps ≡ [] → IsReady task cache → Stands task task.root steps cache
+at_root e h = record { within = omega arith; here = leads_as _ [] _ _ e refl; ready = h }
 
 -- one call, then another
-pub on : {A : Type 0} {tree : A → Tree} {whole : A → Bool} {custom : List ℕ → List Tree → Tree} {task : Task A} {old mid new : Trail A} → Returns tree whole custom task old mid → Returns tree whole custom task mid new → Returns tree whole custom task old new
+pub on : {A : Type 0} {R : Ghosts A} {D : debug.Ghosts A} {task : Task A R D} {old mid new : Trail A R D} → Returns task old mid → Returns task mid new → Returns task old new
 on r k = record { same = k.same ∙ r.same; ready = k.ready }
 
-pub on_ok : {A B E : Type 0} {tree : A → Tree} {whole : A → Bool} {custom : List ℕ → List Tree → Tree} {task : Task A} {old mid : Trail A} (new : Trail A) (result : Result B E) → Returns tree whole custom task old mid → OnOk result (Returns tree whole custom task mid new) → OnOk result (Returns tree whole custom task old new)
+on_ok : {A B E : Type 0} {R : Ghosts A} {D : debug.Ghosts A} {task : Task A R D} {old mid : Trail A R D} (new : Trail A R D) (result : Result B E) → Returns task old mid → OnOk result (Returns task mid new) → OnOk result (Returns task old new)
 on_ok new (Ok b) r k = on r k
 on_ok new (Err e) r k = tt
+
+-- a call that asks more
+pub comes_as : {A B : Type 0} {R : Ghosts A} {D : debug.Ghosts A} {task : Task A R D} {old new : Trail A R D} {xs ys : List (Bool × Argument)} (result : Result B Halt) → Comes task old new xs result → (AsksPattern xs (document task) → AsksPattern ys (document task)) → Comes task old new ys result
+comes_as {task = task} result k f = record { back = k.back; ready = k.ready; halts = halts_as task.limit result k.halts f }
+
+-- one call, then another, which ends it
+pub comes_on : {A B : Type 0} {R : Ghosts A} {D : debug.Ghosts A} {task : Task A R D} {old mid new : Trail A R D} {xs ys : List (Bool × Argument)} (result : Result B Halt) → Returns task old mid → Comes task mid new xs result → (AsksPattern xs (document task) → AsksPattern ys (document task)) → Comes task old new ys result
+comes_on {task = task} {new = new} result r k f = record { back = on_ok new result r k.back; ready = k.ready; halts = halts_as task.limit result k.halts f }
+
+-- an error that a `?` passes on
+pub comes_err : {A C : Type 0} {R : Ghosts A} {D : debug.Ghosts A} {task : Task A R D} {old new : Trail A R D} {ys : List (Bool × Argument)} (result : Result C Halt) (Q : Halt → Type 0) → IsErrAnd result Q → IsReady task new.cache → ((y : Halt) → Q y → IsHalt task.limit ys (document task) y) → Comes task old new ys result
+comes_err (Ok v) Q is r f = absurd is
+comes_err (Err y) Q is r f = record { back = tt; ready = r; halts = f y is }
+
+-- a halt that a `?` passes on
+pub comes_halt : {A C : Type 0} {R : Ghosts A} {D : debug.Ghosts A} {task : Task A R D} {old new : Trail A R D} {xs ys : List (Bool × Argument)} (result : Result C Halt) (e : Halt) → IsErrAnd result (λ y. y ≡ e) → IsReady task new.cache → IsHalt task.limit xs (document task) e → (AsksPattern xs (document task) → AsksPattern ys (document task)) → Comes task old new ys result
+comes_halt result e is r h f = comes_err result _ is r (λ y same memory spent. f (h (λ m. memory (same ∙ m)) (λ s. spent (same ∙ s.0, s.1))))
+
+-- that of a call of the walk
+pub comes_so : {A B C : Type 0} {R : Ghosts A} {D : debug.Ghosts A} {task : Task A R D} {old mid new : Trail A R D} {xs ys : List (Bool × Argument)} (result : Result C Halt) (e : Halt) → IsErrAnd result (λ y. y ≡ e) → Comes {B = B} task mid new xs (Err e) → (AsksPattern xs (document task) → AsksPattern ys (document task)) → Comes task old new ys result
+comes_so result e is k f = comes_halt result e is k.ready k.halts f

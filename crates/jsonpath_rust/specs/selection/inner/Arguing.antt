@@ -1,10 +1,12 @@
 -- What an argument or a test is inside the evaluator, for its contracts alone: the definitions here are no part of what a query means.
-use Rattle.std.specs.Prelude.{List, Bool, Option, Some, None, option_map, option_to_list, IsTrue, IfSome}
+use Rattle.std.specs.Prelude.{List, Bool, Option, Some, None, option_to_list}
+use Rattle.std.specs.declared.fmt.Debug as debug
 use Rattle.jsonpath_base.specs.Tree.{Tree}
 use Rattle.jsonpath_rust.specs.documents.Functions.{count_value, is_true, Evaluated, of_value, of_nodes}
 use Rattle.jsonpath_rust.specs.selection.inner.Keeping.{gathered}
-use Rattle.jsonpath_rust.specs.documents.inner.Operands.{operand_tree, operand_is_whole}
-use Rattle.jsonpath_rust.specs.selection.inner.Sinks.{Seen, start, give, any_in, count_in, only_in, values_in, ValuesAreWhole}
+use Rattle.jsonpath_rust.specs.documents.inner.Operands.{operand_tree}
+use Rattle.jsonpath_rust.specs.selection.inner.Sinks.{Seen, start, give, any_in, count_in, only_in, values_in}
+use Rattle.jsonpath_rust.specs.declared.documents.queryable.Queryable.{Ghosts}
 use Rattle.jsonpath_rust.specs.declared.selection.argument.Argument.{Argument}
 use Rattle.jsonpath_rust.specs.declared.selection.argument.Argument.TheVariants as argument
 use Rattle.jsonpath_rust.specs.declared.selection.cache.Cache.{Cache}
@@ -15,39 +17,24 @@ pub data Held : Type 0 where
   value : Option Tree → Held
   nodes : Seen → Held
 
-abbrev pub held : {A : Type 0} → (A → Tree) → (A → Bool) → Cache A → Argument A → Held
-held tree whole cache (argument.Value o) = value (operand_tree tree o)
-held tree whole cache (argument.Nodes g) = nodes (gathered tree whole cache g)
-
--- its value is whole
-abbrev pub IsHeld : {A : Type 0} → (A → Bool) → Argument A → Type 0
-IsHeld whole (argument.Value o) = IsTrue (operand_is_whole whole o)
-IsHeld whole (argument.Nodes g) = Unit {0}
+abbrev pub held : {A : Type 0} {R : Ghosts A} {D : debug.Ghosts A} → Cache A R D → Argument A R D → Held
+held cache (argument.Value o) = value (operand_tree o)
+held cache (argument.Nodes g) = nodes (gathered cache g)
 
 -- what is held of it, where this is wanted
 abbrev pub holding : Wanted → Evaluated → Held
 holding wanted (of_value o) = value o
 holding wanted (of_nodes ns) = nodes (give (start wanted) ns)
 
--- the only value is whole
-abbrev pub OnlyIsWhole : Held → Type 0
-OnlyIsWhole (value o) = Unit {0}
-OnlyIsWhole (nodes s) = IfSome (only_in s) (λ p. IsTrue p.0)
-
--- all values are
-abbrev pub HeldAreWhole : Held → Type 0
-HeldAreWhole (value o) = Unit {0}
-HeldAreWhole (nodes s) = ValuesAreWhole s
-
 -- ---- what is read of it
 
 abbrev pub value_held : Held → Option Tree
 value_held (value o) = o
-value_held (nodes s) = option_map (λ p. p.1) (only_in s)
+value_held (nodes s) = only_in s
 
 abbrev pub only_held : Held → Option Tree
 only_held (value o) = None
-only_held (nodes s) = option_map (λ p. p.1) (only_in s)
+only_held (nodes s) = only_in s
 
 abbrev pub count_held : Held → Option Tree
 count_held (value o) = Some (count_value 0)

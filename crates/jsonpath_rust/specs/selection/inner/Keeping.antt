@@ -1,15 +1,18 @@
 -- What one call of the evaluator keeps, for the contracts of the walk alone: the definitions here are no part of what a query means.
-use Rattle.std.specs.Prelude.{◌≡◌, ℕ, List, [], map, length, get_or, Bool, true, false, Option, None, Some, option_map, IsTrue, All}
+use Rattle.std.specs.Prelude.{◌≡◌, ℕ, List, [], map, length, get_or, Bool, false, Option, None, Some, option_map, All}
+use Rattle.std.specs.declared.fmt.Debug as debug
 use Rattle.jsonpath_parser.specs.tree.Syntax.{Argument}
 use Rattle.jsonpath_base.specs.Tree.{Tree, truth}
-use Rattle.jsonpath_rust.specs.documents.Document.{Document, document_of}
+use Rattle.jsonpath_rust.specs.documents.Document.{Document}
 use Rattle.jsonpath_rust.specs.documents.Meaning.{nodelist, value_at, answer, comparison_holds}
 use Rattle.jsonpath_rust.specs.documents.Node.{root_node}
 use Rattle.jsonpath_rust.specs.documents.Patterns.{AsksPattern, segments_patterns, call_patterns, comparison_patterns}
-use Rattle.jsonpath_rust.specs.documents.inner.Operands.{operand_tree, operand_is_whole}
+use Rattle.jsonpath_rust.specs.documents.inner.Operands.{operand_tree}
+use Rattle.jsonpath_rust.specs.documents.inner.Whole.{document_at}
 use Rattle.jsonpath_rust.specs.selection.inner.PlanViews.{Kept, KeptPart, kept_view, part_at}
 use Rattle.jsonpath_rust.specs.selection.inner.PlanViews as plan
 use Rattle.jsonpath_rust.specs.selection.inner.Sinks.{Seen, any, seen, start, give}
+use Rattle.jsonpath_rust.specs.declared.documents.queryable.Queryable.{Ghosts}
 use Rattle.jsonpath_rust.specs.declared.selection.cache.Cache.{Cache}
 use Rattle.jsonpath_rust.specs.declared.selection.cache.Given.{Given}
 use Rattle.jsonpath_rust.specs.declared.selection.cache.Given.TheVariants as given
@@ -18,22 +21,22 @@ use Rattle.jsonpath_rust.specs.declared.selection.cache.Gathered.{Gathered}
 use Rattle.jsonpath_rust.specs.declared.selection.cache.Gathered.TheVariants as gathers
 
 -- what is asked, seen as the meaning has it
-abbrev pub document : {A : Type 0} → (A → Tree) → (List ℕ → List Tree → Tree) → Task A → Document
-document tree custom task = document_of tree custom task.root.now
+abbrev pub document : {A : Type 0} {R : Ghosts A} {D : debug.Ghosts A} → Task A R D → Document
+document task = document_at task.root
 
-abbrev pub kept_of : {A : Type 0} → Task A → Kept
+abbrev pub kept_of : {A : Type 0} {R : Ghosts A} {D : debug.Ghosts A} → Task A R D → Kept
 kept_of task = kept_view task.plan.now.kept.items
 
--- what an entry gave: what was wanted of nodes; or a value, if there is one, and whether it is whole; or nothing, for a pattern is too large
+-- what an entry gave: what was wanted of nodes; or a value, if there is one; or nothing, for a pattern is too large
 pub data Gave : Type 0 where
   nodes : Seen → Gave
-  value : Bool → Option Tree → Gave
+  value : Option Tree → Gave
   refused : Gave
 
-abbrev pub gave : {A : Type 0} → (A → Tree) → (A → Bool) → Given A → Gave
-gave tree whole (given.Nodes s) = nodes (seen tree whole s)
-gave tree whole (given.Value o) = value (operand_is_whole whole o) (operand_tree tree o)
-gave tree whole given.Refused = refused
+abbrev pub gave : {A : Type 0} {R : Ghosts A} {D : debug.Ghosts A} → Given A R D → Gave
+gave (given.Nodes s) = nodes (seen s)
+gave (given.Value o) = value (operand_tree o)
+gave given.Refused = refused
 
 -- the value of a part of the query without `@`, where it has one
 abbrev pub value_by : KeptPart → Document → Option Tree
@@ -45,7 +48,7 @@ value_by (plan.compared c) doc = Some (truth (comparison_holds c doc (root_node 
 -- what a part of the query without `@` gives
 abbrev pub given_by : KeptPart → Document → Gave
 given_by (plan.nodes w q) doc = nodes (give (start w) (nodelist q doc))
-given_by p doc = value true (value_by p doc)
+given_by p doc = value (value_by p doc)
 
 -- the patterns that stand in a part of the query without `@`
 abbrev pub part_patterns : KeptPart → List (Bool × Argument)
@@ -57,35 +60,34 @@ part_patterns (plan.compared c) = comparison_patterns c
 -- what is kept is what the part gives; where it is refused, the part asks a pattern
 abbrev pub IsGiven : Gave → KeptPart → Document → Type 0
 IsGiven (nodes s) p doc = nodes s ≡ given_by p doc
-IsGiven (value b t) p doc = value b t ≡ given_by p doc
+IsGiven (value t) p doc = value t ≡ given_by p doc
 IsGiven refused p doc = AsksPattern (part_patterns p) doc
 
-abbrev pub slots_of : {A : Type 0} → Cache A → List (Option (Given A))
+abbrev pub slots_of : {A : Type 0} {R : Ghosts A} {D : debug.Ghosts A} → Cache A R D → List (Option (Given A R D))
 slots_of cache = cache.slots.items
 
 -- what is kept under a number
-abbrev pub slot_at : {A : Type 0} → (A → Tree) → (A → Bool) → List (Option (Given A)) → ℕ → Option Gave
-slot_at tree whole slots n = get_or (map (option_map (gave tree whole)) slots) n None
+abbrev pub slot_at : {A : Type 0} {R : Ghosts A} {D : debug.Ghosts A} → List (Option (Given A R D)) → ℕ → Option Gave
+slot_at slots n = get_or (map (option_map gave) slots) n None
 
 -- what was wanted of nodes, where that is kept
 abbrev pub nodes_or_none : Option Gave → Seen
 nodes_or_none (Some (nodes s)) = s
 nodes_or_none _ = any false
 
-abbrev pub AreEmpty : {A : Type 0} → List (Option (Given A)) → Type 0
+abbrev pub AreEmpty : {A : Type 0} {R : Ghosts A} {D : debug.Ghosts A} → List (Option (Given A R D)) → Type 0
 AreEmpty slots = All (λ o. o ≡ None) slots
 
 -- there is a slot for each entry, and what is kept is right
-pub record Keeps {A : Type 0} (tree : A → Tree) (whole : A → Bool) (kept : Kept) (doc : Document) (cache : Cache A) : Type 0 where
+pub record Keeps {A : Type 0} {R : Ghosts A} {D : debug.Ghosts A} (kept : Kept) (doc : Document) (cache : Cache A R D) : Type 0 where
   pub room : length (slots_of cache) ≡ length kept
-  pub right : (n : ℕ) (s : Gave) → slot_at tree whole (slots_of cache) n ≡ Some s → IsGiven s (part_at kept n) doc
+  pub right : (n : ℕ) (s : Gave) → slot_at (slots_of cache) n ≡ Some s → IsGiven s (part_at kept n) doc
 
--- the root is whole, and what is kept is right
-pub record IsReady {A : Type 0} (tree : A → Tree) (whole : A → Bool) (custom : List ℕ → List Tree → Tree) (task : Task A) (cache : Cache A) : Type 0 where
-  pub root : IsTrue (whole task.root.now)
-  pub kept : Keeps tree whole (kept_of task) (document tree custom task) cache
+-- what is kept is right
+abbrev pub IsReady : {A : Type 0} {R : Ghosts A} {D : debug.Ghosts A} → Task A R D → Cache A R D → Type 0
+IsReady task cache = Keeps (kept_of task) (document task) cache
 
 -- what the nodes of a query gave
-abbrev pub gathered : {A : Type 0} → (A → Tree) → (A → Bool) → Cache A → Gathered A → Seen
-gathered tree whole cache (gathers.Own s) = seen tree whole s
-gathered tree whole cache (gathers.Kept n) = nodes_or_none (slot_at tree whole (slots_of cache) n)
+abbrev pub gathered : {A : Type 0} {R : Ghosts A} {D : debug.Ghosts A} → Cache A R D → Gathered A R D → Seen
+gathered cache (gathers.Own s) = seen s
+gathered cache (gathers.Kept n) = nodes_or_none (slot_at (slots_of cache) n)

@@ -1,5 +1,6 @@
 -- Where segments lead that are looked up, for the contracts of the walk alone: the definitions here are no part of what a query means.
-use Rattle.std.specs.Prelude.{◌≡◌, ℕ, List, [], ◌∷◌, map, length, Bool, IsTrue}
+use Rattle.std.specs.Prelude.{◌≡◌, ℕ, List, [], ◌∷◌, map, length}
+use Rattle.std.specs.declared.fmt.Debug as debug
 use Rattle.jsonpath_parser.specs.tree.Syntax.{Segment, Segments}
 use Rattle.jsonpath_base.specs.Tree.{Tree}
 use Rattle.jsonpath_rust.specs.documents.Document.{Document}
@@ -7,6 +8,8 @@ use Rattle.jsonpath_rust.specs.documents.Meaning.{replaced}
 use Rattle.jsonpath_rust.specs.documents.Node.{Node, children, root_node}
 use Rattle.jsonpath_rust.specs.selection.inner.Sinks.{seen, start, give}
 use Rattle.jsonpath_rust.specs.selection.inner.Walking.{through}
+use Rattle.jsonpath_rust.specs.documents.inner.Whole.{tree_of}
+use Rattle.jsonpath_rust.specs.declared.documents.queryable.Queryable.{Ghosts}
 use Rattle.jsonpath_rust.specs.declared.selection.lookup.Followed.{Followed}
 use Rattle.jsonpath_rust.specs.declared.selection.lookup.Followed.TheVariants.{To, Children, Nowhere, Open}
 use Rattle.jsonpath_rust.specs.declared.selection.sink.Sink.{Sink}
@@ -16,28 +19,22 @@ abbrev pub trees_of : List Node → List Tree
 trees_of ns = map (λ n. n.tree) ns
 
 -- these are the nodes: one of that tree, as many as a value has children, or none
-abbrev pub AreThere : {A : Type 0} → (A → Tree) → Followed A → List Node → Type 0
-AreThere tree (To v) ns = trees_of ns ≡ tree v.now ∷ []
-AreThere tree (Children v) ns = length ns ≡ length (children (root_node (tree v.now)))
-AreThere tree Nowhere ns = ns ≡ []
-AreThere tree Open ns = Unit {0}
-
-abbrev pub IsWholeThere : {A : Type 0} → (A → Bool) → Followed A → Type 0
-IsWholeThere whole (To v) = IsTrue (whole v.now)
-IsWholeThere whole (Children v) = IsTrue (whole v.now)
-IsWholeThere whole Nowhere = Unit {0}
-IsWholeThere whole Open = Unit {0}
+abbrev pub AreThere : {A : Type 0} {R : Ghosts A} {D : debug.Ghosts A} → Followed A R D → List Node → Type 0
+AreThere (To v) ns = trees_of ns ≡ tree_of v ∷ []
+AreThere (Children v) ns = length ns ≡ length (children (root_node (tree_of v)))
+AreThere Nowhere ns = ns ≡ []
+AreThere Open ns = Unit {0}
 
 -- from each node of this tree, in any document
-pub record LeadsOn {A : Type 0} (tree : A → Tree) (g : Segment) (t : Tree) (found : Followed A) : Type 0 where
-  pub leads : (d : Document) (n : Node) → n.tree ≡ t → AreThere tree found (replaced g d n)
+pub record LeadsOn {A : Type 0} {R : Ghosts A} {D : debug.Ghosts A} (g : Segment) (t : Tree) (found : Followed A R D) : Type 0 where
+  pub leads : (d : Document) (n : Node) → n.tree ≡ t → AreThere found (replaced g d n)
 
-pub record Leads {A : Type 0} (tree : A → Tree) (gs : Segments) (t : Tree) (found : Followed A) : Type 0 where
-  pub leads : (d : Document) (n : Node) → n.tree ≡ t → AreThere tree found (through gs d n)
+pub record Leads {A : Type 0} {R : Ghosts A} {D : debug.Ghosts A} (gs : Segments) (t : Tree) (found : Followed A R D) : Type 0 where
+  pub leads : (d : Document) (n : Node) → n.tree ≡ t → AreThere found (through gs d n)
 
-pub record GivesThrough {A : Type 0} (tree : A → Tree) (whole : A → Bool) (wanted : Wanted) (gs : Segments) (t : Tree) (sink : Sink A) : Type 0 where
-  pub given : (d : Document) (n : Node) → n.tree ≡ t → seen tree whole sink ≡ give (start wanted) (through gs d n)
+pub record GivesThrough {A : Type 0} {R : Ghosts A} {D : debug.Ghosts A} (wanted : Wanted) (gs : Segments) (t : Tree) (sink : Sink A R D) : Type 0 where
+  pub given : (d : Document) (n : Node) → n.tree ≡ t → seen sink ≡ give (start wanted) (through gs d n)
 
 -- any nodes of this number
-pub record GivesSoMany {A : Type 0} (tree : A → Tree) (whole : A → Bool) (wanted : Wanted) (count : ℕ) (sink : Sink A) : Type 0 where
-  pub given : (ns : List Node) → length ns ≡ count → seen tree whole sink ≡ give (start wanted) ns
+pub record GivesSoMany {A : Type 0} {R : Ghosts A} {D : debug.Ghosts A} (wanted : Wanted) (count : ℕ) (sink : Sink A R D) : Type 0 where
+  pub given : (ns : List Node) → length ns ≡ count → seen sink ≡ give (start wanted) ns

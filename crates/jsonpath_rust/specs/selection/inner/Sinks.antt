@@ -1,5 +1,6 @@
 -- What a walk gives to a sink, for the contracts of the walk alone: the definitions here are no part of what a query means.
-use Rattle.std.specs.Prelude.{◌≡◌, ℕ, suc, min, List, [], ◌∷◌, ◌++◌, map, Bool, true, false, Option, Some, None, is_some, option_map, IsTrue, All, string_bytes}
+use Rattle.std.specs.Prelude.{◌≡◌, ℕ, suc, min, List, [], ◌∷◌, ◌++◌, map, Bool, true, false, Option, Some, None, is_some, option_map, string_bytes}
+use Rattle.std.specs.declared.fmt.Debug as debug
 use Rattle.jsonpath_parser.specs.Location.{Location}
 use Rattle.jsonpath_parser.specs.Normal.{normal}
 use Rattle.jsonpath_base.specs.Steps.{location_view}
@@ -10,71 +11,72 @@ use Rattle.jsonpath_base.specs.declared.removal.Removal.{Removal}
 use Rattle.jsonpath_rust.specs.documents.Node.{Node}
 use Rattle.jsonpath_rust.specs.documents.Answer.{shown, paths_of}
 use Rattle.jsonpath_rust.specs.documents.Functions.{greatest_count}
+use Rattle.jsonpath_rust.specs.documents.inner.Whole.{tree_of}
 use Rattle.jsonpath_rust.specs.declared.selection.sink.Sink.{Sink}
 use Rattle.jsonpath_rust.specs.declared.selection.sink.Sink.TheVariants as sink
 use Rattle.jsonpath_rust.specs.declared.selection.sink.Only.{Only}
 use Rattle.jsonpath_rust.specs.declared.selection.sink.Only.TheVariants.{Nothing, One, Several}
 use Rattle.jsonpath_rust.specs.declared.selection.sink.Wanted.{Wanted}
 use Rattle.jsonpath_rust.specs.declared.selection.sink.Wanted.TheVariants as wanted
-use Rattle.jsonpath_rust.specs.declared.documents.node.QueryRef.{QueryRef}
+use Rattle.jsonpath_rust.specs.declared.documents.nodes.WholeNode.{WholeNode}
+use Rattle.jsonpath_rust.specs.declared.documents.queryable.Queryable.{Ghosts}
 
 -- a node as it is answered: its Normalized Path and its tree
 abbrev pub path_and_tree : Node → List ℕ × Tree
 path_and_tree n = (normal n.location, n.tree)
 
--- A sink, without where its values lie in memory. Beside the values stands which of them are whole.
+-- a sink, without where its values lie in memory
 pub data Seen : Type 0 where
-  nodes : List Bool → List (List ℕ × Tree) → Seen
+  nodes : List (List ℕ × Tree) → Seen
   paths : List (List ℕ) → Seen
-  values : List Bool → List Tree → Seen
+  values : List Tree → Seen
   locations : List Location → Seen
   removal : (Location → Bool) → ℕ → Seen
   any : Bool → Seen
   count : ℕ → Seen
   nothing : Seen
-  one : Bool → Tree → Seen
+  one : Tree → Seen
   several : Seen
-  first : Option (Bool × (List ℕ × Tree)) → Seen
+  first : Option (List ℕ × Tree) → Seen
 
-abbrev pub seen_only : {A : Type 0} → (A → Tree) → (A → Bool) → Only A → Seen
-seen_only tree whole Nothing = nothing
-seen_only tree whole (One v) = one (whole v.now) (tree v.now)
-seen_only tree whole Several = several
+abbrev pub seen_only : {A : Type 0} {R : Ghosts A} {D : debug.Ghosts A} → Only A R D → Seen
+seen_only Nothing = nothing
+seen_only (One v) = one (tree_of v)
+seen_only Several = several
 
-abbrev pub seen_first : {A : Type 0} → (A → Tree) → (A → Bool) → Option (QueryRef A) → Seen
-seen_first tree whole o = first (option_map (λ r. (whole r.val.now, (string_bytes r.path, tree r.val.now))) o)
+abbrev pub seen_first : {A : Type 0} {R : Ghosts A} {D : debug.Ghosts A} → Option (WholeNode A R D) → Seen
+seen_first {R = R} o = first (option_map (λ w. (string_bytes w.node.path, R.tree w.node.val.now)) o)
 
-abbrev pub seen : {A : Type 0} → (A → Tree) → (A → Bool) → Sink A → Seen
-seen tree whole (sink.Nodes refs) = nodes (map (λ r. whole r.val.now) refs.items) (shown tree refs.items)
-seen tree whole (sink.Paths ps) = paths (paths_of ps.items)
-seen tree whole (sink.Values vs) = values (map (λ v. whole v.now) vs.items) (map (λ v. tree v.now) vs.items)
-seen tree whole (sink.Locations ls) = locations (map (λ l. location_view l.items) ls.items)
-seen tree whole (sink.Removal r) = removal (removal_set r.value) (removal_count r.value)
-seen tree whole (sink.Any b) = any b
-seen tree whole (sink.Count n) = count n
-seen tree whole (sink.Only o) = seen_only tree whole o
-seen tree whole (sink.First o) = seen_first tree whole o
+abbrev pub seen : {A : Type 0} {R : Ghosts A} {D : debug.Ghosts A} → Sink A R D → Seen
+seen {R = R} (sink.Nodes ns) = nodes (shown R.tree ns.list.items)
+seen (sink.Paths ps) = paths (paths_of ps.items)
+seen {R = R} (sink.Values vs) = values (map (λ v. R.tree v.now) vs.list.items)
+seen (sink.Locations ls) = locations (map (λ l. location_view l.items) ls.items)
+seen (sink.Removal r) = removal (removal_set r.value) (removal_count r.value)
+seen (sink.Any b) = any b
+seen (sink.Count n) = count n
+seen (sink.Only o) = seen_only o
+seen (sink.First o) = seen_first o
 
 -- before any node
 abbrev pub start : Wanted → Seen
 start wanted.Any = any false
 start wanted.Count = count 0
 start wanted.Only = nothing
-start wanted.Values = values [] []
+start wanted.Values = values []
 
--- every node of a whole document is whole
 abbrev pub add : Seen → Node → Seen
-add (nodes bs ns) n = nodes (bs ++ true ∷ []) (ns ++ path_and_tree n ∷ [])
+add (nodes ns) n = nodes (ns ++ path_and_tree n ∷ [])
 add (paths ps) n = paths (ps ++ normal n.location ∷ [])
-add (values bs ts) n = values (bs ++ true ∷ []) (ts ++ n.tree ∷ [])
+add (values ts) n = values (ts ++ n.tree ∷ [])
 add (locations ls) n = locations (ls ++ n.location ∷ [])
 add (removal set k) n = removal (also n.location set) (counted_with n.location set k)
 add (any b) n = any true
 add (count k) n = count (min (suc k) greatest_count)
-add nothing n = one true n.tree
-add (one b t) n = several
+add nothing n = one n.tree
+add (one t) n = several
 add several n = several
-add (first None) n = first (Some (true, path_and_tree n))
+add (first None) n = first (Some (path_and_tree n))
 add (first (Some p)) n = first (Some p)
 
 abbrev pub give : Seen → List Node → Seen
@@ -86,14 +88,14 @@ abbrev pub full : Seen → Bool
 full (any b) = b
 full several = true
 full (first o) = is_some o
-full (nodes bs ns) = false
+full (nodes ns) = false
 full (paths ps) = false
-full (values bs ts) = false
+full (values ts) = false
 full (locations ls) = false
 full (removal set k) = false
 full (count k) = false
 full nothing = false
-full (one b t) = false
+full (one t) = false
 
 -- ---- what it has
 
@@ -105,16 +107,16 @@ abbrev pub count_in : Seen → ℕ
 count_in (count k) = k
 count_in _ = 0
 
-abbrev pub only_in : Seen → Option (Bool × Tree)
-only_in (one b t) = Some (b, t)
+abbrev pub only_in : Seen → Option Tree
+only_in (one t) = Some t
 only_in _ = None
 
-abbrev pub first_in : Seen → Option (Bool × (List ℕ × Tree))
+abbrev pub first_in : Seen → Option (List ℕ × Tree)
 first_in (first o) = o
 first_in _ = None
 
 abbrev pub nodes_in : Seen → List (List ℕ × Tree)
-nodes_in (nodes bs ns) = ns
+nodes_in (nodes ns) = ns
 nodes_in _ = []
 
 abbrev pub paths_in : Seen → List (List ℕ)
@@ -130,20 +132,8 @@ removal_in (removal set k) = Some (set, k)
 removal_in _ = None
 
 abbrev pub values_in : Seen → List Tree
-values_in (values bs ts) = ts
+values_in (values ts) = ts
 values_in _ = []
-
--- which of them are whole
-abbrev pub nodes_whole : Seen → List Bool
-nodes_whole (nodes bs ns) = bs
-nodes_whole _ = []
-
-abbrev pub values_whole : Seen → List Bool
-values_whole (values bs ts) = bs
-values_whole _ = []
-
-abbrev pub ValuesAreWhole : Seen → Type 0
-ValuesAreWhole s = All (λ b. IsTrue b) (values_whole s)
 
 -- s was given these nodes and became s'; the walk may stop only where more would make no difference
 pub record Took (s : Seen) (ns : List Node) (s' : Seen) (goes_on : Bool) : Type 0 where

@@ -1,28 +1,40 @@
 -- Where a walk stands and how it comes back, for the contracts of the walk alone: the definitions here are no part of what a query means.
-use Rattle.std.specs.Prelude.{◌≡◌, ◌≤◌, ℕ, List, map, Bool, Some, IsTrue, All}
-use Rattle.jsonpath_base.specs.Tree.{Tree, as_members}
-use Rattle.jsonpath_rust.specs.selection.inner.Keeping.{IsReady}
+use Rattle.std.specs.Prelude.{◌≡◌, ◌≤◌, List, map, Bool, Some, IsTrue, All, Result, IfErr, OnOk, OnErr}
+use Rattle.std.specs.declared.fmt.Debug as debug
+use Rattle.jsonpath_parser.specs.tree.Syntax.{Argument}
+use Rattle.jsonpath_base.specs.Tree.{as_members}
+use Rattle.jsonpath_rust.specs.selection.inner.Halting.{IsHalt}
+use Rattle.jsonpath_rust.specs.selection.inner.Keeping.{IsReady, document}
 use Rattle.jsonpath_rust.specs.documents.inner.Size.{size}
+use Rattle.jsonpath_rust.specs.documents.inner.Whole.{tree_of}
 use Rattle.jsonpath_rust.specs.selection.inner.Walking.{LeadTo}
+use Rattle.jsonpath_rust.specs.declared.documents.halt.Halt.{Halt}
+use Rattle.jsonpath_rust.specs.declared.documents.queryable.Queryable.{Ghosts}
+use Rattle.jsonpath_rust.specs.declared.documents.whole.WholeRef.{WholeRef}
 use Rattle.jsonpath_rust.specs.declared.selection.cache.Cache.{Cache}
 use Rattle.jsonpath_rust.specs.declared.selection.children.Members.{Members}
 use Rattle.jsonpath_rust.specs.declared.selection.trail.Trail.{Trail}
 use Rattle.jsonpath_rust.specs.declared.selection.walk.Task.{Task}
 use Rattle.jsonpath_base.specs.declared.step.StepRef.{StepRef}
 
--- At a whole value, no larger than the root, to which these steps lead; and what is kept is right.
-pub record Stands {A : Type 0} (tree : A → Tree) (is_whole : A → Bool) (custom : List ℕ → List Tree → Tree) (task : Task A) (x : A) (steps : List StepRef) (cache : Cache A) : Type 0 where
-  pub whole : IsTrue (is_whole x)
-  pub within : size (tree x) ≤ size (tree task.root.now)
-  pub here : LeadTo tree steps task.root.now x
-  pub ready : IsReady tree is_whole custom task cache
+-- At a value no larger than the root, to which these steps lead; and what is kept is right.
+pub record Stands {A : Type 0} {R : Ghosts A} {D : debug.Ghosts A} (task : Task A R D) (x : WholeRef A R D) (steps : List StepRef) (cache : Cache A R D) : Type 0 where
+  pub within : size (tree_of x) ≤ size (tree_of task.root)
+  pub here : LeadTo steps task.root x
+  pub ready : IsReady task cache
 
 -- The way is as it was, and what is kept is right.
-pub record Returns {A : Type 0} (tree : A → Tree) (is_whole : A → Bool) (custom : List ℕ → List Tree → Tree) (task : Task A) (old new : Trail A) : Type 0 where
+pub record Returns {A : Type 0} {R : Ghosts A} {D : debug.Ghosts A} (task : Task A R D) (old new : Trail A R D) : Type 0 where
   pub same : new.way.steps.items ≡ old.way.steps.items
-  pub ready : IsReady tree is_whole custom task new.cache
+  pub ready : IsReady task new.cache
+
+-- How a call comes back: where it goes on, as it stood; where it halts, what is kept is right, and one of these patterns is asked, or memory or the work ran out.
+pub record Comes {A B : Type 0} {R : Ghosts A} {D : debug.Ghosts A} (task : Task A R D) (old new : Trail A R D) (patterns : List (Bool × Argument)) (result : Result B Halt) : Type 0 where
+  pub back : OnOk result (Returns task old new)
+  pub ready : OnErr result (IsReady task new.cache)
+  pub halts : IfErr result (IsHalt task.limit patterns (document task))
 
 -- the list holds the members of the object
-pub record AreMembers {A : Type 0} (tree : A → Tree) (is_whole : A → Bool) (members : Members A) : Type 0 where
-  pub list : Some (map (λ m. (m.0.now, tree m.1.now)) members.list.now) ≡ as_members (tree members.of.now)
-  pub whole : All (λ m. IsTrue (is_whole m.1.now)) members.list.now
+pub record AreMembers {A : Type 0} {R : Ghosts A} {D : debug.Ghosts A} (members : Members A R D) : Type 0 where
+  pub list : Some (map (λ m. (m.0.now, R.tree m.1.now)) members.list.now) ≡ as_members (tree_of members.of)
+  pub whole : All (λ m. IsTrue (R.is_whole m.1.now)) members.list.now

@@ -1,26 +1,29 @@
 -- How a walk meets the nodes of a query, for the contracts of the walk alone: the definitions here are no part of what a query means.
 use Rattle.std.specs.Prelude.{◌≡◌, List, [], ◌∷◌, filter, Bool, Some}
+use Rattle.std.specs.declared.fmt.Debug as debug
 use Rattle.std.specs.List.{flat_map}
 use Rattle.jsonpath_base.specs.Steps.{lent_location}
 use Rattle.jsonpath_parser.specs.tree.Syntax.{Argument, Segments, no_segments, segment}
 use Rattle.jsonpath_base.specs.Places.{at}
-use Rattle.jsonpath_base.specs.Tree.{Tree}
 use Rattle.jsonpath_rust.specs.documents.Node.{Node, subtree}
 use Rattle.jsonpath_rust.specs.documents.Document.{Document}
 use Rattle.jsonpath_rust.specs.documents.Meaning.{replaced, holds}
 use Rattle.jsonpath_rust.specs.documents.Patterns.{segment_patterns, filter_patterns}
 use Rattle.jsonpath_rust.specs.selection.inner.PlanViews.{Kept, segment_view, filter_view}
+use Rattle.jsonpath_rust.specs.documents.inner.Whole.{tree_of}
 use Rattle.jsonpath_base.specs.declared.step.StepRef.{StepRef}
+use Rattle.jsonpath_rust.specs.declared.documents.queryable.Queryable.{Ghosts}
+use Rattle.jsonpath_rust.specs.declared.documents.whole.WholeRef.{WholeRef}
 use Rattle.jsonpath_rust.specs.declared.selection.action.Action.{Action}
 use Rattle.jsonpath_rust.specs.declared.selection.action.Action.TheVariants.{All, If, Below}
 
 -- the node of a value that these steps lead to
-abbrev pub node_of : {A : Type 0} → (A → Tree) → List StepRef → A → Node
-node_of tree steps x = record { location = lent_location steps; tree = tree x }
+abbrev pub node_of : {A : Type 0} {R : Ghosts A} {D : debug.Ghosts A} → List StepRef → WholeRef A R D → Node
+node_of steps x = record { location = lent_location steps; tree = tree_of x }
 
 -- these steps lead from the root to the value
-abbrev pub LeadTo : {A : Type 0} → (A → Tree) → List StepRef → A → A → Type 0
-LeadTo tree steps root x = at (lent_location steps) (tree root) ≡ Some (tree x)
+abbrev pub LeadTo : {A : Type 0} {R : Ghosts A} {D : debug.Ghosts A} → List StepRef → WholeRef A R D → WholeRef A R D → Type 0
+LeadTo steps root x = at (lent_location steps) (tree_of root) ≡ Some (tree_of x)
 
 -- The segments applied to one node, and the rest to each node that comes, before the next one.
 abbrev pub through : Segments → Document → Node → List Node

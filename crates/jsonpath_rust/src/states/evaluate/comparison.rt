@@ -6,6 +6,7 @@ ghost use Rattle.jsonpath_rust.specs.states.State.{targets_of, content_of, Point
 
 use crate::documents::comparison::{Side, is_below};
 use crate::documents::queryable::Queryable;
+use crate::documents::whole::WholeRef;
 use crate::states::evaluate::value::plain_value;
 use crate::states::state::{Data, Pointer, are_same};
 use jsonpath_parser::model::Operator;
@@ -57,7 +58,7 @@ fn is_same_value<'a, T: Queryable>(given: &Data<'a, T>, other: &T) -> bool
     ensures { result ≡ values_same (plain (content_of T.tree given.now)) (Some (T.tree other.now)) }
 {
     match plain_value(given) {
-        Some(own) => own.equal(other),
+        Some(own) => own.equal(WholeRef { value: other }),
         None => false,
     }
 }

@@ -6,11 +6,12 @@ ghost use Rattle.jsonpath_rust.specs.states.Process.{holds_at, some_holds_at, ea
 ghost use Rattle.jsonpath_base.specs.Tree.{truth};
 ghost use Rattle.jsonpath_rust.specs.states.State.{value, content_of, DataIsWhole};
 ghost use Rattle.jsonpath_rust.specs.states.inner.Evaluating.{document, HaltsAt};
-ghost use Rattle.jsonpath_rust.specs.documents.inner.Operands.{arg_trees, AreWhole};
+ghost use Rattle.jsonpath_rust.specs.documents.inner.Operands.{arg_trees};
 ghost use Rattle.jsonpath_rust.specs.documents.inner.Parts.{filters_in, arguments_in};
 
+use crate::documents::args::Args;
 use crate::documents::halt::Walked;
-use crate::documents::queryable::{Arg, Queryable};
+use crate::documents::queryable::Queryable;
 use crate::states::evaluate::Evaluation;
 use crate::states::evaluate::comparison::compares;
 use crate::states::evaluate::function::{
@@ -204,14 +205,13 @@ impl<'a, T: Queryable> Evaluation<'a, T> {
 
     /// What the arguments of a custom function stand for.
     #[cycle(evaluate)]
-    fn arguments(&self, args: &[FnArg], given: &Data<'a, T>) -> Walked<Vec<Arg<'a, T>>>
+    fn arguments(&self, args: &[FnArg], given: &Data<'a, T>) -> Walked<Args<'a, T>>
         requires root { IsTrue (T.is_whole self.now.root.now) }
         requires whole { DataIsWhole T.is_whole given.now }
-        ensures value { IfOk result (λ v. arg_trees T.tree v.items ≡ arguments_trees (arguments_in args.now) (document T.tree T.custom self.now) (content_of T.tree given.now)) }
-        ensures whole { IfOk result (λ v. AreWhole T.is_whole v.items) }
+        ensures value { IfOk result (λ v. arg_trees v ≡ arguments_trees (arguments_in args.now) (document T.tree T.custom self.now) (content_of T.tree given.now)) }
         ensures refused { IfErr result (HaltsAt (arguments_patterns (arguments_in args.now)) (document T.tree T.custom self.now) (content_of T.tree given.now)) }
     {
-        let mut values = Vec::new(self.alloc);
+        let mut values = Args::new(self.alloc);
         for arg in args {
             let answer = self.argument_data(arg, given)?;
             push_values(&mut values, answer)?;

@@ -1,17 +1,20 @@
 //! What functions make of the data of their arguments (RFC 9535, 2.4.4 to 2.4.8).
-ghost use Rattle.std.specs.Prelude.{◌≡◌, ◌++◌, Some, option_map, string_bytes, IsTrue, IfOk, IfErr, IfSome, OnOk};
+ghost use Rattle.std.specs.Prelude.{◌≡◌, ◌++◌, Some, option_map, string_bytes, IsTrue, IfOk, IfErr, OnOk};
 ghost use Rattle.jsonpath_base.specs.Tree.{truth};
 ghost use Rattle.jsonpath_rust.specs.documents.Functions as functions;
 ghost use Rattle.jsonpath_rust.specs.documents.Patterns.{IsPattern};
 ghost use Rattle.jsonpath_rust.specs.states.Process.{plain, optional, length_content, count_content, value_content, content_trees};
 ghost use Rattle.jsonpath_rust.specs.states.State.{value, content_of, DataIsWhole};
 ghost use Rattle.jsonpath_base.specs.Pattern.{is_entire};
-ghost use Rattle.jsonpath_rust.specs.documents.inner.Operands.{arg_trees, AreWhole};
+ghost use Rattle.jsonpath_rust.specs.documents.inner.Operands.{arg_trees};
+ghost use Rattle.jsonpath_rust.specs.documents.inner.Whole.{tree_of};
 ghost use Rattle.jsonpath_rust.specs.declared.documents.halt.Halt.TheVariants.{Memory};
 
+use crate::documents::args::Args;
 use crate::documents::halt::Walked;
-use crate::documents::queryable::{Arg, Queryable};
+use crate::documents::queryable::Queryable;
 use crate::documents::value::length_of;
+use crate::documents::whole::{Whole, WholeRef};
 use crate::states::evaluate::value::{count_data, plain_value, truth_data};
 use crate::states::state::Data;
 use jsonpath_base::Extent;
@@ -40,7 +43,7 @@ fn value_length<'a, T: Queryable>(alloc: Global, of: &T) -> Walked<Data<'a, T>>
     ensures whole { IfOk result (λ d. DataIsWhole T.is_whole d) }
     ensures memory { IfErr result (λ h. h ≡ Memory) }
 {
-    match length_of(alloc, of)? {
+    match length_of(alloc, WholeRef { value: of })? {
         Some(length) => count_data(alloc, length),
         None => Ok(Data::Nothing),
     }
@@ -102,14 +105,12 @@ pub fn found_data<'a, T: Queryable>(
 
 fn is_matched<T: Queryable>(
     alloc: Global,
-    text: Option<&T>,
-    pattern: Option<&T>,
+    text: Option<WholeRef<'_, T>>,
+    pattern: Option<WholeRef<'_, T>>,
     extent: Extent,
 ) -> Walked<bool>
-    requires text { IfSome text (λ v. IsTrue (T.is_whole v.now)) }
-    requires pattern { IfSome pattern (λ v. IsTrue (T.is_whole v.now)) }
-    ensures value { IfOk result (λ b. b ≡ functions.is_matched (is_entire extent) (option_map (λ v. T.tree v.now) text.entry) (option_map (λ v. T.tree v.now) pattern.entry)) }
-    ensures refused { IfErr result (λ h. (h ≡ Memory → ⊥) → IsPattern (is_entire extent) (option_map (λ v. T.tree v.now) pattern.entry)) }
+    ensures value { IfOk result (λ b. b ≡ functions.is_matched (is_entire extent) (option_map tree_of text.entry) (option_map tree_of pattern.entry)) }
+    ensures refused { IfErr result (λ h. (h ≡ Memory → ⊥) → IsPattern (is_entire extent) (option_map tree_of pattern.entry)) }
 {
     match (text, pattern) {
         (Some(text), Some(pattern)) => match (text.as_str(), pattern.as_str()) {
@@ -127,36 +128,30 @@ fn is_matched<T: Queryable>(
 pub fn custom_data<'a, T: Queryable>(
     alloc: Global,
     name: &String,
-    args: &[Arg<'a, T>],
+    args: &Args<'a, T>,
 ) -> Walked<Data<'a, T>>
-    requires { AreWhole T.is_whole args.now }
-    ensures value { IfOk result (λ d. content_of T.tree d ≡ value (T.custom (string_bytes name.now) (arg_trees T.tree args.now))) }
+    ensures value { IfOk result (λ d. content_of T.tree d ≡ value (T.custom (string_bytes name.now) (arg_trees args.now))) }
     ensures whole { IfOk result (λ d. DataIsWhole T.is_whole d) }
     ensures memory { IfErr result (λ h. h ≡ Memory) }
 {
-    Ok(Data::Value(T::extension_custom(alloc, name, args)?))
+    Ok(Data::Value(T::extension_custom(alloc, name, &args.list)?))
 }
 
 /// Follows the arguments of a custom function by what a result stands for: its value, or the values of its nodes.
-pub fn push_values<'a, T: Queryable>(
-    values: &mut Vec<Arg<'a, T>>,
-    answer: Data<'a, T>,
-) -> Walked<()>
-    requires own { DataIsWhole T.is_whole answer }
-    requires others { AreWhole T.is_whole values.old.items }
-    ensures value { OnOk result (arg_trees T.tree values.new.items ≡ arg_trees T.tree values.old.items ++ content_trees (content_of T.tree answer.entry)) }
-    ensures whole { OnOk result (AreWhole T.is_whole values.new.items) }
+pub fn push_values<'a, T: Queryable>(values: &mut Args<'a, T>, answer: Data<'a, T>) -> Walked<()>
+    requires { DataIsWhole T.is_whole answer }
+    ensures value { OnOk result (arg_trees values.new ≡ arg_trees values.old ++ content_trees (content_of T.tree answer.entry)) }
     ensures memory { IfErr result (λ h. h ≡ Memory) }
 {
     match answer {
-        Data::Ref(from) => Ok(values.push(Arg::Borrowed(from.inner))?),
+        Data::Ref(from) => Ok(values.push_lent(WholeRef { value: from.inner })?),
         Data::Refs(all) => {
             for from in &all {
-                values.push(Arg::Borrowed(from.inner))?;
+                values.push_lent(WholeRef { value: from.inner })?;
             }
             Ok(())
         }
-        Data::Value(own) => Ok(values.push(Arg::Owned(own))?),
+        Data::Value(own) => Ok(values.push_made(Whole { value: own })?),
         Data::Nothing => Ok(()),
     }
 }

@@ -4,6 +4,7 @@ ghost use Rattle.jsonpath_parser.specs.tree.View.{literal_view};
 ghost use Rattle.jsonpath_base.specs.Tree.{truth};
 ghost use Rattle.jsonpath_rust.specs.documents.Functions.{count_value};
 ghost use Rattle.jsonpath_rust.specs.documents.Meaning.{literal_tree};
+ghost use Rattle.jsonpath_rust.specs.documents.inner.Whole.{tree_of};
 ghost use Rattle.jsonpath_rust.specs.states.Process.{plain};
 ghost use Rattle.jsonpath_rust.specs.states.State.{value, content_of, DataIsWhole};
 ghost use Rattle.jsonpath_rust.specs.declared.documents.halt.Halt.TheVariants.{Memory};
@@ -11,6 +12,7 @@ ghost use Rattle.jsonpath_rust.specs.declared.documents.halt.Halt.TheVariants.{M
 use crate::documents::halt::Walked;
 use crate::documents::queryable::Queryable;
 use crate::documents::value::{count_scalar, made, scalar_of};
+use crate::documents::whole::WholeRef;
 use crate::states::state::Data;
 use jsonpath_parser::model::Literal;
 use std::alloc::Global;
@@ -30,7 +32,7 @@ pub fn count_data<'a, T: Queryable>(alloc: Global, count: usize) -> Walked<Data<
     ensures whole { IfOk result (λ d. DataIsWhole T.is_whole d) }
     ensures memory { IfErr result (λ h. h ≡ Memory) }
 {
-    Ok(Data::Value(made(alloc, count_scalar(count))?))
+    Ok(Data::Value(made(alloc, count_scalar(count))?.value))
 }
 
 /// A literal.
@@ -39,11 +41,22 @@ pub fn literal_data<'a, T: Queryable>(alloc: Global, literal: &Literal) -> Walke
     ensures whole { IfOk result (λ d. DataIsWhole T.is_whole d) }
     ensures memory { IfErr result (λ h. h ≡ Memory) }
 {
-    Ok(Data::Value(made(alloc, scalar_of(literal))?))
+    Ok(Data::Value(made(alloc, scalar_of(literal))?.value))
 }
 
 /// The value that it is or points to.
-pub fn plain_value<'d, 'a, T: Queryable>(given: &'d Data<'a, T>) -> Option<&'d T>
+pub fn plain_value<'d, 'a, T: Queryable>(given: &'d Data<'a, T>) -> Option<WholeRef<'d, T>>
+    requires { DataIsWhole T.is_whole given.now }
+    ensures { option_map tree_of result ≡ plain (content_of T.tree given.now) }
+{
+    match lent_value(given) {
+        Some(value) => Some(WholeRef { value }),
+        None => None,
+    }
+}
+
+/// The same, as a plain borrow.
+fn lent_value<'d, 'a, T: Queryable>(given: &'d Data<'a, T>) -> Option<&'d T>
     requires { DataIsWhole T.is_whole given.now }
     ensures value { option_map (λ v. T.tree v.now) result ≡ plain (content_of T.tree given.now) }
     ensures whole { IfSome result (λ v. IsTrue (T.is_whole v.now)) }

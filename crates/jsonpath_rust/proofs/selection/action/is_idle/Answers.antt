@@ -4,10 +4,11 @@ use Rattle.jsonpath_rust.specs.selection.inner.PlanViews.{segment_view}
 use Rattle.jsonpath_rust.specs.documents.Node.{Node}
 use Rattle.jsonpath_rust.specs.selection.inner.Walking.{acted}
 use Rattle.jsonpath_rust.proofs.laws.selection.Leaves.{replaced-none}
+use Rattle.jsonpath_rust.specs.documents.inner.Whole.{tree_of}
 use Rattle.jsonpath_rust.proofs.selection.action.is_idle.Goals as goal
 
 pub returns-in-Below : goal.returns-in-Below
 returns-in-Below g c = λ h kept d l.
-    let t = g.T.Queryable.tree c.args.value.now in
+    let t = tree_of c.args.value in
     let n : Node = record { location = l; tree = t } in
     ap (λ a. acted kept a d n) c.in-Below.is ∙ replaced-none (descendant (segment_view kept c.in-Below.field-0.now)) d l t (c.is_leaf.ensures.list h) (c.is_leaf.ensures.object h)

@@ -1,21 +1,22 @@
 use Rattle.std.proofs.Common.{map, option_map, ap, sym, ◌∙◌, arith}
 use Rattle.std.proofs.lemmas.Result.{IfOk-weaker}
 use Rattle.jsonpath_rust.proofs.laws.selection.CostLaws.{some_cost, list_cost, object_cost, inside_many}
+use Rattle.jsonpath_rust.specs.documents.inner.Whole.{tree_of}
 use Rattle.jsonpath_rust.proofs.selection.cost.+size.Goals as goal
 
 pub inside_size-returns-then-count-most-clause-size : goal.inside_size-returns-then-count-most-clause-size
 inside_size-returns-then-count-most-clause-size g t c =
-    omega (arith, c.if-count-most.true, c.unwrap_or-count.ensures, inside_many _ _ (c.in_ok-member_count.ensures.value c.requires.whole))
+    omega (arith, c.if-count-most.true, c.unwrap_or-count.ensures, inside_many _ _ c.in_ok-member_count.ensures.value)
 
 pub inside_size-returns-in-Some-clause-size : goal.inside_size-returns-in-Some-clause-size
 inside_size-returns-in-Some-clause-size g t c =
     let tree = g.T.Queryable.tree in
-    let list = ap (option_map (λ v. map (λ m. (m.0.now, tree m.1.now)) v.items)) (sym c.in-Some.is) ∙ c.in_ok-members.ensures.value c.requires.whole in
-    IfOk-weaker c.members_size.result _ _ (λ n h. omega (arith, h, object_cost (tree c.args.value.now) _ list)) c.members_size.ensures.size
+    let list = ap (option_map (λ v. map (λ m. (m.0.now, tree m.1.now)) v.items)) (sym c.in-Some.is) ∙ c.in_ok-members.ensures.value in
+    IfOk-weaker c.members_size.result _ _ (λ n h. omega (arith, h, object_cost (tree_of c.args.value) _ list)) c.members_size.ensures.size
 
 pub size_within-returns-then-most-le1-clause-size : goal.size_within-returns-then-most-le1-clause-size
-size_within-returns-then-most-le1-clause-size g t c = omega (arith, c.if-most-le1.true, some_cost (g.T.Queryable.tree c.args.value.now))
+size_within-returns-then-most-le1-clause-size g t c = omega (arith, c.if-most-le1.true, some_cost (tree_of c.args.value))
 
-pub size_within-returns-in-Some-as_array-clause-size : goal.size_within-returns-in-Some-as_array-clause-size
-size_within-returns-in-Some-as_array-clause-size g t c =
-    omega (arith, c.if-most-le1.false, c.saturating_add-in-Some-as_array.ensures, c.in_ok-inside.ensures.size, list_cost (g.T.Queryable.tree c.args.value.now) _ (c.in-Some-as_array.ensures.value c.requires))
+pub size_within-returns-in-Some-elements-clause-size : goal.size_within-returns-in-Some-elements-clause-size
+size_within-returns-in-Some-elements-clause-size g t c =
+    omega (arith, c.if-most-le1.false, c.saturating_add-in-Some-elements.ensures, c.in_ok-inside.ensures.size, list_cost (tree_of c.args.value) _ c.in-Some-elements.ensures.value)

@@ -7,17 +7,17 @@ use Rattle.jsonpath_rust.specs.declared.selection.sink.Wanted.TheVariants.{Count
 use Rattle.jsonpath_rust.proofs.laws.selection.PlanEquations.{call_view-Length, call_view-Value, call_view-Count}
 use Rattle.jsonpath_rust.proofs.selection.direct.direct_answer.Goals as goal
 
-pub returns-in_ok-nodes_of-in-Length-clause-value : goal.returns-in_ok-nodes_of-in-Length-clause-value
-returns-in_ok-nodes_of-in-Length-clause-value g c = λ kept d n e.
+pub returns-in_ok-nodes_of-in-Length : goal.returns-in_ok-nodes_of-in-Length
+returns-in_ok-nodes_of-in-Length g c = λ kept d n e.
     let is = ap (call_view kept) c.in-Length.is ∙ call_view-Length kept _ ∙ ap length_call (c.in_ok-nodes_of-in-Length.ensures kept Only) in
-    IfSome_then c.direct_length.result (c.direct_length.ensures.value kept d n e) (λ s h. h ∙ sym (ap (λ f. answer f d n) is))
+    IfSome_then c.direct_length.result (c.direct_length.ensures kept d n e) (λ s h. h ∙ sym (ap (λ f. answer f d n) is))
 
-pub returns-in_ok-nodes_of-in-Value-clause-value : goal.returns-in_ok-nodes_of-in-Value-clause-value
-returns-in_ok-nodes_of-in-Value-clause-value g c = λ kept d n e.
+pub returns-in_ok-nodes_of-in-Value : goal.returns-in_ok-nodes_of-in-Value
+returns-in_ok-nodes_of-in-Value g c = λ kept d n e.
     let is = ap (call_view kept) c.in-Value.is ∙ call_view-Value kept _ ∙ ap value_call (c.in_ok-nodes_of-in-Value.ensures kept Only) in
-    IfSome_then c.direct_value.result (c.direct_value.ensures.value kept d n e) (λ s h. h ∙ sym (ap (λ f. answer f d n) is))
+    IfSome_then c.direct_value.result (c.direct_value.ensures kept d n e) (λ s h. h ∙ sym (ap (λ f. answer f d n) is))
 
-pub returns-in_ok-nodes_of-in-Count-clause-value : goal.returns-in_ok-nodes_of-in-Count-clause-value
-returns-in_ok-nodes_of-in-Count-clause-value g c = λ kept d n e.
+pub returns-in_ok-nodes_of-in-Count : goal.returns-in_ok-nodes_of-in-Count
+returns-in_ok-nodes_of-in-Count g c = λ kept d n e.
     let is = ap (call_view kept) c.in-Count.is ∙ call_view-Count kept _ ∙ ap count_call (c.in_ok-nodes_of-in-Count.ensures kept Count) in
-    IfSome_then c.direct_count.result (c.direct_count.ensures.value kept d n e) (λ s h. h ∙ sym (ap (λ f. answer f d n) is))
+    IfSome_then c.direct_count.result (c.direct_count.ensures kept d n e) (λ s h. h ∙ sym (ap (λ f. answer f d n) is))

@@ -11,14 +11,14 @@ use Rattle.jsonpath_rust.proofs.laws.selection.DirectLaws.{walk_there}
 use Rattle.jsonpath_rust.proofs.laws.selection.Kept.{of_some}
 use Rattle.jsonpath_rust.proofs.laws.selection.PlanEquations.{nodes_view-Lookup}
 use Rattle.jsonpath_rust.proofs.laws.selection.StepLaws.{is_there}
+use Rattle.jsonpath_rust.specs.documents.inner.Whole.{tree_of}
 use Rattle.jsonpath_rust.proofs.selection.direct.is_there.Goals as goal
 
 pub returns-in-Lookup : goal.returns-in-Lookup
 returns-in-Lookup g c = λ kept d n e.
-    let tree = g.T.Queryable.tree in
     let view = ap (λ ns. nodes_view kept ns Any) c.in-Lookup.is ∙ nodes_view-Lookup kept c.in-Lookup.steps Any in
-    let there = c.value_at.ensures.value ∙ ap (λ (ss : List SingularQuerySegment). value_at (map step_view ss) (tree c.args.at.now)) c.deref.ensures.value ∙ ap (value_at (map step_view c.in-Lookup.steps.items)) (sym e) in
-    c.is_some.ensures ∙ is_there (λ v. tree v.now) c.value_at.result (map step_view c.in-Lookup.steps.items) d n there ∙ sym (ap (λ q. as_truth (tested q d n)) view)
+    let there = c.value_at.ensures ∙ ap (λ (ss : List SingularQuerySegment). value_at (map step_view ss) (tree_of c.args.at)) c.deref.ensures.value ∙ ap (value_at (map step_view c.in-Lookup.steps.items)) (sym e) in
+    c.is_some.ensures ∙ is_there tree_of c.value_at.result (map step_view c.in-Lookup.steps.items) d n there ∙ sym (ap (λ q. as_truth (tested q d n)) view)
 
 pub returns-in-Some : goal.returns-in-Some
 returns-in-Some g c = λ kept d n e.

@@ -1,6 +1,7 @@
 use Rattle.std.proofs.Common.{◌≡◌, map, length, rules, sym, ◌∙◌}
 use Rattle.std.proofs.lemmas.List.{length-map}
 use Rattle.jsonpath_rust.proofs.laws.selection.LookupLaws.{list_count, object_count}
+use Rattle.jsonpath_rust.specs.documents.inner.Whole.{tree_of}
 use Rattle.jsonpath_rust.proofs.selection.lookup.child_count.Goals as goal
 
 pub returns-in-Some-clause-value : goal.returns-in-Some-clause-value
@@ -8,7 +9,7 @@ returns-in-Some-clause-value g c =
     let tree = g.T.Queryable.tree in
     let items = c.in-Some.items.now.items in
     let count : c.len.result ≡ length items = search rules in
-    count ∙ sym (length-map items tree) ∙ list_count (tree c.args.parent.now) (map tree items) (c.in-Some.ensures.value c.requires)
+    count ∙ sym (length-map items tree) ∙ list_count (tree_of c.args.parent) (map tree items) c.in-Some.ensures.value
 
 pub returns-in-Some-2-clause-value : goal.returns-in-Some-2-clause-value
-returns-in-Some-2-clause-value g c = object_count (g.T.Queryable.tree c.args.parent.now) c.in-Some-2.count (rw c.in-Some-2.is at (c.in_ok-count.ensures.value c.requires))
+returns-in-Some-2-clause-value g c = object_count (tree_of c.args.parent) c.in-Some-2.count (rw c.in-Some-2.is at c.in_ok-count.ensures.value)

@@ -4,7 +4,7 @@ use Rattle.jsonpath_rust.proofs.laws.selection.Kept.{slot_set, keeps_set}
 use Rattle.jsonpath_rust.proofs.selection.cache.Cache.keep.Goals as goal
 
 pub returns-clause-value : goal.returns-clause-value
-returns-clause-value g c = slot_set g.T.Queryable.tree g.T.Queryable.is_whole (slots_of c.args.self.now) c.args.number c.args.given c.requires
+returns-clause-value g c = slot_set (slots_of c.args.self.now) c.args.number c.args.given c.requires
 
 pub returns-clause-right : goal.returns-clause-right
-returns-clause-right g c kept doc given was = keeps_set g.T.Queryable.tree g.T.Queryable.is_whole kept doc c.args.self.now _ c.args.number c.args.given refl given was
+returns-clause-right g c kept doc given was = keeps_set kept doc c.args.self.now _ c.args.number c.args.given refl given was

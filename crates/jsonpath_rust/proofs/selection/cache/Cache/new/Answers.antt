@@ -3,4 +3,4 @@ use Rattle.jsonpath_rust.proofs.laws.selection.Kept.{keeps_none}
 use Rattle.jsonpath_rust.proofs.selection.cache.Cache.new.Goals as goal
 
 pub returns : goal.returns
-returns g c = λ kept doc e. keeps_none g.T.Queryable.tree g.T.Queryable.is_whole kept doc _ (c.in_ok-slots.ensures.count ∙ sym e) c.in_ok-slots.ensures.empty
+returns g c = λ kept doc e. keeps_none kept doc _ (c.in_ok-slots.ensures.count ∙ sym e) c.in_ok-slots.ensures.empty

@@ -1,29 +1,18 @@
 use Rattle.std.proofs.Common.{◌∙◌, ap, string_bytes}
 use Rattle.jsonpath_rust.specs.documents.Document.{document_of}
-use Rattle.jsonpath_rust.specs.documents.Meaning.{nodelist}
-use Rattle.jsonpath_rust.specs.declared.documents.node.QueryRef.{QueryRef}
 use Rattle.jsonpath_rust.specs.selection.Prepared.{runner_view}
 use Rattle.jsonpath_rust.specs.selection.inner.Sinks.{first_in}
-use Rattle.jsonpath_rust.proofs.laws.selection.Answers.{first_answered, none_answered, whole_answered}
+use Rattle.jsonpath_rust.proofs.laws.selection.Answers.{first_answered, none_answered}
 use Rattle.jsonpath_rust.proofs.selection.runner.Runner.first.Goals as goal
 
 pub returns-clause-first : goal.returns-clause-first
 returns-clause-first g c =
     let tree = g.T.Queryable.tree in
-    let whole = λ (r : QueryRef _). g.T.Queryable.is_whole r.val.now in
     let doc = document_of tree g.T.Queryable.custom c.args.value.now in
-    first_answered whole (λ r. (string_bytes r.path, tree r.val.now)) (runner_view c.args.self.now) doc _ (g.met.T.Queryable.distinct c.args.value.now c.requires) (c.into_first.ensures ∙ ap first_in c.in_ok-sink.ensures.gave)
+    first_answered (λ r. (string_bytes r.path, tree r.val.now)) (runner_view c.args.self.now) doc _ (g.met.T.Queryable.distinct c.args.value.now c.requires) (c.into_first.ensures.node ∙ ap first_in c.in_ok-sink.ensures.gave)
 
 pub returns-clause-none : goal.returns-clause-none
 returns-clause-none g c =
     let tree = g.T.Queryable.tree in
-    let whole = λ (r : QueryRef _). g.T.Queryable.is_whole r.val.now in
     let doc = document_of tree g.T.Queryable.custom c.args.value.now in
-    none_answered whole (λ r. (string_bytes r.path, tree r.val.now)) (runner_view c.args.self.now) doc _ (c.into_first.ensures ∙ ap first_in c.in_ok-sink.ensures.gave)
-
-pub returns-clause-whole : goal.returns-clause-whole
-returns-clause-whole g c =
-    let tree = g.T.Queryable.tree in
-    let whole = λ (r : QueryRef _). g.T.Queryable.is_whole r.val.now in
-    let doc = document_of tree g.T.Queryable.custom c.args.value.now in
-    whole_answered whole (λ r. (string_bytes r.path, tree r.val.now)) (nodelist (runner_view c.args.self.now) doc) _ (c.into_first.ensures ∙ ap first_in c.in_ok-sink.ensures.gave)
+    none_answered (λ r. (string_bytes r.path, tree r.val.now)) (runner_view c.args.self.now) doc _ (c.into_first.ensures.node ∙ ap first_in c.in_ok-sink.ensures.gave)

@@ -2,7 +2,7 @@ use Rattle.std.proofs.Common.{◌∙◌}
 use Rattle.jsonpath_rust.specs.documents.Document.{document_of}
 use Rattle.jsonpath_rust.specs.documents.Meaning.{nodelist}
 use Rattle.jsonpath_rust.specs.selection.Prepared.{runner_view}
-use Rattle.jsonpath_rust.proofs.laws.selection.Sinks.{given_values, given_values_whole, all_whole}
+use Rattle.jsonpath_rust.proofs.laws.selection.Sinks.{given_values}
 use Rattle.jsonpath_rust.proofs.laws.selection.Answers.{values_answered}
 use Rattle.jsonpath_rust.proofs.selection.runner.Runner.values.Goals as goal
 
@@ -11,10 +11,4 @@ returns-clause-values g c =
     let tree = g.T.Queryable.tree in
     let q = runner_view c.args.self.now in
     let doc = document_of tree g.T.Queryable.custom c.args.value.now in
-    values_answered q doc _ (g.met.T.Queryable.distinct c.args.value.now c.requires) (c.into_values.ensures.values ∙ given_values (λ x. g.T.Queryable.is_whole x.now) (λ x. tree x.now) c.new.result.items _ (nodelist q doc) c.new.ensures.items c.in_ok-sink.ensures.gave)
-
-pub returns-clause-whole : goal.returns-clause-whole
-returns-clause-whole g c =
-    let tree = g.T.Queryable.tree in
-    let ns = nodelist (runner_view c.args.self.now) (document_of tree g.T.Queryable.custom c.args.value.now) in
-    all_whole (λ x. g.T.Queryable.is_whole x.now) c.into_values.result.items ns (c.into_values.ensures.whole ∙ given_values_whole (λ x. g.T.Queryable.is_whole x.now) (λ x. tree x.now) c.new.result.items _ ns c.new.ensures.items c.in_ok-sink.ensures.gave)
+    values_answered q doc _ (g.met.T.Queryable.distinct c.args.value.now c.requires) (c.into_values.ensures.values ∙ given_values (λ x. tree x.now) c.new.result.list.items _ (nodelist q doc) c.new.ensures c.in_ok-sink.ensures.gave)

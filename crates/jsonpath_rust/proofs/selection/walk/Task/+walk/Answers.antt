@@ -3,7 +3,7 @@ use Rattle.std.proofs.Common.{◌≡◌, ◌<◌, ℕ, length, map, List, [], �
 use Rattle.std.proofs.lemmas.Int.{to_z-of_z}
 use Rattle.std.proofs.lemmas.List.{map-append}
 use Rattle.std.proofs.lemmas.Result.{IfOk-weaker}
-use Rattle.std.proofs.lemmas.List.Elements.{All-head, All-tail, All-nil}
+use Rattle.std.proofs.lemmas.List.Elements.{All-head, All-tail}
 use Rattle.std.specs.List.{flat_map}
 use Rattle.jsonpath_parser.specs.Location.{name, index}
 use Rattle.jsonpath_parser.specs.tree.View.{operator_view, step_view}
@@ -33,28 +33,27 @@ use Rattle.jsonpath_rust.proofs.laws.selection.Sinks.{took_none, took_as, took_s
 use Rattle.jsonpath_rust.proofs.laws.selection.Walks.{down, down_tree, down_same, turn_next, turn_stop, turn_end, selector_turns, element_turns, member_turns, place_next, place_stop, below_more, flat_map-alone, flat_map-filter}
 use Rattle.jsonpath_rust.proofs.laws.selection.Leading.{leads_below, leads_indexed}
 use Rattle.jsonpath_rust.proofs.laws.documents.NodesAt.{member_there}
-use Rattle.jsonpath_rust.proofs.laws.selection.HaltingLaws.{asked_as, asked_left, asked_right, asked_rest, asked_at, asked_at_or, halts_as, halts_so, pattern_asked}
-use Rattle.jsonpath_rust.proofs.laws.documents.Trees.{child_there, all_at, element_size, pair_size, member_size, element_at, sliced-list, named_some, named_none}
-use Rattle.jsonpath_rust.proofs.laws.documents.Parts.{part_of, kept_true, kept_false, some_found, some_next, each_failed, each_next, parts_end, ok_as, ok_through, differs, passed_on, joined_next}
-use Rattle.jsonpath_rust.proofs.laws.selection.Kept.{kept_query, of_some, err_is}
+use Rattle.jsonpath_rust.proofs.laws.selection.HaltingLaws.{asked_as, asked_left, asked_right, asked_rest, asked_at, asked_at_or, pattern_asked}
+use Rattle.jsonpath_rust.proofs.laws.documents.Trees.{child_there, element_size, pair_size, member_size, element_at, sliced-list, named_some, named_none}
+use Rattle.jsonpath_rust.proofs.laws.documents.Parts.{part_of, kept_true, kept_false, some_found, some_next, each_failed, each_next, parts_end, ok_as, ok_through, differs, joined_next}
+use Rattle.jsonpath_rust.proofs.laws.selection.Kept.{kept_query, of_some}
 use Rattle.jsonpath_rust.proofs.laws.selection.RootedLaws.{answer_as, answer_kept, comparison_as, comparison_kept, kept_call_same, kept_comparison_same}
 use Rattle.jsonpath_rust.specs.documents.Comparing.{compares}
 use Rattle.jsonpath_rust.specs.documents.Functions.{length_of, as_value, as_trees, as_truth, is_matched, is_true}
 use Rattle.jsonpath_base.specs.Pattern.{is_entire}
-use Rattle.jsonpath_rust.specs.documents.inner.Operands.{operand_tree, side_tree, arg_trees, AreWhole}
+use Rattle.jsonpath_rust.specs.documents.inner.Operands.{operand_tree, side_tree, arg_trees}
+use Rattle.jsonpath_rust.specs.documents.Args.{arg_value}
+use Rattle.jsonpath_rust.specs.documents.inner.Whole.{tree_of}
 use Rattle.jsonpath_rust.proofs.laws.selection.NodelistLaws.{through-applied, nodelist-through}
 use Rattle.jsonpath_base.specs.declared.step.StepRef.{StepRef}
-use Rattle.jsonpath_rust.specs.selection.inner.Arguing.{value, nodes, holding, value_held, only_held, count_held, trees_held, truth_held, OnlyIsWhole, HeldAreWhole}
-use Rattle.jsonpath_rust.proofs.laws.selection.Arguing.{as_value_held, as_only_held, as_count_held, as_trees_held, as_truth_held, only_is_whole, held_are_whole}
+use Rattle.jsonpath_rust.specs.selection.inner.Arguing.{value, nodes, holding, value_held, only_held, count_held, trees_held, truth_held}
+use Rattle.jsonpath_rust.proofs.laws.selection.Arguing.{as_value_held, as_only_held, as_count_held, as_trees_held, as_truth_held}
 use Rattle.jsonpath_rust.specs.selection.inner.Halting.{IsHalt}
-use Rattle.jsonpath_rust.proofs.laws.selection.Standing.{still, stands_as, stays, at_root, on, on_ok}
+use Rattle.jsonpath_rust.proofs.laws.selection.Standing.{still, stands_as, stays, at_root, on, comes_as, comes_on, comes_err, comes_halt, comes_so}
 use Rattle.jsonpath_rust.proofs.selection.walk.Task.+walk.Goals as goal
 
-pub walk-take-requires : goal.walk-take-requires
-walk-take-requires g t c = c.requires.whole
-
-pub act-go_on-requires : goal.act-go_on-requires
-act-go_on-requires g t c κs within =
+pub act-walk-requires : goal.act-walk-requires
+act-walk-requires g t c κs within =
     let kept = kept_of c.args.self.now in
     let e = ap (action_weight kept) c.in-All.is in
     (down _ _ _ _ _ _ c.decreases (omega (arith, e)) (omega (arith, c.requires.within)), (within, c.requires))
@@ -65,11 +64,11 @@ act-filter_holds-requires g t c κs within =
     let e = ap (action_weight kept) c.in-If.is in
     (down _ _ _ _ _ _ c.decreases (omega (arith, e)) (omega (arith, c.requires.within)), (within, c.requires))
 
-pub act-go_on-requires-then-branch : goal.act-go_on-requires-then-branch
-act-go_on-requires-then-branch g t c κs within =
+pub act-walk-requires-then-branch : goal.act-walk-requires-then-branch
+act-walk-requires-then-branch g t c κs within =
     let kept = kept_of c.args.self.now in
     let e = ap (action_weight kept) c.in-If.is in
-    (down _ _ _ _ _ _ c.decreases (omega (arith, e)) (omega (arith, c.requires.within)), (within, still c.requires c.in_ok-filter_holds-in-If.ensures.returns))
+    (down _ _ _ _ _ _ c.decreases (omega (arith, e)) (omega (arith, c.requires.within)), (within, still c.requires c.in_ok-filter_holds-in-If.ensures.comes.back))
 
 pub act-descend-requires : goal.act-descend-requires
 act-descend-requires g t c κs within =
@@ -80,28 +79,25 @@ act-descend-requires g t c κs within =
 pub act-returns-in-All-clause-gave : goal.act-returns-in-All-clause-gave
 act-returns-in-All-clause-gave g t c =
     let kept = kept_of c.args.self.now in
-    let tree = g.T.Queryable.tree in
-    let d = document tree g.T.Queryable.custom c.args.self.now in
-    let n = node_of tree c.args.trail.now.way.steps.items c.args.at.now in
+    let d = document c.args.self.now in
+    let n = node_of c.args.trail.now.way.steps.items c.args.at in
     let rest = through (segments_meant kept c.args.onward.rest.now) d in
-    result_as _ _ _ _ _ (sym (append-nil (rest n)) ∙ ap (λ a. flat_map rest (acted kept a d n)) (sym c.in-All.is)) c.go_on.ensures.gave
+    result_as _ _ _ _ _ (sym (append-nil (rest n)) ∙ ap (λ a. flat_map rest (acted kept a d n)) (sym c.in-All.is)) c.walk.ensures.gave
 
 pub act-returns-then-branch-clause-gave : goal.act-returns-then-branch-clause-gave
 act-returns-then-branch-clause-gave g t c =
     let kept = kept_of c.args.self.now in
-    let tree = g.T.Queryable.tree in
-    let d = document tree g.T.Queryable.custom c.args.self.now in
-    let n = node_of tree c.args.trail.now.way.steps.items c.args.at.now in
+    let d = document c.args.self.now in
+    let n = node_of c.args.trail.now.way.steps.items c.args.at in
     let rest = through (segments_meant kept c.args.onward.rest.now) d in
     let h = c.in_ok-filter_holds-in-If.ensures in
-    result_as _ _ _ _ _ (ap (λ q. rest (node_of tree q c.args.at.now)) h.returns.same ∙ kept_true rest (holds (filter_view kept c.in-If.filter.now) d) n (sym h.holds ∙ c.if-branch.true) ∙ ap (λ a. flat_map rest (acted kept a d n)) (sym c.in-If.is)) c.go_on-then-branch.ensures.gave
+    result_as _ _ _ _ _ (ap (λ q. rest (node_of q c.args.at)) h.comes.back.same ∙ kept_true rest (holds (filter_view kept c.in-If.filter.now) d) n (sym h.holds ∙ c.if-branch.true) ∙ ap (λ a. flat_map rest (acted kept a d n)) (sym c.in-If.is)) c.walk-then-branch.ensures.gave
 
 pub act-returns-else-branch-clause-gave : goal.act-returns-else-branch-clause-gave
 act-returns-else-branch-clause-gave g t c =
     let kept = kept_of c.args.self.now in
-    let tree = g.T.Queryable.tree in
-    let d = document tree g.T.Queryable.custom c.args.self.now in
-    let n = node_of tree c.args.trail.now.way.steps.items c.args.at.now in
+    let d = document c.args.self.now in
+    let n = node_of c.args.trail.now.way.steps.items c.args.at in
     let rest = through (segments_meant kept c.args.onward.rest.now) d in
     let h = c.in_ok-filter_holds-in-If.ensures in
     took_none _ _ (ap (λ a. flat_map rest (acted kept a d n)) c.in-If.is ∙ kept_false rest (holds (filter_view kept c.in-If.filter.now) d) n (sym h.holds ∙ c.if-branch.false))
@@ -109,9 +105,8 @@ act-returns-else-branch-clause-gave g t c =
 pub act-returns-in-Below-clause-gave : goal.act-returns-in-Below-clause-gave
 act-returns-in-Below-clause-gave g t c =
     let kept = kept_of c.args.self.now in
-    let tree = g.T.Queryable.tree in
-    let d = document tree g.T.Queryable.custom c.args.self.now in
-    let n = node_of tree c.args.trail.now.way.steps.items c.args.at.now in
+    let d = document c.args.self.now in
+    let n = node_of c.args.trail.now.way.steps.items c.args.at in
     let rest = through (segments_meant kept c.args.onward.rest.now) d in
     result_as _ _ _ _ _ (ap (λ a. flat_map rest (acted kept a d n)) (sym c.in-Below.is)) c.descend.ensures.gave
 
@@ -127,8 +122,8 @@ descend-each_member-requires g t c κs within =
         (
           c.requires,
           record {
-            list = ap (λ xs. Some (map (λ m. (m.0.now, tree m.1.now)) xs)) c.deref.ensures.value ∙ rw c.in-Some-2.is at (c.in_ok-listed.ensures.value c.requires.whole);
-            whole = subst P (sym c.deref.ensures.value) (rw c.in-Some-2.is at (c.in_ok-listed.ensures.whole c.requires.whole));
+            list = ap (λ xs. Some (map (λ m. (m.0.now, tree m.1.now)) xs)) c.deref.ensures.value ∙ rw c.in-Some-2.is at (c.in_ok-listed.ensures.value);
+            whole = subst P (sym c.deref.ensures.value) (rw c.in-Some-2.is at (c.in_ok-listed.ensures.whole));
           },
         ),
       ),
@@ -142,10 +137,10 @@ descend-each_member-requires-in-Some-2 g t c κs within =
       (
         within,
         (
-          still c.requires c.in_ok-each_member.ensures.returns,
+          still c.requires c.in_ok-each_member.ensures.comes.back,
           record {
-            list = ap (λ xs. Some (map (λ m. (m.0.now, tree m.1.now)) xs)) c.deref.ensures.value ∙ rw c.in-Some-2.is at (c.in_ok-listed.ensures.value c.requires.whole);
-            whole = subst P (sym c.deref.ensures.value) (rw c.in-Some-2.is at (c.in_ok-listed.ensures.whole c.requires.whole));
+            list = ap (λ xs. Some (map (λ m. (m.0.now, tree m.1.now)) xs)) c.deref.ensures.value ∙ rw c.in-Some-2.is at (c.in_ok-listed.ensures.value);
+            whole = subst P (sym c.deref.ensures.value) (rw c.in-Some-2.is at (c.in_ok-listed.ensures.whole));
           },
         ),
       ),
@@ -154,14 +149,13 @@ descend-each_member-requires-in-Some-2 g t c κs within =
 pub descend-returns-in-Some-2-clause-gave : goal.descend-returns-in-Some-2-clause-gave
 descend-returns-in-Some-2-clause-gave g t c =
     let kept = kept_of c.args.self.now in
-    let tree = g.T.Queryable.tree in
-    let d = document tree g.T.Queryable.custom c.args.self.now in
-    let n = node_of tree c.args.trail.now.way.steps.items c.args.at.now in
+    let d = document c.args.self.now in
+    let n = node_of c.args.trail.now.way.steps.items c.args.at in
     let rest = through (segments_meant kept c.args.onward.rest.now) d in
     let h = replaced (segment_view kept c.args.onward.next.now) d in
     let here = flat_map rest (flat_map (acted kept c.in-Some.next d) (children n)) in
     let further = flat_map rest (flat_map (λ m. flat_map h (subtree m)) (children n)) in
-    let same = ap (λ q. here ++ flat_map rest (flat_map (λ m. flat_map h (subtree m)) (children (node_of tree q c.args.at.now)))) c.in_ok-each_member.ensures.returns.same in
+    let same = ap (λ q. here ++ flat_map rest (flat_map (λ m. flat_map h (subtree m)) (children (node_of q c.args.at)))) c.in_ok-each_member.ensures.comes.back.same in
     let makes = ap (λ ns. flat_map rest ns ++ further) ((c.in-Some.ensures kept).makes d n) in
     result_then _ _ _ _ _ _ _ _ (same ∙ makes ∙ below_more rest h n.location n.tree) c.in_ok-each_member.ensures.gave c.each_member-in-Some-2.ensures.gave
 
@@ -170,26 +164,24 @@ descend-pass-requires g t c κs within =
     (down _ _ _ _ _ _ c.decreases (omega arith) (omega (arith, c.requires.within)), (within, c.requires))
 
 pub descend-each_child-requires : goal.descend-each_child-requires
-descend-each_child-requires g t c κs within = (down_tree _ _ _ _ _ c.decreases (omega arith), (within, still c.requires c.in_ok-pass.ensures.returns))
+descend-each_child-requires g t c κs within = (down_tree _ _ _ _ _ c.decreases (omega arith), (within, still c.requires c.in_ok-pass.ensures.comes.back))
 
 pub descend-returns-clause-gave : goal.descend-returns-clause-gave
 descend-returns-clause-gave g t c =
     let kept = kept_of c.args.self.now in
-    let tree = g.T.Queryable.tree in
-    let d = document tree g.T.Queryable.custom c.args.self.now in
-    let n = node_of tree c.args.trail.now.way.steps.items c.args.at.now in
+    let d = document c.args.self.now in
+    let n = node_of c.args.trail.now.way.steps.items c.args.at in
     let rest = through (segments_meant kept c.args.onward.rest.now) d in
     let h = replaced (segment_view kept c.args.onward.next.now) d in
     let here = flat_map rest (h n) in
-    let same = ap (λ q. here ++ flat_map rest (flat_map (λ m. flat_map h (subtree m)) (children (node_of tree q c.args.at.now)))) c.in_ok-pass.ensures.returns.same in
+    let same = ap (λ q. here ++ flat_map rest (flat_map (λ m. flat_map h (subtree m)) (children (node_of q c.args.at)))) c.in_ok-pass.ensures.comes.back.same in
     result_then _ _ _ _ _ _ _ _ (same ∙ below_more rest h n.location n.tree) c.in_ok-pass.ensures.gave c.each_child.ensures.gave
 
 pub descend-returns-then-not-branch-clause-gave : goal.descend-returns-then-not-branch-clause-gave
 descend-returns-then-not-branch-clause-gave g t c =
     let kept = kept_of c.args.self.now in
-    let tree = g.T.Queryable.tree in
-    let d = document tree g.T.Queryable.custom c.args.self.now in
-    let n = node_of tree c.args.trail.now.way.steps.items c.args.at.now in
+    let d = document c.args.self.now in
+    let n = node_of c.args.trail.now.way.steps.items c.args.at in
     let rest = through (segments_meant kept c.args.onward.rest.now) d in
     let h = replaced (segment_view kept c.args.onward.next.now) d in
     let further = flat_map rest (flat_map (λ m. flat_map h (subtree m)) (children n)) in
@@ -199,27 +191,16 @@ descend-returns-then-not-branch-clause-gave g t c =
 pub descend-returns-then-not-branch-2-clause-gave : goal.descend-returns-then-not-branch-2-clause-gave
 descend-returns-then-not-branch-2-clause-gave g t c =
     let kept = kept_of c.args.self.now in
-    let tree = g.T.Queryable.tree in
-    let d = document tree g.T.Queryable.custom c.args.self.now in
-    let n = node_of tree c.args.trail.now.way.steps.items c.args.at.now in
+    let d = document c.args.self.now in
+    let n = node_of c.args.trail.now.way.steps.items c.args.at in
     let rest = through (segments_meant kept c.args.onward.rest.now) d in
     let h = replaced (segment_view kept c.args.onward.next.now) d in
     took_stop _ _ _ _ _ _ _ (below_more rest h n.location n.tree) c.in_ok-pass.ensures.gave c.if-not-branch-2.true
 
-pub go_on-take-requires : goal.go_on-take-requires
-go_on-take-requires g t c = c.requires.whole
-
-pub go_on-walk-requires : goal.go_on-walk-requires
-go_on-walk-requires g t c κs within = (down_tree _ _ _ _ _ c.decreases (omega arith), (within, c.requires))
-
-pub at_child-is_idle-requires : goal.at_child-is_idle-requires
-at_child-is_idle-requires g t c = c.requires.whole
-
 pub at_child-returns-then-is_idle-clause-gave : goal.at_child-returns-then-is_idle-clause-gave
 at_child-returns-then-is_idle-clause-gave g t c =
     let kept = kept_of c.args.self.now in
-    let tree = g.T.Queryable.tree in
-    let d = document tree g.T.Queryable.custom c.args.self.now in
+    let d = document c.args.self.now in
     let rest = through (segments_meant kept c.args.onward.rest.now) d in
     took_none _ _ (ap (flat_map rest) (c.is_idle.ensures c.if-is_idle.true kept d _))
 
@@ -230,21 +211,21 @@ pub at_child-returns-clause-gave : goal.at_child-returns-clause-gave
 at_child-returns-clause-gave g t c =
     let kept = kept_of c.args.self.now in
     let tree = g.T.Queryable.tree in
-    let d = document tree g.T.Queryable.custom c.args.self.now in
+    let d = document c.args.self.now in
     let rest = through (segments_meant kept c.args.onward.rest.now) d in
-    let x = tree c.args.child.value.now in
-    took_as _ _ _ _ _ (ap (λ q. flat_map rest (acted kept c.args.onward.next d (node_of tree q c.args.child.value.now))) c.in_ok-push.ensures.steps ∙ ap (λ l. flat_map rest (acted kept c.args.onward.next d (record { location = l; tree = x }))) (map-append lent_step c.args.trail.now.way.steps.items (c.args.child.step ∷ []))) c.in_ok-goes_on.ensures.gave
+    let x = tree_of c.args.child.value in
+    took_as _ _ _ _ _ (ap (λ q. flat_map rest (acted kept c.args.onward.next d (node_of q c.args.child.value))) c.in_ok-push.ensures.steps ∙ ap (λ l. flat_map rest (acted kept c.args.onward.next d (record { location = l; tree = x }))) (map-append lent_step c.args.trail.now.way.steps.items (c.args.child.step ∷ []))) c.in_ok-goes_on.ensures.gave
 
 pub each_child-at_child-requires : goal.each_child-at_child-requires
 each_child-at_child-requires g t c κs within =
     let tree = g.T.Queryable.tree in
     let items = c.deref-value-items.result.now in
     let P : List _ → Type 0 = All (λ x. IsTrue (g.T.Queryable.is_whole x)) in
-    let some = ap (λ xs. Some (map tree xs)) c.deref-value-items.ensures.value ∙ c.in-Some.ensures.value c.requires.whole in
-    let whole = subst P (sym c.deref-value-items.ensures.value) (c.in-Some.ensures.whole c.requires.whole) in
-    let s = element_size tree (tree c.args.at.now) items c.loop-i.i c.value-item.result some c.loop-i-test.true c.value-item.is in
+    let some = ap (λ xs. Some (map tree xs)) c.deref-value-items.ensures.value ∙ c.in-Some.ensures.value in
+    let whole = subst P (sym c.deref-value-items.ensures.value) (c.in-Some.ensures.whole) in
+    let s = element_size tree (tree_of c.args.at) items c.loop-i.i c.value-item.result some c.loop-i-test.true c.value-item.is in
     let was = still c.requires c.loop-i.invariant.returns in
-    (down_tree _ _ _ _ _ c.decreases (omega (arith, s)), (within, record { whole = all_at (λ x. IsTrue (g.T.Queryable.is_whole x)) items c.loop-i.i c.value-item.result whole c.loop-i-test.true c.value-item.is; within = omega (arith, s, c.requires.within); here = leads_below c.loop-i.trail.way.steps.items (Index c.loop-i.i) (tree c.args.self.now.root.now) _ _ was.here (child_there tree (tree c.args.at.now) items c.loop-i.i c.value-item.result some c.loop-i-test.true c.value-item.is); ready = was.ready }))
+    (down_tree _ _ _ _ _ c.decreases (omega (arith, s)), (within, record { within = omega (arith, s, c.requires.within); here = leads_below c.loop-i.trail.way.steps.items (Index c.loop-i.i) (tree_of c.args.self.now.root) _ _ was.here (child_there tree (tree_of c.args.at) items c.loop-i.i c.value-item.result some c.loop-i-test.true c.value-item.is); ready = was.ready }))
 
 pub each_member-at_child-requires : goal.each_member-at_child-requires
 each_member-at_child-requires g t c κs within =
@@ -252,17 +233,17 @@ each_member-at_child-requires g t c κs within =
     let items = c.args.members.now.list.now in
     let some = c.requires.listed.list in
     let whole = c.requires.listed.whole in
-    let s = pair_size (λ m. (m.0.now, tree m.1.now)) (tree c.args.members.now.of.now) items c.loop-member.member-index c.member-item.result some c.loop-member-test.true c.member-item.is in
+    let s = pair_size (λ m. (m.0.now, tree m.1.now)) (tree_of c.args.members.now.of) items c.loop-member.member-index c.member-item.result some c.loop-member-test.true c.member-item.is in
     let was = still c.requires.stands c.loop-member.invariant.returns in
-    let there = member_there (λ m. (m.0.now, tree m.1.now)) (tree c.args.members.now.of.now) items c.loop-member.member-index c.member-item.result (g.met.T.Queryable.distinct c.args.members.now.of.now c.requires.stands.whole) some c.loop-member-test.true c.member-item.is in
-    (down_tree _ _ _ _ _ c.decreases (omega (arith, s)), (within, record { whole = all_at (λ m. IsTrue (g.T.Queryable.is_whole m.1.now)) items c.loop-member.member-index c.member-item.result whole c.loop-member-test.true c.member-item.is; within = omega (arith, s, c.requires.stands.within); here = leads_below c.loop-member.trail.way.steps.items (Name c.member-item.result.0) (tree c.args.self.now.root.now) _ _ was.here there; ready = was.ready }))
+    let there = member_there (λ m. (m.0.now, tree m.1.now)) (tree_of c.args.members.now.of) items c.loop-member.member-index c.member-item.result (g.met.T.Queryable.distinct c.args.members.now.of.value.now c.args.members.now.of.whole) some c.loop-member-test.true c.member-item.is in
+    (down_tree _ _ _ _ _ c.decreases (omega (arith, s)), (within, record { within = omega (arith, s, c.requires.stands.within); here = leads_below c.loop-member.trail.way.steps.items (Name c.member-item.result.0) (tree_of c.args.self.now.root) _ _ was.here there; ready = was.ready }))
 
 pub each_child-returns-then-not-branch-clause-gave : goal.each_child-returns-then-not-branch-clause-gave
 each_child-returns-then-not-branch-clause-gave g t c =
     let kept = kept_of c.args.self.now in
     let tree = g.T.Queryable.tree in
-    let d = document tree g.T.Queryable.custom c.args.self.now in
-    let n = node_of tree c.args.trail.now.way.steps.items c.args.at.now in
+    let d = document c.args.self.now in
+    let n = node_of c.args.trail.now.way.steps.items c.args.at in
     let rest = through (segments_meant kept c.args.onward.rest.now) d in
     let act = acted kept c.args.onward.next d in
     let inv = c.loop-i.invariant in
@@ -273,13 +254,13 @@ pub each_child-loop-i-preserved : goal.each_child-loop-i-preserved
 each_child-loop-i-preserved g t c =
     let kept = kept_of c.args.self.now in
     let tree = g.T.Queryable.tree in
-    let d = document tree g.T.Queryable.custom c.args.self.now in
-    let n = node_of tree c.args.trail.now.way.steps.items c.args.at.now in
+    let d = document c.args.self.now in
+    let n = node_of c.args.trail.now.way.steps.items c.args.at in
     let rest = through (segments_meant kept c.args.onward.rest.now) d in
     let act = acted kept c.args.onward.next d in
     let inv = c.loop-i.invariant in
     let k = took_as _ _ _ _ _ (ap (λ q. flat_map rest (act (below (lent_location q) (index c.loop-i.i) (tree c.value-item.result)))) inv.returns.same) c.in_ok-at_child.ensures.gave in
-    record { returns = on inv.returns c.in_ok-at_child.ensures.returns; given = turn_next _ _ (element_turns tree n.location rest act) c.deref-value-items.result.now c.loop-i.i c.value-item.result _ _ _ _ c.loop-i-test.true c.value-item.is k inv.given }
+    record { returns = on inv.returns c.in_ok-at_child.ensures.comes.back; given = turn_next _ _ (element_turns tree n.location rest act) c.deref-value-items.result.now c.loop-i.i c.value-item.result _ _ _ _ c.loop-i-test.true c.value-item.is k inv.given }
 
 pub each_child-each_member-requires : goal.each_child-each_member-requires
 each_child-each_member-requires g t c κs within =
@@ -291,8 +272,8 @@ each_child-each_member-requires g t c κs within =
         (
           c.requires,
           record {
-            list = ap (λ xs. Some (map (λ m. (m.0.now, tree m.1.now)) xs)) c.deref.ensures.value ∙ rw c.in-Some-2.is at (c.in_ok-listed.ensures.value c.requires.whole);
-            whole = subst P (sym c.deref.ensures.value) (rw c.in-Some-2.is at (c.in_ok-listed.ensures.whole c.requires.whole));
+            list = ap (λ xs. Some (map (λ m. (m.0.now, tree m.1.now)) xs)) c.deref.ensures.value ∙ rw c.in-Some-2.is at (c.in_ok-listed.ensures.value);
+            whole = subst P (sym c.deref.ensures.value) (rw c.in-Some-2.is at (c.in_ok-listed.ensures.whole));
           },
         ),
       ),
@@ -302,8 +283,8 @@ pub each_member-returns-then-not-branch-clause-gave : goal.each_member-returns-t
 each_member-returns-then-not-branch-clause-gave g t c =
     let kept = kept_of c.args.self.now in
     let tree = g.T.Queryable.tree in
-    let d = document tree g.T.Queryable.custom c.args.self.now in
-    let n = node_of tree c.args.trail.now.way.steps.items c.args.members.now.of.now in
+    let d = document c.args.self.now in
+    let n = node_of c.args.trail.now.way.steps.items c.args.members.now.of in
     let rest = through (segments_meant kept c.args.onward.rest.now) d in
     let act = acted kept c.args.onward.next d in
     let inv = c.loop-member.invariant in
@@ -314,13 +295,13 @@ pub each_member-loop-member-preserved : goal.each_member-loop-member-preserved
 each_member-loop-member-preserved g t c =
     let kept = kept_of c.args.self.now in
     let tree = g.T.Queryable.tree in
-    let d = document tree g.T.Queryable.custom c.args.self.now in
-    let n = node_of tree c.args.trail.now.way.steps.items c.args.members.now.of.now in
+    let d = document c.args.self.now in
+    let n = node_of c.args.trail.now.way.steps.items c.args.members.now.of in
     let rest = through (segments_meant kept c.args.onward.rest.now) d in
     let act = acted kept c.args.onward.next d in
     let inv = c.loop-member.invariant in
     let k = took_as _ _ _ _ _ (ap (λ q. flat_map rest (act (below (lent_location q) (name c.member-item.result.0.now) (tree c.member-item.result.1.now)))) inv.returns.same) c.in_ok-at_child.ensures.gave in
-    record { returns = on inv.returns c.in_ok-at_child.ensures.returns; given = turn_next _ _ (member_turns (λ m. (m.0.now, tree m.1.now)) n.location rest act) c.args.members.now.list.now c.loop-member.member-index c.member-item.result _ _ _ _ c.loop-member-test.true c.member-item.is k inv.given }
+    record { returns = on inv.returns c.in_ok-at_child.ensures.comes.back; given = turn_next _ _ (member_turns (λ m. (m.0.now, tree m.1.now)) n.location rest act) c.args.members.now.list.now c.loop-member.member-index c.member-item.result _ _ _ _ c.loop-member-test.true c.member-item.is k inv.given }
 
 pub pass-pick-requires : goal.pass-pick-requires
 pass-pick-requires g t c κs within =
@@ -343,9 +324,8 @@ pass-act-requires g t c κs within =
 pub pass-returns-in-Selector-clause-gave : goal.pass-returns-in-Selector-clause-gave
 pass-returns-in-Selector-clause-gave g t c =
     let kept = kept_of c.args.self.now in
-    let tree = g.T.Queryable.tree in
-    let d = document tree g.T.Queryable.custom c.args.self.now in
-    let n = node_of tree c.args.trail.now.way.steps.items c.args.at.now in
+    let d = document c.args.self.now in
+    let n = node_of c.args.trail.now.way.steps.items c.args.at in
     let rest = through (segments_meant kept c.args.onward.rest.now) d in
     let e = ap (segment_view kept) c.in-Selector.is ∙ segment_view-Selector kept c.in-Selector.next in
     result_as _ _ _ _ _ (ap (flat_map rest) (sym (ap (λ s. replaced s d n) e))) c.pick.ensures.gave
@@ -353,9 +333,8 @@ pass-returns-in-Selector-clause-gave g t c =
 pub pass-returns-in-Selectors-clause-gave : goal.pass-returns-in-Selectors-clause-gave
 pass-returns-in-Selectors-clause-gave g t c =
     let kept = kept_of c.args.self.now in
-    let tree = g.T.Queryable.tree in
-    let d = document tree g.T.Queryable.custom c.args.self.now in
-    let n = node_of tree c.args.trail.now.way.steps.items c.args.at.now in
+    let d = document c.args.self.now in
+    let n = node_of c.args.trail.now.way.steps.items c.args.at in
     let rest = through (segments_meant kept c.args.onward.rest.now) d in
     let e = ap (segment_view kept) c.in-Selectors.is ∙ segment_view-Selectors kept c.in-Selectors.selectors in
     result_as _ _ _ _ _ (ap (flat_map rest) (ap (λ (ss : List Selector). all_pick (selectors_meant kept ss) d n) c.as_slice-next.ensures.value ∙ sym (ap (λ s. replaced s d n) e))) c.pick_each.ensures.gave
@@ -363,9 +342,8 @@ pass-returns-in-Selectors-clause-gave g t c =
 pub pass-returns-in-Descendant-clause-gave : goal.pass-returns-in-Descendant-clause-gave
 pass-returns-in-Descendant-clause-gave g t c =
     let kept = kept_of c.args.self.now in
-    let tree = g.T.Queryable.tree in
-    let d = document tree g.T.Queryable.custom c.args.self.now in
-    let n = node_of tree c.args.trail.now.way.steps.items c.args.at.now in
+    let d = document c.args.self.now in
+    let n = node_of c.args.trail.now.way.steps.items c.args.at in
     let rest = through (segments_meant kept c.args.onward.rest.now) d in
     let e = ap (segment_view kept) c.in-Descendant.is ∙ segment_view-Descendant kept c.in-Descendant.inner in
     result_as _ _ _ _ _ (ap (flat_map rest) (ap (λ (s : Segment). flat_map (replaced (segment_view kept s) d) (subtree n)) c.deref.ensures ∙ sym (ap (λ s. replaced s d n) e))) c.act.ensures.gave
@@ -373,11 +351,10 @@ pass-returns-in-Descendant-clause-gave g t c =
 pub pick-at_child-requires : goal.pick-at_child-requires
 pick-at_child-requires g t c κs within =
     let kept = kept_of c.args.self.now in
-    let tree = g.T.Queryable.tree in
-    let s = member_size c.deref.result.now (tree c.args.at.now) (tree c.in-Some.value.now) (c.in-Some.ensures.value c.requires.whole) in
+    let s = member_size c.deref.result.now (tree_of c.args.at) (tree_of c.in-Some.value) (c.in-Some.ensures) in
     let e = ap (selector_view kept) c.in-Name.is ∙ selector_view-Name kept c.in-Name.name in
-    let there = ap (λ q. get q (tree c.args.at.now)) (c.deref-in-Some.ensures ∙ sym c.deref.ensures) ∙ sym (c.in-Some.ensures.value c.requires.whole) in
-    (down _ _ _ _ _ _ c.decreases (omega (arith, ap selector_weight e)) (omega (arith, s, c.requires.within)), (within, record { whole = c.in-Some.ensures.whole c.requires.whole; within = omega (arith, s, c.requires.within); here = leads_below c.args.trail.now.way.steps.items (Name c.deref-in-Some.result) (tree c.args.self.now.root.now) _ _ c.requires.here there; ready = c.requires.ready }))
+    let there = ap (λ q. get q (tree_of c.args.at)) (c.deref-in-Some.ensures ∙ sym c.deref.ensures) ∙ sym (c.in-Some.ensures) in
+    (down _ _ _ _ _ _ c.decreases (omega (arith, ap selector_weight e)) (omega (arith, s, c.requires.within)), (within, record { within = omega (arith, s, c.requires.within); here = leads_below c.args.trail.now.way.steps.items (Name c.deref-in-Some.result) (tree_of c.args.self.now.root) _ _ c.requires.here there; ready = c.requires.ready }))
 
 pub pick-each_child-requires : goal.pick-each_child-requires
 pick-each_child-requires g t c κs within =
@@ -391,10 +368,7 @@ pick-at_child-requires-in-Some-element g t c κs within =
     let e = ap (selector_view kept) c.in-Index.is ∙ selector_view-Index kept c.in-Index.index in
     let found = c.in-Some-element.ensures in
     let steps = c.args.trail.now.way.steps.items in
-    (down _ _ _ _ _ _ c.decreases (omega (arith, ap selector_weight e)) (omega (arith, found.smaller, c.requires.within)), (within, record { whole = found.whole; within = omega (arith, found.smaller, c.requires.within); here = leads_indexed steps _ _ _ _ _ (g.met.T.Queryable.distinct c.args.at.now c.requires.whole) c.requires.here (found.value (lent_location steps)); ready = c.requires.ready }))
-
-pub pick-element-requires : goal.pick-element-requires
-pick-element-requires g t c = c.requires.whole
+    (down _ _ _ _ _ _ c.decreases (omega (arith, ap selector_weight e)) (omega (arith, found.smaller, c.requires.within)), (within, record { within = omega (arith, found.smaller, c.requires.within); here = leads_indexed steps _ _ _ _ _ (g.met.T.Queryable.distinct c.args.at.value.now c.args.at.whole) c.requires.here (found.value (lent_location steps)); ready = c.requires.ready }))
 
 pub pick-pick_slice-requires : goal.pick-pick_slice-requires
 pick-pick_slice-requires g t c κs within =
@@ -411,33 +385,30 @@ pick-each_child-requires-in-Filter g t c κs within =
 pub pick-returns-in-Some-clause-gave : goal.pick-returns-in-Some-clause-gave
 pick-returns-in-Some-clause-gave g t c =
     let kept = kept_of c.args.self.now in
-    let tree = g.T.Queryable.tree in
-    let d = document tree g.T.Queryable.custom c.args.self.now in
-    let n = node_of tree c.args.trail.now.way.steps.items c.args.at.now in
+    let d = document c.args.self.now in
+    let n = node_of c.args.trail.now.way.steps.items c.args.at in
     let rest = through (segments_meant kept c.args.onward.rest.now) d in
     let e = ap (selector_view kept) c.in-Name.is ∙ selector_view-Name kept c.in-Name.name in
     let k = string_bytes c.in-Name.name in
-    let x = tree c.in-Some.value.now in
-    let h = c.in-Some.ensures.value c.requires.whole ∙ ap (λ q. get q n.tree) c.deref.ensures in
+    let x = tree_of c.in-Some.value in
+    let h = c.in-Some.ensures ∙ ap (λ q. get q n.tree) c.deref.ensures in
     result_as _ _ _ _ _ (ap (flat_map rest) (ap (λ q. below n.location (name q) x ∷ []) c.deref-in-Some.ensures ∙ named_some n.location k n.tree x h ∙ sym (ap (λ s. picks s d n) e))) c.at_child.ensures.gave
 
 pub pick-returns-in-None-clause-gave : goal.pick-returns-in-None-clause-gave
 pick-returns-in-None-clause-gave g t c =
     let kept = kept_of c.args.self.now in
-    let tree = g.T.Queryable.tree in
-    let d = document tree g.T.Queryable.custom c.args.self.now in
-    let n = node_of tree c.args.trail.now.way.steps.items c.args.at.now in
+    let d = document c.args.self.now in
+    let n = node_of c.args.trail.now.way.steps.items c.args.at in
     let rest = through (segments_meant kept c.args.onward.rest.now) d in
     let e = ap (selector_view kept) c.in-Name.is ∙ selector_view-Name kept c.in-Name.name in
-    let h = c.in-None.ensures.value c.requires.whole ∙ ap (λ q. get q n.tree) c.deref.ensures in
+    let h = c.in-None.ensures ∙ ap (λ q. get q n.tree) c.deref.ensures in
     took_none _ _ (ap (flat_map rest) (ap (λ s. picks s d n) e ∙ named_none n.location (string_bytes c.in-Name.name) n.tree h))
 
 pub pick-returns-in-Wildcard-clause-gave : goal.pick-returns-in-Wildcard-clause-gave
 pick-returns-in-Wildcard-clause-gave g t c =
     let kept = kept_of c.args.self.now in
-    let tree = g.T.Queryable.tree in
-    let d = document tree g.T.Queryable.custom c.args.self.now in
-    let n = node_of tree c.args.trail.now.way.steps.items c.args.at.now in
+    let d = document c.args.self.now in
+    let n = node_of c.args.trail.now.way.steps.items c.args.at in
     let rest = through (segments_meant kept c.args.onward.rest.now) d in
     let e = ap (selector_view kept) c.in-Wildcard.is ∙ selector_view-Wildcard kept in
     result_as _ _ _ _ _ (ap (flat_map rest) (flat_map-alone (children n) ∙ sym (ap (λ s. picks s d n) e))) c.each_child.ensures.gave
@@ -445,9 +416,8 @@ pick-returns-in-Wildcard-clause-gave g t c =
 pub pick-returns-in-Some-element-clause-gave : goal.pick-returns-in-Some-element-clause-gave
 pick-returns-in-Some-element-clause-gave g t c =
     let kept = kept_of c.args.self.now in
-    let tree = g.T.Queryable.tree in
-    let d = document tree g.T.Queryable.custom c.args.self.now in
-    let n = node_of tree c.args.trail.now.way.steps.items c.args.at.now in
+    let d = document c.args.self.now in
+    let n = node_of c.args.trail.now.way.steps.items c.args.at in
     let rest = through (segments_meant kept c.args.onward.rest.now) d in
     let e = ap (selector_view kept) c.in-Index.is ∙ selector_view-Index kept c.in-Index.index in
     let fits : SFits w64 c.in-Index.index = search rules in
@@ -457,9 +427,8 @@ pick-returns-in-Some-element-clause-gave g t c =
 pub pick-returns-in-None-element-clause-gave : goal.pick-returns-in-None-element-clause-gave
 pick-returns-in-None-element-clause-gave g t c =
     let kept = kept_of c.args.self.now in
-    let tree = g.T.Queryable.tree in
-    let d = document tree g.T.Queryable.custom c.args.self.now in
-    let n = node_of tree c.args.trail.now.way.steps.items c.args.at.now in
+    let d = document c.args.self.now in
+    let n = node_of c.args.trail.now.way.steps.items c.args.at in
     let rest = through (segments_meant kept c.args.onward.rest.now) d in
     let e = ap (selector_view kept) c.in-Index.is ∙ selector_view-Index kept c.in-Index.index in
     let fits : SFits w64 c.in-Index.index = search rules in
@@ -469,9 +438,8 @@ pick-returns-in-None-element-clause-gave g t c =
 pub pick-returns-in-Slice-clause-gave : goal.pick-returns-in-Slice-clause-gave
 pick-returns-in-Slice-clause-gave g t c =
     let kept = kept_of c.args.self.now in
-    let tree = g.T.Queryable.tree in
-    let d = document tree g.T.Queryable.custom c.args.self.now in
-    let n = node_of tree c.args.trail.now.way.steps.items c.args.at.now in
+    let d = document c.args.self.now in
+    let n = node_of c.args.trail.now.way.steps.items c.args.at in
     let rest = through (segments_meant kept c.args.onward.rest.now) d in
     let e = ap (selector_view kept) c.in-Slice.is ∙ selector_view-Slice kept c.in-Slice.start c.in-Slice.end c.in-Slice.step in
     result_as _ _ _ _ _ (ap (flat_map rest) (sym (ap (λ s. picks s d n) e))) c.pick_slice.ensures.gave
@@ -479,9 +447,8 @@ pick-returns-in-Slice-clause-gave g t c =
 pub pick-returns-in-Filter-clause-gave : goal.pick-returns-in-Filter-clause-gave
 pick-returns-in-Filter-clause-gave g t c =
     let kept = kept_of c.args.self.now in
-    let tree = g.T.Queryable.tree in
-    let d = document tree g.T.Queryable.custom c.args.self.now in
-    let n = node_of tree c.args.trail.now.way.steps.items c.args.at.now in
+    let d = document c.args.self.now in
+    let n = node_of c.args.trail.now.way.steps.items c.args.at in
     let rest = through (segments_meant kept c.args.onward.rest.now) d in
     let e = ap (selector_view kept) c.in-Filter.is ∙ selector_view-Filter kept c.in-Filter.filter in
     result_as _ _ _ _ _ (ap (flat_map rest) (flat_map-filter (holds (filter_view kept c.in-Filter.filter) d) (children n) ∙ sym (ap (λ s. picks s d n) e))) c.each_child-in-Filter.ensures.gave
@@ -495,59 +462,55 @@ pick_each-pick-requires g t c κs within =
 pub pick_each-returns-then-not-branch-clause-gave : goal.pick_each-returns-then-not-branch-clause-gave
 pick_each-returns-then-not-branch-clause-gave g t c =
     let kept = kept_of c.args.self.now in
-    let tree = g.T.Queryable.tree in
-    let d = document tree g.T.Queryable.custom c.args.self.now in
-    let n = node_of tree c.args.trail.now.way.steps.items c.args.at.now in
+    let d = document c.args.self.now in
+    let n = node_of c.args.trail.now.way.steps.items c.args.at in
     let rest = through (segments_meant kept c.args.onward.rest.now) d in
     let inv = c.loop-selector.invariant in
-    let k = took_as _ _ _ _ _ (ap (λ q. flat_map rest (picks (selector_view kept c.selector-item.result) d (node_of tree q c.args.at.now))) inv.returns.same) c.in_ok-pick.ensures.gave in
+    let k = took_as _ _ _ _ _ (ap (λ q. flat_map rest (picks (selector_view kept c.selector-item.result) d (node_of q c.args.at))) inv.returns.same) c.in_ok-pick.ensures.gave in
     record { given = turn_stop _ _ (selector_turns kept d n rest) c.args.onward.next.now c.loop-selector.selector-index c.selector-item.result _ _ _ _ c.loop-selector-test.true c.selector-item.is k c.if-not-branch.true inv.given; stopped = λ _. k.stopped c.if-not-branch.true }
 
 pub pick_each-loop-selector-preserved : goal.pick_each-loop-selector-preserved
 pick_each-loop-selector-preserved g t c =
     let kept = kept_of c.args.self.now in
-    let tree = g.T.Queryable.tree in
-    let d = document tree g.T.Queryable.custom c.args.self.now in
-    let n = node_of tree c.args.trail.now.way.steps.items c.args.at.now in
+    let d = document c.args.self.now in
+    let n = node_of c.args.trail.now.way.steps.items c.args.at in
     let rest = through (segments_meant kept c.args.onward.rest.now) d in
     let inv = c.loop-selector.invariant in
-    let k = took_as _ _ _ _ _ (ap (λ q. flat_map rest (picks (selector_view kept c.selector-item.result) d (node_of tree q c.args.at.now))) inv.returns.same) c.in_ok-pick.ensures.gave in
-    record { returns = on inv.returns c.in_ok-pick.ensures.returns; given = turn_next _ _ (selector_turns kept d n rest) c.args.onward.next.now c.loop-selector.selector-index c.selector-item.result _ _ _ _ c.loop-selector-test.true c.selector-item.is k inv.given }
+    let k = took_as _ _ _ _ _ (ap (λ q. flat_map rest (picks (selector_view kept c.selector-item.result) d (node_of q c.args.at))) inv.returns.same) c.in_ok-pick.ensures.gave in
+    record { returns = on inv.returns c.in_ok-pick.ensures.comes.back; given = turn_next _ _ (selector_turns kept d n rest) c.args.onward.next.now c.loop-selector.selector-index c.selector-item.result _ _ _ _ c.loop-selector-test.true c.selector-item.is k inv.given }
 
 pub pick_each-returns-clause-gave : goal.pick_each-returns-clause-gave
 pick_each-returns-clause-gave g t c =
     let kept = kept_of c.args.self.now in
-    let tree = g.T.Queryable.tree in
-    let d = document tree g.T.Queryable.custom c.args.self.now in
-    let n = node_of tree c.args.trail.now.way.steps.items c.args.at.now in
+    let d = document c.args.self.now in
+    let n = node_of c.args.trail.now.way.steps.items c.args.at in
     let rest = through (segments_meant kept c.args.onward.rest.now) d in
     record { given = turn_end _ _ (selector_turns kept d n rest) c.args.onward.next.now c.loop-selector.selector-index _ _ c.loop-selector-test.false c.loop-selector.invariant.given; stopped = λ h. true_false h }
 
 pub pick_slice-returns-in_default-clause-gave : goal.pick_slice-returns-in_default-clause-gave
 pick_slice-returns-in_default-clause-gave g t c =
     let kept = kept_of c.args.self.now in
-    let tree = g.T.Queryable.tree in
-    let d = document tree g.T.Queryable.custom c.args.self.now in
-    let n = node_of tree c.args.trail.now.way.steps.items c.args.at.now in
+    let d = document c.args.self.now in
+    let n = node_of c.args.trail.now.way.steps.items c.args.at in
     let rest = through (segments_meant kept c.args.onward.rest.now) d in
-    let h = c.in_default.ensures.value c.requires.whole in
+    let h = c.in_default.ensures.value in
     took_none _ _ (ap (λ o. flat_map rest (flat_map (λ ts. flat_map (λ k. element k n) (slice_of c.args.onward.next.0 c.args.onward.next.1 c.args.onward.next.2 (length ts))) (option_to_list o))) (sym h))
 
 pub pick_slice-at_child-requires : goal.pick_slice-at_child-requires
 pick_slice-at_child-requires g t c κs within =
     let tree = g.T.Queryable.tree in
     let items = c.in-Some.items.now.items in
-    let some = c.in-Some.ensures.value c.requires.whole in
+    let some = c.in-Some.ensures.value in
     let inv = c.loop-position.invariant in
     let position = c.in-Some-position.position in
     let P : ℕ → Type 0 = λ i. i < length items in
     let inside : position < length items = All-head P position _ (subst (All P) c.in-Some-position.ensures.steps inv.below) in
-    let s = element_size tree (tree c.args.at.now) items position c.index-value.result.now some inside c.index-value.ensures in
+    let s = element_size tree (tree_of c.args.at) items position c.index.result.now some inside c.index.ensures in
     let was = still c.requires inv.returns in
-    (down _ _ _ _ _ _ c.decreases (omega arith) (omega (arith, s, c.requires.within)), (within, record { whole = all_at (λ x. IsTrue (g.T.Queryable.is_whole x)) items position c.index-value.result.now (c.in-Some.ensures.whole c.requires.whole) inside c.index-value.ensures; within = omega (arith, s, c.requires.within); here = leads_below c.loop-position.trail.way.steps.items (Index position) (tree c.args.self.now.root.now) _ _ was.here (child_there tree (tree c.args.at.now) items position c.index-value.result.now some inside c.index-value.ensures); ready = was.ready }))
+    (down _ _ _ _ _ _ c.decreases (omega arith) (omega (arith, s, c.requires.within)), (within, record { within = omega (arith, s, c.requires.within); here = leads_below c.loop-position.trail.way.steps.items (Index position) (tree_of c.args.self.now.root) _ _ was.here (child_there tree (tree_of c.args.at) items position c.index.result.now some inside c.index.ensures); ready = was.ready }))
 
-pub pick_slice-index-value-requires : goal.pick_slice-index-value-requires
-pick_slice-index-value-requires g t c =
+pub pick_slice-index-requires : goal.pick_slice-index-requires
+pick_slice-index-requires g t c =
     let items = c.in-Some.items.now.items in
     let inv = c.loop-position.invariant in
     let position = c.in-Some-position.position in
@@ -560,66 +523,64 @@ pub pick_slice-returns-then-not-branch-clause-gave : goal.pick_slice-returns-the
 pick_slice-returns-then-not-branch-clause-gave g t c =
     let kept = kept_of c.args.self.now in
     let tree = g.T.Queryable.tree in
-    let whole = g.T.Queryable.is_whole in
-    let custom = g.T.Queryable.custom in
-    let d = document tree custom c.args.self.now in
-    let n = node_of tree c.args.trail.now.way.steps.items c.args.at.now in
+    let d = document c.args.self.now in
+    let n = node_of c.args.trail.now.way.steps.items c.args.at in
     let rest = through (segments_meant kept c.args.onward.rest.now) d in
     let items = c.in-Some.items.now.items in
-    let some = c.in-Some.ensures.value c.requires.whole in
+    let some = c.in-Some.ensures.value in
     let inv = c.loop-position.invariant in
     let position = c.in-Some-position.position in
     let steps = c.in-Some-position.ensures.steps in
     let P : ℕ → Type 0 = λ i. i < length items in
     let inside : position < length items = All-head P position _ (subst (All P) steps inv.below) in
-    let x = tree c.index-value.result.now in
-    let here = element_at tree n.location n.tree items position c.index-value.result.now some inside c.index-value.ensures in
+    let x = tree c.index.result.now in
+    let here = element_at tree n.location n.tree items position c.index.result.now some inside c.index.ensures in
     let k = took_as _ _ _ _ _ (ap (λ q. flat_map rest (below (lent_location q) (index position) x ∷ [])) inv.returns.same ∙ ap (flat_map rest) here) c.in_ok-at_child.ensures.gave in
-    record { given = place_stop rest (λ j. element j n) _ _ position _ _ _ _ steps k c.if-not-branch.true inv.given ∙ ap (λ ns. give (seen tree whole c.args.sink.now) (flat_map rest ns)) (sliced-list tree n items c.args.onward.next.0 c.args.onward.next.1 c.args.onward.next.2 some); stopped = λ _. k.stopped c.if-not-branch.true }
+    record { given = place_stop rest (λ j. element j n) _ _ position _ _ _ _ steps k c.if-not-branch.true inv.given ∙ ap (λ ns. give (seen c.args.sink.now) (flat_map rest ns)) (sliced-list tree n items c.args.onward.next.0 c.args.onward.next.1 c.args.onward.next.2 some); stopped = λ _. k.stopped c.if-not-branch.true }
 
 pub pick_slice-loop-position-preserved : goal.pick_slice-loop-position-preserved
 pick_slice-loop-position-preserved g t c =
     let kept = kept_of c.args.self.now in
     let tree = g.T.Queryable.tree in
-    let d = document tree g.T.Queryable.custom c.args.self.now in
-    let n = node_of tree c.args.trail.now.way.steps.items c.args.at.now in
+    let d = document c.args.self.now in
+    let n = node_of c.args.trail.now.way.steps.items c.args.at in
     let rest = through (segments_meant kept c.args.onward.rest.now) d in
     let items = c.in-Some.items.now.items in
-    let some = c.in-Some.ensures.value c.requires.whole in
+    let some = c.in-Some.ensures.value in
     let inv = c.loop-position.invariant in
     let position = c.in-Some-position.position in
     let steps = c.in-Some-position.ensures.steps in
     let P : ℕ → Type 0 = λ i. i < length items in
     let inside : position < length items = All-head P position _ (subst (All P) steps inv.below) in
-    let x = tree c.index-value.result.now in
-    let here = element_at tree n.location n.tree items position c.index-value.result.now some inside c.index-value.ensures in
+    let x = tree c.index.result.now in
+    let here = element_at tree n.location n.tree items position c.index.result.now some inside c.index.ensures in
     let k = took_as _ _ _ _ _ (ap (λ q. flat_map rest (below (lent_location q) (index position) x ∷ [])) inv.returns.same ∙ ap (flat_map rest) here) c.in_ok-at_child.ensures.gave in
-    record { returns = record { same = c.in_ok-at_child.ensures.returns.same ∙ inv.returns.same; ready = c.in_ok-at_child.ensures.returns.ready }; below = All-tail P position _ (subst (All P) steps inv.below); given = place_next rest (λ j. element j n) _ _ position _ _ _ _ steps k inv.given }
+    record { returns = record { same = c.in_ok-at_child.ensures.comes.back.same ∙ inv.returns.same; ready = c.in_ok-at_child.ensures.comes.back.ready }; below = All-tail P position _ (subst (All P) steps inv.below); given = place_next rest (λ j. element j n) _ _ position _ _ _ _ steps k inv.given }
 
 pub pick_slice-returns-clause-gave : goal.pick_slice-returns-clause-gave
 pick_slice-returns-clause-gave g t c =
     let kept = kept_of c.args.self.now in
     let tree = g.T.Queryable.tree in
-    let whole = g.T.Queryable.is_whole in
-    let custom = g.T.Queryable.custom in
-    let d = document tree custom c.args.self.now in
-    let n = node_of tree c.args.trail.now.way.steps.items c.args.at.now in
+    let d = document c.args.self.now in
+    let n = node_of c.args.trail.now.way.steps.items c.args.at in
     let rest = through (segments_meant kept c.args.onward.rest.now) d in
     let items = c.in-Some.items.now.items in
-    let some = c.in-Some.ensures.value c.requires.whole in
+    let some = c.in-Some.ensures.value in
     let inv = c.loop-position.invariant in
-    record { given = ap (λ is. give (seen tree whole c.loop-position.sink) (flat_map rest (flat_map (λ j. element j n) is))) (sym c.in-None.ensures.steps.0) ∙ inv.given ∙ ap (λ ns. give (seen tree whole c.args.sink.now) (flat_map rest ns)) (sliced-list tree n items c.args.onward.next.0 c.args.onward.next.1 c.args.onward.next.2 some); stopped = λ h. true_false h }
+    record { given = ap (λ is. give (seen c.loop-position.sink) (flat_map rest (flat_map (λ j. element j n) is))) (sym c.in-None.ensures.steps.0) ∙ inv.given ∙ ap (λ ns. give (seen c.args.sink.now) (flat_map rest ns)) (sliced-list tree n items c.args.onward.next.0 c.args.onward.next.1 c.args.onward.next.2 some); stopped = λ h. true_false h }
 
-pub at_child-returns-clause-returns : goal.at_child-returns-clause-returns
-at_child-returns-clause-returns g t c =
-    let back = c.in_ok-goes_on.ensures.returns in
-    record { same = c.pop.ensures _ _ (back.same ∙ c.in_ok-push.ensures.steps); ready = back.ready }
+pub at_child-returns-clause-comes : goal.at_child-returns-clause-comes
+at_child-returns-clause-comes g t c =
+    let back = c.in_ok-goes_on.ensures.comes.back in
+    record { back = record { same = c.pop.ensures _ _ (back.same ∙ c.in_ok-push.ensures.steps); ready = back.ready }; ready = tt; halts = tt }
 
-pub act-returns-then-branch-clause-returns : goal.act-returns-then-branch-clause-returns
-act-returns-then-branch-clause-returns g t c = on_ok _ _ c.in_ok-filter_holds-in-If.ensures.returns c.go_on-then-branch.ensures.returns
+pub act-returns-then-branch-clause-comes : goal.act-returns-then-branch-clause-comes
+act-returns-then-branch-clause-comes g t c =
+    let kept = kept_of c.args.self.now in
+    comes_on _ c.in_ok-filter_holds-in-If.ensures.comes.back c.walk-then-branch.ensures.comes (λ h. asked_right (action_patterns kept c.args.onward.next) (segments_patterns (segments_meant kept c.args.onward.rest.now)) h)
 
-pub descend-returns-clause-returns : goal.descend-returns-clause-returns
-descend-returns-clause-returns g t c = on_ok _ _ c.in_ok-pass.ensures.returns c.each_child.ensures.returns
+pub descend-returns-clause-comes : goal.descend-returns-clause-comes
+descend-returns-clause-comes g t c = comes_on _ c.in_ok-pass.ensures.comes.back c.each_child.ensures.comes (λ h. h)
 
 pub some_holds-filter_holds-requires : goal.some_holds-filter_holds-requires
 some_holds-filter_holds-requires g t c κs within =
@@ -630,31 +591,28 @@ some_holds-filter_holds-requires g t c κs within =
 pub some_holds-returns-then-branch-clause-holds : goal.some_holds-returns-then-branch-clause-holds
 some_holds-returns-then-branch-clause-holds g t c =
     let kept = kept_of c.args.self.now in
-    let tree = g.T.Queryable.tree in
-    let d = document tree g.T.Queryable.custom c.args.self.now in
-    let n = node_of tree c.args.trail.now.way.steps.items c.args.at.now in
+    let d = document c.args.self.now in
+    let n = node_of c.args.trail.now.way.steps.items c.args.at in
     let inv = c.loop-part.invariant in
     let item = c.part-item.result in
-    let here = c.in_ok-filter_holds.ensures.holds ∙ ap (λ q. holds (filter_view kept item) d (node_of tree q c.args.at.now)) inv.returns.same in
+    let here = c.in_ok-filter_holds.ensures.holds ∙ ap (λ q. holds (filter_view kept item) d (node_of q c.args.at)) inv.returns.same in
     some_found (λ (fs : List Filter). some_holds (filters_meant kept fs) d n) (λ f. holds (filter_view kept f) d n) (λ x xs. refl) c.args.parts.now c.loop-part.part-index item _ c.loop-part-test.true c.part-item.is (sym here ∙ c.if-branch.true) inv.holds
 
 pub some_holds-loop-part-preserved : goal.some_holds-loop-part-preserved
 some_holds-loop-part-preserved g t c =
     let kept = kept_of c.args.self.now in
-    let tree = g.T.Queryable.tree in
-    let d = document tree g.T.Queryable.custom c.args.self.now in
-    let n = node_of tree c.args.trail.now.way.steps.items c.args.at.now in
+    let d = document c.args.self.now in
+    let n = node_of c.args.trail.now.way.steps.items c.args.at in
     let inv = c.loop-part.invariant in
     let item = c.part-item.result in
-    let here = c.in_ok-filter_holds.ensures.holds ∙ ap (λ q. holds (filter_view kept item) d (node_of tree q c.args.at.now)) inv.returns.same in
-    record { returns = on inv.returns c.in_ok-filter_holds.ensures.returns; holds = some_next (λ (fs : List Filter). some_holds (filters_meant kept fs) d n) (λ f. holds (filter_view kept f) d n) (λ x xs. refl) c.args.parts.now c.loop-part.part-index item _ c.loop-part-test.true c.part-item.is (sym here ∙ c.if-branch.false) inv.holds }
+    let here = c.in_ok-filter_holds.ensures.holds ∙ ap (λ q. holds (filter_view kept item) d (node_of q c.args.at)) inv.returns.same in
+    record { returns = on inv.returns c.in_ok-filter_holds.ensures.comes.back; holds = some_next (λ (fs : List Filter). some_holds (filters_meant kept fs) d n) (λ f. holds (filter_view kept f) d n) (λ x xs. refl) c.args.parts.now c.loop-part.part-index item _ c.loop-part-test.true c.part-item.is (sym here ∙ c.if-branch.false) inv.holds }
 
 pub some_holds-returns-clause-holds : goal.some_holds-returns-clause-holds
 some_holds-returns-clause-holds g t c =
     let kept = kept_of c.args.self.now in
-    let tree = g.T.Queryable.tree in
-    let d = document tree g.T.Queryable.custom c.args.self.now in
-    let n = node_of tree c.args.trail.now.way.steps.items c.args.at.now in
+    let d = document c.args.self.now in
+    let n = node_of c.args.trail.now.way.steps.items c.args.at in
     parts_end (λ (fs : List Filter). some_holds (filters_meant kept fs) d n) c.args.parts.now c.loop-part.part-index _ c.loop-part-test.false c.loop-part.invariant.holds
 
 pub each_holds-filter_holds-requires : goal.each_holds-filter_holds-requires
@@ -666,31 +624,28 @@ each_holds-filter_holds-requires g t c κs within =
 pub each_holds-returns-then-not-branch-clause-holds : goal.each_holds-returns-then-not-branch-clause-holds
 each_holds-returns-then-not-branch-clause-holds g t c =
     let kept = kept_of c.args.self.now in
-    let tree = g.T.Queryable.tree in
-    let d = document tree g.T.Queryable.custom c.args.self.now in
-    let n = node_of tree c.args.trail.now.way.steps.items c.args.at.now in
+    let d = document c.args.self.now in
+    let n = node_of c.args.trail.now.way.steps.items c.args.at in
     let inv = c.loop-part.invariant in
     let item = c.part-item.result in
-    let here = c.in_ok-filter_holds.ensures.holds ∙ ap (λ q. holds (filter_view kept item) d (node_of tree q c.args.at.now)) inv.returns.same in
+    let here = c.in_ok-filter_holds.ensures.holds ∙ ap (λ q. holds (filter_view kept item) d (node_of q c.args.at)) inv.returns.same in
     each_failed (λ (fs : List Filter). each_holds (filters_meant kept fs) d n) (λ f. holds (filter_view kept f) d n) (λ x xs. refl) c.args.parts.now c.loop-part.part-index item _ c.loop-part-test.true c.part-item.is (sym here ∙ c.if-not-branch.true) inv.holds
 
 pub each_holds-loop-part-preserved : goal.each_holds-loop-part-preserved
 each_holds-loop-part-preserved g t c =
     let kept = kept_of c.args.self.now in
-    let tree = g.T.Queryable.tree in
-    let d = document tree g.T.Queryable.custom c.args.self.now in
-    let n = node_of tree c.args.trail.now.way.steps.items c.args.at.now in
+    let d = document c.args.self.now in
+    let n = node_of c.args.trail.now.way.steps.items c.args.at in
     let inv = c.loop-part.invariant in
     let item = c.part-item.result in
-    let here = c.in_ok-filter_holds.ensures.holds ∙ ap (λ q. holds (filter_view kept item) d (node_of tree q c.args.at.now)) inv.returns.same in
-    record { returns = on inv.returns c.in_ok-filter_holds.ensures.returns; holds = each_next (λ (fs : List Filter). each_holds (filters_meant kept fs) d n) (λ f. holds (filter_view kept f) d n) (λ x xs. refl) c.args.parts.now c.loop-part.part-index item _ c.loop-part-test.true c.part-item.is (sym here ∙ c.if-not-branch.false) inv.holds }
+    let here = c.in_ok-filter_holds.ensures.holds ∙ ap (λ q. holds (filter_view kept item) d (node_of q c.args.at)) inv.returns.same in
+    record { returns = on inv.returns c.in_ok-filter_holds.ensures.comes.back; holds = each_next (λ (fs : List Filter). each_holds (filters_meant kept fs) d n) (λ f. holds (filter_view kept f) d n) (λ x xs. refl) c.args.parts.now c.loop-part.part-index item _ c.loop-part-test.true c.part-item.is (sym here ∙ c.if-not-branch.false) inv.holds }
 
 pub each_holds-returns-clause-holds : goal.each_holds-returns-clause-holds
 each_holds-returns-clause-holds g t c =
     let kept = kept_of c.args.self.now in
-    let tree = g.T.Queryable.tree in
-    let d = document tree g.T.Queryable.custom c.args.self.now in
-    let n = node_of tree c.args.trail.now.way.steps.items c.args.at.now in
+    let d = document c.args.self.now in
+    let n = node_of c.args.trail.now.way.steps.items c.args.at in
     parts_end (λ (fs : List Filter). each_holds (filters_meant kept fs) d n) c.args.parts.now c.loop-part.part-index _ c.loop-part-test.false c.loop-part.invariant.holds
 
 pub custom-argument-requires : goal.custom-argument-requires
@@ -699,54 +654,35 @@ custom-argument-requires g t c κs within =
     let w = part_of (λ (x : Argument). argument_weight (argument_view kept x Values)) (λ xs. arguments_weight (arguments_meant kept xs)) (λ x xs. refl) c.args.args.now c.loop-arg.arg-index c.arg-item.result c.loop-arg-test.true c.arg-item.is in
     (down _ _ _ _ _ _ c.decreases (omega (arith, w)) (omega (arith, c.requires.within)), (within, still c.requires c.loop-arg.invariant.returns))
 
-pub custom-push_to-requires-clause-within : goal.custom-push_to-requires-clause-within
-custom-push_to-requires-clause-within g t c = c.in_ok-argument.ensures.within
-
-pub custom-push_to-requires-clause-whole : goal.custom-push_to-requires-clause-whole
-custom-push_to-requires-clause-whole g t c =
-    let kept = kept_of c.args.self.now in
-    let tree = g.T.Queryable.tree in
-    let d = document tree g.T.Queryable.custom c.args.self.now in
-    let n = node_of tree c.loop-arg.trail.way.steps.items c.args.at.now in
-    subst HeldAreWhole (sym c.in_ok-argument.ensures.held) (held_are_whole (argued (argument_view kept c.arg-item.result Values) d n))
-
-pub custom-push_to-requires-clause-others : goal.custom-push_to-requires-clause-others
-custom-push_to-requires-clause-others g t c = c.loop-arg.invariant.whole
-
 pub custom-loop-arg-init : goal.custom-loop-arg-init
 custom-loop-arg-init g t c =
     let kept = kept_of c.args.self.now in
-    let tree = g.T.Queryable.tree in
-    let d = document tree g.T.Queryable.custom c.args.self.now in
-    let n = node_of tree c.args.trail.now.way.steps.items c.args.at.now in
-    let whole = g.T.Queryable.is_whole in
-    record { returns = stays c.requires.ready; trees = ap (λ xs. arg_trees tree xs ++ all_trees (arguments_meant kept c.args.args.now) d n) c.new-values.ensures.items; whole = subst (AreWhole whole) (sym c.new-values.ensures.items) (All-nil _) }
+    let d = document c.args.self.now in
+    let n = node_of c.args.trail.now.way.steps.items c.args.at in
+    record { returns = stays c.requires.ready; trees = ap (λ xs. map (λ a. g.T.Queryable.tree (arg_value a)) xs ++ all_trees (arguments_meant kept c.args.args.now) d n) c.new-values.ensures }
 
 pub custom-loop-arg-preserved : goal.custom-loop-arg-preserved
 custom-loop-arg-preserved g t c =
     let kept = kept_of c.args.self.now in
-    let tree = g.T.Queryable.tree in
-    let d = document tree g.T.Queryable.custom c.args.self.now in
-    let n = node_of tree c.args.trail.now.way.steps.items c.args.at.now in
+    let d = document c.args.self.now in
+    let n = node_of c.args.trail.now.way.steps.items c.args.at in
     let inv = c.loop-arg.invariant in
     let item = c.arg-item.result in
-    let was = arg_trees tree c.loop-arg.values.items in
-    let pushed = c.in_ok-push_to.ensures in
-    let trees = ap trees_held c.in_ok-argument.ensures.held ∙ as_trees_held (argued (argument_view kept item Values) d (node_of tree c.loop-arg.trail.way.steps.items c.args.at.now)) ∙ ap (λ q. as_trees (argued (argument_view kept item Values) d (node_of tree q c.args.at.now))) inv.returns.same in
-    record { returns = on inv.returns c.in_ok-argument.ensures.returns; trees = joined_next (λ (xs : List Argument). all_trees (arguments_meant kept xs) d n) (λ a. as_trees (argued (argument_view kept a Values) d n)) (λ x xs. refl) c.args.args.now c.loop-arg.arg-index item was _ _ c.loop-arg-test.true c.arg-item.is (pushed.value ∙ ap (λ ts. was ++ ts) trees) inv.trees; whole = pushed.whole }
+    let was = arg_trees c.loop-arg.values in
+    let trees = ap trees_held c.in_ok-argument.ensures.held ∙ as_trees_held (argued (argument_view kept item Values) d (node_of c.loop-arg.trail.way.steps.items c.args.at)) ∙ ap (λ q. as_trees (argued (argument_view kept item Values) d (node_of q c.args.at))) inv.returns.same in
+    record { returns = on inv.returns c.in_ok-argument.ensures.comes.back; trees = joined_next (λ (xs : List Argument). all_trees (arguments_meant kept xs) d n) (λ a. as_trees (argued (argument_view kept a Values) d n)) (λ x xs. refl) c.args.args.now c.loop-arg.arg-index item was _ _ c.loop-arg-test.true c.arg-item.is (c.in_ok-push_to.ensures.value ∙ ap (λ ts. was ++ ts) trees) inv.trees }
 
 pub custom-returns-clause-value : goal.custom-returns-clause-value
 custom-returns-clause-value g t c =
     let kept = kept_of c.args.self.now in
     let tree = g.T.Queryable.tree in
-    let d = document tree g.T.Queryable.custom c.args.self.now in
-    let n = node_of tree c.args.trail.now.way.steps.items c.args.at.now in
     let custom = g.T.Queryable.custom in
-    let inv = c.loop-arg.invariant in
-    let all = arg_trees tree c.loop-arg.values.items in
-    let end = sym (append-nil all) ∙ parts_end (λ (xs : List Argument). all ++ all_trees (arguments_meant kept xs) d n) c.args.args.now c.loop-arg.arg-index _ c.loop-arg-test.false inv.trees in
+    let d = document c.args.self.now in
+    let n = node_of c.args.trail.now.way.steps.items c.args.at in
+    let all = arg_trees c.loop-arg.values in
+    let end = sym (append-nil all) ∙ parts_end (λ (xs : List Argument). all ++ all_trees (arguments_meant kept xs) d n) c.args.args.now c.loop-arg.arg-index _ c.loop-arg-test.false c.loop-arg.invariant.trees in
     let nm = string_bytes c.args.name.now in
-    ap (λ x. Some x) (c.in_ok-extension_custom.ensures.value ∙ ap (λ k. custom k (arg_trees tree c.deref-3.result.now)) c.deref-2.ensures ∙ ap (λ xs. custom nm (arg_trees tree xs)) c.deref-3.ensures.value ∙ ap (custom nm) end)
+    ap (λ x. Some x) (c.in_ok-value.ensures.value ∙ ap (λ k. custom k (map (λ a. tree (arg_value a)) c.deref-2.result.now)) c.deref.ensures ∙ ap (λ xs. custom nm (map (λ a. tree (arg_value a)) xs)) c.deref-2.ensures.value ∙ ap (custom nm) end)
 
 pub gather-walk-requires : goal.gather-walk-requires
 gather-walk-requires g t c κs within = (down _ _ _ _ _ _ c.decreases (omega arith) (omega (arith, c.requires.within)), (within, c.requires))
@@ -754,18 +690,16 @@ gather-walk-requires g t c κs within = (down _ _ _ _ _ _ c.decreases (omega ari
 pub gather-returns-in-Some-clause-given : goal.gather-returns-in-Some-clause-given
 gather-returns-in-Some-clause-given g t c =
     let kept = kept_of c.args.self.now in
-    let tree = g.T.Queryable.tree in
-    let d = document tree g.T.Queryable.custom c.args.self.now in
-    let n = node_of tree c.args.trail.now.way.steps.items c.args.at.now in
+    let d = document c.args.self.now in
+    let n = node_of c.args.trail.now.way.steps.items c.args.at in
     let found = rw c.in-Some.is at (c.in_ok-sink.ensures.given kept) in
     found.given d n refl
 
 pub gather-returns-clause-given : goal.gather-returns-clause-given
 gather-returns-clause-given g t c =
     let kept = kept_of c.args.self.now in
-    let tree = g.T.Queryable.tree in
-    let d = document tree g.T.Queryable.custom c.args.self.now in
-    let n = node_of tree c.args.trail.now.way.steps.items c.args.at.now in
+    let d = document c.args.self.now in
+    let n = node_of c.args.trail.now.way.steps.items c.args.at in
     c.in_ok-_goes_on.ensures.gave.given ∙ ap (λ s. give s (through (segments_meant kept c.args.segments.now) d n)) c.start-sink.ensures
 
 pub filter_holds-some_holds-requires : goal.filter_holds-some_holds-requires
@@ -798,9 +732,6 @@ filter_holds-called-requires g t c κs within =
     let e = ap (filter_view kept) c.in-Call.is ∙ filter_view-Call kept c.in-Call.call c.in-Call.not in
     (down _ _ _ _ _ _ c.decreases (omega (arith, ap filter_weight e)) (omega arith), (within, c.requires))
 
-pub filter_holds-is_true-requires : goal.filter_holds-is_true-requires
-filter_holds-is_true-requires g t c = c.in_ok-called-in-Call.ensures.whole
-
 pub filter_holds-comparison_holds-requires : goal.filter_holds-comparison_holds-requires
 filter_holds-comparison_holds-requires g t c κs within =
     let kept = kept_of c.args.self.now in
@@ -816,45 +747,40 @@ filter_holds-kept_comparison-requires g t c κs within =
 pub filter_holds-returns-in-Or-clause-holds : goal.filter_holds-returns-in-Or-clause-holds
 filter_holds-returns-in-Or-clause-holds g t c =
     let kept = kept_of c.args.self.now in
-    let tree = g.T.Queryable.tree in
-    let d = document tree g.T.Queryable.custom c.args.self.now in
-    let n = node_of tree c.args.trail.now.way.steps.items c.args.at.now in
+    let d = document c.args.self.now in
+    let n = node_of c.args.trail.now.way.steps.items c.args.at in
     let e = ap (filter_view kept) c.in-Or.is ∙ filter_view-Or kept c.in-Or.parts in
     ok_as _ _ _ (ap (λ (fs : List Filter). some_holds (filters_meant kept fs) d n) c.deref.ensures.value ∙ sym (ap (λ f. holds f d n) e)) c.some_holds.ensures.holds
 
 pub filter_holds-returns-in-And-clause-holds : goal.filter_holds-returns-in-And-clause-holds
 filter_holds-returns-in-And-clause-holds g t c =
     let kept = kept_of c.args.self.now in
-    let tree = g.T.Queryable.tree in
-    let d = document tree g.T.Queryable.custom c.args.self.now in
-    let n = node_of tree c.args.trail.now.way.steps.items c.args.at.now in
+    let d = document c.args.self.now in
+    let n = node_of c.args.trail.now.way.steps.items c.args.at in
     let e = ap (filter_view kept) c.in-And.is ∙ filter_view-And kept c.in-And.parts in
     ok_as _ _ _ (ap (λ (fs : List Filter). each_holds (filters_meant kept fs) d n) c.deref-in-And.ensures.value ∙ sym (ap (λ f. holds f d n) e)) c.each_holds.ensures.holds
 
 pub filter_holds-returns-in_ok-filter_holds-in-Group-clause-holds : goal.filter_holds-returns-in_ok-filter_holds-in-Group-clause-holds
 filter_holds-returns-in_ok-filter_holds-in-Group-clause-holds g t c =
     let kept = kept_of c.args.self.now in
-    let tree = g.T.Queryable.tree in
-    let d = document tree g.T.Queryable.custom c.args.self.now in
-    let n = node_of tree c.args.trail.now.way.steps.items c.args.at.now in
+    let d = document c.args.self.now in
+    let n = node_of c.args.trail.now.way.steps.items c.args.at in
     let e = ap (filter_view kept) c.in-Group.is ∙ filter_view-Group kept c.in-Group.expr c.in-Group.not in
     differs _ _ ∙ ap (negated c.in-Group.not) (c.in_ok-filter_holds-in-Group.ensures.holds ∙ ap (λ (f : Filter). holds (filter_view kept f) d n) c.deref-in-Group.ensures) ∙ sym (ap (λ f. holds f d n) e)
 
 pub filter_holds-returns-in_ok-exists-in-Exists-clause-holds : goal.filter_holds-returns-in_ok-exists-in-Exists-clause-holds
 filter_holds-returns-in_ok-exists-in-Exists-clause-holds g t c =
     let kept = kept_of c.args.self.now in
-    let tree = g.T.Queryable.tree in
-    let d = document tree g.T.Queryable.custom c.args.self.now in
-    let n = node_of tree c.args.trail.now.way.steps.items c.args.at.now in
+    let d = document c.args.self.now in
+    let n = node_of c.args.trail.now.way.steps.items c.args.at in
     let e = ap (filter_view kept) c.in-Exists.is ∙ filter_view-Exists kept c.in-Exists.nodes c.in-Exists.not in
     differs _ _ ∙ ap (negated c.in-Exists.not) c.in_ok-exists-in-Exists.ensures.holds ∙ sym (ap (λ f. holds f d n) e)
 
 pub filter_holds-returns-in_ok-called-in-Call-clause-holds : goal.filter_holds-returns-in_ok-called-in-Call-clause-holds
 filter_holds-returns-in_ok-called-in-Call-clause-holds g t c =
     let kept = kept_of c.args.self.now in
-    let tree = g.T.Queryable.tree in
-    let d = document tree g.T.Queryable.custom c.args.self.now in
-    let n = node_of tree c.args.trail.now.way.steps.items c.args.at.now in
+    let d = document c.args.self.now in
+    let n = node_of c.args.trail.now.way.steps.items c.args.at in
     let e = ap (filter_view kept) c.in-Call.is ∙ filter_view-Call kept c.in-Call.call c.in-Call.not in
     let seen = c.is_true.ensures ∙ ap is_true c.in_ok-called-in-Call.ensures.value in
     differs _ _ ∙ ap (negated c.in-Call.not) seen ∙ sym (ap (λ f. holds f d n) e)
@@ -862,23 +788,18 @@ filter_holds-returns-in_ok-called-in-Call-clause-holds g t c =
 pub filter_holds-returns-in-Comparison-clause-holds : goal.filter_holds-returns-in-Comparison-clause-holds
 filter_holds-returns-in-Comparison-clause-holds g t c =
     let kept = kept_of c.args.self.now in
-    let tree = g.T.Queryable.tree in
-    let d = document tree g.T.Queryable.custom c.args.self.now in
-    let n = node_of tree c.args.trail.now.way.steps.items c.args.at.now in
+    let d = document c.args.self.now in
+    let n = node_of c.args.trail.now.way.steps.items c.args.at in
     let e = ap (filter_view kept) c.in-Comparison.is ∙ filter_view-Comparison kept _ _ _ in
     ok_as _ _ _ (sym (ap (λ f. holds f d n) e)) c.comparison_holds.ensures.holds
 
 pub filter_holds-returns-in-Kept-clause-holds : goal.filter_holds-returns-in-Kept-clause-holds
 filter_holds-returns-in-Kept-clause-holds g t c =
     let kept = kept_of c.args.self.now in
-    let tree = g.T.Queryable.tree in
-    let d = document tree g.T.Queryable.custom c.args.self.now in
-    let n = node_of tree c.args.trail.now.way.steps.items c.args.at.now in
+    let d = document c.args.self.now in
+    let n = node_of c.args.trail.now.way.steps.items c.args.at in
     let e = ap (filter_view kept) c.in-Kept.is ∙ filter_view-Kept kept c.in-Kept.number in
     ok_as _ _ _ (sym (ap (λ f. holds f d n) e)) (c.kept_comparison.ensures.holds n)
-
-pub exists-is_there-requires : goal.exists-is_there-requires
-exists-is_there-requires g t c = c.requires.whole
 
 pub exists-nodes-requires : goal.exists-nodes-requires
 exists-nodes-requires g t c κs within = (down_tree _ _ _ _ _ c.decreases (omega arith), (within, c.requires))
@@ -886,24 +807,19 @@ exists-nodes-requires g t c κs within = (down_tree _ _ _ _ _ c.decreases (omega
 pub exists-returns-in-Some-clause-holds : goal.exists-returns-in-Some-clause-holds
 exists-returns-in-Some-clause-holds g t c =
     let kept = kept_of c.args.self.now in
-    let tree = g.T.Queryable.tree in
-    let d = document tree g.T.Queryable.custom c.args.self.now in
-    let n = node_of tree c.args.trail.now.way.steps.items c.args.at.now in
+    let d = document c.args.self.now in
+    let n = node_of c.args.trail.now.way.steps.items c.args.at in
     of_some (λ b. b ≡ as_truth (tested (nodes_view kept c.args.nodes.now Any) d n)) _ _ c.in-Some.is (c.is_there.ensures kept d n refl)
 
 pub exists-returns-clause-holds : goal.exists-returns-clause-holds
 exists-returns-clause-holds g t c =
     let kept = kept_of c.args.self.now in
-    let tree = g.T.Queryable.tree in
-    let d = document tree g.T.Queryable.custom c.args.self.now in
-    let n = node_of tree c.args.trail.now.way.steps.items c.args.at.now in
+    let d = document c.args.self.now in
+    let n = node_of c.args.trail.now.way.steps.items c.args.at in
     c.has_any.ensures ∙ ap truth_held c.in_ok-gathered.ensures.held ∙ as_truth_held (tested (nodes_view kept c.args.nodes.now Any) d n)
 
-pub comparison_holds-lent_compare-requires-clause-ready : goal.comparison_holds-lent_compare-requires-clause-ready
-comparison_holds-lent_compare-requires-clause-ready g t c = c.requires.ready
-
-pub comparison_holds-lent_compare-requires-clause-whole : goal.comparison_holds-lent_compare-requires-clause-whole
-comparison_holds-lent_compare-requires-clause-whole g t c = c.requires.whole
+pub comparison_holds-lent_compare-requires : goal.comparison_holds-lent_compare-requires
+comparison_holds-lent_compare-requires g t c = c.requires.ready
 
 pub comparison_holds-side-requires : goal.comparison_holds-side-requires
 comparison_holds-side-requires g t c κs within =
@@ -911,31 +827,26 @@ comparison_holds-side-requires g t c κs within =
 
 pub comparison_holds-side-requires-2 : goal.comparison_holds-side-requires-2
 comparison_holds-side-requires-2 g t c κs within =
-    (down _ _ _ _ _ _ c.decreases (omega arith) (omega (arith, c.requires.within)), (within, still c.requires c.in_ok-left.ensures.returns))
+    (down _ _ _ _ _ _ c.decreases (omega arith) (omega (arith, c.requires.within)), (within, still c.requires c.in_ok-left.ensures.comes.back))
 
 pub comparison_holds-returns-in-Some-clause-holds : goal.comparison_holds-returns-in-Some-clause-holds
 comparison_holds-returns-in-Some-clause-holds g t c =
-    let n = node_of g.T.Queryable.tree c.args.trail.now.way.steps.items c.args.at.now in
+    let n = node_of c.args.trail.now.way.steps.items c.args.at in
     c.in-Some.ensures n refl
-
-pub comparison_holds-as_side-requires : goal.comparison_holds-as_side-requires
-comparison_holds-as_side-requires g t c = c.in_ok-left.ensures.whole
-
-pub comparison_holds-as_side-requires-2 : goal.comparison_holds-as_side-requires-2
-comparison_holds-as_side-requires-2 g t c = c.in_ok-right.ensures.whole
 
 pub comparison_holds-returns-clause-holds : goal.comparison_holds-returns-clause-holds
 comparison_holds-returns-clause-holds g t c =
     let kept = kept_of c.args.self.now in
-    let tree = g.T.Queryable.tree in
-    let d = document tree g.T.Queryable.custom c.args.self.now in
-    let n = node_of tree c.args.trail.now.way.steps.items c.args.at.now in
+    let d = document c.args.self.now in
+    let n = node_of c.args.trail.now.way.steps.items c.args.at in
     let op = operator_view c.args.operator in
-    let right = c.in_ok-right.ensures.value ∙ ap (λ q. value_of (side_view kept c.args.sides.1.now) d (node_of tree q c.args.at.now)) c.in_ok-left.ensures.returns.same in
-    c.compares.ensures ∙ ap (λ o. compares op o (side_tree tree c.as_side-2.result)) (c.as_side.ensures.value ∙ c.in_ok-left.ensures.value) ∙ ap (compares op (value_of (side_view kept c.args.sides.0.now) d n)) (c.as_side-2.ensures.value ∙ right)
+    let right = c.in_ok-right.ensures.value ∙ ap (λ q. value_of (side_view kept c.args.sides.1.now) d (node_of q c.args.at)) c.in_ok-left.ensures.comes.back.same in
+    c.compares.ensures ∙ ap (λ o. compares op o (side_tree c.as_side-2.result)) (c.as_side.ensures ∙ c.in_ok-left.ensures.value) ∙ ap (compares op (value_of (side_view kept c.args.sides.0.now) d n)) (c.as_side-2.ensures ∙ right)
 
-pub comparison_holds-returns-clause-returns : goal.comparison_holds-returns-clause-returns
-comparison_holds-returns-clause-returns g t c = record { same = c.in_ok-right.ensures.returns.same ∙ c.in_ok-left.ensures.returns.same; ready = c.in_ok-right.ensures.returns.ready }
+pub comparison_holds-returns-clause-comes : goal.comparison_holds-returns-clause-comes
+comparison_holds-returns-clause-comes g t c =
+    let back = on c.in_ok-left.ensures.comes.back c.in_ok-right.ensures.comes.back in
+    record { back = record { same = back.same; ready = back.ready }; ready = tt; halts = tt }
 
 pub side-called-requires : goal.side-called-requires
 side-called-requires g t c κs within =
@@ -943,53 +854,43 @@ side-called-requires g t c κs within =
     let e = ap (side_view kept) c.in-Call.is ∙ side_view-Call kept c.in-Call.call in
     (down _ _ _ _ _ _ c.decreases (omega (arith, ap comparable_weight e)) (omega arith), (within, c.requires))
 
-pub side-value_at-requires : goal.side-value_at-requires
-side-value_at-requires g t c = c.requires.whole
-
 pub side-kept_value-requires : goal.side-kept_value-requires
 side-kept_value-requires g t c = c.requires.ready
-
-pub side-lent-requires : goal.side-lent-requires
-side-lent-requires g t c = c.value_at.ensures.whole
 
 pub side-returns-in-Literal-clause-value : goal.side-returns-in-Literal-clause-value
 side-returns-in-Literal-clause-value g t c =
     let kept = kept_of c.args.self.now in
-    let tree = g.T.Queryable.tree in
-    let d = document tree g.T.Queryable.custom c.args.self.now in
-    let n = node_of tree c.args.trail.now.way.steps.items c.args.at.now in
+    let d = document c.args.self.now in
+    let n = node_of c.args.trail.now.way.steps.items c.args.at in
     let e = ap (side_view kept) c.in-Literal.is ∙ side_view-Literal kept c.in-Literal.literal in
     ap (λ x. Some x) c.scalar_of.ensures ∙ sym (ap (λ x. value_of x d n) e)
 
 pub side-returns-in-Lookup-clause-value : goal.side-returns-in-Lookup-clause-value
 side-returns-in-Lookup-clause-value g t c =
     let kept = kept_of c.args.self.now in
-    let tree = g.T.Queryable.tree in
-    let d = document tree g.T.Queryable.custom c.args.self.now in
-    let n = node_of tree c.args.trail.now.way.steps.items c.args.at.now in
+    let d = document c.args.self.now in
+    let n = node_of c.args.trail.now.way.steps.items c.args.at in
     let e = ap (side_view kept) c.in-Lookup.is ∙ side_view-Lookup kept c.in-Lookup.steps in
-    c.lent.ensures.value ∙ c.value_at.ensures.value ∙ ap (λ (ss : List SingularQuerySegment). value_at (map step_view ss) n.tree) c.deref.ensures.value ∙ sym (ap (λ x. value_of x d n) e)
+    c.lent.ensures ∙ c.value_at.ensures ∙ ap (λ (ss : List SingularQuerySegment). value_at (map step_view ss) n.tree) c.deref.ensures.value ∙ sym (ap (λ x. value_of x d n) e)
 
 pub side-returns-in_ok-kept_value-in-Kept-clause-value : goal.side-returns-in_ok-kept_value-in-Kept-clause-value
 side-returns-in_ok-kept_value-in-Kept-clause-value g t c =
     let kept = kept_of c.args.self.now in
-    let tree = g.T.Queryable.tree in
-    let d = document tree g.T.Queryable.custom c.args.self.now in
-    let n = node_of tree c.args.trail.now.way.steps.items c.args.at.now in
+    let d = document c.args.self.now in
+    let n = node_of c.args.trail.now.way.steps.items c.args.at in
     let e = ap (side_view kept) c.in-Kept.is ∙ side_view-Kept kept c.in-Kept.number in
     c.in_ok-kept_value-in-Kept.ensures.value ∙ sym (ap (λ x. value_of x d n) e)
 
-pub side-returns-in_ok-kept_value-in-Kept-clause-returns : goal.side-returns-in_ok-kept_value-in-Kept-clause-returns
-side-returns-in_ok-kept_value-in-Kept-clause-returns g t c = record { same = refl; ready = c.in_ok-kept_value-in-Kept.ensures.ready }
+pub side-returns-in_ok-kept_value-in-Kept-clause-comes : goal.side-returns-in_ok-kept_value-in-Kept-clause-comes
+side-returns-in_ok-kept_value-in-Kept-clause-comes g t c = record { back = record { same = refl; ready = c.in_ok-kept_value-in-Kept.ensures.ready }; ready = tt; halts = tt }
 
 pub side-returns-in-Call-clause-value : goal.side-returns-in-Call-clause-value
 side-returns-in-Call-clause-value g t c =
     let kept = kept_of c.args.self.now in
-    let tree = g.T.Queryable.tree in
-    let d = document tree g.T.Queryable.custom c.args.self.now in
-    let n = node_of tree c.args.trail.now.way.steps.items c.args.at.now in
+    let d = document c.args.self.now in
+    let n = node_of c.args.trail.now.way.steps.items c.args.at in
     let e = ap (side_view kept) c.in-Call.is ∙ side_view-Call kept c.in-Call.call in
-    ok_through _ (operand_tree tree) _ _ (sym (ap (λ x. value_of x d n) e)) c.called.ensures.value
+    ok_through _ (operand_tree) _ _ (sym (ap (λ x. value_of x d n) e)) c.called.ensures.value
 
 pub answer-custom-requires : goal.answer-custom-requires
 answer-custom-requires g t c κs within =
@@ -1003,9 +904,6 @@ answer-value-requires g t c κs within =
     let e = ap (call_view kept) c.in-Length.is ∙ call_view-Length kept c.in-Length.arg in
     (down _ _ _ _ _ _ c.decreases (omega (arith, ap call_weight e)) (omega (arith, c.requires.within)), (within, c.requires))
 
-pub answer-length-requires : goal.answer-length-requires
-answer-length-requires g t c = c.in_ok-value-in-Length.ensures.whole
-
 pub answer-argument-requires : goal.answer-argument-requires
 answer-argument-requires g t c κs within =
     let kept = kept_of c.args.self.now in
@@ -1017,20 +915,6 @@ answer-argument-requires-in-Count g t c κs within =
     let kept = kept_of c.args.self.now in
     let e = ap (call_view kept) c.in-Count.is ∙ call_view-Count kept c.in-Count.arg in
     (down _ _ _ _ _ _ c.decreases (omega (arith, ap call_weight e)) (omega (arith, c.requires.within)), (within, c.requires))
-
-pub answer-only-requires-clause-within : goal.answer-only-requires-clause-within
-answer-only-requires-clause-within g t c = c.in_ok-argument-in-Value.ensures.within
-
-pub answer-only-requires-clause-whole : goal.answer-only-requires-clause-whole
-answer-only-requires-clause-whole g t c =
-    let kept = kept_of c.args.self.now in
-    let tree = g.T.Queryable.tree in
-    let d = document tree g.T.Queryable.custom c.args.self.now in
-    let n = node_of tree c.args.trail.now.way.steps.items c.args.at.now in
-    subst OnlyIsWhole (sym c.in_ok-argument-in-Value.ensures.held) (only_is_whole (argued (argument_view kept c.in-Value.arg Only) d n))
-
-pub answer-count-requires : goal.answer-count-requires
-answer-count-requires g t c = c.in_ok-argument-in-Count.ensures.within
 
 pub answer-match_or_search-requires : goal.answer-match_or_search-requires
 answer-match_or_search-requires g t c κs within =
@@ -1047,123 +931,93 @@ answer-match_or_search-requires-in-Match g t c κs within =
 pub answer-returns-in-Custom-clause-value : goal.answer-returns-in-Custom-clause-value
 answer-returns-in-Custom-clause-value g t c =
     let kept = kept_of c.args.self.now in
-    let tree = g.T.Queryable.tree in
-    let d = document tree g.T.Queryable.custom c.args.self.now in
-    let n = node_of tree c.args.trail.now.way.steps.items c.args.at.now in
+    let d = document c.args.self.now in
+    let n = node_of c.args.trail.now.way.steps.items c.args.at in
     let custom = g.T.Queryable.custom in
     let e = ap (call_view kept) c.in-Custom.is ∙ called kept c.in-Custom.name c.in-Custom.args in
-    ok_through _ (operand_tree tree) _ _ (ap (λ (xs : List Argument). Some (custom (string_bytes c.in-Custom.name) (all_trees (arguments_meant kept xs) d n))) c.deref.ensures.value ∙ sym (ap (λ f. answer f d n) e)) c.custom.ensures.value
+    ok_through _ (operand_tree) _ _ (ap (λ (xs : List Argument). Some (custom (string_bytes c.in-Custom.name) (all_trees (arguments_meant kept xs) d n))) c.deref.ensures.value ∙ sym (ap (λ f. answer f d n) e)) c.custom.ensures.value
 
 pub answer-returns-in_ok-spend-in-Length-clause-value : goal.answer-returns-in_ok-spend-in-Length-clause-value
 answer-returns-in_ok-spend-in-Length-clause-value g t c =
     let kept = kept_of c.args.self.now in
-    let tree = g.T.Queryable.tree in
-    let d = document tree g.T.Queryable.custom c.args.self.now in
-    let n = node_of tree c.args.trail.now.way.steps.items c.args.at.now in
+    let d = document c.args.self.now in
+    let n = node_of c.args.trail.now.way.steps.items c.args.at in
     let e = ap (call_view kept) c.in-Length.is ∙ call_view-Length kept c.in-Length.arg in
-    ok_through _ (operand_tree tree) _ _ (ap length_of c.in_ok-value-in-Length.ensures.value ∙ sym (ap (λ f. answer f d n) e)) c.length.ensures.value
+    ok_through _ (operand_tree) _ _ (ap length_of c.in_ok-value-in-Length.ensures.value ∙ sym (ap (λ f. answer f d n) e)) c.length.ensures.value
 
 pub answer-returns-in_ok-argument-in-Value-clause-value : goal.answer-returns-in_ok-argument-in-Value-clause-value
 answer-returns-in_ok-argument-in-Value-clause-value g t c =
     let kept = kept_of c.args.self.now in
-    let tree = g.T.Queryable.tree in
-    let d = document tree g.T.Queryable.custom c.args.self.now in
-    let n = node_of tree c.args.trail.now.way.steps.items c.args.at.now in
+    let d = document c.args.self.now in
+    let n = node_of c.args.trail.now.way.steps.items c.args.at in
     let e = ap (call_view kept) c.in-Value.is ∙ call_view-Value kept c.in-Value.arg in
-    c.only.ensures.value ∙ ap only_held c.in_ok-argument-in-Value.ensures.held ∙ as_only_held (argued (argument_view kept c.in-Value.arg Only) d n) ∙ sym (ap (λ f. answer f d n) e)
+    c.only.ensures ∙ ap only_held c.in_ok-argument-in-Value.ensures.held ∙ as_only_held (argued (argument_view kept c.in-Value.arg Only) d n) ∙ sym (ap (λ f. answer f d n) e)
 
 pub answer-returns-in_ok-argument-in-Count-clause-value : goal.answer-returns-in_ok-argument-in-Count-clause-value
 answer-returns-in_ok-argument-in-Count-clause-value g t c =
     let kept = kept_of c.args.self.now in
-    let tree = g.T.Queryable.tree in
-    let d = document tree g.T.Queryable.custom c.args.self.now in
-    let n = node_of tree c.args.trail.now.way.steps.items c.args.at.now in
+    let d = document c.args.self.now in
+    let n = node_of c.args.trail.now.way.steps.items c.args.at in
     let e = ap (call_view kept) c.in-Count.is ∙ call_view-Count kept c.in-Count.arg in
-    c.count.ensures.value ∙ ap count_held c.in_ok-argument-in-Count.ensures.held ∙ as_count_held (argued (argument_view kept c.in-Count.arg Count) d n) ∙ sym (ap (λ f. answer f d n) e)
+    c.count.ensures ∙ ap count_held c.in_ok-argument-in-Count.ensures.held ∙ as_count_held (argued (argument_view kept c.in-Count.arg Count) d n) ∙ sym (ap (λ f. answer f d n) e)
 
 pub answer-returns-in-Search-clause-value : goal.answer-returns-in-Search-clause-value
 answer-returns-in-Search-clause-value g t c =
     let kept = kept_of c.args.self.now in
-    let tree = g.T.Queryable.tree in
-    let d = document tree g.T.Queryable.custom c.args.self.now in
-    let n = node_of tree c.args.trail.now.way.steps.items c.args.at.now in
+    let d = document c.args.self.now in
+    let n = node_of c.args.trail.now.way.steps.items c.args.at in
     let e = ap (call_view kept) c.in-Search.is ∙ call_view-Search kept c.in-Search.text c.in-Search.pattern in
-    ok_through _ (operand_tree tree) _ _ (sym (ap (λ f. answer f d n) e)) c.match_or_search.ensures.value
+    ok_through _ (operand_tree) _ _ (sym (ap (λ f. answer f d n) e)) c.match_or_search.ensures.value
 
 pub answer-returns-in-Match-clause-value : goal.answer-returns-in-Match-clause-value
 answer-returns-in-Match-clause-value g t c =
     let kept = kept_of c.args.self.now in
-    let tree = g.T.Queryable.tree in
-    let d = document tree g.T.Queryable.custom c.args.self.now in
-    let n = node_of tree c.args.trail.now.way.steps.items c.args.at.now in
+    let d = document c.args.self.now in
+    let n = node_of c.args.trail.now.way.steps.items c.args.at in
     let e = ap (call_view kept) c.in-Match.is ∙ call_view-Match kept c.in-Match.text c.in-Match.pattern in
-    ok_through _ (operand_tree tree) _ _ (sym (ap (λ f. answer f d n) e)) c.match_or_search-in-Match.ensures.value
+    ok_through _ (operand_tree) _ _ (sym (ap (λ f. answer f d n) e)) c.match_or_search-in-Match.ensures.value
 
 pub match_or_search-value-requires : goal.match_or_search-value-requires
 match_or_search-value-requires g t c κs within = (down _ _ _ _ _ _ c.decreases (omega arith) (omega (arith, c.requires.within)), (within, c.requires))
 
 pub match_or_search-value-requires-2 : goal.match_or_search-value-requires-2
-match_or_search-value-requires-2 g t c κs within = (down _ _ _ _ _ _ c.decreases (omega arith) (omega (arith, c.requires.within)), (within, still c.requires c.in_ok-text.ensures.returns))
-
-pub match_or_search-is_matched-requires-clause-text : goal.match_or_search-is_matched-requires-clause-text
-match_or_search-is_matched-requires-clause-text g t c = c.in_ok-text.ensures.whole
-
-pub match_or_search-is_matched-requires-clause-pattern : goal.match_or_search-is_matched-requires-clause-pattern
-match_or_search-is_matched-requires-clause-pattern g t c = c.in_ok-pattern.ensures.whole
+match_or_search-value-requires-2 g t c κs within = (down _ _ _ _ _ _ c.decreases (omega arith) (omega (arith, c.requires.within)), (within, still c.requires c.in_ok-text.ensures.comes.back))
 
 pub match_or_search-returns-clause-value : goal.match_or_search-returns-clause-value
 match_or_search-returns-clause-value g t c =
     let kept = kept_of c.args.self.now in
-    let tree = g.T.Queryable.tree in
-    let d = document tree g.T.Queryable.custom c.args.self.now in
-    let n = node_of tree c.args.trail.now.way.steps.items c.args.at.now in
-    let pattern = c.in_ok-pattern.ensures.value ∙ ap (λ q. as_value (argued (argument_view kept c.args.args.1.now Only) d (node_of tree q c.args.at.now))) c.in_ok-text.ensures.returns.same in
+    let d = document c.args.self.now in
+    let n = node_of c.args.trail.now.way.steps.items c.args.at in
+    let pattern = c.in_ok-pattern.ensures.value ∙ ap (λ q. as_value (argued (argument_view kept c.args.args.1.now Only) d (node_of q c.args.at))) c.in_ok-text.ensures.comes.back.same in
     let entire = is_entire c.args.extent in
-    ap (λ b. Some (truth b)) (c.in_ok-found.ensures.value ∙ ap (λ o. is_matched entire o (operand_tree tree c.in_ok-pattern.pattern)) c.in_ok-text.ensures.value ∙ ap (is_matched entire (as_value (argued (argument_view kept c.args.args.0.now Only) d n))) pattern)
+    ap (λ b. Some (truth b)) (c.in_ok-found.ensures.value ∙ ap (λ o. is_matched entire o (operand_tree c.in_ok-pattern.pattern)) c.in_ok-text.ensures.value ∙ ap (is_matched entire (as_value (argued (argument_view kept c.args.args.0.now Only) d n))) pattern)
 
-pub match_or_search-returns-clause-returns : goal.match_or_search-returns-clause-returns
-match_or_search-returns-clause-returns g t c =
-    let back = on c.in_ok-text.ensures.returns c.in_ok-pattern.ensures.returns in
-    record { same = back.same; ready = back.ready }
+pub match_or_search-returns-clause-comes : goal.match_or_search-returns-clause-comes
+match_or_search-returns-clause-comes g t c =
+    let back = on c.in_ok-text.ensures.comes.back c.in_ok-pattern.ensures.comes.back in
+    record { back = record { same = back.same; ready = back.ready }; ready = tt; halts = tt }
 
-pub match_or_search-returns-in_err-found-clause-ready : goal.match_or_search-returns-in_err-found-clause-ready
-match_or_search-returns-in_err-found-clause-ready g t c =
-    let back = on c.in_ok-text.ensures.returns c.in_ok-pattern.ensures.returns in
-    err_is _ _ back.ready
-
-pub match_or_search-returns-in_err-found-clause-refused : goal.match_or_search-returns-in_err-found-clause-refused
-match_or_search-returns-in_err-found-clause-refused g t c =
+pub match_or_search-returns-in_err-found-clause-comes : goal.match_or_search-returns-in_err-found-clause-comes
+match_or_search-returns-in_err-found-clause-comes g t c =
     let kept = kept_of c.args.self.now in
-    let tree = g.T.Queryable.tree in
-    let d = document tree g.T.Queryable.custom c.args.self.now in
-    let n = node_of tree c.args.trail.now.way.steps.items c.args.at.now in
-    let pattern = c.in_ok-pattern.ensures.value ∙ ap (λ q. as_value (argued (argument_view kept c.args.args.1.now Only) d (node_of tree q c.args.at.now))) c.in_ok-text.ensures.returns.same in
+    let d = document c.args.self.now in
+    let n = node_of c.args.trail.now.way.steps.items c.args.at in
+    let pattern = c.in_ok-pattern.ensures.value ∙ ap (λ q. as_value (argued (argument_view kept c.args.args.1.now Only) d (node_of q c.args.at))) c.in_ok-text.ensures.comes.back.same in
     let asked = argument_view kept c.args.args.1.now Only in
     let more = argument_patterns (argument_view kept c.args.args.0.now Only) ++ argument_patterns asked in
     let why : IsHalt c.args.self.now.limit ((is_entire c.args.extent, asked) ∷ more) d c.in_err-found.field-0.0 = λ memory spent. pattern_asked d (is_entire c.args.extent) asked more n _ c.requires.here pattern (c.in_err-found.ensures.refused memory) in
-    halts_so _ _ _ c.from_residual-in_err-found.ensures.1 why (λ h. h)
+    let back = on c.in_ok-text.ensures.comes.back c.in_ok-pattern.ensures.comes.back in
+    comes_halt _ _ c.from_residual-in_err-found.ensures.1 back.ready why (λ h. h)
 
 pub value-argument-requires : goal.value-argument-requires
 value-argument-requires g t c κs within = (down_tree _ _ _ _ _ c.decreases (omega arith), (within, c.requires))
 
-pub value-value-requires-clause-within : goal.value-value-requires-clause-within
-value-value-requires-clause-within g t c = c.in_ok-argument.ensures.within
-
-pub value-value-requires-clause-whole : goal.value-value-requires-clause-whole
-value-value-requires-clause-whole g t c =
-    let kept = kept_of c.args.self.now in
-    let tree = g.T.Queryable.tree in
-    let d = document tree g.T.Queryable.custom c.args.self.now in
-    let n = node_of tree c.args.trail.now.way.steps.items c.args.at.now in
-    subst OnlyIsWhole (sym c.in_ok-argument.ensures.held) (only_is_whole (argued (argument_view kept c.args.arg.now Only) d n))
-
 pub value-returns-clause-value : goal.value-returns-clause-value
 value-returns-clause-value g t c =
     let kept = kept_of c.args.self.now in
-    let tree = g.T.Queryable.tree in
-    let d = document tree g.T.Queryable.custom c.args.self.now in
-    let n = node_of tree c.args.trail.now.way.steps.items c.args.at.now in
-    c.value.ensures.value ∙ ap value_held c.in_ok-argument.ensures.held ∙ as_value_held (argued (argument_view kept c.args.arg.now Only) d n)
+    let d = document c.args.self.now in
+    let n = node_of c.args.trail.now.way.steps.items c.args.at in
+    c.value.ensures ∙ ap value_held c.in_ok-argument.ensures.held ∙ as_value_held (argued (argument_view kept c.args.arg.now Only) d n)
 
 pub argument-nodes-requires : goal.argument-nodes-requires
 argument-nodes-requires g t c κs within =
@@ -1186,53 +1040,42 @@ argument-filter_holds-requires g t c κs within =
 pub argument-returns-in-Literal-clause-held : goal.argument-returns-in-Literal-clause-held
 argument-returns-in-Literal-clause-held g t c =
     let kept = kept_of c.args.self.now in
-    let tree = g.T.Queryable.tree in
-    let d = document tree g.T.Queryable.custom c.args.self.now in
-    let n = node_of tree c.args.trail.now.way.steps.items c.args.at.now in
+    let d = document c.args.self.now in
+    let n = node_of c.args.trail.now.way.steps.items c.args.at in
     let e = ap (λ a. argument_view kept a c.args.wanted) c.in-Literal.is ∙ argument_view-Literal kept c.in-Literal.literal c.args.wanted in
     ap (λ x. value (Some x)) c.scalar_of.ensures ∙ sym (ap (λ a. holding c.args.wanted (argued a d n)) e)
 
 pub argument-returns-in-Pattern-clause-held : goal.argument-returns-in-Pattern-clause-held
 argument-returns-in-Pattern-clause-held g t c =
     let kept = kept_of c.args.self.now in
-    let tree = g.T.Queryable.tree in
-    let d = document tree g.T.Queryable.custom c.args.self.now in
-    let n = node_of tree c.args.trail.now.way.steps.items c.args.at.now in
+    let d = document c.args.self.now in
+    let n = node_of c.args.trail.now.way.steps.items c.args.at in
     let e = ap (λ a. argument_view kept a c.args.wanted) c.in-Pattern.is ∙ argument_view-Pattern kept c.in-Pattern.text c.in-Pattern._number c.args.wanted in
     ap (λ s. value (Some (text s))) c.deref.ensures ∙ sym (ap (λ a. holding c.args.wanted (argued a d n)) e)
 
 pub argument-returns-in_ok-gathered-in-Nodes-clause-held : goal.argument-returns-in_ok-gathered-in-Nodes-clause-held
 argument-returns-in_ok-gathered-in-Nodes-clause-held g t c =
     let kept = kept_of c.args.self.now in
-    let tree = g.T.Queryable.tree in
-    let d = document tree g.T.Queryable.custom c.args.self.now in
-    let n = node_of tree c.args.trail.now.way.steps.items c.args.at.now in
+    let d = document c.args.self.now in
+    let n = node_of c.args.trail.now.way.steps.items c.args.at in
     let e = ap (λ a. argument_view kept a c.args.wanted) c.in-Nodes.is ∙ argument_view-Nodes kept c.in-Nodes.nodes c.args.wanted in
     c.in_ok-gathered-in-Nodes.ensures.held ∙ sym (ap (λ a. holding c.args.wanted (argued a d n)) e)
 
 pub argument-returns-in_ok-value-in-Call-clause-held : goal.argument-returns-in_ok-value-in-Call-clause-held
 argument-returns-in_ok-value-in-Call-clause-held g t c =
     let kept = kept_of c.args.self.now in
-    let tree = g.T.Queryable.tree in
-    let d = document tree g.T.Queryable.custom c.args.self.now in
-    let n = node_of tree c.args.trail.now.way.steps.items c.args.at.now in
+    let d = document c.args.self.now in
+    let n = node_of c.args.trail.now.way.steps.items c.args.at in
     let e = ap (λ a. argument_view kept a c.args.wanted) c.in-Call.is ∙ argument_view-Call kept c.in-Call.call c.args.wanted in
     ap value c.in_ok-value-in-Call.ensures.value ∙ sym (ap (λ a. holding c.args.wanted (argued a d n)) e)
-
-pub argument-returns-in_ok-value-in-Call-clause-within : goal.argument-returns-in_ok-value-in-Call-clause-within
-argument-returns-in_ok-value-in-Call-clause-within g t c = c.in_ok-value-in-Call.ensures.whole
 
 pub argument-returns-in_ok-truth-in-Filter-clause-held : goal.argument-returns-in_ok-truth-in-Filter-clause-held
 argument-returns-in_ok-truth-in-Filter-clause-held g t c =
     let kept = kept_of c.args.self.now in
-    let tree = g.T.Queryable.tree in
-    let d = document tree g.T.Queryable.custom c.args.self.now in
-    let n = node_of tree c.args.trail.now.way.steps.items c.args.at.now in
+    let d = document c.args.self.now in
+    let n = node_of c.args.trail.now.way.steps.items c.args.at in
     let e = ap (λ a. argument_view kept a c.args.wanted) c.in-Filter.is ∙ argument_view-Filter kept c.in-Filter.filter c.args.wanted in
     ap (λ b. value (Some (truth b))) c.in_ok-truth-in-Filter.ensures.holds ∙ sym (ap (λ a. holding c.args.wanted (argued a d n)) e)
-
-pub nodes-looked_up-requires : goal.nodes-looked_up-requires
-nodes-looked_up-requires g t c = c.requires.whole
 
 pub nodes-gather-requires : goal.nodes-gather-requires
 nodes-gather-requires g t c κs within =
@@ -1249,9 +1092,8 @@ nodes-kept_nodes-requires g t c κs within =
 pub nodes-returns-in_ok-looked_up-in-Lookup-clause-held : goal.nodes-returns-in_ok-looked_up-in-Lookup-clause-held
 nodes-returns-in_ok-looked_up-in-Lookup-clause-held g t c =
     let kept = kept_of c.args.self.now in
-    let tree = g.T.Queryable.tree in
-    let d = document tree g.T.Queryable.custom c.args.self.now in
-    let n = node_of tree c.args.trail.now.way.steps.items c.args.at.now in
+    let d = document c.args.self.now in
+    let n = node_of c.args.trail.now.way.steps.items c.args.at in
     let e = ap (λ ns. nodes_view kept ns c.args.wanted) c.in-Lookup.is ∙ nodes_view-Lookup kept c.in-Lookup.steps c.args.wanted in
     let ns = ap (λ (ss : List SingularQuerySegment). through (steps_query (map step_view ss)) d n) c.deref.ensures.value ∙ through-applied (steps_query (map step_view c.in-Lookup.steps.items)) d n in
     ap nodes (c.in_ok-looked_up-in-Lookup.ensures.given d n refl ∙ ap (give (start c.args.wanted)) ns) ∙ sym (ap (λ q. holding c.args.wanted (tested q d n)) e)
@@ -1259,9 +1101,8 @@ nodes-returns-in_ok-looked_up-in-Lookup-clause-held g t c =
 pub nodes-returns-in_ok-gather-in-Walk-clause-held : goal.nodes-returns-in_ok-gather-in-Walk-clause-held
 nodes-returns-in_ok-gather-in-Walk-clause-held g t c =
     let kept = kept_of c.args.self.now in
-    let tree = g.T.Queryable.tree in
-    let d = document tree g.T.Queryable.custom c.args.self.now in
-    let n = node_of tree c.args.trail.now.way.steps.items c.args.at.now in
+    let d = document c.args.self.now in
+    let n = node_of c.args.trail.now.way.steps.items c.args.at in
     let e = ap (λ ns. nodes_view kept ns c.args.wanted) c.in-Walk.is ∙ nodes_view-Walk kept c.in-Walk.segments c.args.wanted in
     let ns = ap (λ (gs : List Segment). through (segments_meant kept gs) d n) c.deref-in-Walk.ensures.value ∙ through-applied (segments_meant kept c.in-Walk.segments.items) d n in
     ap nodes (c.in_ok-gather-in-Walk.ensures.given ∙ ap (give (start c.args.wanted)) ns) ∙ sym (ap (λ q. holding c.args.wanted (tested q d n)) e)
@@ -1269,14 +1110,10 @@ nodes-returns-in_ok-gather-in-Walk-clause-held g t c =
 pub nodes-returns-in-Kept-clause-held : goal.nodes-returns-in-Kept-clause-held
 nodes-returns-in-Kept-clause-held g t c =
     let kept = kept_of c.args.self.now in
-    let tree = g.T.Queryable.tree in
-    let d = document tree g.T.Queryable.custom c.args.self.now in
-    let n = node_of tree c.args.trail.now.way.steps.items c.args.at.now in
+    let d = document c.args.self.now in
+    let n = node_of c.args.trail.now.way.steps.items c.args.at in
     let e = ap (λ ns. nodes_view kept ns c.args.wanted) c.in-Kept.is ∙ nodes_view-Kept kept c.in-Kept.number c.args.wanted in
     IfOk-weaker c.kept_nodes.result _ _ (λ g h. ap nodes h ∙ sym (ap (λ q. holding c.args.wanted (tested q d n)) e)) c.kept_nodes.ensures.given
-
-pub kept_nodes-of_one-requires : goal.kept_nodes-of_one-requires
-kept_nodes-of_one-requires g t c = c.requires.root
 
 pub kept_nodes-gather-requires : goal.kept_nodes-gather-requires
 kept_nodes-gather-requires g t c κs within =
@@ -1286,61 +1123,58 @@ kept_nodes-gather-requires g t c κs within =
     (down _ _ _ _ _ _ c.decreases (omega (arith, ap segments_weight e)) (omega arith), (within, root))
 
 pub kept_nodes-keep-requires : goal.kept_nodes-keep-requires
-kept_nodes-keep-requires g t c = subst (λ k. c.args.number < k) (sym c.in-Ok.ensures.returns.ready.kept.room) c.in-Some.ensures.within
+kept_nodes-keep-requires g t c = subst (λ k. c.args.number < k) (sym c.in-Ok.ensures.comes.back.ready.room) c.in-Some.ensures.within
 
 pub kept_nodes-keep_halt-requires : goal.kept_nodes-keep_halt-requires
-kept_nodes-keep_halt-requires g t c = subst (λ k. c.args.number < k) (sym c.in-Err.ensures.ready.kept.room) c.in-Some.ensures.within
+kept_nodes-keep_halt-requires g t c = subst (λ k. c.args.number < k) (sym c.in-Err.ensures.comes.ready.room) c.in-Some.ensures.within
 
 pub kept_nodes-returns-in_default-clause-given : goal.kept_nodes-returns-in_default-clause-given
 kept_nodes-returns-in_default-clause-given g t c =
-    let d = document g.T.Queryable.tree g.T.Queryable.custom c.args.self.now in
+    let d = document c.args.self.now in
     c.in_ok-of_one.ensures.given ∙ sym (ap (λ q. give (start c.args.wanted) (nodelist q d)) c.in_default.ensures.none)
 
 pub kept_nodes-returns-then-branch-clause-given : goal.kept_nodes-returns-then-branch-clause-given
 kept_nodes-returns-then-branch-clause-given g t c =
     let kept = kept_of c.args.self.now in
-    let d = document g.T.Queryable.tree g.T.Queryable.custom c.args.self.now in
+    let d = document c.args.self.now in
     let q = c.in-Some.ensures.part in
-    c.in_ok-has_nodes.ensures.nodes kept d c.args.wanted _ c.requires.kept q c.if-branch.true ∙ ap (λ x. give (start c.args.wanted) (nodelist x d)) (sym (kept_query kept c.args.number c.args.wanted _ q))
+    c.in_ok-has_nodes.ensures.nodes kept d c.args.wanted _ c.requires q c.if-branch.true ∙ ap (λ x. give (start c.args.wanted) (nodelist x d)) (sym (kept_query kept c.args.number c.args.wanted _ q))
 
-pub kept_nodes-returns-then-branch-clause-returns : goal.kept_nodes-returns-then-branch-clause-returns
-kept_nodes-returns-then-branch-clause-returns g t c = stays c.requires
+pub kept_nodes-returns-then-branch-clause-comes : goal.kept_nodes-returns-then-branch-clause-comes
+kept_nodes-returns-then-branch-clause-comes g t c = record { back = stays c.requires; ready = tt; halts = tt }
 
 pub kept_nodes-returns-in-Ok-clause-given : goal.kept_nodes-returns-in-Ok-clause-given
 kept_nodes-returns-in-Ok-clause-given g t c =
     let kept = kept_of c.args.self.now in
-    let tree = g.T.Queryable.tree in
-    let d = document tree g.T.Queryable.custom c.args.self.now in
+    let d = document c.args.self.now in
     let gs = segments_meant kept c.in-Some.segments.now in
-    let at = λ (q : List StepRef). through gs d (node_of tree q c.args.self.now.root.now) in
+    let at = λ (q : List StepRef). through gs d (node_of q c.args.self.now.root) in
     let all = ap at (ap (λ w. w.steps.items) c.replace-here.ensures.after ∙ c.new-root.ensures) ∙ nodelist-through gs d ∙ ap (λ q. nodelist q d) (sym (kept_query kept c.args.number c.args.wanted _ c.in-Some.ensures.part)) in
     ap nodes_or_none c.keep.ensures.value ∙ c.in-Ok.ensures.given ∙ ap (give (start c.args.wanted)) all
 
-pub kept_nodes-returns-in-Ok-clause-returns : goal.kept_nodes-returns-in-Ok-clause-returns
-kept_nodes-returns-in-Ok-clause-returns g t c =
+pub kept_nodes-returns-in-Ok-clause-comes : goal.kept_nodes-returns-in-Ok-clause-comes
+kept_nodes-returns-in-Ok-clause-comes g t c =
     let kept = kept_of c.args.self.now in
-    let tree = g.T.Queryable.tree in
-    let d = document tree g.T.Queryable.custom c.args.self.now in
+    let d = document c.args.self.now in
     let gs = segments_meant kept c.in-Some.segments.now in
-    let at = λ (q : List StepRef). through gs d (node_of tree q c.args.self.now.root.now) in
+    let at = λ (q : List StepRef). through gs d (node_of q c.args.self.now.root) in
     let all = ap at (ap (λ w. w.steps.items) c.replace-here.ensures.after ∙ c.new-root.ensures) ∙ nodelist-through gs d in
     let given = ap keeping.nodes (c.in-Ok.ensures.given ∙ ap (give (start c.args.wanted)) all) ∙ sym (ap (λ p. given_by p d) c.in-Some.ensures.part) in
-    record { same = ap (λ w. w.steps.items) c.replace-here.ensures.value; ready = record { root = c.requires.root; kept = c.keep.ensures.right kept d given c.in-Ok.ensures.returns.ready.kept } }
+    record { back = record { same = ap (λ w. w.steps.items) c.replace-here.ensures.value; ready = c.keep.ensures.right kept d given c.in-Ok.ensures.comes.back.ready }; ready = tt; halts = tt }
 
-pub kept_nodes-returns-clause-ready : goal.kept_nodes-returns-clause-ready
-kept_nodes-returns-clause-ready g t c =
+pub kept_nodes-returns-clause-comes : goal.kept_nodes-returns-clause-comes
+kept_nodes-returns-clause-comes g t c =
     let kept = kept_of c.args.self.now in
-    let d = document g.T.Queryable.tree g.T.Queryable.custom c.args.self.now in
-    let halt = subst (λ p. IsHalt c.args.self.now.limit (part_patterns p) d c.in-Err.halt) (sym c.in-Some.ensures.part) c.in-Err.ensures.refused in
-    record { root = c.requires.root; kept = c.keep_halt.ensures.right kept d c.args.self.now.limit halt c.in-Err.ensures.ready.kept }
-
-pub kept_nodes-returns-clause-refused : goal.kept_nodes-returns-clause-refused
-kept_nodes-returns-clause-refused g t c =
-    let kept = kept_of c.args.self.now in
-    let d = document g.T.Queryable.tree g.T.Queryable.custom c.args.self.now in
+    let d = document c.args.self.now in
+    let comes = c.in-Err.ensures.comes in
     let query = kept_query kept c.args.number c.args.wanted _ c.in-Some.ensures.part in
-    subst (λ h. IsHalt c.args.self.now.limit (segments_patterns (query_at kept c.args.wanted c.args.number)) d h) (sym c.keep_halt.ensures.same)
-    (subst (λ q. IsHalt c.args.self.now.limit (segments_patterns q) d c.in-Err.halt) (sym query) c.in-Err.ensures.refused)
+    let halt = subst (λ p. IsHalt c.args.self.now.limit (part_patterns p) d c.in-Err.halt) (sym c.in-Some.ensures.part) comes.halts in
+    let why = subst (λ q. IsHalt c.args.self.now.limit (segments_patterns q) d c.in-Err.halt) (sym query) comes.halts in
+    record {
+      back = tt;
+      ready = c.keep_halt.ensures.right kept d c.args.self.now.limit halt comes.ready;
+      halts = subst (λ h. IsHalt c.args.self.now.limit (segments_patterns (query_at kept c.args.wanted c.args.number)) d h) (sym c.keep_halt.ensures.same) why;
+    }
 
 pub called-answer-requires : goal.called-answer-requires
 called-answer-requires g t c κs within =
@@ -1357,20 +1191,18 @@ called-kept_answer-requires g t c κs within =
 pub called-returns-in-Here-clause-value : goal.called-returns-in-Here-clause-value
 called-returns-in-Here-clause-value g t c =
     let kept = kept_of c.args.self.now in
-    let tree = g.T.Queryable.tree in
-    let d = document tree g.T.Queryable.custom c.args.self.now in
-    let n = node_of tree c.args.trail.now.way.steps.items c.args.at.now in
+    let d = document c.args.self.now in
+    let n = node_of c.args.trail.now.way.steps.items c.args.at in
     let e = ap (called_view kept) c.in-Here.is ∙ called_view-Here kept c.in-Here.call ∙ ap (call_view kept) (sym c.deref.ensures) in
-    ok_through _ (operand_tree tree) _ _ (sym (ap (λ f. answer f d n) e)) c.answer.ensures.value
+    ok_through _ (operand_tree) _ _ (sym (ap (λ f. answer f d n) e)) c.answer.ensures.value
 
 pub called-returns-in-Kept-clause-value : goal.called-returns-in-Kept-clause-value
 called-returns-in-Kept-clause-value g t c =
     let kept = kept_of c.args.self.now in
-    let tree = g.T.Queryable.tree in
-    let d = document tree g.T.Queryable.custom c.args.self.now in
-    let n = node_of tree c.args.trail.now.way.steps.items c.args.at.now in
+    let d = document c.args.self.now in
+    let n = node_of c.args.trail.now.way.steps.items c.args.at in
     let e = ap (called_view kept) c.in-Kept.is ∙ called_view-Kept kept c.in-Kept.number in
-    ok_through _ (operand_tree tree) _ _ (sym (ap (λ f. answer f d n) e)) (c.kept_answer.ensures.value n)
+    ok_through _ (operand_tree) _ _ (sym (ap (λ f. answer f d n) e)) (c.kept_answer.ensures.value n)
 
 pub kept_answer-answer-requires : goal.kept_answer-answer-requires
 kept_answer-answer-requires g t c κs within =
@@ -1379,36 +1211,33 @@ kept_answer-answer-requires g t c κs within =
     (down_same _ _ _ _ _ _ c.decreases (sym (ap call_weight e)) (omega arith), (within, root))
 
 pub kept_answer-keep-requires : goal.kept_answer-keep-requires
-kept_answer-keep-requires g t c = subst (λ k. c.args.number < k) (sym c.in_ok-given.ensures.returns.ready.kept.room) c.in-Some.ensures.within
+kept_answer-keep-requires g t c = subst (λ k. c.args.number < k) (sym c.in_ok-given.ensures.comes.back.ready.room) c.in-Some.ensures.within
 
 pub kept_answer-returns-in_default-clause-value : goal.kept_answer-returns-in_default-clause-value
 kept_answer-returns-in_default-clause-value g t c = λ n.
-    let d = document g.T.Queryable.tree g.T.Queryable.custom c.args.self.now in
+    let d = document c.args.self.now in
     sym (ap (λ f. answer f d n) c.in_default.ensures.none)
 
 pub kept_answer-returns-in-Some-2-clause-value : goal.kept_answer-returns-in-Some-2-clause-value
 kept_answer-returns-in-Some-2-clause-value g t c = λ n.
     let kept = kept_of c.args.self.now in
-    let tree = g.T.Queryable.tree in
-    let d = document tree g.T.Queryable.custom c.args.self.now in
-    of_some (λ v. operand_tree tree v ≡ value_by (plan.part_at kept c.args.number) d) _ _ c.in-Some-2.is c.in_ok-value.ensures.value ∙ ap (λ p. value_by p d) c.in-Some.ensures.part ∙ sym (ap (λ p. answer (call_in p) d (root_node d.root)) c.in-Some.ensures.part) ∙ kept_call_same kept c.args.number d (root_node d.root) n c.args.self.now.plan.now.rooted
+    let d = document c.args.self.now in
+    of_some (λ v. operand_tree v ≡ value_by (plan.part_at kept c.args.number) d) _ _ c.in-Some-2.is c.in_ok-value.ensures.value ∙ ap (λ p. value_by p d) c.in-Some.ensures.part ∙ sym (ap (λ p. answer (call_in p) d (root_node d.root)) c.in-Some.ensures.part) ∙ kept_call_same kept c.args.number d (root_node d.root) n c.args.self.now.plan.now.rooted
 
 pub kept_answer-returns-clause-value : goal.kept_answer-returns-clause-value
 kept_answer-returns-clause-value g t c = λ n.
     let kept = kept_of c.args.self.now in
-    let tree = g.T.Queryable.tree in
-    let d = document tree g.T.Queryable.custom c.args.self.now in
-    let top = ap (λ (q : List StepRef). node_of tree q c.args.self.now.root.now) (ap (λ w. w.steps.items) c.replace-here.ensures.after ∙ c.new-root.ensures) in
+    let d = document c.args.self.now in
+    let top = ap (λ (q : List StepRef). node_of q c.args.self.now.root) (ap (λ w. w.steps.items) c.replace-here.ensures.after ∙ c.new-root.ensures) in
     c.in_ok-first.ensures.value ∙ answer_as _ _ d _ (root_node d.root) _ (ap call_in c.in-Some.ensures.part) top c.in_ok-given.ensures.value ∙ kept_call_same kept c.args.number d (root_node d.root) n c.args.self.now.plan.now.rooted
 
-pub kept_answer-returns-clause-returns : goal.kept_answer-returns-clause-returns
-kept_answer-returns-clause-returns g t c =
+pub kept_answer-returns-clause-comes : goal.kept_answer-returns-clause-comes
+kept_answer-returns-clause-comes g t c =
     let kept = kept_of c.args.self.now in
-    let tree = g.T.Queryable.tree in
-    let d = document tree g.T.Queryable.custom c.args.self.now in
-    let top = ap (λ (q : List StepRef). node_of tree q c.args.self.now.root.now) (ap (λ w. w.steps.items) c.replace-here.ensures.after ∙ c.new-root.ensures) in
-    let given = answer_kept _ _ d _ _ _ c.in-Some.ensures.part top c.in_ok-given.ensures.whole c.in_ok-given.ensures.value in
-    record { same = ap (λ w. w.steps.items) c.replace-here.ensures.value; ready = record { root = c.requires.root; kept = c.keep.ensures.right kept d given c.in_ok-given.ensures.returns.ready.kept } }
+    let d = document c.args.self.now in
+    let top = ap (λ (q : List StepRef). node_of q c.args.self.now.root) (ap (λ w. w.steps.items) c.replace-here.ensures.after ∙ c.new-root.ensures) in
+    let given = answer_kept _ _ d _ _ c.in-Some.ensures.part top c.in_ok-given.ensures.value in
+    record { back = record { same = ap (λ w. w.steps.items) c.replace-here.ensures.value; ready = c.keep.ensures.right kept d given c.in_ok-given.ensures.comes.back.ready }; ready = tt; halts = tt }
 
 pub kept_comparison-comparison_holds-requires : goal.kept_comparison-comparison_holds-requires
 kept_comparison-comparison_holds-requires g t c κs within =
@@ -1417,108 +1246,94 @@ kept_comparison-comparison_holds-requires g t c κs within =
     (down_same _ _ _ _ _ _ c.decreases (sym (ap comparison_weight e)) (omega arith), (within, root))
 
 pub kept_comparison-keep-requires : goal.kept_comparison-keep-requires
-kept_comparison-keep-requires g t c = subst (λ k. c.args.number < k) (sym c.in_ok-held.ensures.returns.ready.kept.room) c.in-Some.ensures.within
+kept_comparison-keep-requires g t c = subst (λ k. c.args.number < k) (sym c.in_ok-held.ensures.comes.back.ready.room) c.in-Some.ensures.within
 
 pub kept_comparison-returns-in_default-clause-holds : goal.kept_comparison-returns-in_default-clause-holds
 kept_comparison-returns-in_default-clause-holds g t c = λ n.
-    let d = document g.T.Queryable.tree g.T.Queryable.custom c.args.self.now in
+    let d = document c.args.self.now in
     sym (ap (λ q. comparison_holds q d n) c.in_default.ensures.none)
 
 pub kept_comparison-returns-in-Some-2-clause-holds : goal.kept_comparison-returns-in-Some-2-clause-holds
 kept_comparison-returns-in-Some-2-clause-holds g t c = λ n.
     let kept = kept_of c.args.self.now in
-    let tree = g.T.Queryable.tree in
-    let d = document tree g.T.Queryable.custom c.args.self.now in
-    c.is_true.ensures ∙ ap is_true (of_some (λ v. operand_tree tree v ≡ value_by (plan.part_at kept c.args.number) d) _ _ c.in-Some-2.is c.in_ok-value.ensures.value ∙ ap (λ p. value_by p d) c.in-Some.ensures.part) ∙ sym (ap (λ p. comparison_holds (comparison_in p) d (root_node d.root)) c.in-Some.ensures.part) ∙ kept_comparison_same kept c.args.number d (root_node d.root) n c.args.self.now.plan.now.rooted
+    let d = document c.args.self.now in
+    c.is_true.ensures ∙ ap is_true (of_some (λ v. operand_tree v ≡ value_by (plan.part_at kept c.args.number) d) _ _ c.in-Some-2.is c.in_ok-value.ensures.value ∙ ap (λ p. value_by p d) c.in-Some.ensures.part) ∙ sym (ap (λ p. comparison_holds (comparison_in p) d (root_node d.root)) c.in-Some.ensures.part) ∙ kept_comparison_same kept c.args.number d (root_node d.root) n c.args.self.now.plan.now.rooted
 
 pub kept_comparison-returns-clause-holds : goal.kept_comparison-returns-clause-holds
 kept_comparison-returns-clause-holds g t c = λ n.
     let kept = kept_of c.args.self.now in
-    let tree = g.T.Queryable.tree in
-    let d = document tree g.T.Queryable.custom c.args.self.now in
-    let top = ap (λ (q : List StepRef). node_of tree q c.args.self.now.root.now) (ap (λ w. w.steps.items) c.replace-here.ensures.after ∙ c.new-root.ensures) in
+    let d = document c.args.self.now in
+    let top = ap (λ (q : List StepRef). node_of q c.args.self.now.root) (ap (λ w. w.steps.items) c.replace-here.ensures.after ∙ c.new-root.ensures) in
     comparison_as _ _ d _ (root_node d.root) _ (ap comparison_in c.in-Some.ensures.part) top c.in_ok-held.ensures.holds ∙ kept_comparison_same kept c.args.number d (root_node d.root) n c.args.self.now.plan.now.rooted
 
-pub kept_comparison-returns-clause-returns : goal.kept_comparison-returns-clause-returns
-kept_comparison-returns-clause-returns g t c =
+pub kept_comparison-returns-clause-comes : goal.kept_comparison-returns-clause-comes
+kept_comparison-returns-clause-comes g t c =
     let kept = kept_of c.args.self.now in
-    let tree = g.T.Queryable.tree in
-    let d = document tree g.T.Queryable.custom c.args.self.now in
-    let top = ap (λ (q : List StepRef). node_of tree q c.args.self.now.root.now) (ap (λ w. w.steps.items) c.replace-here.ensures.after ∙ c.new-root.ensures) in
+    let d = document c.args.self.now in
+    let top = ap (λ (q : List StepRef). node_of q c.args.self.now.root) (ap (λ w. w.steps.items) c.replace-here.ensures.after ∙ c.new-root.ensures) in
     let given = comparison_kept _ _ d _ _ c.in-Some.ensures.part top c.in_ok-held.ensures.holds in
-    record { same = ap (λ w. w.steps.items) c.replace-here.ensures.value; ready = record { root = c.requires.root; kept = c.keep.ensures.right kept d given c.in_ok-held.ensures.returns.ready.kept } }
+    record { back = record { same = ap (λ w. w.steps.items) c.replace-here.ensures.value; ready = c.keep.ensures.right kept d given c.in_ok-held.ensures.comes.back.ready }; ready = tt; halts = tt }
 
 -- ---- why it halts
 
-pub act-returns-in_err-filter_holds-in-If-clause-refused : goal.act-returns-in_err-filter_holds-in-If-clause-refused
-act-returns-in_err-filter_holds-in-If-clause-refused g t c =
+pub act-returns-in_err-filter_holds-in-If-clause-comes : goal.act-returns-in_err-filter_holds-in-If-clause-comes
+act-returns-in_err-filter_holds-in-If-clause-comes g t c =
     let kept = kept_of c.args.self.now in
-    halts_so _ _ _ c.from_residual.ensures.1 c.in_err-filter_holds-in-If.ensures.refused (λ h. asked_left (action_patterns kept c.args.onward.next) (segments_patterns (segments_meant kept c.args.onward.rest.now)) (asked_as (action_patterns kept) _ _ c.in-If.is h))
+    comes_so _ _ c.from_residual.ensures.1 c.in_err-filter_holds-in-If.ensures.comes (λ h. asked_left (action_patterns kept c.args.onward.next) (segments_patterns (segments_meant kept c.args.onward.rest.now)) (asked_as (action_patterns kept) _ _ c.in-If.is h))
 
-pub act-returns-then-branch-clause-refused : goal.act-returns-then-branch-clause-refused
-act-returns-then-branch-clause-refused g t c =
-    let kept = kept_of c.args.self.now in
-    halts_as _ _ c.go_on-then-branch.ensures.refused (λ h. asked_right (action_patterns kept c.args.onward.next) (segments_patterns (segments_meant kept c.args.onward.rest.now)) h)
-
-pub pick_each-returns-in_err-pick-clause-refused : goal.pick_each-returns-in_err-pick-clause-refused
-pick_each-returns-in_err-pick-clause-refused g t c =
+pub pick_each-returns-in_err-pick-clause-comes : goal.pick_each-returns-in_err-pick-clause-comes
+pick_each-returns-in_err-pick-clause-comes g t c =
     let kept = kept_of c.args.self.now in
     let others = segments_patterns (segments_meant kept c.args.onward.rest.now) in
-    halts_so _ _ _ c.from_residual-in_err-pick.ensures.1 c.in_err-pick.ensures.refused (λ h. asked_at_or (λ (x : Selector). selector_patterns (selector_view kept x)) (λ xs. selectors_patterns (selectors_meant kept xs)) (λ x xs. refl) others c.args.onward.next.now c.loop-selector.selector-index c.selector-item.result c.loop-selector-test.true c.selector-item.is h)
+    comes_so _ _ c.from_residual-in_err-pick.ensures.1 c.in_err-pick.ensures.comes (λ h. asked_at_or (λ (x : Selector). selector_patterns (selector_view kept x)) (λ xs. selectors_patterns (selectors_meant kept xs)) (λ x xs. refl) others c.args.onward.next.now c.loop-selector.selector-index c.selector-item.result c.loop-selector-test.true c.selector-item.is h)
 
-pub some_holds-returns-in_err-filter_holds-clause-refused : goal.some_holds-returns-in_err-filter_holds-clause-refused
-some_holds-returns-in_err-filter_holds-clause-refused g t c =
+pub some_holds-returns-in_err-filter_holds-clause-comes : goal.some_holds-returns-in_err-filter_holds-clause-comes
+some_holds-returns-in_err-filter_holds-clause-comes g t c =
     let kept = kept_of c.args.self.now in
-    halts_so _ _ _ c.from_residual-in_err-filter_holds.ensures.1 c.in_err-filter_holds.ensures.refused (λ h. asked_at (λ (x : Filter). filter_patterns (filter_view kept x)) (λ xs. filters_patterns (filters_meant kept xs)) (λ x xs. refl) c.args.parts.now c.loop-part.part-index c.part-item.result c.loop-part-test.true c.part-item.is h)
+    comes_so _ _ c.from_residual-in_err-filter_holds.ensures.1 c.in_err-filter_holds.ensures.comes (λ h. asked_at (λ (x : Filter). filter_patterns (filter_view kept x)) (λ xs. filters_patterns (filters_meant kept xs)) (λ x xs. refl) c.args.parts.now c.loop-part.part-index c.part-item.result c.loop-part-test.true c.part-item.is h)
 
-pub each_holds-returns-in_err-filter_holds-clause-refused : goal.each_holds-returns-in_err-filter_holds-clause-refused
-each_holds-returns-in_err-filter_holds-clause-refused g t c =
+pub each_holds-returns-in_err-filter_holds-clause-comes : goal.each_holds-returns-in_err-filter_holds-clause-comes
+each_holds-returns-in_err-filter_holds-clause-comes g t c =
     let kept = kept_of c.args.self.now in
-    halts_so _ _ _ c.from_residual-in_err-filter_holds.ensures.1 c.in_err-filter_holds.ensures.refused (λ h. asked_at (λ (x : Filter). filter_patterns (filter_view kept x)) (λ xs. filters_patterns (filters_meant kept xs)) (λ x xs. refl) c.args.parts.now c.loop-part.part-index c.part-item.result c.loop-part-test.true c.part-item.is h)
+    comes_so _ _ c.from_residual-in_err-filter_holds.ensures.1 c.in_err-filter_holds.ensures.comes (λ h. asked_at (λ (x : Filter). filter_patterns (filter_view kept x)) (λ xs. filters_patterns (filters_meant kept xs)) (λ x xs. refl) c.args.parts.now c.loop-part.part-index c.part-item.result c.loop-part-test.true c.part-item.is h)
 
-pub comparison_holds-returns-in_err-left-clause-refused : goal.comparison_holds-returns-in_err-left-clause-refused
-comparison_holds-returns-in_err-left-clause-refused g t c =
+pub comparison_holds-returns-in_err-left-clause-comes : goal.comparison_holds-returns-in_err-left-clause-comes
+comparison_holds-returns-in_err-left-clause-comes g t c =
     let kept = kept_of c.args.self.now in
-    halts_so _ _ _ c.from_residual.ensures.1 c.in_err-left.ensures.refused (λ h. asked_left (comparable_patterns (side_view kept c.args.sides.0.now)) (comparable_patterns (side_view kept c.args.sides.1.now)) h)
+    comes_so _ _ c.from_residual.ensures.1 c.in_err-left.ensures.comes (λ h. asked_left (comparable_patterns (side_view kept c.args.sides.0.now)) (comparable_patterns (side_view kept c.args.sides.1.now)) h)
 
-pub comparison_holds-returns-in_err-right-clause-refused : goal.comparison_holds-returns-in_err-right-clause-refused
-comparison_holds-returns-in_err-right-clause-refused g t c =
+pub comparison_holds-returns-in_err-right-clause-comes : goal.comparison_holds-returns-in_err-right-clause-comes
+comparison_holds-returns-in_err-right-clause-comes g t c =
     let kept = kept_of c.args.self.now in
-    halts_so _ _ _ c.from_residual-in_err-right.ensures.1 c.in_err-right.ensures.refused (λ h. asked_right (comparable_patterns (side_view kept c.args.sides.0.now)) (comparable_patterns (side_view kept c.args.sides.1.now)) h)
+    comes_so _ _ c.from_residual-in_err-right.ensures.1 c.in_err-right.ensures.comes (λ h. asked_right (comparable_patterns (side_view kept c.args.sides.0.now)) (comparable_patterns (side_view kept c.args.sides.1.now)) h)
 
-pub answer-returns-in-Custom-clause-refused : goal.answer-returns-in-Custom-clause-refused
-answer-returns-in-Custom-clause-refused g t c =
+pub answer-returns-in-Custom-clause-comes : goal.answer-returns-in-Custom-clause-comes
+answer-returns-in-Custom-clause-comes g t c =
     let kept = kept_of c.args.self.now in
     let e = ap (call_view kept) c.in-Custom.is ∙ called kept c.in-Custom.name c.in-Custom.args in
-    halts_as _ _ c.custom.ensures.refused (λ h. asked_as call_patterns _ _ e (asked_as (λ (xs : List Argument). arguments_patterns (arguments_meant kept xs)) _ _ (sym c.deref.ensures.value) h))
+    comes_as _ c.custom.ensures.comes (λ h. asked_as call_patterns _ _ e (asked_as (λ (xs : List Argument). arguments_patterns (arguments_meant kept xs)) _ _ (sym c.deref.ensures.value) h))
 
-pub match_or_search-returns-in_err-text-clause-refused : goal.match_or_search-returns-in_err-text-clause-refused
-match_or_search-returns-in_err-text-clause-refused g t c =
+pub match_or_search-returns-in_err-text-clause-comes : goal.match_or_search-returns-in_err-text-clause-comes
+match_or_search-returns-in_err-text-clause-comes g t c =
     let kept = kept_of c.args.self.now in
     let text = argument_view kept c.args.args.0.now Only in
     let pattern = argument_view kept c.args.args.1.now Only in
-    halts_so _ _ _ c.from_residual.ensures.1 c.in_err-text.ensures.refused (λ h. asked_rest (is_entire c.args.extent, pattern) _ (asked_left (argument_patterns text) (argument_patterns pattern) h))
+    comes_so _ _ c.from_residual.ensures.1 c.in_err-text.ensures.comes (λ h. asked_rest (is_entire c.args.extent, pattern) _ (asked_left (argument_patterns text) (argument_patterns pattern) h))
 
-pub match_or_search-returns-in_err-pattern-clause-refused : goal.match_or_search-returns-in_err-pattern-clause-refused
-match_or_search-returns-in_err-pattern-clause-refused g t c =
+pub match_or_search-returns-in_err-pattern-clause-comes : goal.match_or_search-returns-in_err-pattern-clause-comes
+match_or_search-returns-in_err-pattern-clause-comes g t c =
     let kept = kept_of c.args.self.now in
     let text = argument_view kept c.args.args.0.now Only in
     let pattern = argument_view kept c.args.args.1.now Only in
-    halts_so _ _ _ c.from_residual-in_err-pattern.ensures.1 c.in_err-pattern.ensures.refused (λ h. asked_rest (is_entire c.args.extent, pattern) _ (asked_right (argument_patterns text) (argument_patterns pattern) h))
+    comes_so _ _ c.from_residual-in_err-pattern.ensures.1 c.in_err-pattern.ensures.comes (λ h. asked_rest (is_entire c.args.extent, pattern) _ (asked_right (argument_patterns text) (argument_patterns pattern) h))
 
-pub custom-returns-in_err-argument-clause-refused : goal.custom-returns-in_err-argument-clause-refused
-custom-returns-in_err-argument-clause-refused g t c =
+pub custom-returns-in_err-argument-clause-comes : goal.custom-returns-in_err-argument-clause-comes
+custom-returns-in_err-argument-clause-comes g t c =
     let kept = kept_of c.args.self.now in
-    halts_so _ _ _ c.from_residual.ensures.1 c.in_err-argument.ensures.refused (λ h. asked_at (λ (x : Argument). argument_patterns (argument_view kept x Values)) (λ xs. arguments_patterns (arguments_meant kept xs)) (λ x xs. refl) c.args.args.now c.loop-arg.arg-index c.arg-item.result c.loop-arg-test.true c.arg-item.is h)
+    comes_so _ _ c.from_residual.ensures.1 c.in_err-argument.ensures.comes (λ h. asked_at (λ (x : Argument). argument_patterns (argument_view kept x Values)) (λ xs. arguments_patterns (arguments_meant kept xs)) (λ x xs. refl) c.args.args.now c.loop-arg.arg-index c.arg-item.result c.loop-arg-test.true c.arg-item.is h)
 
-pub custom-returns-in_err-cost-clause-refused : goal.custom-returns-in_err-cost-clause-refused
-custom-returns-in_err-cost-clause-refused g t c =
-    let d = document g.T.Queryable.tree g.T.Queryable.custom c.args.self.now in
-    let ps = arguments_patterns (arguments_meant (kept_of c.args.self.now) c.args.args.now) in
-    passed_on c.from_residual-in_err-cost.result _ (IsHalt c.args.self.now.limit ps d) c.from_residual-in_err-cost.ensures.1 (λ y e. λ memory spent. absurd (memory (e ∙ c.in_err-cost.ensures.memory)))
+pub custom-returns-in_err-cost-clause-comes : goal.custom-returns-in_err-cost-clause-comes
+custom-returns-in_err-cost-clause-comes g t c = comes_err _ _ c.from_residual-in_err-cost.ensures.1 c.loop-arg.invariant.returns.ready (λ y e memory spent. absurd (memory (e ∙ c.in_err-cost.ensures.memory)))
 
-pub custom-returns-in_err-extension_custom-clause-refused : goal.custom-returns-in_err-extension_custom-clause-refused
-custom-returns-in_err-extension_custom-clause-refused g t c =
-    let d = document g.T.Queryable.tree g.T.Queryable.custom c.args.self.now in
-    let ps = arguments_patterns (arguments_meant (kept_of c.args.self.now) c.args.args.now) in
-    passed_on c.from_residual-in_err-extension_custom.result _ (IsHalt c.args.self.now.limit ps d) c.from_residual-in_err-extension_custom.ensures.1 (λ y e. λ memory spent. absurd (memory (e c.in_err-extension_custom.ensures.memory)))
+pub custom-returns-in_err-value-clause-comes : goal.custom-returns-in_err-value-clause-comes
+custom-returns-in_err-value-clause-comes g t c = comes_err _ _ c.from_residual-in_err-value.ensures.1 c.loop-arg.invariant.returns.ready (λ y e memory spent. absurd (memory (e c.in_err-value.ensures.memory)))

@@ -9,7 +9,8 @@ use Rattle.jsonpath_rust.specs.selection.inner.Walking.{through, node_of, acted}
 use Rattle.jsonpath_rust.specs.selection.inner.Sinks.{seen, give}
 use Rattle.jsonpath_rust.specs.selection.inner.Keeping.{document, kept_of}
 use Rattle.jsonpath_rust.specs.selection.inner.Standing.{Returns}
-use Rattle.jsonpath_rust.specs.documents.inner.Operands.{arg_trees, AreWhole}
+use Rattle.jsonpath_rust.specs.documents.inner.Operands.{arg_trees}
+use Rattle.jsonpath_rust.specs.documents.inner.Whole.{tree_of}
 use Rattle.jsonpath_rust.specs.documents.inner.Size.{size}
 use Rattle.jsonpath_rust.proofs.laws.selection.Work.{work}
 use Rattle.jsonpath_rust.specs.selection.inner.Passing.{action_weight}
@@ -18,172 +19,156 @@ use Rattle.jsonpath_rust.specs.declared.selection.sink.Wanted.TheVariants.{Any, 
 use Rattle.jsonpath_rust.proofs.selection.walk.Task.+walk.Given as goal
 
 abbrev pub decreases-walk : goal.decreases-walk
-decreases-walk g l = let tree = g.T.Queryable.tree in work (segments_weight (segments_meant (kept_of l.self.now) l.segments.now) + 1) (size (tree l.self.now.root.now)) (5 * size (tree l.at.now))
+decreases-walk g l = work (segments_weight (segments_meant (kept_of l.self.now) l.segments.now) + 1) (size (tree_of l.self.now.root)) (5 * size (tree_of l.at))
 
 abbrev pub decreases-pass : goal.decreases-pass
-decreases-pass g l = let tree = g.T.Queryable.tree in work (segment_weight (segment_view (kept_of l.self.now) l.onward.next.now) + segments_weight (segments_meant (kept_of l.self.now) l.onward.rest.now)) (size (tree l.self.now.root.now)) (5 * size (tree l.at.now))
+decreases-pass g l = work (segment_weight (segment_view (kept_of l.self.now) l.onward.next.now) + segments_weight (segments_meant (kept_of l.self.now) l.onward.rest.now)) (size (tree_of l.self.now.root)) (5 * size (tree_of l.at))
 
 abbrev pub decreases-pick_each : goal.decreases-pick_each
-decreases-pick_each g l = let tree = g.T.Queryable.tree in work (selectors_weight (selectors_meant (kept_of l.self.now) l.onward.next.now) + 1 + segments_weight (segments_meant (kept_of l.self.now) l.onward.rest.now)) (size (tree l.self.now.root.now)) (5 * size (tree l.at.now))
+decreases-pick_each g l = work (selectors_weight (selectors_meant (kept_of l.self.now) l.onward.next.now) + 1 + segments_weight (segments_meant (kept_of l.self.now) l.onward.rest.now)) (size (tree_of l.self.now.root)) (5 * size (tree_of l.at))
 
 abbrev pub decreases-pick : goal.decreases-pick
-decreases-pick g l = let tree = g.T.Queryable.tree in work (selector_weight (selector_view (kept_of l.self.now) l.onward.next.now) + segments_weight (segments_meant (kept_of l.self.now) l.onward.rest.now)) (size (tree l.self.now.root.now)) (5 * size (tree l.at.now))
+decreases-pick g l = work (selector_weight (selector_view (kept_of l.self.now) l.onward.next.now) + segments_weight (segments_meant (kept_of l.self.now) l.onward.rest.now)) (size (tree_of l.self.now.root)) (5 * size (tree_of l.at))
 
 abbrev pub decreases-pick_slice : goal.decreases-pick_slice
-decreases-pick_slice g l = let tree = g.T.Queryable.tree in work (segments_weight (segments_meant (kept_of l.self.now) l.onward.rest.now) + 3) (size (tree l.self.now.root.now)) (5 * size (tree l.at.now))
+decreases-pick_slice g l = work (segments_weight (segments_meant (kept_of l.self.now) l.onward.rest.now) + 3) (size (tree_of l.self.now.root)) (5 * size (tree_of l.at))
 
 abbrev pub decreases-each_child : goal.decreases-each_child
-decreases-each_child g l = let tree = g.T.Queryable.tree in work (action_weight (kept_of l.self.now) l.onward.next + segments_weight (segments_meant (kept_of l.self.now) l.onward.rest.now)) (size (tree l.self.now.root.now)) (5 * size (tree l.at.now) + 1)
+decreases-each_child g l = work (action_weight (kept_of l.self.now) l.onward.next + segments_weight (segments_meant (kept_of l.self.now) l.onward.rest.now)) (size (tree_of l.self.now.root)) (5 * size (tree_of l.at) + 1)
 
 abbrev pub decreases-each_member : goal.decreases-each_member
-decreases-each_member g l = let tree = g.T.Queryable.tree in work (action_weight (kept_of l.self.now) l.onward.next + segments_weight (segments_meant (kept_of l.self.now) l.onward.rest.now)) (size (tree l.self.now.root.now)) (5 * size (tree l.members.now.of.now))
+decreases-each_member g l = work (action_weight (kept_of l.self.now) l.onward.next + segments_weight (segments_meant (kept_of l.self.now) l.onward.rest.now)) (size (tree_of l.self.now.root)) (5 * size (tree_of l.members.now.of))
 
 abbrev pub decreases-descend : goal.decreases-descend
-decreases-descend g l = let tree = g.T.Queryable.tree in work (segment_weight (segment_view (kept_of l.self.now) l.onward.next.now) + 1 + segments_weight (segments_meant (kept_of l.self.now) l.onward.rest.now)) (size (tree l.self.now.root.now)) (5 * size (tree l.at.now) + 2)
+decreases-descend g l = work (segment_weight (segment_view (kept_of l.self.now) l.onward.next.now) + 1 + segments_weight (segments_meant (kept_of l.self.now) l.onward.rest.now)) (size (tree_of l.self.now.root)) (5 * size (tree_of l.at) + 2)
 
 abbrev pub decreases-at_child : goal.decreases-at_child
-decreases-at_child g l = let tree = g.T.Queryable.tree in work (action_weight (kept_of l.self.now) l.onward.next + segments_weight (segments_meant (kept_of l.self.now) l.onward.rest.now)) (size (tree l.self.now.root.now)) (5 * size (tree l.child.value.now) + 4)
+decreases-at_child g l = work (action_weight (kept_of l.self.now) l.onward.next + segments_weight (segments_meant (kept_of l.self.now) l.onward.rest.now)) (size (tree_of l.self.now.root)) (5 * size (tree_of l.child.value) + 4)
 
 abbrev pub decreases-act : goal.decreases-act
-decreases-act g l = let tree = g.T.Queryable.tree in work (action_weight (kept_of l.self.now) l.onward.next + segments_weight (segments_meant (kept_of l.self.now) l.onward.rest.now)) (size (tree l.self.now.root.now)) (5 * size (tree l.at.now) + 3)
-
-abbrev pub decreases-go_on : goal.decreases-go_on
-decreases-go_on g l = let tree = g.T.Queryable.tree in work (segments_weight (segments_meant (kept_of l.self.now) l.rest.now) + 1) (size (tree l.self.now.root.now)) (5 * size (tree l.at.now) + 1)
+decreases-act g l = work (action_weight (kept_of l.self.now) l.onward.next + segments_weight (segments_meant (kept_of l.self.now) l.onward.rest.now)) (size (tree_of l.self.now.root)) (5 * size (tree_of l.at) + 3)
 
 abbrev pub decreases-filter_holds : goal.decreases-filter_holds
-decreases-filter_holds g l = let tree = g.T.Queryable.tree in work (filter_weight (filter_view (kept_of l.self.now) l.filter.now)) (size (tree l.self.now.root.now)) (5 * size (tree l.at.now))
+decreases-filter_holds g l = work (filter_weight (filter_view (kept_of l.self.now) l.filter.now)) (size (tree_of l.self.now.root)) (5 * size (tree_of l.at))
 
 abbrev pub decreases-some_holds : goal.decreases-some_holds
-decreases-some_holds g l = let tree = g.T.Queryable.tree in work (filters_weight (filters_meant (kept_of l.self.now) l.parts.now) + 1) (size (tree l.self.now.root.now)) (5 * size (tree l.at.now))
+decreases-some_holds g l = work (filters_weight (filters_meant (kept_of l.self.now) l.parts.now) + 1) (size (tree_of l.self.now.root)) (5 * size (tree_of l.at))
 
 abbrev pub decreases-each_holds : goal.decreases-each_holds
-decreases-each_holds g l = let tree = g.T.Queryable.tree in work (filters_weight (filters_meant (kept_of l.self.now) l.parts.now) + 1) (size (tree l.self.now.root.now)) (5 * size (tree l.at.now))
+decreases-each_holds g l = work (filters_weight (filters_meant (kept_of l.self.now) l.parts.now) + 1) (size (tree_of l.self.now.root)) (5 * size (tree_of l.at))
 
 abbrev pub decreases-answer : goal.decreases-answer
-decreases-answer g l = let tree = g.T.Queryable.tree in work (call_weight (call_view (kept_of l.self.now) l.call.now)) (size (tree l.self.now.root.now)) (5 * size (tree l.at.now))
+decreases-answer g l = work (call_weight (call_view (kept_of l.self.now) l.call.now)) (size (tree_of l.self.now.root)) (5 * size (tree_of l.at))
 
 abbrev pub decreases-called : goal.decreases-called
-decreases-called g l = let tree = g.T.Queryable.tree in work (call_weight (called_view (kept_of l.self.now) l.call.now)) (size (tree l.self.now.root.now)) (5 * size (tree l.self.now.root.now) + 4)
+decreases-called g l = work (call_weight (called_view (kept_of l.self.now) l.call.now)) (size (tree_of l.self.now.root)) (5 * size (tree_of l.self.now.root) + 4)
 
 abbrev pub decreases-kept_answer : goal.decreases-kept_answer
-decreases-kept_answer g l = let tree = g.T.Queryable.tree in work (call_weight (call_at (kept_of l.self.now) l.number)) (size (tree l.self.now.root.now)) (5 * size (tree l.self.now.root.now) + 3)
+decreases-kept_answer g l = work (call_weight (call_at (kept_of l.self.now) l.number)) (size (tree_of l.self.now.root)) (5 * size (tree_of l.self.now.root) + 3)
 
 abbrev pub decreases-kept_comparison : goal.decreases-kept_comparison
-decreases-kept_comparison g l = let tree = g.T.Queryable.tree in work (comparison_weight (comparison_at (kept_of l.self.now) l.number)) (size (tree l.self.now.root.now)) (5 * size (tree l.self.now.root.now) + 3)
+decreases-kept_comparison g l = work (comparison_weight (comparison_at (kept_of l.self.now) l.number)) (size (tree_of l.self.now.root)) (5 * size (tree_of l.self.now.root) + 3)
 
 abbrev pub decreases-match_or_search : goal.decreases-match_or_search
-decreases-match_or_search g l = let tree = g.T.Queryable.tree in work (argument_weight (argument_view (kept_of l.self.now) l.args.0.now Only) + argument_weight (argument_view (kept_of l.self.now) l.args.1.now Only) + 1) (size (tree l.self.now.root.now)) (5 * size (tree l.at.now))
+decreases-match_or_search g l = work (argument_weight (argument_view (kept_of l.self.now) l.args.0.now Only) + argument_weight (argument_view (kept_of l.self.now) l.args.1.now Only) + 1) (size (tree_of l.self.now.root)) (5 * size (tree_of l.at))
 
 abbrev pub decreases-custom : goal.decreases-custom
-decreases-custom g l = let tree = g.T.Queryable.tree in work (arguments_weight (arguments_meant (kept_of l.self.now) l.args.now) + 1) (size (tree l.self.now.root.now)) (5 * size (tree l.at.now))
+decreases-custom g l = work (arguments_weight (arguments_meant (kept_of l.self.now) l.args.now) + 1) (size (tree_of l.self.now.root)) (5 * size (tree_of l.at))
 
 abbrev pub decreases-value : goal.decreases-value
-decreases-value g l = let tree = g.T.Queryable.tree in work (argument_weight (argument_view (kept_of l.self.now) l.arg.now Only)) (size (tree l.self.now.root.now)) (5 * size (tree l.at.now) + 1)
+decreases-value g l = work (argument_weight (argument_view (kept_of l.self.now) l.arg.now Only)) (size (tree_of l.self.now.root)) (5 * size (tree_of l.at) + 1)
 
 abbrev pub decreases-argument : goal.decreases-argument
-decreases-argument g l = let tree = g.T.Queryable.tree in work (argument_weight (argument_view (kept_of l.self.now) l.arg.now l.wanted)) (size (tree l.self.now.root.now)) (5 * size (tree l.at.now))
+decreases-argument g l = work (argument_weight (argument_view (kept_of l.self.now) l.arg.now l.wanted)) (size (tree_of l.self.now.root)) (5 * size (tree_of l.at))
 
 abbrev pub decreases-gather : goal.decreases-gather
-decreases-gather g l = let tree = g.T.Queryable.tree in work (segments_weight (segments_meant (kept_of l.self.now) l.segments.now) + 2) (size (tree l.self.now.root.now)) (5 * size (tree l.at.now))
+decreases-gather g l = work (segments_weight (segments_meant (kept_of l.self.now) l.segments.now) + 2) (size (tree_of l.self.now.root)) (5 * size (tree_of l.at))
 
 abbrev pub decreases-exists : goal.decreases-exists
-decreases-exists g l = let tree = g.T.Queryable.tree in work (test_weight (nodes_view (kept_of l.self.now) l.nodes.now Any)) (size (tree l.self.now.root.now)) (5 * size (tree l.at.now) + 1)
+decreases-exists g l = work (test_weight (nodes_view (kept_of l.self.now) l.nodes.now Any)) (size (tree_of l.self.now.root)) (5 * size (tree_of l.at) + 1)
 
 abbrev pub decreases-comparison_holds : goal.decreases-comparison_holds
-decreases-comparison_holds g l = let tree = g.T.Queryable.tree in work (comparable_weight (side_view (kept_of l.self.now) l.sides.0.now) + comparable_weight (side_view (kept_of l.self.now) l.sides.1.now) + 1) (size (tree l.self.now.root.now)) (5 * size (tree l.at.now))
+decreases-comparison_holds g l = work (comparable_weight (side_view (kept_of l.self.now) l.sides.0.now) + comparable_weight (side_view (kept_of l.self.now) l.sides.1.now) + 1) (size (tree_of l.self.now.root)) (5 * size (tree_of l.at))
 
 abbrev pub decreases-side : goal.decreases-side
-decreases-side g l = let tree = g.T.Queryable.tree in work (comparable_weight (side_view (kept_of l.self.now) l.side.now)) (size (tree l.self.now.root.now)) (5 * size (tree l.at.now))
+decreases-side g l = work (comparable_weight (side_view (kept_of l.self.now) l.side.now)) (size (tree_of l.self.now.root)) (5 * size (tree_of l.at))
 
 abbrev pub decreases-nodes : goal.decreases-nodes
-decreases-nodes g l = let tree = g.T.Queryable.tree in work (test_weight (nodes_view (kept_of l.self.now) l.nodes.now l.wanted)) (size (tree l.self.now.root.now)) (5 * size (tree l.at.now))
+decreases-nodes g l = work (test_weight (nodes_view (kept_of l.self.now) l.nodes.now l.wanted)) (size (tree_of l.self.now.root)) (5 * size (tree_of l.at))
 
 abbrev pub decreases-kept_nodes : goal.decreases-kept_nodes
-decreases-kept_nodes g l = let tree = g.T.Queryable.tree in work (segments_weight (query_at (kept_of l.self.now) l.wanted l.number) + 3) (size (tree l.self.now.root.now)) (5 * size (tree l.self.now.root.now))
+decreases-kept_nodes g l = work (segments_weight (query_at (kept_of l.self.now) l.wanted l.number) + 3) (size (tree_of l.self.now.root)) (5 * size (tree_of l.self.now.root))
 
 -- what was given, with what is left, is what all of them give
 abbrev pub invariant-pick_each-loop-selector : goal.invariant-pick_each-loop-selector
 invariant-pick_each-loop-selector g l =
-    let tree = g.T.Queryable.tree in
-    let whole = g.T.Queryable.is_whole in
-    let d = document tree g.T.Queryable.custom l.self in
-    let n = node_of tree l.initial.trail.way.steps.items l.at in
+    let d = document l.self in
+    let n = node_of l.initial.trail.way.steps.items l.at in
     let rest = through (segments_meant (kept_of l.self) l.onward.rest.now) d in
     record {
-      returns : Returns tree whole g.T.Queryable.custom l.self l.initial.trail l.trail;
-      given : give (seen tree whole l.sink) (flat_map rest (all_pick (selectors_meant (kept_of l.self) (drop l.selector-index l.selector-items)) d n)) ≡ give (seen tree whole l.initial.sink) (flat_map rest (all_pick (selectors_meant (kept_of l.self) l.onward.next.now) d n));
+      returns : Returns l.self l.initial.trail l.trail;
+      given : give (seen l.sink) (flat_map rest (all_pick (selectors_meant (kept_of l.self) (drop l.selector-index l.selector-items)) d n)) ≡ give (seen l.initial.sink) (flat_map rest (all_pick (selectors_meant (kept_of l.self) l.onward.next.now) d n));
     }
 
 abbrev pub invariant-pick_slice-loop-position : goal.invariant-pick_slice-loop-position
 invariant-pick_slice-loop-position g l =
-    let tree = g.T.Queryable.tree in
-    let whole = g.T.Queryable.is_whole in
-    let d = document tree g.T.Queryable.custom l.self in
-    let n = node_of tree l.initial.trail.way.steps.items l.at in
+    let d = document l.self in
+    let n = node_of l.initial.trail.way.steps.items l.at in
     let rest = through (segments_meant (kept_of l.self) l.onward.rest.now) d in
     record {
-      returns : Returns tree whole g.T.Queryable.custom l.self l.initial.trail l.trail;
+      returns : Returns l.self l.initial.trail l.trail;
       below : All (λ i. i < length l.items.items) (places_left l.position-iterator);
-      given : give (seen tree whole l.sink) (flat_map rest (flat_map (λ k. element k n) (places_left l.position-iterator))) ≡ give (seen tree whole l.initial.sink) (flat_map rest (flat_map (λ k. element k n) (slice_of l.onward.next.0 l.onward.next.1 l.onward.next.2 (length l.items.items))));
+      given : give (seen l.sink) (flat_map rest (flat_map (λ k. element k n) (places_left l.position-iterator))) ≡ give (seen l.initial.sink) (flat_map rest (flat_map (λ k. element k n) (slice_of l.onward.next.0 l.onward.next.1 l.onward.next.2 (length l.items.items))));
     }
 
 abbrev pub invariant-each_child-loop-i : goal.invariant-each_child-loop-i
 invariant-each_child-loop-i g l =
     let tree = g.T.Queryable.tree in
-    let whole = g.T.Queryable.is_whole in
-    let d = document tree g.T.Queryable.custom l.self in
-    let n = node_of tree l.initial.trail.way.steps.items l.at in
+    let d = document l.self in
+    let n = node_of l.initial.trail.way.steps.items l.at in
     let rest = through (segments_meant (kept_of l.self) l.onward.rest.now) d in
     record {
-      returns : Returns tree whole g.T.Queryable.custom l.self l.initial.trail l.trail;
-      given : give (seen tree whole l.sink) (flat_map rest (flat_map (acted (kept_of l.self) l.onward.next d) (element_nodes n.location l.i (map tree (drop l.i l.value-items))))) ≡ give (seen tree whole l.initial.sink) (flat_map rest (flat_map (acted (kept_of l.self) l.onward.next d) (children n)));
+      returns : Returns l.self l.initial.trail l.trail;
+      given : give (seen l.sink) (flat_map rest (flat_map (acted (kept_of l.self) l.onward.next d) (element_nodes n.location l.i (map tree (drop l.i l.value-items))))) ≡ give (seen l.initial.sink) (flat_map rest (flat_map (acted (kept_of l.self) l.onward.next d) (children n)));
     }
 
 abbrev pub invariant-each_member-loop-member : goal.invariant-each_member-loop-member
 invariant-each_member-loop-member g l =
     let tree = g.T.Queryable.tree in
-    let whole = g.T.Queryable.is_whole in
-    let d = document tree g.T.Queryable.custom l.self in
-    let n = node_of tree l.initial.trail.way.steps.items l.members.of.now in
+    let d = document l.self in
+    let n = node_of l.initial.trail.way.steps.items l.members.of in
     let rest = through (segments_meant (kept_of l.self) l.onward.rest.now) d in
     record {
-      returns : Returns tree whole g.T.Queryable.custom l.self l.initial.trail l.trail;
-      given : give (seen tree whole l.sink) (flat_map rest (flat_map (acted (kept_of l.self) l.onward.next d) (member_nodes n.location (map (λ m. (m.0.now, tree m.1.now)) (drop l.member-index l.member-items))))) ≡ give (seen tree whole l.initial.sink) (flat_map rest (flat_map (acted (kept_of l.self) l.onward.next d) (children n)));
+      returns : Returns l.self l.initial.trail l.trail;
+      given : give (seen l.sink) (flat_map rest (flat_map (acted (kept_of l.self) l.onward.next d) (member_nodes n.location (map (λ m. (m.0.now, tree m.1.now)) (drop l.member-index l.member-items))))) ≡ give (seen l.initial.sink) (flat_map rest (flat_map (acted (kept_of l.self) l.onward.next d) (children n)));
     }
 
 -- the parts that are left decide
 abbrev pub invariant-some_holds-loop-part : goal.invariant-some_holds-loop-part
 invariant-some_holds-loop-part g l =
-    let tree = g.T.Queryable.tree in
-    let whole = g.T.Queryable.is_whole in
-    let d = document tree g.T.Queryable.custom l.self in
-    let n = node_of tree l.initial.trail.way.steps.items l.at in
+    let d = document l.self in
+    let n = node_of l.initial.trail.way.steps.items l.at in
     record {
-      returns : Returns tree whole g.T.Queryable.custom l.self l.initial.trail l.trail;
+      returns : Returns l.self l.initial.trail l.trail;
       holds : some_holds (filters_meant (kept_of l.self) (drop l.part-index l.parts)) d n ≡ some_holds (filters_meant (kept_of l.self) l.parts) d n;
     }
 
 -- the parts that are left decide
 abbrev pub invariant-each_holds-loop-part : goal.invariant-each_holds-loop-part
 invariant-each_holds-loop-part g l =
-    let tree = g.T.Queryable.tree in
-    let whole = g.T.Queryable.is_whole in
-    let d = document tree g.T.Queryable.custom l.self in
-    let n = node_of tree l.initial.trail.way.steps.items l.at in
+    let d = document l.self in
+    let n = node_of l.initial.trail.way.steps.items l.at in
     record {
-      returns : Returns tree whole g.T.Queryable.custom l.self l.initial.trail l.trail;
+      returns : Returns l.self l.initial.trail l.trail;
       holds : each_holds (filters_meant (kept_of l.self) (drop l.part-index l.parts)) d n ≡ each_holds (filters_meant (kept_of l.self) l.parts) d n;
     }
 
 -- the arguments so far, with those that are left
 abbrev pub invariant-custom-loop-arg : goal.invariant-custom-loop-arg
 invariant-custom-loop-arg g l =
-    let tree = g.T.Queryable.tree in
-    let whole = g.T.Queryable.is_whole in
-    let d = document tree g.T.Queryable.custom l.self in
-    let n = node_of tree l.initial.trail.way.steps.items l.at in
+    let d = document l.self in
+    let n = node_of l.initial.trail.way.steps.items l.at in
     record {
-      returns : Returns tree whole g.T.Queryable.custom l.self l.initial.trail l.trail;
-      trees : arg_trees tree l.values.items ++ all_trees (arguments_meant (kept_of l.self) (drop l.arg-index l.args)) d n ≡ all_trees (arguments_meant (kept_of l.self) l.args) d n;
-      whole : AreWhole whole l.values.items;
+      returns : Returns l.self l.initial.trail l.trail;
+      trees : arg_trees l.values ++ all_trees (arguments_meant (kept_of l.self) (drop l.arg-index l.args)) d n ≡ all_trees (arguments_meant (kept_of l.self) l.args) d n;
     }

@@ -5,6 +5,6 @@ use Rattle.jsonpath_rust.proofs.selection.walk.Task.kept_value.Goals as goal
 
 pub returns-clause-ready : goal.returns-clause-ready
 returns-clause-ready g c =
-    let d = document g.T.Queryable.tree g.T.Queryable.custom c.args.self.now in
-    let given = gives_value _ _ d _ _ _ c.in-Some.ensures.part refl c.lent.ensures.whole (c.lent.ensures.value ∙ c.value_at-value.ensures.value) in
-    record { root = c.requires.root; kept = c.keep.ensures.right (kept_of c.args.self.now) d given c.requires.kept }
+    let d = document c.args.self.now in
+    let given = gives_value _ _ d _ _ c.in-Some.ensures.part refl (c.lent.ensures ∙ c.value_at-value.ensures) in
+    c.keep.ensures.right (kept_of c.args.self.now) d given c.requires

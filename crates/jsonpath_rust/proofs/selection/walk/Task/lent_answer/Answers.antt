@@ -8,16 +8,16 @@ use Rattle.jsonpath_rust.proofs.laws.selection.PlanEquations.{called_view-Here, 
 use Rattle.jsonpath_rust.proofs.laws.selection.RootedLaws.{kept_call_same}
 use Rattle.jsonpath_rust.proofs.selection.walk.Task.lent_answer.Goals as goal
 
-pub returns-in-Some-clause-value : goal.returns-in-Some-clause-value
-returns-in-Some-clause-value g c = λ n e.
+pub returns-in-Some : goal.returns-in-Some
+returns-in-Some g c = λ n e.
     let kept = kept_of c.args.self.now in
-    let d = document g.T.Queryable.tree g.T.Queryable.custom c.args.self.now in
+    let d = document c.args.self.now in
     let is = ap (called_view kept) c.in-Kept.is ∙ called_view-Kept kept c.in-Kept.number in
-    IfSome_then c.lent_value.result c.lent_value.ensures.value (λ s h. h ∙ ap (λ p. value_by p d) c.in-Some.ensures.part ∙ sym (ap (λ p. answer (call_in p) d (root_node d.root)) c.in-Some.ensures.part) ∙ kept_call_same kept c.in-Kept.number d (root_node d.root) n c.args.self.now.plan.now.rooted ∙ sym (ap (λ f. answer f d n) is))
+    IfSome_then c.lent_value.result c.lent_value.ensures (λ s h. h ∙ ap (λ p. value_by p d) c.in-Some.ensures.part ∙ sym (ap (λ p. answer (call_in p) d (root_node d.root)) c.in-Some.ensures.part) ∙ kept_call_same kept c.in-Kept.number d (root_node d.root) n c.args.self.now.plan.now.rooted ∙ sym (ap (λ f. answer f d n) is))
 
-pub returns-in-Here-clause-value : goal.returns-in-Here-clause-value
-returns-in-Here-clause-value g c = λ n e.
+pub returns-in-Here : goal.returns-in-Here
+returns-in-Here g c = λ n e.
     let kept = kept_of c.args.self.now in
-    let d = document g.T.Queryable.tree g.T.Queryable.custom c.args.self.now in
+    let d = document c.args.self.now in
     let is = ap (called_view kept) c.in-Here.is ∙ called_view-Here kept c.in-Here.call ∙ ap (call_view kept) (sym c.deref.ensures) in
-    IfSome_then c.direct_answer.result (c.direct_answer.ensures.value kept d n e) (λ s h. h ∙ sym (ap (λ f. answer f d n) is))
+    IfSome_then c.direct_answer.result (c.direct_answer.ensures kept d n e) (λ s h. h ∙ sym (ap (λ f. answer f d n) is))

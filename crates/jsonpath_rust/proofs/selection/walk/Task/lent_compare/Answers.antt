@@ -9,8 +9,7 @@ use Rattle.jsonpath_rust.proofs.selection.walk.Task.lent_compare.Goals as goal
 
 pub returns : goal.returns
 returns g c = λ n e.
-    let tree = g.T.Queryable.tree in
-    let d = document tree g.T.Queryable.custom c.args.self.now in
+    let d = document c.args.self.now in
     let left = value_of (side_view (kept_of c.args.self.now) c.args.sides.0.now) d n in
     let op = operator_view c.args.operator in
-    c.compares.ensures ∙ ap (λ o. compares op o (side_tree tree c.in_ok-right.right)) (c.in_ok-left.ensures.value n e) ∙ ap (compares op left) (c.in_ok-right.ensures.value n e)
+    c.compares.ensures ∙ ap (λ o. compares op o (side_tree c.in_ok-right.right)) (c.in_ok-left.ensures n e) ∙ ap (compares op left) (c.in_ok-right.ensures n e)

@@ -2,4 +2,4 @@ use Rattle.jsonpath_rust.specs.selection.inner.Keeping.{IsReady}
 use Rattle.jsonpath_rust.proofs.selection.walk.Task.work_out_early.Given as goal
 
 abbrev pub invariant-loop-number : goal.invariant-loop-number
-invariant-loop-number g l = IsReady g.T.Queryable.tree g.T.Queryable.is_whole g.T.Queryable.custom l.self l.trail.cache
+invariant-loop-number g l = IsReady l.self l.trail.cache

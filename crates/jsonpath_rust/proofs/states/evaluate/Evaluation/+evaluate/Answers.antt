@@ -9,7 +9,6 @@ use Rattle.jsonpath_parser.specs.declared.tree.model.Selector.{Selector}
 use Rattle.jsonpath_parser.specs.declared.tree.model.FnArg.{FnArg}
 use Rattle.jsonpath_parser.proofs.laws.tree.ViewEquations.{segment_view-Selectors, selector_view-Index, selector_view-Slice, call_view-Custom, segment_view-Descendant, test_view-RelQuery, test_view-AbsQuery, query_view-segments, call_view-Search, call_view-Match}
 use Rattle.jsonpath_base.specs.Tree.{Tree}
-use Rattle.jsonpath_rust.specs.documents.Args.{arg_value}
 use Rattle.jsonpath_rust.specs.states.Process.{holds_at, some_holds_at, each_holds_at, several_content, segments_content, segment_content, selector_content, joined_from, call_content, arguments_trees, plain}
 use Rattle.jsonpath_rust.specs.states.State.{Target, Content, ref, refs, value, mapped, reduced, targets, inside, indexed_from, target_of, content_of, pointers, root_content}
 use Rattle.jsonpath_rust.specs.states.inner.Evaluating.{document, parts_from, part_content}
@@ -113,7 +112,7 @@ call_data-returns-in_ok-values-in-Custom-clause-value g t c =
     let k = content_of tree c.args.given.now in
     let e = ap call_view c.in-Custom.is ∙ call_view-Custom c.in-Custom.name c.in-Custom.args in
     let seen : List Tree → Content = λ ts. value (custom (string_bytes c.in-Custom.name) ts) in
-    ok_through _ (content_of tree) _ _ (ap (λ xs. seen (map (λ a. tree (arg_value a)) xs)) c.deref-in-Custom.ensures.value ∙ ap seen (c.in_ok-values-in-Custom.ensures.value ∙ ap (λ (xs : List FnArg). arguments_trees (arguments_in xs) d k) c.deref.ensures.value) ∙ sym (ap (λ s. call_content s d k) e)) c.custom_data.ensures.value
+    ok_through _ (content_of tree) _ _ (ap seen (c.in_ok-values-in-Custom.ensures.value ∙ ap (λ (xs : List FnArg). arguments_trees (arguments_in xs) d k) c.deref.ensures.value) ∙ sym (ap (λ s. call_content s d k) e)) c.custom_data.ensures.value
 
 pub segments_data-segment_data-requires : goal.segments_data-segment_data-requires
 segments_data-segment_data-requires g t c κs within =

@@ -1,7 +1,7 @@
-use Rattle.std.proofs.Common.{◌≡◌, ◌++◌, ◌+◌, ◌*◌, drop, map, filter, All, IsTrue, List, Bool}
+use Rattle.std.proofs.Common.{◌≡◌, ◌++◌, ◌+◌, ◌*◌, drop, map, filter, List, Bool}
 use Rattle.std.specs.List.{AllByRecursion, flat_map}
 use Rattle.jsonpath_parser.specs.tree.View.{segment_view, selector_view, filter_view, atom_view, test_view, comparison_view, comparable_view, call_view, argument_view}
-use Rattle.jsonpath_rust.specs.documents.Args.{arg_value}
+use Rattle.jsonpath_rust.specs.documents.inner.Operands.{arg_trees}
 use Rattle.jsonpath_rust.specs.states.Process.{segments_content, joined_from, holds_at, some_holds_at, each_holds_at, arguments_trees}
 use Rattle.jsonpath_rust.specs.states.State.{Target, nothing, targets, inside, target_of, content_of, PointersAreWhole, DataIsWhole}
 use Rattle.jsonpath_rust.specs.states.inner.Evaluating.{document, part_content}
@@ -91,10 +91,7 @@ abbrev pub invariant-arguments-loop-arg : goal.invariant-arguments-loop-arg
 invariant-arguments-loop-arg g l =
     let tree = g.T.Queryable.tree in
     let d = document tree g.T.Queryable.custom l.self in
-    record {
-      trees : map (λ a. tree (arg_value a)) l.values.items ++ arguments_trees (arguments_in (drop l.arg-index l.args)) d (content_of tree l.given) ≡ arguments_trees (arguments_in l.args) d (content_of tree l.given);
-      whole : All (λ a. IsTrue (g.T.Queryable.is_whole (arg_value a))) l.values.items;
-    }
+    arg_trees l.values ++ arguments_trees (arguments_in (drop l.arg-index l.args)) d (content_of tree l.given) ≡ arguments_trees (arguments_in l.args) d (content_of tree l.given)
 
 -- what the segments that are left make of the answer so far
 abbrev pub invariant-segments_data-loop-segment : goal.invariant-segments_data-loop-segment

@@ -1,5 +1,5 @@
 use Rattle.std.proofs.Common.{◌++◌, map, ap, ◌∙◌, sym, refl}
-use Rattle.jsonpath_rust.specs.documents.Args.{arg_value}
+use Rattle.jsonpath_rust.specs.documents.inner.Operands.{arg_trees}
 use Rattle.jsonpath_rust.specs.states.Process.{content_trees}
 use Rattle.jsonpath_rust.specs.states.State.{content_of}
 use Rattle.jsonpath_rust.proofs.laws.states.Found.{targets-trees}
@@ -9,6 +9,6 @@ use Rattle.jsonpath_rust.proofs.states.evaluate.function.push_values.Goals as go
 pub returns-after-loop-from-clause-value : goal.returns-after-loop-from-clause-value
 returns-after-loop-from-clause-value g c =
     let tree = g.T.Queryable.tree in
-    let olds = map (λ a. tree (arg_value a)) c.args.values.now.items in
-    joined_end (map (λ p. tree p.inner.now)) refl c.deref-from-items.result.now c.loop-from.from-index (map (λ a. tree (arg_value a)) c.loop-from.values.items) _ c.loop-from-test.false c.loop-from.invariant.trees
+    let olds = arg_trees c.args.values.now in
+    joined_end (map (λ p. tree p.inner.now)) refl c.deref-from-items.result.now c.loop-from.from-index (arg_trees c.loop-from.values) _ c.loop-from-test.false c.loop-from.invariant
     ∙ ap (λ xs. olds ++ map (λ p. tree p.inner.now) xs) c.deref-from-items.ensures.value ∙ ap (λ ts. olds ++ ts) (sym (targets-trees tree c.in-Refs.all.items) ∙ ap (λ z. content_trees (content_of tree z)) (sym c.in-Refs.is))

@@ -1,0 +1,28 @@
+//! Values that are whole. A type says so, so that no function that is given one asks for it.
+ghost use Rattle.std.specs.Prelude.{IsTrue};
+
+use crate::documents::queryable::Queryable;
+use std::alloc::AllocError;
+
+mod reading;
+
+/// A value that is whole.
+#[derive(Drop)]
+pub struct Whole<T: Queryable> {
+    pub value: T,
+    ghost whole: { IsTrue (T.is_whole value) },
+}
+
+/// A value that is whole, borrowed: as large as the reference that it is.
+pub struct WholeRef<'a, T: Queryable> {
+    pub value: &'a T,
+    ghost whole: { IsTrue (T.is_whole value.now) },
+}
+
+impl<'a, T: Queryable> Clone for WholeRef<'a, T> {
+    fn clone(&self) -> Result<Self, AllocError> {
+        Ok(*self)
+    }
+}
+
+impl<'a, T: Queryable> Copy for WholeRef<'a, T> {}

@@ -1,0 +1,131 @@
+//! What is read of a whole value: each call of [`Queryable`] agrees with its tree.
+ghost use Rattle.std.specs.Prelude.{◌≡◌, ◌<◌, map, length, None, option_map, option_to_list, All, IsTrue, IfOk, IfErr, IfSome};
+ghost use Rattle.jsonpath_parser.specs.Location.{Location};
+ghost use Rattle.jsonpath_parser.specs.Location as location;
+ghost use Rattle.jsonpath_parser.specs.declared.errors.JsonPathError.TheVariants.{OutOfMemory};
+ghost use Rattle.jsonpath_base.specs.Tree.{get, as_list, as_members, as_text, as_int, as_bool};
+ghost use Rattle.jsonpath_base.specs.Same.{same};
+ghost use Rattle.jsonpath_rust.specs.documents.Node.{below};
+ghost use Rattle.jsonpath_rust.specs.documents.Meaning.{indexed};
+ghost use Rattle.jsonpath_rust.specs.documents.inner.Size.{size};
+ghost use Rattle.jsonpath_rust.specs.documents.inner.Whole.{tree_of, own_tree};
+
+use crate::documents::Queried;
+use crate::documents::queryable::Queryable;
+use crate::documents::queryable::children::{element, is_leaf};
+use crate::documents::whole::{Whole, WholeRef};
+use std::alloc::Global;
+
+impl<T: Queryable> Whole<T> {
+    /// The value, borrowed.
+    #[inline(always)]
+    pub fn lent(&self) -> WholeRef<'_, T>
+        ensures { tree_of result ≡ own_tree self.now }
+    {
+        WholeRef { value: &self.value }
+    }
+
+    /// A value of the same tree. It refuses by `OutOfMemory` alone.
+    pub fn try_clone(&self, alloc: Global) -> Queried<Self>
+        ensures value { IfOk result (λ v. own_tree v ≡ own_tree self.now) }
+        ensures memory { IfErr result (λ e. e ≡ OutOfMemory) }
+    {
+        let value = self.value.try_clone(alloc)?;
+        Ok(Whole { value })
+    }
+}
+
+impl<'a, T: Queryable> WholeRef<'a, T> {
+    /// The member of that name.
+    #[inline(always)]
+    pub fn member(self, name: &str) -> Option<Self>
+        ensures { option_map tree_of result ≡ get name.now (tree_of self.entry) }
+    {
+        match self.value.get(name) {
+            Some(value) => Some(WholeRef { value }),
+            None => None,
+        }
+    }
+
+    /// The element that an index means in a list, with its position, counted from 0 (RFC 9535, 2.3.3).
+    #[inline(always)]
+    pub fn element(self, index: i64) -> Option<(usize, Self)>
+        ensures value { (l : Location) → map (λ p. below l (location.index p.0) (tree_of p.1)) (option_to_list result)
+            ≡ indexed index (record { location = l; tree = tree_of self.entry }) }
+        ensures smaller { IfSome result (λ p. size (tree_of p.1) < size (tree_of self.entry)) }
+    {
+        match element(self.value, index) {
+            Some((position, value)) => Some((position, WholeRef { value })),
+            None => None,
+        }
+    }
+
+    /// The elements of a list.
+    #[inline(always)]
+    pub fn elements(self) -> Option<&'a Vec<T>>
+        ensures value { option_map (λ v. map T.tree v.now.items) result ≡ as_list (tree_of self.entry) }
+        ensures whole { IfSome result (λ v. All (λ x. IsTrue (T.is_whole x)) v.now.items) }
+    {
+        self.value.as_array()
+    }
+
+    /// The members of an object, in walk order. It refuses by `OutOfMemory` alone.
+    #[inline(always)]
+    pub fn members(self, alloc: Global) -> Queried<Option<Vec<(&'a str, &'a T)>>>
+        ensures value { IfOk result (λ o. option_map (λ v. map (λ m. (m.0.now, T.tree m.1.now)) v.items) o ≡ as_members (tree_of self.entry)) }
+        ensures whole { IfOk result (λ o. IfSome o (λ v. All (λ m. IsTrue (T.is_whole m.1.now)) v.items)) }
+        ensures memory { IfErr result (λ e. e ≡ OutOfMemory) }
+    {
+        self.value.as_object(alloc)
+    }
+
+    /// How many members an object has. It refuses by `OutOfMemory` alone.
+    #[inline(always)]
+    pub fn member_count(self, alloc: Global) -> Queried<Option<usize>>
+        ensures value { IfOk result (λ o. o ≡ option_map (λ ms. length ms) (as_members (tree_of self.entry))) }
+        ensures memory { IfErr result (λ e. e ≡ OutOfMemory) }
+    {
+        self.value.member_count(alloc)
+    }
+
+    /// The text.
+    #[inline(always)]
+    pub fn as_str(self) -> Option<&'a str>
+        ensures { option_map (λ s. s.now) result ≡ as_text (tree_of self.entry) }
+    {
+        self.value.as_str()
+    }
+
+    /// The number.
+    #[inline(always)]
+    pub fn as_i64(self) -> Option<i64>
+        ensures { result ≡ as_int (tree_of self.entry) }
+    {
+        self.value.as_i64()
+    }
+
+    /// The truth.
+    #[inline(always)]
+    pub fn as_bool(self) -> Option<bool>
+        ensures { result ≡ as_bool (tree_of self.entry) }
+    {
+        self.value.as_bool()
+    }
+
+    /// Whether it is surely a value without children.
+    #[inline(always)]
+    pub fn is_leaf(self) -> bool
+        ensures list { IsTrue result → None ≡ as_list (tree_of self.entry) }
+        ensures object { IsTrue result → None ≡ as_members (tree_of self.entry) }
+    {
+        is_leaf(self.value)
+    }
+
+    /// Whether two values are the same (RFC 9535, 2.3.5.2.2).
+    #[inline(always)]
+    pub fn equal(self, other: WholeRef<'_, T>) -> bool
+        ensures { result ≡ same (tree_of self.entry) (tree_of other.entry) }
+    {
+        self.value.equal(other.value)
+    }
+}
