@@ -2,7 +2,7 @@
 # of that, and how long its proof takes.
 
 program=$here/crates/jpath/out/jpath
-# What ./prove made the proved program of: the checksum of the sources, and that of the program.
+# What ./prove or the gate made the proved program of: the checksum of the sources, and that of the program.
 record=$here/crates/jpath/out/jpath.sources
 
 # The crates that jpath stands on, lowest first, and jpath itself.
@@ -41,11 +41,25 @@ record_now() {
     sha256sum <"$program"
 }
 
-# Whether the proved program stands there and is made of the sources as they are: none has changed since, or the record tells so.
+# Whether the proved program stands there and is made of the sources as they are, as the record tells, or where there is none that no
+# source has changed since.
 is_proved() {
-    [ -x "$program" ] || return 1
-    changed=$(cd "$here" && find $(sources) -cnewer "$program" -print 2>/dev/null) && [ -z "$changed" ] && return 0
-    [ -f "$record" ] && [ "$(cat <"$record")" = "$(record_now)" ]
+    [ -f "$program" ] && [ -x "$program" ] || return 1
+    if [ -f "$record" ]; then
+        [ "$(cat <"$record")" = "$(record_now)" ]
+    else
+        changed=$(cd "$here" && find $(sources) -cnewer "$program" -print 2>/dev/null) && [ -z "$changed" ]
+    fi
+}
+
+# Writes the record.
+write_record() {
+    record_now >"$record.new" && mv "$record.new" "$record"
+}
+
+# Whether a file can be opened as a lock: it is a file, for a pipe would wait until somebody reads it, or there is none yet.
+is_lock() {
+    { [ ! -e "$1" ] || [ -f "$1" ]; } && (: >>"$1") 2>/dev/null
 }
 
 # How long the proof of a crate takes from nothing, in processor seconds.
