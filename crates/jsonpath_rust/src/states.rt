@@ -4,6 +4,7 @@ mod process;
 mod processed;
 pub mod selector;
 pub mod state;
+mod whole;
 
 pub use crate::states::process::{Query, apply};
 pub use crate::states::processed::{processed_nodes, processed_values};

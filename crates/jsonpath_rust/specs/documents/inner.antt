@@ -2,6 +2,7 @@
 pub mod Following
 pub mod Operands
 pub mod Parts
+pub mod Refusing
 pub mod Size
 pub mod Sought
 pub mod Weight

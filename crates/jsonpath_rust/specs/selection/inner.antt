@@ -1,5 +1,6 @@
 -- What the crate's own contracts and proofs say. Nothing here is part of what a query means.
 pub mod Arguing
+pub mod AtHand
 pub mod Costs
 pub mod Halting
 pub mod Keeping

@@ -1,2 +1,3 @@
 -- What the crate's own contracts and proofs say. Nothing here is part of what a query means.
+pub mod Whole
 pub mod Evaluating

@@ -1,16 +1,17 @@
 //! The children of a value, one after the other, and what is done at each of them.
-ghost use Rattle.std.specs.Prelude.{◌≡◌, [], ◌∷◌, ◌++◌, map, IfOk};
+ghost use Rattle.std.specs.Prelude.{[], ◌∷◌, ◌++◌};
 ghost use Rattle.std.specs.List.{flat_map};
 ghost use Rattle.jsonpath_rust.specs.documents.Node.{below, children, subtree};
 ghost use Rattle.jsonpath_rust.specs.documents.Meaning.{replaced};
-ghost use Rattle.jsonpath_rust.specs.documents.Patterns.{segments_patterns, segment_patterns};
+ghost use Rattle.jsonpath_rust.specs.documents.Patterns.{segment_patterns};
 ghost use Rattle.jsonpath_rust.specs.documents.inner.Whole.{tree_of};
-ghost use Rattle.jsonpath_rust.specs.selection.inner.PlanViews.{segments_meant, segment_view};
-ghost use Rattle.jsonpath_rust.specs.selection.inner.Sinks.{Took, seen};
+ghost use Rattle.jsonpath_rust.specs.selection.inner.PlanViews.{segment_view};
+ghost use Rattle.jsonpath_rust.specs.selection.inner.Sinks.{Takes};
 ghost use Rattle.jsonpath_rust.specs.selection.inner.Keeping.{document, kept_of};
 ghost use Rattle.jsonpath_rust.specs.selection.inner.Standing.{Stands, Comes, AreMembers};
 ghost use Rattle.jsonpath_base.specs.Steps.{lent_step, lent_location};
-ghost use Rattle.jsonpath_rust.specs.selection.inner.Walking.{through, node_of, acted, action_patterns};
+ghost use Rattle.jsonpath_rust.specs.selection.inner.Walking.{acted, action_patterns};
+ghost use Rattle.jsonpath_rust.specs.selection.inner.AtHand.{StandsAt, node_at, here, onward_from, rest_patterns};
 
 use crate::documents::halt::Walked;
 use crate::documents::queryable::Queryable;
@@ -47,12 +48,11 @@ impl<'a: 's, 's, T: Queryable> Task<'a, 's, T> {
         trail: &mut Trail<'a, 's, '_, T>,
         sink: &mut Sink<'a, T>,
     ) -> Walked<bool>
-        requires { Stands self.now at trail.old.way.steps.items trail.old.cache }
-        ensures gave { IfOk result (λ b. Took (seen sink.old)
-            (flat_map (through (segments_meant (kept_of self.now) onward.entry.rest.now) (document self.now))
-            (flat_map (acted (kept_of self.now) onward.entry.next (document self.now)) (children (node_of trail.old.way.steps.items at.entry))))
-            (seen sink.new) b) }
-        ensures comes { Comes self.now trail.old trail.new (action_patterns (kept_of self.now) onward.entry.next ++ segments_patterns (segments_meant (kept_of self.now) onward.entry.rest.now)) result }
+        requires { StandsAt self.now at trail.old }
+        ensures gave { Takes sink.old sink.new
+            (onward_from self.now onward.entry (flat_map (acted (kept_of self.now) onward.entry.next (document self.now)) (children (node_at trail.old at.entry)))) result }
+        ensures comes { Comes self.now trail.old trail.new
+            (action_patterns (kept_of self.now) onward.entry.next ++ rest_patterns self.now onward.entry) result }
     {
         if let Some(items) = at.elements() {
             let cost = visit_cost(onward.next, items.len());
@@ -83,13 +83,12 @@ impl<'a: 's, 's, T: Queryable> Task<'a, 's, T> {
         trail: &mut Trail<'a, 's, '_, T>,
         sink: &mut Sink<'a, T>,
     ) -> Walked<bool>
-        requires stands { Stands self.now members.now.of trail.old.way.steps.items trail.old.cache }
+        requires stands { StandsAt self.now members.now.of trail.old }
         requires listed { AreMembers members.now }
-        ensures gave { IfOk result (λ b. Took (seen sink.old)
-            (flat_map (through (segments_meant (kept_of self.now) onward.entry.rest.now) (document self.now))
-            (flat_map (acted (kept_of self.now) onward.entry.next (document self.now)) (children (node_of trail.old.way.steps.items members.now.of))))
-            (seen sink.new) b) }
-        ensures comes { Comes self.now trail.old trail.new (action_patterns (kept_of self.now) onward.entry.next ++ segments_patterns (segments_meant (kept_of self.now) onward.entry.rest.now)) result }
+        ensures gave { Takes sink.old sink.new
+            (onward_from self.now onward.entry (flat_map (acted (kept_of self.now) onward.entry.next (document self.now)) (children (node_at trail.old members.now.of)))) result }
+        ensures comes { Comes self.now trail.old trail.new
+            (action_patterns (kept_of self.now) onward.entry.next ++ rest_patterns self.now onward.entry) result }
     {
         let cost = visit_cost(onward.next, members.list.len());
         trail.budget.spend(self.limit, cost)?;
@@ -114,11 +113,10 @@ impl<'a: 's, 's, T: Queryable> Task<'a, 's, T> {
         sink: &mut Sink<'a, T>,
     ) -> Walked<bool>
         requires { Stands self.now child.value (trail.old.way.steps.items ++ child.step ∷ []) trail.old.cache }
-        ensures gave { IfOk result (λ b. Took (seen sink.old)
-            (flat_map (through (segments_meant (kept_of self.now) onward.entry.rest.now) (document self.now))
-            (acted (kept_of self.now) onward.entry.next (document self.now) (below (lent_location trail.old.way.steps.items) (lent_step child.entry.step) (tree_of child.entry.value))))
-            (seen sink.new) b) }
-        ensures comes { Comes self.now trail.old trail.new (action_patterns (kept_of self.now) onward.entry.next ++ segments_patterns (segments_meant (kept_of self.now) onward.entry.rest.now)) result }
+        ensures gave { Takes sink.old sink.new
+            (onward_from self.now onward.entry (acted (kept_of self.now) onward.entry.next (document self.now) (below (lent_location trail.old.way.steps.items) (lent_step child.entry.step) (tree_of child.entry.value)))) result }
+        ensures comes { Comes self.now trail.old trail.new
+            (action_patterns (kept_of self.now) onward.entry.next ++ rest_patterns self.now onward.entry) result }
     {
         if is_idle(onward.next, child.value) {
             return Ok(true);
@@ -139,12 +137,11 @@ impl<'a: 's, 's, T: Queryable> Task<'a, 's, T> {
         trail: &mut Trail<'a, 's, '_, T>,
         sink: &mut Sink<'a, T>,
     ) -> Walked<bool>
-        requires { Stands self.now at trail.old.way.steps.items trail.old.cache }
-        ensures gave { IfOk result (λ b. Took (seen sink.old)
-            (flat_map (through (segments_meant (kept_of self.now) onward.entry.rest.now) (document self.now))
-            (acted (kept_of self.now) onward.entry.next (document self.now) (node_of trail.old.way.steps.items at.entry)))
-            (seen sink.new) b) }
-        ensures comes { Comes self.now trail.old trail.new (action_patterns (kept_of self.now) onward.entry.next ++ segments_patterns (segments_meant (kept_of self.now) onward.entry.rest.now)) result }
+        requires { StandsAt self.now at trail.old }
+        ensures gave { Takes sink.old sink.new
+            (onward_from self.now onward.entry (here self.now trail.old at.entry (acted (kept_of self.now) onward.entry.next))) result }
+        ensures comes { Comes self.now trail.old trail.new
+            (action_patterns (kept_of self.now) onward.entry.next ++ rest_patterns self.now onward.entry) result }
     {
         let rest = onward.rest;
         match onward.next {
@@ -170,12 +167,11 @@ impl<'a: 's, 's, T: Queryable> Task<'a, 's, T> {
         trail: &mut Trail<'a, 's, '_, T>,
         sink: &mut Sink<'a, T>,
     ) -> Walked<bool>
-        requires { Stands self.now at trail.old.way.steps.items trail.old.cache }
-        ensures gave { IfOk result (λ b. Took (seen sink.old)
-            (flat_map (through (segments_meant (kept_of self.now) onward.entry.rest.now) (document self.now))
-            (flat_map (replaced (segment_view (kept_of self.now) onward.entry.next.now) (document self.now)) (subtree (node_of trail.old.way.steps.items at.entry))))
-            (seen sink.new) b) }
-        ensures comes { Comes self.now trail.old trail.new (segment_patterns (segment_view (kept_of self.now) onward.entry.next.now) ++ segments_patterns (segments_meant (kept_of self.now) onward.entry.rest.now)) result }
+        requires { StandsAt self.now at trail.old }
+        ensures gave { Takes sink.old sink.new
+            (onward_from self.now onward.entry (flat_map (replaced (segment_view (kept_of self.now) onward.entry.next.now) (document self.now)) (subtree (node_at trail.old at.entry)))) result }
+        ensures comes { Comes self.now trail.old trail.new
+            (segment_patterns (segment_view (kept_of self.now) onward.entry.next.now) ++ rest_patterns self.now onward.entry) result }
     {
         let rest = onward.rest;
         let further = Onward {

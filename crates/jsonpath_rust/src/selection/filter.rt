@@ -6,11 +6,11 @@ ghost use Rattle.jsonpath_rust.specs.documents.Functions.{as_truth};
 ghost use Rattle.jsonpath_rust.specs.documents.Meaning.{holds, some_holds, each_holds, tested, value_of};
 ghost use Rattle.jsonpath_rust.specs.documents.Patterns.{filter_patterns, filters_patterns, comparable_patterns, test_patterns};
 ghost use Rattle.jsonpath_rust.specs.documents.inner.Operands.{operand_tree};
-ghost use Rattle.jsonpath_rust.specs.selection.inner.Keeping.{document, kept_of};
+ghost use Rattle.jsonpath_rust.specs.selection.inner.Keeping.{kept_of};
 ghost use Rattle.jsonpath_rust.specs.selection.inner.PlanViews.{filter_view, filters_meant, nodes_view, side_view};
-ghost use Rattle.jsonpath_rust.specs.selection.inner.Standing.{Stands, Comes};
-ghost use Rattle.jsonpath_rust.specs.selection.inner.Walking.{node_of};
+ghost use Rattle.jsonpath_rust.specs.selection.inner.Standing.{Comes};
 ghost use Rattle.jsonpath_rust.specs.declared.selection.sink.Wanted.TheVariants.{Any};
+ghost use Rattle.jsonpath_rust.specs.selection.inner.AtHand.{StandsAt, here};
 
 use crate::documents::comparison::compares;
 use crate::documents::halt::Walked;
@@ -34,8 +34,8 @@ impl<'a: 's, 's, T: Queryable> Task<'a, 's, T> {
         at: WholeRef<'a, T>,
         trail: &mut Trail<'a, 's, '_, T>,
     ) -> Walked<bool>
-        requires { Stands self.now at trail.old.way.steps.items trail.old.cache }
-        ensures holds { IfOk result (λ b. b ≡ holds (filter_view (kept_of self.now) filter.now) (document self.now) (node_of trail.old.way.steps.items at.entry)) }
+        requires { StandsAt self.now at trail.old }
+        ensures holds { IfOk result (λ b. b ≡ here self.now trail.old at.entry (holds (filter_view (kept_of self.now) filter.now))) }
         ensures comes { Comes self.now trail.old trail.new (filter_patterns (filter_view (kept_of self.now) filter.now)) result }
     {
         match filter {
@@ -59,8 +59,8 @@ impl<'a: 's, 's, T: Queryable> Task<'a, 's, T> {
         at: WholeRef<'a, T>,
         trail: &mut Trail<'a, 's, '_, T>,
     ) -> Walked<bool>
-        requires { Stands self.now at trail.old.way.steps.items trail.old.cache }
-        ensures holds { IfOk result (λ b. b ≡ some_holds (filters_meant (kept_of self.now) parts.now) (document self.now) (node_of trail.old.way.steps.items at.entry)) }
+        requires { StandsAt self.now at trail.old }
+        ensures holds { IfOk result (λ b. b ≡ here self.now trail.old at.entry (some_holds (filters_meant (kept_of self.now) parts.now))) }
         ensures comes { Comes self.now trail.old trail.new (filters_patterns (filters_meant (kept_of self.now) parts.now)) result }
     {
         trail.budget.spend(self.limit, parts.len())?;
@@ -80,8 +80,8 @@ impl<'a: 's, 's, T: Queryable> Task<'a, 's, T> {
         at: WholeRef<'a, T>,
         trail: &mut Trail<'a, 's, '_, T>,
     ) -> Walked<bool>
-        requires { Stands self.now at trail.old.way.steps.items trail.old.cache }
-        ensures holds { IfOk result (λ b. b ≡ each_holds (filters_meant (kept_of self.now) parts.now) (document self.now) (node_of trail.old.way.steps.items at.entry)) }
+        requires { StandsAt self.now at trail.old }
+        ensures holds { IfOk result (λ b. b ≡ here self.now trail.old at.entry (each_holds (filters_meant (kept_of self.now) parts.now))) }
         ensures comes { Comes self.now trail.old trail.new (filters_patterns (filters_meant (kept_of self.now) parts.now)) result }
     {
         trail.budget.spend(self.limit, parts.len())?;
@@ -102,8 +102,8 @@ impl<'a: 's, 's, T: Queryable> Task<'a, 's, T> {
         at: WholeRef<'a, T>,
         trail: &mut Trail<'a, 's, '_, T>,
     ) -> Walked<bool>
-        requires { Stands self.now at trail.old.way.steps.items trail.old.cache }
-        ensures holds { IfOk result (λ b. b ≡ as_truth (tested (nodes_view (kept_of self.now) nodes.now Any) (document self.now) (node_of trail.old.way.steps.items at.entry))) }
+        requires { StandsAt self.now at trail.old }
+        ensures holds { IfOk result (λ b. b ≡ as_truth (here self.now trail.old at.entry (tested (nodes_view (kept_of self.now) nodes.now Any)))) }
         ensures comes { Comes self.now trail.old trail.new (test_patterns (nodes_view (kept_of self.now) nodes.now Any)) result }
     {
         if let Some(there) = is_there(nodes, at) {
@@ -122,11 +122,12 @@ impl<'a: 's, 's, T: Queryable> Task<'a, 's, T> {
         at: WholeRef<'a, T>,
         trail: &mut Trail<'a, 's, '_, T>,
     ) -> Walked<bool>
-        requires { Stands self.now at trail.old.way.steps.items trail.old.cache }
+        requires { StandsAt self.now at trail.old }
         ensures holds { IfOk result (λ b. b ≡ compares (operator_view operator)
-            (value_of (side_view (kept_of self.now) sides.entry.0.now) (document self.now) (node_of trail.old.way.steps.items at.entry))
-            (value_of (side_view (kept_of self.now) sides.entry.1.now) (document self.now) (node_of trail.old.way.steps.items at.entry))) }
-        ensures comes { Comes self.now trail.old trail.new (comparable_patterns (side_view (kept_of self.now) sides.entry.0.now) ++ comparable_patterns (side_view (kept_of self.now) sides.entry.1.now)) result }
+            (here self.now trail.old at.entry (value_of (side_view (kept_of self.now) sides.entry.0.now)))
+            (here self.now trail.old at.entry (value_of (side_view (kept_of self.now) sides.entry.1.now)))) }
+        ensures comes { Comes self.now trail.old trail.new
+            (comparable_patterns (side_view (kept_of self.now) sides.entry.0.now) ++ comparable_patterns (side_view (kept_of self.now) sides.entry.1.now)) result }
     {
         if let Some(held) = self.lent_compare(operator, sides, at, &trail.cache) {
             return Ok(held);
@@ -146,8 +147,8 @@ impl<'a: 's, 's, T: Queryable> Task<'a, 's, T> {
         at: WholeRef<'a, T>,
         trail: &mut Trail<'a, 's, '_, T>,
     ) -> Walked<Operand<'a, 's, T>>
-        requires { Stands self.now at trail.old.way.steps.items trail.old.cache }
-        ensures value { IfOk result (λ o. operand_tree o ≡ value_of (side_view (kept_of self.now) side.now) (document self.now) (node_of trail.old.way.steps.items at.entry)) }
+        requires { StandsAt self.now at trail.old }
+        ensures value { IfOk result (λ o. operand_tree o ≡ here self.now trail.old at.entry (value_of (side_view (kept_of self.now) side.now))) }
         ensures comes { Comes self.now trail.old trail.new (comparable_patterns (side_view (kept_of self.now) side.now)) result }
     {
         match side {

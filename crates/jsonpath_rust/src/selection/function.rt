@@ -6,11 +6,11 @@ ghost use Rattle.jsonpath_rust.specs.documents.Meaning.{answer, argued, all_tree
 ghost use Rattle.jsonpath_rust.specs.documents.Patterns.{IsPattern, call_patterns, argument_patterns, arguments_patterns};
 ghost use Rattle.jsonpath_base.specs.Pattern.{is_entire};
 ghost use Rattle.jsonpath_rust.specs.documents.inner.Operands.{operand_tree};
+ghost use Rattle.jsonpath_rust.specs.selection.inner.AtHand.{StandsAt, here};
 ghost use Rattle.jsonpath_rust.specs.selection.inner.Arguing.{held, holding};
 ghost use Rattle.jsonpath_rust.specs.selection.inner.Keeping.{document, kept_of};
 ghost use Rattle.jsonpath_rust.specs.selection.inner.PlanViews.{argument_view, arguments_meant, call_view};
-ghost use Rattle.jsonpath_rust.specs.selection.inner.Standing.{Stands, Comes};
-ghost use Rattle.jsonpath_rust.specs.selection.inner.Walking.{node_of};
+ghost use Rattle.jsonpath_rust.specs.selection.inner.Standing.{Comes};
 ghost use Rattle.jsonpath_rust.specs.declared.documents.halt.Halt.TheVariants.{Memory};
 ghost use Rattle.jsonpath_rust.specs.declared.selection.sink.Wanted.TheVariants.{Only};
 
@@ -38,8 +38,8 @@ impl<'a: 's, 's, T: Queryable> Task<'a, 's, T> {
         at: WholeRef<'a, T>,
         trail: &mut Trail<'a, 's, '_, T>,
     ) -> Walked<Operand<'a, 's, T>>
-        requires { Stands self.now at trail.old.way.steps.items trail.old.cache }
-        ensures value { IfOk result (λ o. operand_tree o ≡ answer (call_view (kept_of self.now) call.now) (document self.now) (node_of trail.old.way.steps.items at.entry)) }
+        requires { StandsAt self.now at trail.old }
+        ensures value { IfOk result (λ o. operand_tree o ≡ here self.now trail.old at.entry (answer (call_view (kept_of self.now) call.now))) }
         ensures comes { Comes self.now trail.old trail.new (call_patterns (call_view (kept_of self.now) call.now)) result }
     {
         match call {
@@ -81,11 +81,12 @@ impl<'a: 's, 's, T: Queryable> Task<'a, 's, T> {
         at: WholeRef<'a, T>,
         trail: &mut Trail<'a, 's, '_, T>,
     ) -> Walked<Operand<'a, 's, T>>
-        requires { Stands self.now at trail.old.way.steps.items trail.old.cache }
+        requires { StandsAt self.now at trail.old }
         ensures value { IfOk result (λ o. operand_tree o ≡ Some (truth (is_matched (is_entire extent)
-            (as_value (argued (argument_view (kept_of self.now) args.entry.0.now Only) (document self.now) (node_of trail.old.way.steps.items at.entry)))
-            (as_value (argued (argument_view (kept_of self.now) args.entry.1.now Only) (document self.now) (node_of trail.old.way.steps.items at.entry)))))) }
-        ensures comes { Comes self.now trail.old trail.new ((is_entire extent, argument_view (kept_of self.now) args.entry.1.now Only) ∷ (argument_patterns (argument_view (kept_of self.now) args.entry.0.now Only) ++ argument_patterns (argument_view (kept_of self.now) args.entry.1.now Only))) result }
+            (as_value (here self.now trail.old at.entry (argued (argument_view (kept_of self.now) args.entry.0.now Only))))
+            (as_value (here self.now trail.old at.entry (argued (argument_view (kept_of self.now) args.entry.1.now Only))))))) }
+        ensures comes { Comes self.now trail.old trail.new
+            ((is_entire extent, argument_view (kept_of self.now) args.entry.1.now Only) ∷ (argument_patterns (argument_view (kept_of self.now) args.entry.0.now Only) ++ argument_patterns (argument_view (kept_of self.now) args.entry.1.now Only))) result }
     {
         let origin = origin_of(args.1);
         let text = self.value(args.0, at, trail)?;
@@ -107,8 +108,8 @@ impl<'a: 's, 's, T: Queryable> Task<'a, 's, T> {
         at: WholeRef<'a, T>,
         trail: &mut Trail<'a, 's, '_, T>,
     ) -> Walked<Operand<'a, 's, T>>
-        requires { Stands self.now at trail.old.way.steps.items trail.old.cache }
-        ensures value { IfOk result (λ o. operand_tree o ≡ Some ((document self.now).custom (string_bytes name.now) (all_trees (arguments_meant (kept_of self.now) args.now) (document self.now) (node_of trail.old.way.steps.items at.entry)))) }
+        requires { StandsAt self.now at trail.old }
+        ensures value { IfOk result (λ o. operand_tree o ≡ Some ((document self.now).custom (string_bytes name.now) (here self.now trail.old at.entry (all_trees (arguments_meant (kept_of self.now) args.now))))) }
         ensures comes { Comes self.now trail.old trail.new (arguments_patterns (arguments_meant (kept_of self.now) args.now)) result }
     {
         let mut values = Args::new(self.alloc);
@@ -130,8 +131,8 @@ impl<'a: 's, 's, T: Queryable> Task<'a, 's, T> {
         at: WholeRef<'a, T>,
         trail: &mut Trail<'a, 's, '_, T>,
     ) -> Walked<Operand<'a, 's, T>>
-        requires { Stands self.now at trail.old.way.steps.items trail.old.cache }
-        ensures value { IfOk result (λ o. operand_tree o ≡ as_value (argued (argument_view (kept_of self.now) arg.now Only) (document self.now) (node_of trail.old.way.steps.items at.entry))) }
+        requires { StandsAt self.now at trail.old }
+        ensures value { IfOk result (λ o. operand_tree o ≡ as_value (here self.now trail.old at.entry (argued (argument_view (kept_of self.now) arg.now Only)))) }
         ensures comes { Comes self.now trail.old trail.new (argument_patterns (argument_view (kept_of self.now) arg.now Only)) result }
     {
         let argument = self.argument(arg, Wanted::Only, at, trail)?;
@@ -147,8 +148,8 @@ impl<'a: 's, 's, T: Queryable> Task<'a, 's, T> {
         at: WholeRef<'a, T>,
         trail: &mut Trail<'a, 's, '_, T>,
     ) -> Walked<Argument<'a, 's, T>>
-        requires { Stands self.now at trail.old.way.steps.items trail.old.cache }
-        ensures held { IfOk result (λ a. held trail.new.cache a ≡ holding wanted (argued (argument_view (kept_of self.now) arg.now wanted) (document self.now) (node_of trail.old.way.steps.items at.entry))) }
+        requires { StandsAt self.now at trail.old }
+        ensures held { IfOk result (λ a. held trail.new.cache a ≡ holding wanted (here self.now trail.old at.entry (argued (argument_view (kept_of self.now) arg.now wanted)))) }
         ensures comes { Comes self.now trail.old trail.new (argument_patterns (argument_view (kept_of self.now) arg.now wanted)) result }
     {
         match arg {

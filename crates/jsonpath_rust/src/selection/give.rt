@@ -6,7 +6,8 @@ ghost use Rattle.jsonpath_rust.specs.documents.Patterns.{segments_patterns, IsSt
 ghost use Rattle.jsonpath_rust.specs.documents.inner.Whole.{document_at};
 ghost use Rattle.jsonpath_rust.specs.selection.inner.Halting.{IsHalt};
 ghost use Rattle.jsonpath_rust.specs.selection.inner.Planned.{plan_view};
-ghost use Rattle.jsonpath_rust.specs.selection.inner.Sinks.{Took, give, seen};
+ghost use Rattle.jsonpath_rust.specs.selection.inner.Sinks.{Takes, give, seen};
+ghost use Rattle.jsonpath_rust.specs.selection.inner.AtHand.{here};
 
 use crate::documents::Queried;
 use crate::documents::halt::Walked;
@@ -56,8 +57,7 @@ fn give_planned<'a, T: Queryable>(
     root: WholeRef<'a, T>,
     sink: &mut Sink<'a, T>,
 ) -> Queried<bool>
-    ensures gave { IfOk result (λ b. Took (seen sink.old) (nodelist (query_view query.now) (document_at root.entry))
-        (seen sink.new) b) }
+    ensures gave { Takes sink.old sink.new (nodelist (query_view query.now) (document_at root.entry)) result }
     ensures refused { IfErr result (IsStop (query_view query.now) (document_at root.entry)) }
 {
     let plan = plan_of(alloc, query)?;
@@ -73,8 +73,7 @@ fn give_once<'a, T: Queryable>(
     root: WholeRef<'a, T>,
     sink: &mut Sink<'a, T>,
 ) -> Queried<bool>
-    ensures gave { IfOk result (λ b. Took (seen sink.old) (nodelist (plan_view plan.now) (document_at root.entry))
-        (seen sink.new) b) }
+    ensures gave { Takes sink.old sink.new (nodelist (plan_view plan.now) (document_at root.entry)) result }
     ensures refused { IfErr result (IsStop (plan_view plan.now) (document_at root.entry)) }
 {
     let cells = QueryCells::new(alloc, plan.pattern_count)?;
@@ -98,8 +97,7 @@ pub fn give_requested<'a, 'p, T: Queryable>(
     root: WholeRef<'a, T>,
     sink: &mut Sink<'a, T>,
 ) -> (Walked<bool>, QueryFinders<'p>)
-    ensures gave { IfOk result.0 (λ b. Took (seen sink.old) (nodelist (plan_view request.entry.plan.now) (document_at root.entry))
-        (seen sink.new) b) }
+    ensures gave { Takes sink.old sink.new (nodelist (plan_view request.entry.plan.now) (document_at root.entry)) result.0 }
     ensures refused { IfErr result.0 (IsHalt request.entry.budget.limit (segments_patterns (plan_view request.entry.plan.now)) (document_at root.entry)) }
 {
     let Request {
@@ -120,8 +118,7 @@ fn give_from_root<'a: 's, 's, 'p, T: Queryable>(
     root: WholeRef<'a, T>,
     sink: &mut Sink<'a, T>,
 ) -> (Walked<bool>, QueryFinders<'p>)
-    ensures gave { IfOk result.0 (λ b. Took (seen sink.old) (nodelist (plan_view plan.now) (document_at root.entry))
-        (seen sink.new) b) }
+    ensures gave { Takes sink.old sink.new (nodelist (plan_view plan.now) (document_at root.entry)) result.0 }
     ensures refused { IfErr result.0 (IsHalt means.entry.1.limit (segments_patterns (plan_view plan.now)) (document_at root.entry)) }
 {
     let (finders, budget) = means;
@@ -144,8 +141,7 @@ fn give_along<'a: 's, 's, T: Queryable>(
     trail: &mut Trail<'a, 's, '_, T>,
     sink: &mut Sink<'a, T>,
 ) -> Walked<bool>
-    ensures gave { IfOk result (λ b. Took (seen sink.old) (nodelist (plan_view plan.now) (document_at root.entry))
-        (seen sink.new) b) }
+    ensures gave { Takes sink.old sink.new (nodelist (plan_view plan.now) (document_at root.entry)) result }
     ensures refused { IfErr result (IsHalt trail.old.budget.limit (segments_patterns (plan_view plan.now)) (document_at root.entry)) }
 {
     let task = Task {

@@ -8,8 +8,8 @@ ghost use Rattle.jsonpath_rust.specs.documents.inner.Operands.{operand_tree};
 ghost use Rattle.jsonpath_rust.specs.documents.inner.Whole.{tree_of};
 ghost use Rattle.jsonpath_rust.specs.selection.inner.Keeping.{IsReady, document, kept_of, value_by};
 ghost use Rattle.jsonpath_rust.specs.selection.inner.PlanViews.{call_at, called_view, comparison_at, part_at, steps_at};
-ghost use Rattle.jsonpath_rust.specs.selection.inner.Standing.{Stands, Comes};
-ghost use Rattle.jsonpath_rust.specs.selection.inner.Walking.{node_of};
+ghost use Rattle.jsonpath_rust.specs.selection.inner.Standing.{Comes};
+ghost use Rattle.jsonpath_rust.specs.selection.inner.AtHand.{StandsAt, here};
 
 use crate::documents::halt::Walked;
 use crate::documents::queryable::Queryable;
@@ -83,8 +83,8 @@ impl<'a: 's, 's, T: Queryable> Task<'a, 's, T> {
         at: WholeRef<'a, T>,
         trail: &mut Trail<'a, 's, '_, T>,
     ) -> Walked<Operand<'a, 's, T>>
-        requires { Stands self.now at trail.old.way.steps.items trail.old.cache }
-        ensures value { IfOk result (λ o. operand_tree o ≡ answer (called_view (kept_of self.now) call.now) (document self.now) (node_of trail.old.way.steps.items at.entry)) }
+        requires { StandsAt self.now at trail.old }
+        ensures value { IfOk result (λ o. operand_tree o ≡ here self.now trail.old at.entry (answer (called_view (kept_of self.now) call.now))) }
         ensures comes { Comes self.now trail.old trail.new (call_patterns (called_view (kept_of self.now) call.now)) result }
     {
         match call {

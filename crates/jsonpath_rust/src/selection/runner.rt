@@ -9,7 +9,7 @@ ghost use Rattle.jsonpath_rust.specs.documents.Patterns.{segments_patterns, IsSt
 ghost use Rattle.jsonpath_rust.specs.selection.Prepared.{prepared_view, runner_view, IsFirstNode};
 ghost use Rattle.jsonpath_rust.specs.documents.inner.Whole.{document_at};
 ghost use Rattle.jsonpath_rust.specs.selection.inner.Halting.{IsHalt};
-ghost use Rattle.jsonpath_rust.specs.selection.inner.Sinks.{Took, give, seen};
+ghost use Rattle.jsonpath_rust.specs.selection.inner.Sinks.{Takes, give, seen};
 
 use crate::documents::halt::{Halt, Walked};
 use crate::documents::nodes::{WholeNodes, WholeValues};
@@ -292,8 +292,7 @@ impl<'p> Runner<'p> {
         value: WholeRef<'a, T>,
         sink: &mut Sink<'a, T>,
     ) -> Walked<bool>
-        ensures gave { IfOk result (λ b. Took (seen sink.old) (nodelist (runner_view self.old) (document_at value.entry))
-            (seen sink.new) b) }
+        ensures gave { Takes sink.old sink.new (nodelist (runner_view self.old) (document_at value.entry)) result }
         ensures same { runner_view self.new ≡ runner_view self.old }
         ensures refused { IfErr result (IsHalt budget.limit (segments_patterns (runner_view self.old)) (document_at value.entry)) }
     {

@@ -3,12 +3,13 @@ ghost use Rattle.std.specs.Prelude.{◌≡◌, IfOk};
 ghost use Rattle.jsonpath_rust.specs.documents.Meaning.{nodelist, tested};
 ghost use Rattle.jsonpath_rust.specs.documents.Patterns.{segments_patterns, test_patterns};
 ghost use Rattle.jsonpath_rust.specs.selection.inner.Arguing as held;
+ghost use Rattle.jsonpath_rust.specs.selection.inner.AtHand.{StandsAt, here};
 ghost use Rattle.jsonpath_rust.specs.selection.inner.Arguing.{holding};
 ghost use Rattle.jsonpath_rust.specs.selection.inner.Keeping.{IsReady, document, gathered, kept_of};
 ghost use Rattle.jsonpath_rust.specs.selection.inner.PlanViews.{nodes_view, query_at, segments_meant};
 ghost use Rattle.jsonpath_rust.specs.selection.inner.Sinks.{seen, start, give};
-ghost use Rattle.jsonpath_rust.specs.selection.inner.Standing.{Stands, Comes};
-ghost use Rattle.jsonpath_rust.specs.selection.inner.Walking.{node_of, through};
+ghost use Rattle.jsonpath_rust.specs.selection.inner.Standing.{Comes};
+ghost use Rattle.jsonpath_rust.specs.selection.inner.Walking.{through};
 
 use crate::documents::halt::Walked;
 use crate::documents::queryable::Queryable;
@@ -33,8 +34,8 @@ impl<'a: 's, 's, T: Queryable> Task<'a, 's, T> {
         at: WholeRef<'a, T>,
         trail: &mut Trail<'a, 's, '_, T>,
     ) -> Walked<Gathered<'a, T>>
-        requires { Stands self.now at trail.old.way.steps.items trail.old.cache }
-        ensures held { IfOk result (λ g. held.nodes (gathered trail.new.cache g) ≡ holding wanted (tested (nodes_view (kept_of self.now) nodes.now wanted) (document self.now) (node_of trail.old.way.steps.items at.entry))) }
+        requires { StandsAt self.now at trail.old }
+        ensures held { IfOk result (λ g. held.nodes (gathered trail.new.cache g) ≡ holding wanted (here self.now trail.old at.entry (tested (nodes_view (kept_of self.now) nodes.now wanted)))) }
         ensures comes { Comes self.now trail.old trail.new (test_patterns (nodes_view (kept_of self.now) nodes.now wanted)) result }
     {
         match nodes {
@@ -55,8 +56,8 @@ impl<'a: 's, 's, T: Queryable> Task<'a, 's, T> {
         at: WholeRef<'a, T>,
         trail: &mut Trail<'a, 's, '_, T>,
     ) -> Walked<Sink<'a, T>>
-        requires { Stands self.now at trail.old.way.steps.items trail.old.cache }
-        ensures given { IfOk result (λ s. seen s ≡ give (start wanted) (through (segments_meant (kept_of self.now) segments.now) (document self.now) (node_of trail.old.way.steps.items at.entry))) }
+        requires { StandsAt self.now at trail.old }
+        ensures given { IfOk result (λ s. seen s ≡ give (start wanted) (here self.now trail.old at.entry (through (segments_meant (kept_of self.now) segments.now)))) }
         ensures comes { Comes self.now trail.old trail.new (segments_patterns (segments_meant (kept_of self.now) segments.now)) result }
     {
         if let Some(sink) = short_cut(self.alloc, segments, wanted, at)? {

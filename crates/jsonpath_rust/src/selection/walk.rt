@@ -1,18 +1,17 @@
 //! The evaluator: a walk that meets the nodes of a query depth-first, in the order of its nodelist (RFC 9535, 2.1.2).
 //!
 //! The way to the value at hand stands on a stack of borrowed steps, so nothing is kept for a node that is only passed.
-//! Every method of the cycle asks for a value at hand (`Stands`), and comes back with the way as it was and what is kept
+//! Every method of the cycle asks for a value at hand (`StandsAt`), and comes back with the way as it was and what is kept
 //! still right (`Comes`). Where it halts, what is kept is right too, and it says why.
-ghost use Rattle.std.specs.Prelude.{◌≡◌, [], ◌∷◌, ◌++◌, map, IfOk};
-ghost use Rattle.std.specs.List.{flat_map};
-ghost use Rattle.jsonpath_rust.specs.documents.Node.{below, children};
+ghost use Rattle.std.specs.Prelude.{◌++◌};
 ghost use Rattle.jsonpath_rust.specs.documents.Meaning.{picks, all_pick, replaced, sliced};
 ghost use Rattle.jsonpath_rust.specs.documents.Patterns.{segments_patterns, segment_patterns, selectors_patterns, selector_patterns};
 ghost use Rattle.jsonpath_rust.specs.selection.inner.PlanViews.{segments_meant, segment_view, selectors_meant, selector_view};
-ghost use Rattle.jsonpath_rust.specs.selection.inner.Sinks.{Took, seen};
+ghost use Rattle.jsonpath_rust.specs.selection.inner.Sinks.{Takes};
 ghost use Rattle.jsonpath_rust.specs.selection.inner.Keeping.{document, kept_of};
-ghost use Rattle.jsonpath_rust.specs.selection.inner.Standing.{Stands, Comes};
-ghost use Rattle.jsonpath_rust.specs.selection.inner.Walking.{through, node_of, acted};
+ghost use Rattle.jsonpath_rust.specs.selection.inner.Standing.{Comes};
+ghost use Rattle.jsonpath_rust.specs.selection.inner.Walking.{through};
+ghost use Rattle.jsonpath_rust.specs.selection.inner.AtHand.{StandsAt, node_at, here, onward_from, rest_patterns};
 
 use crate::documents::halt::Walked;
 use crate::documents::queryable::Queryable;
@@ -51,10 +50,9 @@ impl<'a: 's, 's, T: Queryable> Task<'a, 's, T> {
         trail: &mut Trail<'a, 's, '_, T>,
         sink: &mut Sink<'a, T>,
     ) -> Walked<bool>
-        requires { Stands self.now at trail.old.way.steps.items trail.old.cache }
-        ensures gave { IfOk result (λ b. Took (seen sink.old)
-            (through (segments_meant (kept_of self.now) segments.now) (document self.now) (node_of trail.old.way.steps.items at.entry))
-            (seen sink.new) b) }
+        requires { StandsAt self.now at trail.old }
+        ensures gave { Takes sink.old sink.new
+            (here self.now trail.old at.entry (through (segments_meant (kept_of self.now) segments.now))) result }
         ensures comes { Comes self.now trail.old trail.new (segments_patterns (segments_meant (kept_of self.now) segments.now)) result }
     {
         match segments.split_first() {
@@ -72,12 +70,11 @@ impl<'a: 's, 's, T: Queryable> Task<'a, 's, T> {
         trail: &mut Trail<'a, 's, '_, T>,
         sink: &mut Sink<'a, T>,
     ) -> Walked<bool>
-        requires { Stands self.now at trail.old.way.steps.items trail.old.cache }
-        ensures gave { IfOk result (λ b. Took (seen sink.old)
-            (flat_map (through (segments_meant (kept_of self.now) onward.entry.rest.now) (document self.now))
-            (replaced (segment_view (kept_of self.now) onward.entry.next.now) (document self.now) (node_of trail.old.way.steps.items at.entry)))
-            (seen sink.new) b) }
-        ensures comes { Comes self.now trail.old trail.new (segment_patterns (segment_view (kept_of self.now) onward.entry.next.now) ++ segments_patterns (segments_meant (kept_of self.now) onward.entry.rest.now)) result }
+        requires { StandsAt self.now at trail.old }
+        ensures gave { Takes sink.old sink.new
+            (onward_from self.now onward.entry (here self.now trail.old at.entry (replaced (segment_view (kept_of self.now) onward.entry.next.now)))) result }
+        ensures comes { Comes self.now trail.old trail.new
+            (segment_patterns (segment_view (kept_of self.now) onward.entry.next.now) ++ rest_patterns self.now onward.entry) result }
     {
         let rest = onward.rest;
         match onward.next {
@@ -102,12 +99,11 @@ impl<'a: 's, 's, T: Queryable> Task<'a, 's, T> {
         trail: &mut Trail<'a, 's, '_, T>,
         sink: &mut Sink<'a, T>,
     ) -> Walked<bool>
-        requires { Stands self.now at trail.old.way.steps.items trail.old.cache }
-        ensures gave { IfOk result (λ b. Took (seen sink.old)
-            (flat_map (through (segments_meant (kept_of self.now) onward.entry.rest.now) (document self.now))
-            (all_pick (selectors_meant (kept_of self.now) onward.entry.next.now) (document self.now) (node_of trail.old.way.steps.items at.entry)))
-            (seen sink.new) b) }
-        ensures comes { Comes self.now trail.old trail.new (selectors_patterns (selectors_meant (kept_of self.now) onward.entry.next.now) ++ segments_patterns (segments_meant (kept_of self.now) onward.entry.rest.now)) result }
+        requires { StandsAt self.now at trail.old }
+        ensures gave { Takes sink.old sink.new
+            (onward_from self.now onward.entry (here self.now trail.old at.entry (all_pick (selectors_meant (kept_of self.now) onward.entry.next.now)))) result }
+        ensures comes { Comes self.now trail.old trail.new
+            (selectors_patterns (selectors_meant (kept_of self.now) onward.entry.next.now) ++ rest_patterns self.now onward.entry) result }
     {
         trail.budget.spend(self.limit, onward.next.len())?;
         for selector in onward.next {
@@ -132,12 +128,11 @@ impl<'a: 's, 's, T: Queryable> Task<'a, 's, T> {
         trail: &mut Trail<'a, 's, '_, T>,
         sink: &mut Sink<'a, T>,
     ) -> Walked<bool>
-        requires { Stands self.now at trail.old.way.steps.items trail.old.cache }
-        ensures gave { IfOk result (λ b. Took (seen sink.old)
-            (flat_map (through (segments_meant (kept_of self.now) onward.entry.rest.now) (document self.now))
-            (picks (selector_view (kept_of self.now) onward.entry.next.now) (document self.now) (node_of trail.old.way.steps.items at.entry)))
-            (seen sink.new) b) }
-        ensures comes { Comes self.now trail.old trail.new (selector_patterns (selector_view (kept_of self.now) onward.entry.next.now) ++ segments_patterns (segments_meant (kept_of self.now) onward.entry.rest.now)) result }
+        requires { StandsAt self.now at trail.old }
+        ensures gave { Takes sink.old sink.new
+            (onward_from self.now onward.entry (here self.now trail.old at.entry (picks (selector_view (kept_of self.now) onward.entry.next.now)))) result }
+        ensures comes { Comes self.now trail.old trail.new
+            (selector_patterns (selector_view (kept_of self.now) onward.entry.next.now) ++ rest_patterns self.now onward.entry) result }
     {
         let rest = onward.rest;
         let all = Onward {
@@ -180,12 +175,10 @@ impl<'a: 's, 's, T: Queryable> Task<'a, 's, T> {
         trail: &mut Trail<'a, 's, '_, T>,
         sink: &mut Sink<'a, T>,
     ) -> Walked<bool>
-        requires { Stands self.now at trail.old.way.steps.items trail.old.cache }
-        ensures gave { IfOk result (λ b. Took (seen sink.old)
-            (flat_map (through (segments_meant (kept_of self.now) onward.entry.rest.now) (document self.now))
-            (sliced onward.entry.next.0 onward.entry.next.1 onward.entry.next.2 (node_of trail.old.way.steps.items at.entry)))
-            (seen sink.new) b) }
-        ensures comes { Comes self.now trail.old trail.new (segments_patterns (segments_meant (kept_of self.now) onward.entry.rest.now)) result }
+        requires { StandsAt self.now at trail.old }
+        ensures gave { Takes sink.old sink.new
+            (onward_from self.now onward.entry (sliced onward.entry.next.0 onward.entry.next.1 onward.entry.next.2 (node_at trail.old at.entry))) result }
+        ensures comes { Comes self.now trail.old trail.new (rest_patterns self.now onward.entry) result }
     {
         let Some(items) = at.elements() else {
             return Ok(true);

@@ -13,11 +13,18 @@ pub mod singular;
 pub mod test;
 pub mod value;
 
+use crate::documents::halt::Walked;
+use crate::documents::queryable::Queryable;
+use crate::documents::whole::WholeRef;
+use crate::states::whole::WholeData;
 use std::alloc::Global;
+
+/// What a part of a query returns, or why it halts.
+pub type Returned<'a, T> = Walked<WholeData<'a, T>>;
 
 /// What evaluates the parts of a query: the root of the document, and what allocates.
 #[derive(Drop)]
-pub struct Evaluation<'a, T> {
+pub struct Evaluation<'a, T: Queryable> {
     pub alloc: Global,
-    pub root: &'a T,
+    pub root: WholeRef<'a, T>,
 }

@@ -10,16 +10,18 @@ ghost use Rattle.jsonpath_rust.specs.states.Process.{segments_content, segment_c
 ghost use Rattle.jsonpath_rust.specs.documents.Patterns.{segments_patterns, segment_patterns, selector_patterns, filter_patterns, atom_patterns, comparison_patterns, comparable_patterns, test_patterns, call_patterns, argument_patterns};
 ghost use Rattle.jsonpath_rust.specs.states.State.{Content, value, content_of, DataIsWhole};
 ghost use Rattle.jsonpath_rust.specs.declared.documents.halt.Halt.TheVariants.{Memory};
-ghost use Rattle.jsonpath_rust.specs.states.inner.Evaluating.{HaltsAt, HaltsBelow};
+ghost use Rattle.jsonpath_rust.specs.states.inner.Evaluating.{document, content_at, HaltsAt, HaltsBelow};
 
 use crate::documents::Queried;
 use crate::documents::halt::Walked;
 use crate::documents::queryable::Queryable;
+use crate::documents::whole::WholeRef;
 use crate::states::evaluate::Evaluation;
 use crate::states::evaluate::segments::Part;
 use crate::states::evaluate::singular::{singular_data, step_data, steps_data};
 use crate::states::evaluate::value::literal_data;
-use crate::states::state::{Data, State};
+use crate::states::state::State;
+use crate::states::whole::WholeData;
 use jsonpath_parser::model::{
     Comparable, Comparison, Filter, FilterAtom, FnArg, JpQuery, Literal, Segment, Selector,
     SingularQuery, SingularQuerySegment, Test, TestFunction,
@@ -54,22 +56,23 @@ pub trait Query {
 /// The state of the result, or a refusal.
 type Answered<'a, T> = Queried<State<'a, T>>;
 
-/// The state of what was returned, or what a caller is told.
-fn answered<'a, T: Queryable>(
-    alloc: Global,
-    answer: Walked<Data<'a, T>>,
-    root: &'a T,
-) -> Answered<'a, T>
-    ensures content { (c : Content) → IfOk answer.entry (λ d. content_of T.tree d ≡ c) → IfOk result (λ s. content_of T.tree s.content ≡ c) }
-    ensures root { IfOk result (λ s. s.root.now ≡ root.now) }
-    ensures whole { IfOk answer.entry (λ d. DataIsWhole T.is_whole d) → IfOk result (λ s. DataIsWhole T.is_whole s.content) }
-    ensures below { (ps : List (Bool × Argument)) → (d : Document) → (c : Content) → IfErr answer.entry (HaltsBelow ps d c) → IfErr result (IsProcessStop ps d c) }
-    ensures refused { (ps : List (Bool × Argument)) → (d : Document) → (c : Content) → IfErr answer.entry (HaltsAt ps d c) → IfErr result (IsProcessStop ps d c) }
-    ensures memory { (ps : List (Bool × Argument)) → (d : Document) → (c : Content) → IfErr answer.entry (λ h. h ≡ Memory) → IfErr result (IsProcessStop ps d c) }
-{
-    match answer {
-        Ok(content) => Ok(State { content, root }),
-        Err(halt) => Err(halt.told(alloc)),
+impl<'a, T: Queryable> Evaluation<'a, T> {
+    /// The state of what was returned, or what a caller is told.
+    fn answered(&self, answer: Walked<WholeData<'a, T>>) -> Answered<'a, T>
+        ensures content { (c : Content) → IfOk answer.entry (λ d. content_at d ≡ c) → IfOk result (λ s. content_of T.tree s.content ≡ c) }
+        ensures root { IfOk result (λ s. s.root.now ≡ self.now.root.value.now) }
+        ensures whole { IfOk result (λ s. DataIsWhole T.is_whole s.content) }
+        ensures below { (ps : List (Bool × Argument)) → (d : Document) → (c : Content) → IfErr answer.entry (HaltsBelow ps d c) → IfErr result (IsProcessStop ps d c) }
+        ensures refused { (ps : List (Bool × Argument)) → (d : Document) → (c : Content) → IfErr answer.entry (HaltsAt ps d c) → IfErr result (IsProcessStop ps d c) }
+        ensures memory { (ps : List (Bool × Argument)) → (d : Document) → (c : Content) → IfErr answer.entry (λ h. h ≡ Memory) → IfErr result (IsProcessStop ps d c) }
+    {
+        match answer {
+            Ok(found) => Ok(State {
+                content: found.content,
+                root: self.root.value,
+            }),
+            Err(halt) => Err(halt.told(self.alloc)),
+        }
     }
 }
 
@@ -81,8 +84,9 @@ impl Query for JpQuery {
 
     fn process<'a, T: Queryable>(&self, alloc: Global, state: State<'a, T>) -> Answered<'a, T> {
         let State { content, root } = state;
+        let root = WholeRef { value: root };
         let at = Evaluation { alloc, root };
-        answered(alloc, at.segments_data(&self.segments, content), root)
+        at.answered(at.segments_data(&self.segments, WholeData { content }))
     }
 }
 
@@ -94,8 +98,9 @@ impl Query for Vec<Segment> {
 
     fn process<'a, T: Queryable>(&self, alloc: Global, state: State<'a, T>) -> Answered<'a, T> {
         let State { content, root } = state;
+        let root = WholeRef { value: root };
         let at = Evaluation { alloc, root };
-        answered(alloc, at.segments_data(self, content), root)
+        at.answered(at.segments_data(self, WholeData { content }))
     }
 }
 
@@ -107,8 +112,9 @@ impl Query for Segment {
 
     fn process<'a, T: Queryable>(&self, alloc: Global, state: State<'a, T>) -> Answered<'a, T> {
         let State { content, root } = state;
+        let root = WholeRef { value: root };
         let at = Evaluation { alloc, root };
-        answered(alloc, at.segment_data(self, content), root)
+        at.answered(at.segment_data(self, WholeData { content }))
     }
 }
 
@@ -120,8 +126,9 @@ impl Query for Selector {
 
     fn process<'a, T: Queryable>(&self, alloc: Global, state: State<'a, T>) -> Answered<'a, T> {
         let State { content, root } = state;
+        let root = WholeRef { value: root };
         let at = Evaluation { alloc, root };
-        answered(alloc, at.selector_data(self, content), root)
+        at.answered(at.selector_data(self, WholeData { content }))
     }
 }
 
@@ -133,8 +140,9 @@ impl Query for Filter {
 
     fn process<'a, T: Queryable>(&self, alloc: Global, state: State<'a, T>) -> Answered<'a, T> {
         let State { content, root } = state;
+        let root = WholeRef { value: root };
         let at = Evaluation { alloc, root };
-        answered(alloc, at.each_target(Part::Kept(self), content), root)
+        at.answered(at.each_target(Part::Kept(self), WholeData { content }))
     }
 }
 
@@ -146,8 +154,10 @@ impl Query for FilterAtom {
 
     fn process<'a, T: Queryable>(&self, alloc: Global, state: State<'a, T>) -> Answered<'a, T> {
         let State { content, root } = state;
+        let root = WholeRef { value: root };
         let at = Evaluation { alloc, root };
-        answered(alloc, at.atom_data(self, &content), root)
+        let given = WholeData { content };
+        at.answered(at.atom_data(self, &given))
     }
 }
 
@@ -159,8 +169,10 @@ impl Query for Comparison {
 
     fn process<'a, T: Queryable>(&self, alloc: Global, state: State<'a, T>) -> Answered<'a, T> {
         let State { content, root } = state;
+        let root = WholeRef { value: root };
         let at = Evaluation { alloc, root };
-        answered(alloc, at.comparison_data(self, &content), root)
+        let given = WholeData { content };
+        at.answered(at.comparison_data(self, &given))
     }
 }
 
@@ -172,8 +184,10 @@ impl Query for Comparable {
 
     fn process<'a, T: Queryable>(&self, alloc: Global, state: State<'a, T>) -> Answered<'a, T> {
         let State { content, root } = state;
+        let root = WholeRef { value: root };
         let at = Evaluation { alloc, root };
-        answered(alloc, at.comparable_data(self, &content), root)
+        let given = WholeData { content };
+        at.answered(at.comparable_data(self, &given))
     }
 }
 
@@ -185,9 +199,10 @@ impl Query for SingularQuery {
 
     fn process<'a, T: Queryable>(&self, alloc: Global, state: State<'a, T>) -> Answered<'a, T> {
         let State { content, root } = state;
-        let answer = singular_data(alloc, self, &content, root)?;
+        let given = WholeData { content };
+        let answer = singular_data(alloc, self, &given, WholeRef { value: root })?;
         Ok(State {
-            content: answer,
+            content: answer.content,
             root,
         })
     }
@@ -201,9 +216,9 @@ impl Query for SingularQuerySegment {
 
     fn process<'a, T: Queryable>(&self, alloc: Global, state: State<'a, T>) -> Answered<'a, T> {
         let State { content, root } = state;
-        let answer = step_data(alloc, self, content)?;
+        let answer = step_data(alloc, self, WholeData { content })?;
         Ok(State {
-            content: answer,
+            content: answer.content,
             root,
         })
     }
@@ -217,9 +232,9 @@ impl Query for Vec<SingularQuerySegment> {
 
     fn process<'a, T: Queryable>(&self, alloc: Global, state: State<'a, T>) -> Answered<'a, T> {
         let State { content, root } = state;
-        let answer = steps_data(alloc, self, content)?;
+        let answer = steps_data(alloc, self, WholeData { content })?;
         Ok(State {
-            content: answer,
+            content: answer.content,
             root,
         })
     }
@@ -236,7 +251,9 @@ impl Query for Literal {
             content: _content,
             root,
         } = state;
-        answered(alloc, literal_data(alloc, self), root)
+        let root = WholeRef { value: root };
+        let at = Evaluation { alloc, root };
+        at.answered(literal_data(alloc, self))
     }
 }
 
@@ -248,8 +265,10 @@ impl Query for Test {
 
     fn process<'a, T: Queryable>(&self, alloc: Global, state: State<'a, T>) -> Answered<'a, T> {
         let State { content, root } = state;
+        let root = WholeRef { value: root };
         let at = Evaluation { alloc, root };
-        answered(alloc, at.test_data(self, &content), root)
+        let given = WholeData { content };
+        at.answered(at.test_data(self, &given))
     }
 }
 
@@ -261,8 +280,10 @@ impl Query for TestFunction {
 
     fn process<'a, T: Queryable>(&self, alloc: Global, state: State<'a, T>) -> Answered<'a, T> {
         let State { content, root } = state;
+        let root = WholeRef { value: root };
         let at = Evaluation { alloc, root };
-        answered(alloc, at.call_data(self, &content), root)
+        let given = WholeData { content };
+        at.answered(at.call_data(self, &given))
     }
 }
 
@@ -274,8 +295,10 @@ impl Query for FnArg {
 
     fn process<'a, T: Queryable>(&self, alloc: Global, state: State<'a, T>) -> Answered<'a, T> {
         let State { content, root } = state;
+        let root = WholeRef { value: root };
         let at = Evaluation { alloc, root };
-        answered(alloc, at.argument_data(self, &content), root)
+        let given = WholeData { content };
+        at.answered(at.argument_data(self, &given))
     }
 }
 

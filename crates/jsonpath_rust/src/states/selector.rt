@@ -5,8 +5,8 @@ ghost use Rattle.jsonpath_rust.specs.states.State.{named_from, indexed_from, tar
 
 use crate::documents::Queried;
 use crate::documents::queryable::Queryable;
-use crate::states::evaluate::found::{element_from, named};
 use crate::states::state::{Data, Pointer};
+use crate::states::whole::WholePointerRef;
 use std::alloc::Global;
 
 /// The member of that name, under the pointer's path and one step more; nothing where there is none. It refuses by
@@ -21,7 +21,8 @@ pub fn process_key<'a, T: Queryable>(
     ensures whole { IfOk result (λ d. DataIsWhole T.is_whole d) }
     ensures memory { IfErr result (λ e. e ≡ OutOfMemory) }
 {
-    named(alloc, &pointer, key)
+    let from = WholePointerRef { pointer: &pointer };
+    Ok(from.named(alloc, key)?.content)
 }
 
 /// The element that the index means, from the end where it is negative, under the pointer's path and one step more;
@@ -36,5 +37,6 @@ pub fn process_index<'a, T: Queryable>(
     ensures whole { IfOk result (λ d. DataIsWhole T.is_whole d) }
     ensures memory { IfErr result (λ e. e ≡ OutOfMemory) }
 {
-    element_from(alloc, &pointer, *idx)
+    let from = WholePointerRef { pointer: &pointer };
+    Ok(from.indexed(alloc, *idx)?.content)
 }

@@ -12,7 +12,7 @@ mod pointer;
 use crate::documents::Queried;
 use crate::documents::queryable::Queryable;
 pub use crate::states::state::data::Data;
-pub(crate) use crate::states::state::data::{are_same, push_nodes};
+pub(crate) use crate::states::state::data::are_same;
 pub use crate::states::state::pointer::Pointer;
 use std::alloc::Global;
 use std::fmt::{self, Debug, Display, Formatter, Write};

@@ -1,9 +1,14 @@
 -- What `flat_map` makes of its closure's answers.
-use Rattle.std.proofs.Common.{◌≡◌, ℕ, length, arith, append-nil, List, [], ◌∷◌, ◌++◌, append_assoc, sym, ◌∙◌, ap, subst, refl, map, Vec, Global, Bool, IsTrue, inl, inr, ◌⊎◌}
+use Rattle.std.proofs.Common.{◌≡◌, ℕ, length, arith, append-nil, List, [], ◌∷◌, ◌++◌, append_assoc, sym, ◌∙◌, ap, subst, refl, map, Vec, Global, Bool, IsTrue, Result, inl, inr, ◌⊎◌}
 use Rattle.std.proofs.lemmas.List.Elements.{All-append, All-cons, All-nil, All-head, All-tail}
 use Rattle.std.proofs.lemmas.List.{map-append}
-use Rattle.std.specs.List.{AllZip, AllByRecursion, flat_map}
+use Rattle.std.specs.List.{AllZip, flat_map}
+use Rattle.std.specs.Result.{IsErrAnd}
+use Rattle.jsonpath_parser.specs.declared.errors.JsonPathError.{JsonPathError}
+use Rattle.jsonpath_parser.specs.declared.errors.JsonPathError.TheVariants.{OutOfMemory}
 use Rattle.jsonpath_base.specs.Tree.{Tree}
+use Rattle.jsonpath_rust.specs.documents.inner.Refusing.{MemoryAlone}
+use Rattle.jsonpath_rust.proofs.laws.documents.Parts.{passed_on}
 use Rattle.jsonpath_rust.specs.states.State.{Target, Content, refs, nothing, targets, mapped, target_of, content_of, pointers, Made, AreRefs, HasNothing, PointersAreWhole, DataIsWhole, GivesWhole, SomeHas}
 use Rattle.jsonpath_rust.specs.states.inner.Evaluating.{Completes}
 use Rattle.jsonpath_rust.specs.declared.states.state.pointer.Pointer.{Pointer}
@@ -91,17 +96,16 @@ made_whole whole gives h (Refs ps) d w m = refs_whole whole d _ m.2 (whole_all w
 made_whole whole gives h (Value x) d w m = nothing_whole whole d m
 made_whole whole gives h Nothing d w m = nothing_whole whole d m
 
--- each node is whole
-each_whole : {A : Type 0} (whole : A → Bool) (P : Pointer A → Type 0) → ((p : Pointer A) → IsTrue (whole p.inner.now) → P p) → (ps : List (Pointer A)) → PointersAreWhole whole ps → AllByRecursion P ps
-each_whole whole P h [] w = tt
-each_whole whole P h (p ∷ ps) w = (h p (All-head (λ q. IsTrue (whole q.inner.now)) p ps w), each_whole whole P h ps (All-tail (λ q. IsTrue (whole q.inner.now)) p ps w))
-
 pub some_memory : {X : Type 0} (P : X → Type 0) (Q : Type 0) → ((x : X) → P x → Q) → (xs : List X) → SomeHas P xs → Q
 some_memory P Q h [] k = absurd k
 some_memory P Q h (x ∷ xs) (inl k) = h x k
 some_memory P Q h (x ∷ xs) (inr k) = some_memory P Q h xs k
 
--- every refusal is that one
-pub only_this : {X E : Type 0} (e this : E) (P : X → Type 0) (xs : List X) → ((x : X) → P x → e ≡ this) → (e ≡ this) ⊎ SomeHas P xs → e ≡ this
-only_this e this P xs k (inl h) = h
-only_this e this P xs k (inr h) = some_memory P (e ≡ this) k xs h
+-- every refusal is for want of memory
+only_memory : {X : Type 0} (e : JsonPathError) (P : X → Type 0) (xs : List X) → ((x : X) → P x → e ≡ OutOfMemory) → (e ≡ OutOfMemory) ⊎ SomeHas P xs → e ≡ OutOfMemory
+only_memory e P xs k (inl h) = h
+only_memory e P xs k (inr h) = some_memory P (e ≡ OutOfMemory) k xs h
+
+-- so one that a `?` passes on
+pub memory_so : {A X : Type 0} (r : Result A JsonPathError) (e : JsonPathError) (P : X → Type 0) (xs : List X) → IsErrAnd r (λ y. y ≡ e) → ((x : X) → P x → e ≡ OutOfMemory) → (e ≡ OutOfMemory) ⊎ SomeHas P xs → MemoryAlone r
+memory_so r e P xs is k h = passed_on r _ _ is (λ y same. same ∙ only_memory e P xs k h)

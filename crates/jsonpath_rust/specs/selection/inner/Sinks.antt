@@ -1,5 +1,5 @@
 -- What a walk gives to a sink, for the contracts of the walk alone: the definitions here are no part of what a query means.
-use Rattle.std.specs.Prelude.{◌≡◌, ℕ, suc, min, List, [], ◌∷◌, ◌++◌, map, Bool, true, false, Option, Some, None, is_some, option_map, string_bytes}
+use Rattle.std.specs.Prelude.{◌≡◌, ℕ, suc, min, List, [], ◌∷◌, ◌++◌, map, Bool, true, false, Option, Some, None, is_some, option_map, Result, IfOk, string_bytes}
 use Rattle.std.specs.declared.fmt.Debug as debug
 use Rattle.jsonpath_parser.specs.Location.{Location}
 use Rattle.jsonpath_parser.specs.Normal.{normal}
@@ -139,6 +139,10 @@ values_in _ = []
 pub record Took (s : Seen) (ns : List Node) (s' : Seen) (goes_on : Bool) : Type 0 where
   pub given : s' ≡ give s ns
   pub stopped : goes_on ≡ false → full s' ≡ true
+
+-- the sink was given these nodes, and the result says whether to go on
+abbrev pub Takes : {A E : Type 0} {R : Ghosts A} {D : debug.Ghosts A} → Sink A R D → Sink A R D → List Node → Result Bool E → Type 0
+Takes old new ns result = IfOk result (λ b. Took (seen old) ns (seen new) b)
 
 -- The removal is of these locations.
 pub record IsRemovalOf (r : Removal) (ls : List Location) : Type 0 where

@@ -1,16 +1,18 @@
 -- The parts of the plain evaluator, for its contracts alone: the definitions here are no part of what a query means.
-use Rattle.std.specs.Prelude.{◌≡◌, ℕ, List, [], ◌++◌, Bool, Option, Some, None, if◌then◌else◌, string_bytes}
+use Rattle.std.specs.Prelude.{◌≡◌, List, [], ◌++◌, Bool, Option, Some, None, if◌then◌else◌, string_bytes}
 use Rattle.std.specs.List.{flat_map, AllZip}
+use Rattle.std.specs.declared.fmt.Debug as debug
 use Rattle.jsonpath_parser.specs.tree.Syntax.{Argument}
 use Rattle.jsonpath_parser.specs.tree.View.{filter_view}
 use Rattle.jsonpath_rust.specs.states.Asking.{IsBelow, IsAsked, AsksPatternAt}
-use Rattle.jsonpath_base.specs.Tree.{Tree}
-use Rattle.jsonpath_rust.specs.documents.Document.{Document, document_of}
+use Rattle.jsonpath_rust.specs.documents.Document.{Document}
 use Rattle.jsonpath_rust.specs.documents.Node.{children}
 use Rattle.jsonpath_rust.specs.documents.Patterns.{filter_patterns, selectors_patterns}
 use Rattle.jsonpath_rust.specs.states.Process.{holds_at, joined_from}
-use Rattle.jsonpath_rust.specs.states.State.{Target, Content, nothing, named_from, children_from, indexed_from, sliced_from, parents_from, kept_from, found_from, has_parts, pointers}
+use Rattle.jsonpath_rust.specs.states.State.{Target, Content, nothing, named_from, children_from, indexed_from, sliced_from, parents_from, kept_from, found_from, has_parts, pointers, target_of, targets_of, content_of}
 use Rattle.jsonpath_rust.specs.documents.inner.Parts.{selectors_in}
+use Rattle.jsonpath_rust.specs.documents.inner.Whole.{document_at}
+use Rattle.jsonpath_rust.specs.declared.documents.queryable.Queryable.{Ghosts}
 use Rattle.jsonpath_rust.specs.declared.states.evaluate.Evaluation.{Evaluation}
 use Rattle.jsonpath_rust.specs.declared.states.evaluate.segments.Part.{Part}
 use Rattle.jsonpath_rust.specs.declared.states.evaluate.segments.Part.TheVariants.{Name, Wildcard, Index, Slice, Parents, Kept, Joined}
@@ -18,10 +20,27 @@ use Rattle.jsonpath_rust.specs.declared.documents.halt.Halt.{Halt}
 use Rattle.jsonpath_rust.specs.declared.documents.halt.Halt.TheVariants.{Memory}
 use Rattle.jsonpath_rust.specs.declared.states.state.data.Data.{Data}
 use Rattle.jsonpath_rust.specs.declared.states.state.pointer.Pointer.{Pointer}
+use Rattle.jsonpath_rust.specs.declared.states.whole.WholeData.{WholeData}
+use Rattle.jsonpath_rust.specs.declared.states.whole.WholePointer.{WholePointer}
+use Rattle.jsonpath_rust.specs.declared.states.whole.WholePointerRef.{WholePointerRef}
+use Rattle.jsonpath_rust.specs.declared.states.whole.WholePointers.{WholePointers}
 
 -- what is asked, seen as the meaning has it
-abbrev pub document : {A : Type 0} → (A → Tree) → (List ℕ → List Tree → Tree) → Evaluation A → Document
-document tree custom at = document_of tree custom at.root.now
+abbrev pub document : {A : Type 0} {R : Ghosts A} {D : debug.Ghosts A} → Evaluation A R D → Document
+document at = document_at at.root
+
+-- so data and pointers whose values are whole
+abbrev pub content_at : {A : Type 0} {R : Ghosts A} {D : debug.Ghosts A} → WholeData A R D → Content
+content_at {R = R} d = content_of R.tree d.content
+
+abbrev pub target_at : {A : Type 0} {R : Ghosts A} {D : debug.Ghosts A} → WholePointerRef A R D → Target
+target_at {R = R} p = target_of R.tree p.pointer.now
+
+abbrev pub own_target : {A : Type 0} {R : Ghosts A} {D : debug.Ghosts A} → WholePointer A R D → Target
+own_target {R = R} p = target_of R.tree p.pointer
+
+abbrev pub targets_at : {A : Type 0} {R : Ghosts A} {D : debug.Ghosts A} → WholePointers A R D → List Target
+targets_at {R = R} ps = targets_of R.tree ps.list.items
 
 -- the children of a list or an object
 abbrev pub parts_from : Target → Option (List Target)

@@ -1,5 +1,5 @@
 //! What is read of a whole value: each call of [`Queryable`] agrees with its tree.
-ghost use Rattle.std.specs.Prelude.{◌≡◌, ◌<◌, map, length, None, option_map, option_to_list, All, IsTrue, IfOk, IfErr, IfSome};
+ghost use Rattle.std.specs.Prelude.{◌≡◌, ◌<◌, map, length, None, option_map, option_to_list, All, IsTrue, IfOk, IfSome};
 ghost use Rattle.jsonpath_parser.specs.Location.{Location};
 ghost use Rattle.jsonpath_parser.specs.Location as location;
 ghost use Rattle.jsonpath_parser.specs.declared.errors.JsonPathError.TheVariants.{OutOfMemory};
@@ -7,6 +7,7 @@ ghost use Rattle.jsonpath_base.specs.Tree.{get, as_list, as_members, as_text, as
 ghost use Rattle.jsonpath_base.specs.Same.{same};
 ghost use Rattle.jsonpath_rust.specs.documents.Node.{below};
 ghost use Rattle.jsonpath_rust.specs.documents.Meaning.{indexed};
+ghost use Rattle.jsonpath_rust.specs.documents.inner.Refusing.{MemoryAlone};
 ghost use Rattle.jsonpath_rust.specs.documents.inner.Size.{size};
 ghost use Rattle.jsonpath_rust.specs.documents.inner.Whole.{tree_of, own_tree};
 
@@ -28,7 +29,7 @@ impl<T: Queryable> Whole<T> {
     /// A value of the same tree. It refuses by `OutOfMemory` alone.
     pub fn try_clone(&self, alloc: Global) -> Queried<Self>
         ensures value { IfOk result (λ v. own_tree v ≡ own_tree self.now) }
-        ensures memory { IfErr result (λ e. e ≡ OutOfMemory) }
+        ensures memory { MemoryAlone result }
     {
         let value = self.value.try_clone(alloc)?;
         Ok(Whole { value })
@@ -74,7 +75,7 @@ impl<'a, T: Queryable> WholeRef<'a, T> {
     pub fn members(self, alloc: Global) -> Queried<Option<Vec<(&'a str, &'a T)>>>
         ensures value { IfOk result (λ o. option_map (λ v. map (λ m. (m.0.now, T.tree m.1.now)) v.items) o ≡ as_members (tree_of self.entry)) }
         ensures whole { IfOk result (λ o. IfSome o (λ v. All (λ m. IsTrue (T.is_whole m.1.now)) v.items)) }
-        ensures memory { IfErr result (λ e. e ≡ OutOfMemory) }
+        ensures memory { MemoryAlone result }
     {
         self.value.as_object(alloc)
     }
@@ -83,7 +84,7 @@ impl<'a, T: Queryable> WholeRef<'a, T> {
     #[inline(always)]
     pub fn member_count(self, alloc: Global) -> Queried<Option<usize>>
         ensures value { IfOk result (λ o. o ≡ option_map (λ ms. length ms) (as_members (tree_of self.entry))) }
-        ensures memory { IfErr result (λ e. e ≡ OutOfMemory) }
+        ensures memory { MemoryAlone result }
     {
         self.value.member_count(alloc)
     }

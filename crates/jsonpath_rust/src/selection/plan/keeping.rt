@@ -1,6 +1,6 @@
 //! Parts of the query without `@` that were met, and when each of them is worked out.
-ghost use Rattle.std.specs.Prelude.{◌≡◌, IfOk, IfErr, IfSome, IsTrue};
-ghost use Rattle.jsonpath_parser.specs.declared.errors.JsonPathError.TheVariants.{OutOfMemory};
+ghost use Rattle.std.specs.Prelude.{◌≡◌, IfOk, IfSome, IsTrue};
+ghost use Rattle.jsonpath_rust.specs.documents.inner.Refusing.{MemoryAlone};
 ghost use Rattle.jsonpath_rust.specs.selection.inner.PlanMaking.{IsBeside, IsCompared, IsKept, IsNumbered, IsNumberOf, source_of};
 ghost use Rattle.jsonpath_rust.specs.selection.inner.PlanViews.{is_same_wanted};
 ghost use Rattle.jsonpath_rust.specs.declared.selection.plan.Rooted.TheVariants.{Comparison};
@@ -109,7 +109,7 @@ impl<'q> Maker<'q> {
     /// Makes the entry of a query from the root that was begun, and tells its number.
     pub fn keep_query(&mut self, part: Rooted, source: Source<'q>, around: Nesting) -> Parsed<usize>
         ensures kept { IfOk result (λ n. IsKept self.old self.new part source.entry n) }
-        ensures memory { IfErr result (λ e. e ≡ OutOfMemory) }
+        ensures memory { MemoryAlone result }
     {
         let nesting = self.nesting.around();
         self.nesting = around.max(nesting);
@@ -119,7 +119,7 @@ impl<'q> Maker<'q> {
     /// The number of a part that is made of this: that of an entry that is made of the same, or of one more.
     pub fn number(&mut self, part: Rooted, met: Met<'q>) -> Parsed<usize>
         ensures numbered { IfOk result (λ n. IsNumbered self.old self.new part met.entry.source n) }
-        ensures memory { IfErr result (λ e. e ≡ OutOfMemory) }
+        ensures memory { MemoryAlone result }
     {
         match self.found(met.source) {
             Some(number) => {
@@ -133,7 +133,7 @@ impl<'q> Maker<'q> {
     /// Makes one entry more, and tells its number.
     pub fn keep(&mut self, part: Rooted, turn: Turn, met: Met<'q>) -> Parsed<usize>
         ensures kept { IfOk result (λ n. IsKept self.old self.new part met.entry.source n) }
-        ensures memory { IfErr result (λ e. e ≡ OutOfMemory) }
+        ensures memory { MemoryAlone result }
     {
         let number = self.met.len();
         self.kept.push(Entry { part, turn })?;
@@ -150,7 +150,7 @@ impl<'q> Maker<'q> {
         around: Nesting,
     ) -> Parsed<Filter>
         ensures made { IfOk result (λ f. IsCompared self.old self.new (Comparison operator sides.0 sides.1) source.entry f) }
-        ensures memory { IfErr result (λ e. e ≡ OutOfMemory) }
+        ensures memory { MemoryAlone result }
     {
         let nesting = self.end(around);
         let (left, right) = sides;

@@ -1,8 +1,8 @@
 //! How a plan is made: by one pass over the query.
-ghost use Rattle.std.specs.Prelude.{◌≡◌, IfOk, IfErr, map};
-ghost use Rattle.jsonpath_parser.specs.declared.errors.JsonPathError.TheVariants.{OutOfMemory};
+ghost use Rattle.std.specs.Prelude.{◌≡◌, IfOk, map};
 ghost use Rattle.jsonpath_parser.specs.tree.Syntax as syntax;
 ghost use Rattle.jsonpath_parser.specs.tree.View as tree;
+ghost use Rattle.jsonpath_rust.specs.documents.inner.Refusing.{MemoryAlone};
 ghost use Rattle.jsonpath_rust.specs.selection.inner.PlanViews as plan;
 ghost use Rattle.jsonpath_rust.specs.selection.inner.PlanMaking.{Made};
 ghost use Rattle.jsonpath_rust.specs.selection.inner.Planned.{plan_view};
@@ -26,7 +26,7 @@ use std::alloc::Global;
 /// The plan of a query. Linear in the query, but that each query from the root is compared with a few others.
 pub fn plan_of(alloc: Global, query: &JpQuery) -> Parsed<Plan>
     ensures same { IfOk result (λ p. plan_view p ≡ tree.query_view query.now) }
-    ensures memory { IfErr result (λ e. e ≡ OutOfMemory) }
+    ensures memory { MemoryAlone result }
 {
     let mut maker = Maker {
         alloc,
@@ -64,7 +64,7 @@ impl<'q> Maker<'q> {
     fn segments(&mut self, segments: &'q [tree::Segment]) -> Parsed<Vec<Segment>>
         ensures made { IfOk result (λ v. Made self.old self.new (λ kept. map (plan.segment_view kept) v.items)
             (map tree.segment_view segments.now)) }
-        ensures memory { IfErr result (λ e. e ≡ OutOfMemory) }
+        ensures memory { MemoryAlone result }
     {
         let mut parts = Vec::with_capacity(self.alloc, segments.len())?;
         'segments: for segment in segments {
@@ -77,7 +77,7 @@ impl<'q> Maker<'q> {
     fn segment(&mut self, segment: &'q tree::Segment) -> Parsed<Segment>
         ensures made { IfOk result (λ g. Made self.old self.new (λ kept. plan.segment_view kept g)
             (tree.segment_view segment.now)) }
-        ensures memory { IfErr result (λ e. e ≡ OutOfMemory) }
+        ensures memory { MemoryAlone result }
     {
         match segment {
             tree::Segment::Descendant(inner) => {
@@ -93,7 +93,7 @@ impl<'q> Maker<'q> {
     fn selectors(&mut self, selectors: &'q [tree::Selector]) -> Parsed<Vec<Selector>>
         ensures made { IfOk result (λ v. Made self.old self.new (λ kept. map (plan.selector_view kept) v.items)
             (map tree.selector_view selectors.now)) }
-        ensures memory { IfErr result (λ e. e ≡ OutOfMemory) }
+        ensures memory { MemoryAlone result }
     {
         let mut parts = Vec::with_capacity(self.alloc, selectors.len())?;
         'selectors: for selector in selectors {
@@ -106,7 +106,7 @@ impl<'q> Maker<'q> {
     fn selector(&mut self, selector: &'q tree::Selector) -> Parsed<Selector>
         ensures made { IfOk result (λ s. Made self.old self.new (λ kept. plan.selector_view kept s)
             (tree.selector_view selector.now)) }
-        ensures memory { IfErr result (λ e. e ≡ OutOfMemory) }
+        ensures memory { MemoryAlone result }
     {
         match selector {
             tree::Selector::Name(name) => Ok(Selector::Name(String::from_str(self.alloc, name)?)),
@@ -121,7 +121,7 @@ impl<'q> Maker<'q> {
     fn filters(&mut self, filters: &'q [tree::Filter]) -> Parsed<Vec<Filter>>
         ensures made { IfOk result (λ v. Made self.old self.new (λ kept. map (plan.filter_view kept) v.items)
             (map tree.filter_view filters.now)) }
-        ensures memory { IfErr result (λ e. e ≡ OutOfMemory) }
+        ensures memory { MemoryAlone result }
     {
         let mut parts = Vec::with_capacity(self.alloc, filters.len())?;
         'filters: for filter in filters {
@@ -134,7 +134,7 @@ impl<'q> Maker<'q> {
     fn filter(&mut self, filter: &'q tree::Filter) -> Parsed<Filter>
         ensures made { IfOk result (λ f. Made self.old self.new (λ kept. plan.filter_view kept f)
             (tree.filter_view filter.now)) }
-        ensures memory { IfErr result (λ e. e ≡ OutOfMemory) }
+        ensures memory { MemoryAlone result }
     {
         match filter {
             tree::Filter::Or(parts) => Ok(Filter::Or(self.filters(parts)?)),
@@ -147,7 +147,7 @@ impl<'q> Maker<'q> {
     fn atom(&mut self, atom: &'q tree::FilterAtom) -> Parsed<Filter>
         ensures made { IfOk result (λ f. Made self.old self.new (λ kept. plan.filter_view kept f)
             (syntax.atom (tree.atom_view atom.now))) }
-        ensures memory { IfErr result (λ e. e ≡ OutOfMemory) }
+        ensures memory { MemoryAlone result }
     {
         match atom {
             tree::FilterAtom::Filter { expr, not } => {
@@ -167,7 +167,7 @@ impl<'q> Maker<'q> {
     fn test(&mut self, test: &'q tree::Test, not: bool) -> Parsed<Filter>
         ensures made { IfOk result (λ f. Made self.old self.new (λ kept. plan.filter_view kept f)
             (syntax.atom (syntax.Atom.test not (tree.test_view test.now)))) }
-        ensures memory { IfErr result (λ e. e ≡ OutOfMemory) }
+        ensures memory { MemoryAlone result }
     {
         match test {
             tree::Test::RelQuery(segments) => {
@@ -189,7 +189,7 @@ impl<'q> Maker<'q> {
     fn comparison(&mut self, comparison: &'q tree::Comparison) -> Parsed<Filter>
         ensures made { IfOk result (λ f. Made self.old self.new (λ kept. plan.filter_view kept f)
             (syntax.atom (syntax.comparison (tree.comparison_view comparison.now)))) }
-        ensures memory { IfErr result (λ e. e ≡ OutOfMemory) }
+        ensures memory { MemoryAlone result }
     {
         let around = self.begin();
         match comparison {
@@ -230,7 +230,7 @@ impl<'q> Maker<'q> {
     fn side(&mut self, side: &'q tree::Comparable) -> Parsed<Side>
         ensures made { IfOk result (λ s. Made self.old self.new (λ kept. plan.side_view kept s)
             (tree.comparable_view side.now)) }
-        ensures memory { IfErr result (λ e. e ≡ OutOfMemory) }
+        ensures memory { MemoryAlone result }
     {
         match side {
             tree::Comparable::Literal(literal) => Ok(Side::Literal(literal.try_clone(self.alloc)?)),
@@ -243,7 +243,7 @@ impl<'q> Maker<'q> {
     fn singular(&mut self, query: &'q SingularQuery) -> Parsed<Side>
         ensures made { IfOk result (λ s. Made self.old self.new (λ kept. plan.side_view kept s)
             (syntax.singular (tree.singular_view query.now))) }
-        ensures memory { IfErr result (λ e. e ≡ OutOfMemory) }
+        ensures memory { MemoryAlone result }
     {
         match query {
             SingularQuery::Current(steps) => Ok(Side::Lookup(steps_again(self.alloc, steps)?)),
@@ -264,7 +264,7 @@ impl<'q> Maker<'q> {
     fn relative(&mut self, segments: &'q [tree::Segment]) -> Parsed<Nodes>
         ensures made { (wanted : Wanted) → IfOk result (λ n. Made self.old self.new (λ kept. plan.nodes_view kept n wanted)
             (syntax.relative (tree.segments_of (map tree.segment_view segments.now)))) }
-        ensures memory { IfErr result (λ e. e ≡ OutOfMemory) }
+        ensures memory { MemoryAlone result }
     {
         match steps_of(self.alloc, segments)? {
             Some(steps) => Ok(Nodes::Lookup(steps)),
@@ -277,7 +277,7 @@ impl<'q> Maker<'q> {
     fn absolute(&mut self, query: &'q JpQuery, wanted: Wanted) -> Parsed<usize>
         ensures made { IfOk result (λ n. Made self.old self.new (λ kept. plan.query_at kept wanted n)
             (tree.query_view query.now)) }
-        ensures memory { IfErr result (λ e. e ≡ OutOfMemory) }
+        ensures memory { MemoryAlone result }
     {
         let source = Source::Query(query, wanted);
         if let Some(number) = self.found(source) {
@@ -292,7 +292,7 @@ impl<'q> Maker<'q> {
     #[cycle(make)]
     fn called(&mut self, call: &'q tree::TestFunction) -> Parsed<Called>
         ensures made { IfOk result (λ c. Made self.old self.new (λ kept. plan.called_view kept c) (tree.call_view call.now)) }
-        ensures memory { IfErr result (λ e. e ≡ OutOfMemory) }
+        ensures memory { MemoryAlone result }
     {
         let around = self.begin();
         let made = self.call(call)?;
@@ -308,7 +308,7 @@ impl<'q> Maker<'q> {
     #[cycle(make)]
     fn call(&mut self, call: &'q tree::TestFunction) -> Parsed<Call>
         ensures made { IfOk result (λ c. Made self.old self.new (λ kept. plan.call_view kept c) (tree.call_view call.now)) }
-        ensures memory { IfErr result (λ e. e ≡ OutOfMemory) }
+        ensures memory { MemoryAlone result }
     {
         match call {
             tree::TestFunction::Custom(name, args) => {
@@ -336,7 +336,7 @@ impl<'q> Maker<'q> {
     fn arguments(&mut self, arguments: &'q [tree::FnArg]) -> Parsed<Vec<Argument>>
         ensures made { IfOk result (λ v. Made self.old self.new (λ kept. map (λ a. plan.argument_view kept a Values) v.items)
             (map tree.argument_view arguments.now)) }
-        ensures memory { IfErr result (λ e. e ≡ OutOfMemory) }
+        ensures memory { MemoryAlone result }
     {
         let mut parts = Vec::with_capacity(self.alloc, arguments.len())?;
         'arguments: for argument in arguments {
@@ -350,7 +350,7 @@ impl<'q> Maker<'q> {
     fn pattern(&mut self, argument: &'q tree::FnArg, extent: Extent) -> Parsed<Argument>
         ensures made { IfOk result (λ a. Made self.old self.new (λ kept. plan.argument_view kept a Only)
             (tree.argument_view argument.now)) }
-        ensures memory { IfErr result (λ e. e ≡ OutOfMemory) }
+        ensures memory { MemoryAlone result }
     {
         match argument {
             tree::FnArg::Literal(literal) => self.literal_pattern(literal, extent),
@@ -362,7 +362,7 @@ impl<'q> Maker<'q> {
     fn argument(&mut self, argument: &'q tree::FnArg, wanted: Wanted) -> Parsed<Argument>
         ensures made { IfOk result (λ a. Made self.old self.new (λ kept. plan.argument_view kept a wanted)
             (tree.argument_view argument.now)) }
-        ensures memory { IfErr result (λ e. e ≡ OutOfMemory) }
+        ensures memory { MemoryAlone result }
     {
         match argument {
             tree::FnArg::Literal(literal) => Ok(Argument::Literal(literal.try_clone(self.alloc)?)),
@@ -376,7 +376,7 @@ impl<'q> Maker<'q> {
     fn test_argument(&mut self, test: &'q tree::Test, wanted: Wanted) -> Parsed<Argument>
         ensures made { IfOk result (λ a. Made self.old self.new (λ kept. plan.argument_view kept a wanted)
             (syntax.test_argument (tree.test_view test.now))) }
-        ensures memory { IfErr result (λ e. e ≡ OutOfMemory) }
+        ensures memory { MemoryAlone result }
     {
         match test {
             tree::Test::RelQuery(segments) => Ok(Argument::Nodes(self.relative(segments)?)),

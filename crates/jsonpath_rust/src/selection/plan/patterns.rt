@@ -1,9 +1,9 @@
 //! Numbers of the patterns that stand in a query. Each is where its finder is kept, and no more: whether a finder is one of the
 //! pattern is looked at where it is asked.
-ghost use Rattle.std.specs.Prelude.{◌≡◌, IfOk, IfErr, OnOk};
-ghost use Rattle.jsonpath_parser.specs.declared.errors.JsonPathError.TheVariants.{OutOfMemory};
+ghost use Rattle.std.specs.Prelude.{IfOk, OnOk};
 ghost use Rattle.jsonpath_parser.specs.tree.Syntax as syntax;
 ghost use Rattle.jsonpath_parser.specs.tree.View as tree;
+ghost use Rattle.jsonpath_rust.specs.documents.inner.Refusing.{MemoryAlone};
 ghost use Rattle.jsonpath_rust.specs.selection.inner.PlanViews as plan;
 ghost use Rattle.jsonpath_rust.specs.selection.inner.PlanMaking.{Made, IsBeside};
 ghost use Rattle.jsonpath_rust.specs.declared.selection.sink.Wanted.TheVariants.{Only};
@@ -24,7 +24,7 @@ impl<'q> Maker<'q> {
     ) -> Parsed<Argument>
         ensures made { IfOk result (λ a. Made self.old self.new (λ kept. plan.argument_view kept a Only)
             (syntax.literal_argument (tree.literal_view literal.now))) }
-        ensures memory { IfErr result (λ e. e ≡ OutOfMemory) }
+        ensures memory { MemoryAlone result }
     {
         match literal {
             tree::Literal::String(text) => {
@@ -38,7 +38,7 @@ impl<'q> Maker<'q> {
     /// The number of a pattern.
     fn pattern_number(&mut self, pattern: &'q str, extent: Extent) -> Parsed<usize>
         ensures beside { OnOk result (IsBeside self.old self.new) }
-        ensures memory { IfErr result (λ e. e ≡ OutOfMemory) }
+        ensures memory { MemoryAlone result }
     {
         let asked = Asked { pattern, extent };
         if let Some(number) = near_pattern(&self.patterns, asked) {

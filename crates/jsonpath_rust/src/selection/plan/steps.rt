@@ -1,7 +1,7 @@
 //! Segments of one name or one index each, and steps.
-ghost use Rattle.std.specs.Prelude.{◌≡◌, IfOk, IfErr, IfSome, map};
+ghost use Rattle.std.specs.Prelude.{◌≡◌, IfOk, IfSome, map};
 ghost use Rattle.jsonpath_parser.specs.tree.View.{segment_view, step_view};
-ghost use Rattle.jsonpath_parser.specs.declared.errors.JsonPathError.TheVariants.{OutOfMemory};
+ghost use Rattle.jsonpath_rust.specs.documents.inner.Refusing.{MemoryAlone};
 ghost use Rattle.jsonpath_rust.specs.selection.inner.PlanViews as plan;
 
 use jsonpath_parser::errors::Parsed;
@@ -15,7 +15,7 @@ pub fn steps_of(
     segments: &[tree::Segment],
 ) -> Parsed<Option<Vec<SingularQuerySegment>>>
     ensures same { IfOk result (λ o. IfSome o (λ v. map (λ s. plan.step_segment (step_view s)) v.items ≡ map segment_view segments.now)) }
-    ensures memory { IfErr result (λ e. e ≡ OutOfMemory) }
+    ensures memory { MemoryAlone result }
 {
     if !are_steps(segments) {
         return Ok(None);
@@ -45,7 +45,7 @@ fn are_steps(segments: &[tree::Segment]) -> bool {
 /// The step of a segment, where it is one name or one index.
 fn step_of(alloc: Global, segment: &tree::Segment) -> Parsed<Option<SingularQuerySegment>>
     ensures same { IfOk result (λ o. IfSome o (λ s. plan.step_segment (step_view s) ≡ segment_view segment.now)) }
-    ensures memory { IfErr result (λ e. e ≡ OutOfMemory) }
+    ensures memory { MemoryAlone result }
 {
     match segment {
         tree::Segment::Selector(tree::Selector::Name(name)) => {
@@ -65,7 +65,7 @@ pub fn steps_again(
     steps: &[SingularQuerySegment],
 ) -> Parsed<Vec<SingularQuerySegment>>
     ensures same { IfOk result (λ v. map step_view v.items ≡ map step_view steps.now) }
-    ensures memory { IfErr result (λ e. e ≡ OutOfMemory) }
+    ensures memory { MemoryAlone result }
 {
     let mut copies = Vec::with_capacity(alloc, steps.len())?;
     'steps: for step in steps {

@@ -2,24 +2,25 @@
 ghost use Rattle.std.specs.Prelude.{◌≡◌, Some, All, map, IsTrue};
 ghost use Rattle.jsonpath_parser.specs.tree.View.{operator_view};
 ghost use Rattle.jsonpath_rust.specs.states.Process.{plain, lists_same, lists_targets, values_same, contents_equal, is_content_below, contents_compare};
-ghost use Rattle.jsonpath_rust.specs.states.State.{targets_of, content_of, PointersAreWhole, DataIsWhole};
+ghost use Rattle.jsonpath_rust.specs.states.State.{targets_of, PointersAreWhole};
+ghost use Rattle.jsonpath_rust.specs.states.inner.Evaluating.{content_at};
+ghost use Rattle.jsonpath_rust.specs.documents.inner.Whole.{tree_of};
 
 use crate::documents::comparison::{Side, is_below};
 use crate::documents::queryable::Queryable;
 use crate::documents::whole::WholeRef;
 use crate::states::evaluate::value::plain_value;
 use crate::states::state::{Data, Pointer, are_same};
+use crate::states::whole::WholeData;
 use jsonpath_parser::model::Operator;
 
 /// Whether the comparison holds.
 pub fn compares<'a, T: Queryable>(
     operator: Operator,
-    left: &Data<'a, T>,
-    right: &Data<'a, T>,
+    left: &WholeData<'a, T>,
+    right: &WholeData<'a, T>,
 ) -> bool
-    requires left { DataIsWhole T.is_whole left.now }
-    requires right { DataIsWhole T.is_whole right.now }
-    ensures { result ≡ contents_compare (operator_view operator) (content_of T.tree left.now) (content_of T.tree right.now) }
+    ensures { result ≡ contents_compare (operator_view operator) (content_at left.now) (content_at right.now) }
 {
     match operator {
         Operator::Equal => are_equal(left, right),
@@ -31,45 +32,40 @@ pub fn compares<'a, T: Queryable>(
     }
 }
 
-fn are_equal<'a, T: Queryable>(left: &Data<'a, T>, right: &Data<'a, T>) -> bool
-    requires left { DataIsWhole T.is_whole left.now }
-    requires right { DataIsWhole T.is_whole right.now }
-    ensures { result ≡ contents_equal (content_of T.tree left.now) (content_of T.tree right.now) }
+fn are_equal<'a, T: Queryable>(left: &WholeData<'a, T>, right: &WholeData<'a, T>) -> bool
+    ensures { result ≡ contents_equal (content_at left.now) (content_at right.now) }
 {
-    match right {
-        Data::Refs(others) => match left {
+    match &right.content {
+        Data::Refs(others) => match &left.content {
             Data::Refs(all) => are_same(all, others),
-            Data::Ref(from) => are_elements(from.inner, others),
+            Data::Ref(from) => are_elements(WholeRef { value: from.inner }, others),
             _ => false,
         },
-        Data::Nothing => match left {
+        Data::Nothing => match &left.content {
             Data::Nothing => true,
             _ => false,
         },
-        Data::Ref(other) => is_same_value(left, other.inner),
-        Data::Value(other) => is_same_value(left, other),
+        Data::Ref(other) => is_same_value(left, WholeRef { value: other.inner }),
+        Data::Value(value) => is_same_value(left, WholeRef { value }),
     }
 }
 
 /// Whether it is or points to a value that is the same as this one.
-fn is_same_value<'a, T: Queryable>(given: &Data<'a, T>, other: &T) -> bool
-    requires left { DataIsWhole T.is_whole given.now }
-    requires right { IsTrue (T.is_whole other.now) }
-    ensures { result ≡ values_same (plain (content_of T.tree given.now)) (Some (T.tree other.now)) }
+fn is_same_value<'a, T: Queryable>(given: &WholeData<'a, T>, other: WholeRef<'_, T>) -> bool
+    ensures { result ≡ values_same (plain (content_at given.now)) (Some (tree_of other.entry)) }
 {
     match plain_value(given) {
-        Some(own) => own.equal(WholeRef { value: other }),
+        Some(own) => own.equal(other),
         None => false,
     }
 }
 
 /// Whether the value is a list of the values of these pointers.
-fn are_elements<'a, T: Queryable>(list: &T, nodes: &[Pointer<'a, T>]) -> bool
-    requires left { IsTrue (T.is_whole list.now) }
-    requires right { PointersAreWhole T.is_whole nodes.now }
-    ensures { result ≡ lists_targets (T.tree list.now) (targets_of T.tree nodes.now) }
+fn are_elements<'a, T: Queryable>(list: WholeRef<'_, T>, nodes: &[Pointer<'a, T>]) -> bool
+    requires { PointersAreWhole T.is_whole nodes.now }
+    ensures { result ≡ lists_targets (tree_of list.entry) (targets_of T.tree nodes.now) }
 {
-    match list.as_array() {
+    match list.elements() {
         Some(items) => are_same_values(items, nodes),
         None => false,
     }
@@ -92,10 +88,8 @@ fn are_same_values<'a, T: Queryable>(items: &[T], nodes: &[Pointer<'a, T>]) -> b
 }
 
 /// Whether both are or point to numbers or both to texts, and the left is less.
-fn is_less<'a, T: Queryable>(left: &Data<'a, T>, right: &Data<'a, T>) -> bool
-    requires left { DataIsWhole T.is_whole left.now }
-    requires right { DataIsWhole T.is_whole right.now }
-    ensures { result ≡ is_content_below (content_of T.tree left.now) (content_of T.tree right.now) }
+fn is_less<'a, T: Queryable>(left: &WholeData<'a, T>, right: &WholeData<'a, T>) -> bool
+    ensures { result ≡ is_content_below (content_at left.now) (content_at right.now) }
 {
     let left = Side::lent(plain_value(left));
     let right = Side::lent(plain_value(right));

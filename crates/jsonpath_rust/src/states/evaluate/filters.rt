@@ -1,18 +1,17 @@
 //! Filters, comparisons, functions and their arguments, at any state.
-ghost use Rattle.std.specs.Prelude.{◌≡◌, IsTrue, IfOk, IfErr};
+ghost use Rattle.std.specs.Prelude.{◌≡◌, IfOk, IfErr};
 ghost use Rattle.jsonpath_parser.specs.tree.View.{filter_view, atom_view, comparison_view, comparable_view, test_view, call_view, argument_view};
 ghost use Rattle.jsonpath_rust.specs.documents.Patterns.{filter_patterns, filters_patterns, atom_patterns, comparison_patterns, comparable_patterns, test_patterns, call_patterns, arguments_patterns, argument_patterns};
 ghost use Rattle.jsonpath_rust.specs.states.Process.{holds_at, some_holds_at, each_holds_at, atom_content, comparison_holds_at, comparable_content, test_content, call_content, argument_content, arguments_trees};
 ghost use Rattle.jsonpath_base.specs.Tree.{truth};
-ghost use Rattle.jsonpath_rust.specs.states.State.{value, content_of, DataIsWhole};
-ghost use Rattle.jsonpath_rust.specs.states.inner.Evaluating.{document, HaltsAt};
+ghost use Rattle.jsonpath_rust.specs.states.State.{value};
+ghost use Rattle.jsonpath_rust.specs.states.inner.Evaluating.{document, content_at, HaltsAt};
 ghost use Rattle.jsonpath_rust.specs.documents.inner.Operands.{arg_trees};
 ghost use Rattle.jsonpath_rust.specs.documents.inner.Parts.{filters_in, arguments_in};
 
 use crate::documents::args::Args;
 use crate::documents::halt::Walked;
 use crate::documents::queryable::Queryable;
-use crate::states::evaluate::Evaluation;
 use crate::states::evaluate::comparison::compares;
 use crate::states::evaluate::function::{
     custom_data, found_data, length_data, node_count, only_value, push_values,
@@ -20,7 +19,8 @@ use crate::states::evaluate::function::{
 use crate::states::evaluate::singular::singular_data;
 use crate::states::evaluate::test::{is_true, test_answer};
 use crate::states::evaluate::value::{literal_data, truth_data};
-use crate::states::state::{Data, root_of};
+use crate::states::evaluate::{Evaluation, Returned};
+use crate::states::whole::WholeData;
 use jsonpath_base::Extent;
 use jsonpath_parser::model::{
     Comparable, Comparison, Filter, FilterAtom, FnArg, Test, TestFunction,
@@ -29,11 +29,9 @@ use jsonpath_parser::model::{
 impl<'a, T: Queryable> Evaluation<'a, T> {
     /// The truth of a logical expression at a state.
     #[cycle(evaluate)]
-    pub fn holds(&self, filter: &Filter, given: &Data<'a, T>) -> Walked<bool>
-        requires root { IsTrue (T.is_whole self.now.root.now) }
-        requires whole { DataIsWhole T.is_whole given.now }
-        ensures value { IfOk result (λ b. b ≡ holds_at (filter_view filter.now) (document T.tree T.custom self.now) (content_of T.tree given.now)) }
-        ensures refused { IfErr result (HaltsAt (filter_patterns (filter_view filter.now)) (document T.tree T.custom self.now) (content_of T.tree given.now)) }
+    pub fn holds(&self, filter: &Filter, given: &WholeData<'a, T>) -> Walked<bool>
+        ensures value { IfOk result (λ b. b ≡ holds_at (filter_view filter.now) (document self.now) (content_at given.now)) }
+        ensures refused { IfErr result (HaltsAt (filter_patterns (filter_view filter.now)) (document self.now) (content_at given.now)) }
     {
         match filter {
             Filter::Or(parts) => self.some_holds(parts, given),
@@ -44,11 +42,9 @@ impl<'a, T: Queryable> Evaluation<'a, T> {
 
     /// Whether some part holds.
     #[cycle(evaluate)]
-    fn some_holds(&self, parts: &[Filter], given: &Data<'a, T>) -> Walked<bool>
-        requires root { IsTrue (T.is_whole self.now.root.now) }
-        requires whole { DataIsWhole T.is_whole given.now }
-        ensures value { IfOk result (λ b. b ≡ some_holds_at (filters_in parts.now) (document T.tree T.custom self.now) (content_of T.tree given.now)) }
-        ensures refused { IfErr result (HaltsAt (filters_patterns (filters_in parts.now)) (document T.tree T.custom self.now) (content_of T.tree given.now)) }
+    fn some_holds(&self, parts: &[Filter], given: &WholeData<'a, T>) -> Walked<bool>
+        ensures value { IfOk result (λ b. b ≡ some_holds_at (filters_in parts.now) (document self.now) (content_at given.now)) }
+        ensures refused { IfErr result (HaltsAt (filters_patterns (filters_in parts.now)) (document self.now) (content_at given.now)) }
     {
         for part in parts {
             if self.holds(part, given)? {
@@ -60,11 +56,9 @@ impl<'a, T: Queryable> Evaluation<'a, T> {
 
     /// Whether every part holds.
     #[cycle(evaluate)]
-    fn each_holds(&self, parts: &[Filter], given: &Data<'a, T>) -> Walked<bool>
-        requires root { IsTrue (T.is_whole self.now.root.now) }
-        requires whole { DataIsWhole T.is_whole given.now }
-        ensures value { IfOk result (λ b. b ≡ each_holds_at (filters_in parts.now) (document T.tree T.custom self.now) (content_of T.tree given.now)) }
-        ensures refused { IfErr result (HaltsAt (filters_patterns (filters_in parts.now)) (document T.tree T.custom self.now) (content_of T.tree given.now)) }
+    fn each_holds(&self, parts: &[Filter], given: &WholeData<'a, T>) -> Walked<bool>
+        ensures value { IfOk result (λ b. b ≡ each_holds_at (filters_in parts.now) (document self.now) (content_at given.now)) }
+        ensures refused { IfErr result (HaltsAt (filters_patterns (filters_in parts.now)) (document self.now) (content_at given.now)) }
     {
         for part in parts {
             if !self.holds(part, given)? {
@@ -76,12 +70,9 @@ impl<'a, T: Queryable> Evaluation<'a, T> {
 
     /// A basic expression.
     #[cycle(evaluate)]
-    pub fn atom_data(&self, atom: &FilterAtom, given: &Data<'a, T>) -> Walked<Data<'a, T>>
-        requires root { IsTrue (T.is_whole self.now.root.now) }
-        requires whole { DataIsWhole T.is_whole given.now }
-        ensures value { IfOk result (λ d. content_of T.tree d ≡ atom_content (atom_view atom.now) (document T.tree T.custom self.now) (content_of T.tree given.now)) }
-        ensures whole { IfOk result (λ d. DataIsWhole T.is_whole d) }
-        ensures refused { IfErr result (HaltsAt (atom_patterns (atom_view atom.now)) (document T.tree T.custom self.now) (content_of T.tree given.now)) }
+    pub fn atom_data(&self, atom: &FilterAtom, given: &WholeData<'a, T>) -> Returned<'a, T>
+        ensures value { IfOk result (λ d. content_at d ≡ atom_content (atom_view atom.now) (document self.now) (content_at given.now)) }
+        ensures refused { IfErr result (HaltsAt (atom_patterns (atom_view atom.now)) (document self.now) (content_at given.now)) }
     {
         match atom {
             FilterAtom::Filter { expr, not } => {
@@ -101,11 +92,13 @@ impl<'a, T: Queryable> Evaluation<'a, T> {
 
     /// Whether a comparison holds.
     #[cycle(evaluate)]
-    pub fn comparison_holds(&self, comparison: &Comparison, given: &Data<'a, T>) -> Walked<bool>
-        requires root { IsTrue (T.is_whole self.now.root.now) }
-        requires whole { DataIsWhole T.is_whole given.now }
-        ensures value { IfOk result (λ b. b ≡ comparison_holds_at (comparison_view comparison.now) (document T.tree T.custom self.now) (content_of T.tree given.now)) }
-        ensures refused { IfErr result (HaltsAt (comparison_patterns (comparison_view comparison.now)) (document T.tree T.custom self.now) (content_of T.tree given.now)) }
+    pub fn comparison_holds(
+        &self,
+        comparison: &Comparison,
+        given: &WholeData<'a, T>,
+    ) -> Walked<bool>
+        ensures value { IfOk result (λ b. b ≡ comparison_holds_at (comparison_view comparison.now) (document self.now) (content_at given.now)) }
+        ensures refused { IfErr result (HaltsAt (comparison_patterns (comparison_view comparison.now)) (document self.now) (content_at given.now)) }
     {
         let (operator, left, right) = comparison.parts();
         let left = self.comparable_data(left, given)?;
@@ -117,13 +110,10 @@ impl<'a, T: Queryable> Evaluation<'a, T> {
     pub fn comparison_data(
         &self,
         comparison: &Comparison,
-        given: &Data<'a, T>,
-    ) -> Walked<Data<'a, T>>
-        requires root { IsTrue (T.is_whole self.now.root.now) }
-        requires whole { DataIsWhole T.is_whole given.now }
-        ensures value { IfOk result (λ d. content_of T.tree d ≡ value (truth (comparison_holds_at (comparison_view comparison.now) (document T.tree T.custom self.now) (content_of T.tree given.now)))) }
-        ensures whole { IfOk result (λ d. DataIsWhole T.is_whole d) }
-        ensures refused { IfErr result (HaltsAt (comparison_patterns (comparison_view comparison.now)) (document T.tree T.custom self.now) (content_of T.tree given.now)) }
+        given: &WholeData<'a, T>,
+    ) -> Returned<'a, T>
+        ensures value { IfOk result (λ d. content_at d ≡ value (truth (comparison_holds_at (comparison_view comparison.now) (document self.now) (content_at given.now)))) }
+        ensures refused { IfErr result (HaltsAt (comparison_patterns (comparison_view comparison.now)) (document self.now) (content_at given.now)) }
     {
         let truth = self.comparison_holds(comparison, given)?;
         truth_data(self.alloc, truth)
@@ -134,13 +124,10 @@ impl<'a, T: Queryable> Evaluation<'a, T> {
     pub fn comparable_data(
         &self,
         comparable: &Comparable,
-        given: &Data<'a, T>,
-    ) -> Walked<Data<'a, T>>
-        requires root { IsTrue (T.is_whole self.now.root.now) }
-        requires whole { DataIsWhole T.is_whole given.now }
-        ensures value { IfOk result (λ d. content_of T.tree d ≡ comparable_content (comparable_view comparable.now) (document T.tree T.custom self.now) (content_of T.tree given.now)) }
-        ensures whole { IfOk result (λ d. DataIsWhole T.is_whole d) }
-        ensures refused { IfErr result (HaltsAt (comparable_patterns (comparable_view comparable.now)) (document T.tree T.custom self.now) (content_of T.tree given.now)) }
+        given: &WholeData<'a, T>,
+    ) -> Returned<'a, T>
+        ensures value { IfOk result (λ d. content_at d ≡ comparable_content (comparable_view comparable.now) (document self.now) (content_at given.now)) }
+        ensures refused { IfErr result (HaltsAt (comparable_patterns (comparable_view comparable.now)) (document self.now) (content_at given.now)) }
     {
         match comparable {
             Comparable::Literal(literal) => literal_data(self.alloc, literal),
@@ -153,12 +140,9 @@ impl<'a, T: Queryable> Evaluation<'a, T> {
 
     /// What a test returns.
     #[cycle(evaluate)]
-    pub fn test_data(&self, test: &Test, given: &Data<'a, T>) -> Walked<Data<'a, T>>
-        requires root { IsTrue (T.is_whole self.now.root.now) }
-        requires whole { DataIsWhole T.is_whole given.now }
-        ensures value { IfOk result (λ d. content_of T.tree d ≡ test_content (test_view test.now) (document T.tree T.custom self.now) (content_of T.tree given.now)) }
-        ensures whole { IfOk result (λ d. DataIsWhole T.is_whole d) }
-        ensures refused { IfErr result (HaltsAt (test_patterns (test_view test.now)) (document T.tree T.custom self.now) (content_of T.tree given.now)) }
+    pub fn test_data(&self, test: &Test, given: &WholeData<'a, T>) -> Returned<'a, T>
+        ensures value { IfOk result (λ d. content_at d ≡ test_content (test_view test.now) (document self.now) (content_at given.now)) }
+        ensures refused { IfErr result (HaltsAt (test_patterns (test_view test.now)) (document self.now) (content_at given.now)) }
     {
         match test {
             Test::RelQuery(segments) => {
@@ -166,7 +150,7 @@ impl<'a, T: Queryable> Evaluation<'a, T> {
                 self.segments_data(segments, here)
             }
             Test::AbsQuery(query) => {
-                let here = root_of(self.alloc, self.root)?;
+                let here = WholeData::root(self.alloc, self.root)?;
                 self.segments_data(&query.segments, here)
             }
             Test::Function(function) => self.call_data(function, given),
@@ -175,12 +159,9 @@ impl<'a, T: Queryable> Evaluation<'a, T> {
 
     /// What a function returns.
     #[cycle(evaluate)]
-    pub fn call_data(&self, function: &TestFunction, given: &Data<'a, T>) -> Walked<Data<'a, T>>
-        requires root { IsTrue (T.is_whole self.now.root.now) }
-        requires whole { DataIsWhole T.is_whole given.now }
-        ensures value { IfOk result (λ d. content_of T.tree d ≡ call_content (call_view function.now) (document T.tree T.custom self.now) (content_of T.tree given.now)) }
-        ensures whole { IfOk result (λ d. DataIsWhole T.is_whole d) }
-        ensures refused { IfErr result (HaltsAt (call_patterns (call_view function.now)) (document T.tree T.custom self.now) (content_of T.tree given.now)) }
+    pub fn call_data(&self, function: &TestFunction, given: &WholeData<'a, T>) -> Returned<'a, T>
+        ensures value { IfOk result (λ d. content_at d ≡ call_content (call_view function.now) (document self.now) (content_at given.now)) }
+        ensures refused { IfErr result (HaltsAt (call_patterns (call_view function.now)) (document self.now) (content_at given.now)) }
     {
         match function {
             TestFunction::Custom(name, args) => {
@@ -205,11 +186,9 @@ impl<'a, T: Queryable> Evaluation<'a, T> {
 
     /// What the arguments of a custom function stand for.
     #[cycle(evaluate)]
-    fn arguments(&self, args: &[FnArg], given: &Data<'a, T>) -> Walked<Args<'a, T>>
-        requires root { IsTrue (T.is_whole self.now.root.now) }
-        requires whole { DataIsWhole T.is_whole given.now }
-        ensures value { IfOk result (λ v. arg_trees v ≡ arguments_trees (arguments_in args.now) (document T.tree T.custom self.now) (content_of T.tree given.now)) }
-        ensures refused { IfErr result (HaltsAt (arguments_patterns (arguments_in args.now)) (document T.tree T.custom self.now) (content_of T.tree given.now)) }
+    fn arguments(&self, args: &[FnArg], given: &WholeData<'a, T>) -> Walked<Args<'a, T>>
+        ensures value { IfOk result (λ v. arg_trees v ≡ arguments_trees (arguments_in args.now) (document self.now) (content_at given.now)) }
+        ensures refused { IfErr result (HaltsAt (arguments_patterns (arguments_in args.now)) (document self.now) (content_at given.now)) }
     {
         let mut values = Args::new(self.alloc);
         for arg in args {
@@ -221,12 +200,9 @@ impl<'a, T: Queryable> Evaluation<'a, T> {
 
     /// What an argument returns.
     #[cycle(evaluate)]
-    pub fn argument_data(&self, arg: &FnArg, given: &Data<'a, T>) -> Walked<Data<'a, T>>
-        requires root { IsTrue (T.is_whole self.now.root.now) }
-        requires whole { DataIsWhole T.is_whole given.now }
-        ensures value { IfOk result (λ d. content_of T.tree d ≡ argument_content (argument_view arg.now) (document T.tree T.custom self.now) (content_of T.tree given.now)) }
-        ensures whole { IfOk result (λ d. DataIsWhole T.is_whole d) }
-        ensures refused { IfErr result (HaltsAt (argument_patterns (argument_view arg.now)) (document T.tree T.custom self.now) (content_of T.tree given.now)) }
+    pub fn argument_data(&self, arg: &FnArg, given: &WholeData<'a, T>) -> Returned<'a, T>
+        ensures value { IfOk result (λ d. content_at d ≡ argument_content (argument_view arg.now) (document self.now) (content_at given.now)) }
+        ensures refused { IfErr result (HaltsAt (argument_patterns (argument_view arg.now)) (document self.now) (content_at given.now)) }
     {
         match arg {
             FnArg::Literal(literal) => literal_data(self.alloc, literal),

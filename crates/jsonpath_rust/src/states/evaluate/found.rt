@@ -1,213 +1,181 @@
 //! What is found from a pointer: nodes below its value, each under the pointer's path and the steps to it.
-ghost use Rattle.std.specs.Prelude.{◌≡◌, ◌++◌, [], All, map, option_map, IsTrue, IfOk, IfErr, IfSome, OnOk};
+ghost use Rattle.std.specs.Prelude.{◌≡◌, ◌++◌, [], All, map, option_map, IsTrue, IfOk, OnOk};
 ghost use Rattle.jsonpath_parser.specs.Location as location;
-ghost use Rattle.jsonpath_parser.specs.declared.errors.JsonPathError.TheVariants.{OutOfMemory};
 ghost use Rattle.jsonpath_rust.specs.documents.Node.{below, element_nodes, member_nodes};
-ghost use Rattle.jsonpath_rust.specs.states.State.{under, named_from, indexed_from, children_from, sliced_from, parents_in, parents_from, target_of, targets_of, content_of, PointersAreWhole, DataIsWhole};
-ghost use Rattle.jsonpath_rust.specs.states.inner.Evaluating.{parts_from};
+ghost use Rattle.jsonpath_rust.specs.documents.inner.Refusing.{MemoryAlone};
+ghost use Rattle.jsonpath_rust.specs.documents.inner.Whole.{tree_of};
+ghost use Rattle.jsonpath_rust.specs.states.State.{under, named_from, indexed_from, children_from, sliced_from, parents_in, parents_from};
+ghost use Rattle.jsonpath_rust.specs.states.inner.Evaluating.{content_at, target_at, own_target, targets_at, parts_from};
 
 use crate::documents::Queried;
 use crate::documents::queryable::Queryable;
-use crate::documents::queryable::children::element;
-use crate::states::state::{Data, Pointer};
+use crate::documents::whole::WholeRef;
+use crate::states::state::Pointer;
+use crate::states::whole::{WholeData, WholePointer, WholePointerRef, WholePointers};
 use jsonpath_base::picked;
 use std::alloc::Global;
 
-/// The member of that name.
-pub fn named<'a, T: Queryable>(
-    alloc: Global,
-    from: &Pointer<'a, T>,
-    key: &str,
-) -> Queried<Data<'a, T>>
-    requires { IsTrue (T.is_whole from.now.inner.now) }
-    ensures value { IfOk result (λ d. content_of T.tree d ≡ named_from key.now (target_of T.tree from.now)) }
-    ensures whole { IfOk result (λ d. DataIsWhole T.is_whole d) }
-    ensures memory { IfErr result (λ e. e ≡ OutOfMemory) }
-{
-    match from.inner.get(key) {
-        Some(child) => Ok(Data::Ref(below_name(alloc, from, key, child)?)),
-        None => Ok(Data::Nothing),
-    }
-}
-
-/// The element of that index.
-pub fn element_from<'a, T: Queryable>(
-    alloc: Global,
-    from: &Pointer<'a, T>,
-    index: i64,
-) -> Queried<Data<'a, T>>
-    requires { IsTrue (T.is_whole from.now.inner.now) }
-    ensures value { IfOk result (λ d. content_of T.tree d ≡ indexed_from index (target_of T.tree from.now)) }
-    ensures whole { IfOk result (λ d. DataIsWhole T.is_whole d) }
-    ensures memory { IfErr result (λ e. e ≡ OutOfMemory) }
-{
-    match element(from.inner, index) {
-        Some((at, child)) => Ok(Data::Ref(below_index(alloc, from, at, child)?)),
-        None => Ok(Data::Nothing),
-    }
-}
-
-/// All children.
-pub fn wildcard<'a, T: Queryable>(alloc: Global, from: &Pointer<'a, T>) -> Queried<Data<'a, T>>
-    requires { IsTrue (T.is_whole from.now.inner.now) }
-    ensures value { IfOk result (λ d. content_of T.tree d ≡ children_from (target_of T.tree from.now)) }
-    ensures whole { IfOk result (λ d. DataIsWhole T.is_whole d) }
-    ensures memory { IfErr result (λ e. e ≡ OutOfMemory) }
-{
-    match parts(alloc, from)? {
-        Some(found) => {
-            if found.is_empty() {
-                Ok(Data::Nothing)
-            } else {
-                Ok(Data::Refs(found))
-            }
+impl<'p, 'a, T: Queryable> WholePointerRef<'p, 'a, T> {
+    /// The member of that name.
+    pub fn named(self, alloc: Global, key: &str) -> Queried<WholeData<'a, T>>
+        ensures value { IfOk result (λ d. content_at d ≡ named_from key.now (target_at self.entry)) }
+        ensures memory { MemoryAlone result }
+    {
+        match self.value().member(key) {
+            Some(child) => Ok(WholeData::node(self.below_name(alloc, key, child)?)),
+            None => Ok(WholeData::nothing()),
         }
-        None => Ok(Data::Nothing),
     }
-}
 
-/// The elements that a slice picks (RFC 9535, 2.3.4).
-pub fn sliced<'a, T: Queryable>(
-    alloc: Global,
-    from: &Pointer<'a, T>,
-    start: Option<i64>,
-    end: Option<i64>,
-    step: Option<i64>,
-) -> Queried<Data<'a, T>>
-    requires { IsTrue (T.is_whole from.now.inner.now) }
-    ensures value { IfOk result (λ d. content_of T.tree d ≡ sliced_from start end step (target_of T.tree from.now)) }
-    ensures whole { IfOk result (λ d. DataIsWhole T.is_whole d) }
-    ensures memory { IfErr result (λ e. e ≡ OutOfMemory) }
-{
-    match from.inner.as_array() {
-        Some(items) => {
-            let picked = picked(alloc, start, end, step, items.len())?;
-            let mut found = Vec::new(alloc);
-            for at in &picked {
-                found.push(below_index(alloc, from, *at, &items[*at])?)?;
-            }
-            Ok(Data::Refs(found))
+    /// The element of that index.
+    pub fn indexed(self, alloc: Global, index: i64) -> Queried<WholeData<'a, T>>
+        ensures value { IfOk result (λ d. content_at d ≡ indexed_from index (target_at self.entry)) }
+        ensures memory { MemoryAlone result }
+    {
+        match self.value().element(index) {
+            Some((at, child)) => Ok(WholeData::node(self.below_index(alloc, at, child)?)),
+            None => Ok(WholeData::nothing()),
         }
-        None => Ok(Data::Nothing),
     }
-}
 
-/// The lists and objects there and below.
-pub fn parents<'a, T: Queryable>(alloc: Global, from: &Pointer<'a, T>) -> Queried<Data<'a, T>>
-    requires { IsTrue (T.is_whole from.now.inner.now) }
-    ensures value { IfOk result (λ d. content_of T.tree d ≡ parents_from (target_of T.tree from.now)) }
-    ensures whole { IfOk result (λ d. DataIsWhole T.is_whole d) }
-    ensures memory { IfErr result (λ e. e ≡ OutOfMemory) }
-{
-    let mut found = Vec::new(alloc);
-    push_parents(alloc, from, &mut found)?;
-    if found.is_empty() {
-        Ok(Data::Nothing)
-    } else {
-        Ok(Data::Refs(found))
+    /// All children.
+    pub fn wildcard(self, alloc: Global) -> Queried<WholeData<'a, T>>
+        ensures value { IfOk result (λ d. content_at d ≡ children_from (target_at self.entry)) }
+        ensures memory { MemoryAlone result }
+    {
+        match self.parts(alloc)? {
+            Some(found) => {
+                if found.list.is_empty() {
+                    Ok(WholeData::nothing())
+                } else {
+                    Ok(WholeData::nodes(found))
+                }
+            }
+            None => Ok(WholeData::nothing()),
+        }
     }
-}
 
-fn push_parents<'a, T: Queryable>(
-    alloc: Global,
-    from: &Pointer<'a, T>,
-    found: &mut Vec<Pointer<'a, T>>,
-) -> Queried<()>
-    requires whole { IsTrue (T.is_whole from.now.inner.now) }
-    requires others { PointersAreWhole T.is_whole found.old.items }
-    ensures value { OnOk result (targets_of T.tree found.new.items ≡ targets_of T.tree found.old.items ++ parents_in (target_of T.tree from.now)) }
-    ensures whole { OnOk result (PointersAreWhole T.is_whole found.new.items) }
-    ensures memory { IfErr result (λ e. e ≡ OutOfMemory) }
-{
-    let Some(children) = parts(alloc, from)? else {
-        return Ok(());
-    };
-    found.push(from.try_clone(alloc)?)?;
-    for child in &children {
-        push_parents(alloc, child, found)?;
+    /// The elements that a slice picks (RFC 9535, 2.3.4).
+    pub fn sliced(
+        self,
+        alloc: Global,
+        start: Option<i64>,
+        end: Option<i64>,
+        step: Option<i64>,
+    ) -> Queried<WholeData<'a, T>>
+        ensures value { IfOk result (λ d. content_at d ≡ sliced_from start end step (target_at self.entry)) }
+        ensures memory { MemoryAlone result }
+    {
+        match self.value().elements() {
+            Some(items) => {
+                let picked = picked(alloc, start, end, step, items.len())?;
+                let mut found = WholePointers::new(alloc);
+                for at in &picked {
+                    let value = &items[*at];
+                    found.push(self.below_index(alloc, *at, WholeRef { value })?)?;
+                }
+                Ok(WholeData::nodes(found))
+            }
+            None => Ok(WholeData::nothing()),
+        }
     }
-    Ok(())
-}
 
-/// The children of a list or an object, in walk order; None for what is neither.
-pub fn parts<'a, T: Queryable>(
-    alloc: Global,
-    from: &Pointer<'a, T>,
-) -> Queried<Option<Vec<Pointer<'a, T>>>>
-    requires { IsTrue (T.is_whole from.now.inner.now) }
-    ensures value { IfOk result (λ o. option_map (λ v. targets_of T.tree v.items) o ≡ parts_from (target_of T.tree from.now)) }
-    ensures whole { IfOk result (λ o. IfSome o (λ v. PointersAreWhole T.is_whole v.items)) }
-    ensures memory { IfErr result (λ e. e ≡ OutOfMemory) }
-{
-    if let Some(items) = from.inner.as_array() {
-        Ok(Some(elements(alloc, from, items)?))
-    } else if let Some(pairs) = from.inner.as_object(alloc)? {
-        Ok(Some(members(alloc, from, &pairs)?))
-    } else {
-        Ok(None)
+    /// The lists and objects there and below.
+    pub fn parents(self, alloc: Global) -> Queried<WholeData<'a, T>>
+        ensures value { IfOk result (λ d. content_at d ≡ parents_from (target_at self.entry)) }
+        ensures memory { MemoryAlone result }
+    {
+        let mut found = WholePointers::new(alloc);
+        self.push_parents(alloc, &mut found)?;
+        if found.list.is_empty() {
+            Ok(WholeData::nothing())
+        } else {
+            Ok(WholeData::nodes(found))
+        }
     }
-}
 
-fn elements<'a, T: Queryable>(
-    alloc: Global,
-    from: &Pointer<'a, T>,
-    items: &'a [T],
-) -> Queried<Vec<Pointer<'a, T>>>
-    requires { All (λ x. IsTrue (T.is_whole x)) items.now }
-    ensures value { IfOk result (λ v. targets_of T.tree v.items ≡ map (under (target_of T.tree from.now).path) (element_nodes [] 0 (map T.tree items.now))) }
-    ensures whole { IfOk result (λ v. PointersAreWhole T.is_whole v.items) }
-    ensures memory { IfErr result (λ e. e ≡ OutOfMemory) }
-{
-    let mut found = Vec::new(alloc);
-    for (i, child) in items.iter().enumerate() {
-        found.push(below_index(alloc, from, i, child)?)?;
+    fn push_parents(self, alloc: Global, found: &mut WholePointers<'a, T>) -> Queried<()>
+        ensures value { OnOk result (targets_at found.new ≡ targets_at found.old ++ parents_in (target_at self.entry)) }
+        ensures memory { MemoryAlone result }
+    {
+        let Some(children) = self.parts(alloc)? else {
+            return Ok(());
+        };
+        found.push(self.try_clone(alloc)?)?;
+        for pointer in &children.list {
+            let child = WholePointerRef { pointer };
+            child.push_parents(alloc, found)?;
+        }
+        Ok(())
     }
-    Ok(found)
-}
 
-fn members<'a, T: Queryable>(
-    alloc: Global,
-    from: &Pointer<'a, T>,
-    pairs: &[(&'a str, &'a T)],
-) -> Queried<Vec<Pointer<'a, T>>>
-    requires { All (λ m. IsTrue (T.is_whole m.1.now)) pairs.now }
-    ensures value { IfOk result (λ v. targets_of T.tree v.items ≡ map (under (target_of T.tree from.now).path) (member_nodes [] (map (λ m. (m.0.now, T.tree m.1.now)) pairs.now))) }
-    ensures whole { IfOk result (λ v. PointersAreWhole T.is_whole v.items) }
-    ensures memory { IfErr result (λ e. e ≡ OutOfMemory) }
-{
-    let mut found = Vec::new(alloc);
-    for pair in pairs {
-        found.push(below_name(alloc, from, pair.0, pair.1)?)?;
+    /// The children of a list or an object, in walk order; None for what is neither.
+    pub fn parts(self, alloc: Global) -> Queried<Option<WholePointers<'a, T>>>
+        ensures value { IfOk result (λ o. option_map targets_at o ≡ parts_from (target_at self.entry)) }
+        ensures memory { MemoryAlone result }
+    {
+        let value = self.value();
+        if let Some(items) = value.elements() {
+            Ok(Some(self.elements(alloc, items)?))
+        } else if let Some(pairs) = value.members(alloc)? {
+            Ok(Some(self.members(alloc, &pairs)?))
+        } else {
+            Ok(None)
+        }
     }
-    Ok(found)
-}
 
-/// The pointer to a member.
-fn below_name<'a, T: Queryable>(
-    alloc: Global,
-    from: &Pointer<'a, T>,
-    key: &str,
-    inner: &'a T,
-) -> Queried<Pointer<'a, T>>
-    ensures value { IfOk result (λ p. target_of T.tree p ≡ under (target_of T.tree from.now).path (below [] (location.name key.now) (T.tree inner.now))) }
-    ensures inner { IfOk result (λ p. p.inner.now ≡ inner.now) }
-    ensures memory { IfErr result (λ e. e ≡ OutOfMemory) }
-{
-    let path = String::from_str(alloc, &from.path)?;
-    Pointer::key(alloc, inner, path, key)
-}
+    fn elements(self, alloc: Global, items: &'a [T]) -> Queried<WholePointers<'a, T>>
+        requires { All (λ x. IsTrue (T.is_whole x)) items.now }
+        ensures value { IfOk result (λ v. targets_at v ≡ map (under (target_at self.entry).path) (element_nodes [] 0 (map T.tree items.now))) }
+        ensures memory { MemoryAlone result }
+    {
+        let mut found = WholePointers::new(alloc);
+        for (i, value) in items.iter().enumerate() {
+            found.push(self.below_index(alloc, i, WholeRef { value })?)?;
+        }
+        Ok(found)
+    }
 
-/// The pointer to an element.
-fn below_index<'a, T: Queryable>(
-    alloc: Global,
-    from: &Pointer<'a, T>,
-    index: usize,
-    inner: &'a T,
-) -> Queried<Pointer<'a, T>>
-    ensures value { IfOk result (λ p. target_of T.tree p ≡ under (target_of T.tree from.now).path (below [] (location.index index) (T.tree inner.now))) }
-    ensures inner { IfOk result (λ p. p.inner.now ≡ inner.now) }
-    ensures memory { IfErr result (λ e. e ≡ OutOfMemory) }
-{
-    let path = String::from_str(alloc, &from.path)?;
-    Pointer::idx(alloc, inner, path, index)
+    fn members(self, alloc: Global, pairs: &[(&'a str, &'a T)]) -> Queried<WholePointers<'a, T>>
+        requires { All (λ m. IsTrue (T.is_whole m.1.now)) pairs.now }
+        ensures value { IfOk result (λ v. targets_at v ≡ map (under (target_at self.entry).path) (member_nodes [] (map (λ m. (m.0.now, T.tree m.1.now)) pairs.now))) }
+        ensures memory { MemoryAlone result }
+    {
+        let mut found = WholePointers::new(alloc);
+        for pair in pairs {
+            let value = pair.1;
+            found.push(self.below_name(alloc, pair.0, WholeRef { value })?)?;
+        }
+        Ok(found)
+    }
+
+    /// The pointer to a member.
+    fn below_name(
+        self,
+        alloc: Global,
+        key: &str,
+        child: WholeRef<'a, T>,
+    ) -> Queried<WholePointer<'a, T>>
+        ensures value { IfOk result (λ p. own_target p ≡ under (target_at self.entry).path (below [] (location.name key.now) (tree_of child.entry))) }
+        ensures memory { MemoryAlone result }
+    {
+        let path = String::from_str(alloc, &self.pointer.path)?;
+        let pointer = Pointer::key(alloc, child.value, path, key)?;
+        Ok(WholePointer { pointer })
+    }
+
+    /// The pointer to an element.
+    fn below_index(
+        self,
+        alloc: Global,
+        index: usize,
+        child: WholeRef<'a, T>,
+    ) -> Queried<WholePointer<'a, T>>
+        ensures value { IfOk result (λ p. own_target p ≡ under (target_at self.entry).path (below [] (location.index index) (tree_of child.entry))) }
+        ensures memory { MemoryAlone result }
+    {
+        let path = String::from_str(alloc, &self.pointer.path)?;
+        let pointer = Pointer::idx(alloc, child.value, path, index)?;
+        Ok(WholePointer { pointer })
+    }
 }

@@ -1,10 +1,11 @@
 //! What functions make of the data of their arguments (RFC 9535, 2.4.4 to 2.4.8).
-ghost use Rattle.std.specs.Prelude.{◌≡◌, ◌++◌, Some, option_map, string_bytes, IsTrue, IfOk, IfErr, OnOk};
+ghost use Rattle.std.specs.Prelude.{◌≡◌, ◌++◌, Some, option_map, string_bytes, IfOk, IfErr, OnOk};
 ghost use Rattle.jsonpath_base.specs.Tree.{truth};
 ghost use Rattle.jsonpath_rust.specs.documents.Functions as functions;
 ghost use Rattle.jsonpath_rust.specs.documents.Patterns.{IsPattern};
 ghost use Rattle.jsonpath_rust.specs.states.Process.{plain, optional, length_content, count_content, value_content, content_trees};
-ghost use Rattle.jsonpath_rust.specs.states.State.{value, content_of, DataIsWhole};
+ghost use Rattle.jsonpath_rust.specs.states.State.{value};
+ghost use Rattle.jsonpath_rust.specs.states.inner.Evaluating.{content_at};
 ghost use Rattle.jsonpath_base.specs.Pattern.{is_entire};
 ghost use Rattle.jsonpath_rust.specs.documents.inner.Operands.{arg_trees};
 ghost use Rattle.jsonpath_rust.specs.documents.inner.Whole.{tree_of};
@@ -15,47 +16,46 @@ use crate::documents::halt::Walked;
 use crate::documents::queryable::Queryable;
 use crate::documents::value::length_of;
 use crate::documents::whole::{Whole, WholeRef};
+use crate::states::evaluate::Returned;
 use crate::states::evaluate::value::{count_data, plain_value, truth_data};
 use crate::states::state::Data;
+use crate::states::whole::{WholeData, WholePointer};
 use jsonpath_base::Extent;
 use jsonpath_base::engine::Asked;
 use std::alloc::Global;
 
 /// What `length` returns.
-pub fn length_data<'a, T: Queryable>(alloc: Global, given: Data<'a, T>) -> Walked<Data<'a, T>>
-    requires { DataIsWhole T.is_whole given }
-    ensures value { IfOk result (λ d. content_of T.tree d ≡ length_content (content_of T.tree given.entry)) }
-    ensures whole { IfOk result (λ d. DataIsWhole T.is_whole d) }
+pub fn length_data<'a, T: Queryable>(alloc: Global, given: WholeData<'a, T>) -> Returned<'a, T>
+    ensures value { IfOk result (λ d. content_at d ≡ length_content (content_at given.entry)) }
     ensures memory { IfErr result (λ h. h ≡ Memory) }
 {
-    match given {
-        Data::Ref(from) => value_length(alloc, from.inner),
+    let content = given.content;
+    match content {
+        Data::Ref(from) => value_length(alloc, WholeRef { value: from.inner }),
         Data::Refs(all) => count_data(alloc, all.len()),
-        Data::Value(own) => value_length(alloc, &own),
-        Data::Nothing => Ok(Data::Nothing),
+        Data::Value(own) => value_length(alloc, WholeRef { value: &own }),
+        Data::Nothing => Ok(WholeData::nothing()),
     }
 }
 
 /// The length of a value; nothing where it has none.
-fn value_length<'a, T: Queryable>(alloc: Global, of: &T) -> Walked<Data<'a, T>>
-    requires { IsTrue (T.is_whole of.now) }
-    ensures value { IfOk result (λ d. content_of T.tree d ≡ optional (functions.length_of (Some (T.tree of.now)))) }
-    ensures whole { IfOk result (λ d. DataIsWhole T.is_whole d) }
+fn value_length<'a, T: Queryable>(alloc: Global, of: WholeRef<'_, T>) -> Returned<'a, T>
+    ensures value { IfOk result (λ d. content_at d ≡ optional (functions.length_of (Some (tree_of of.entry)))) }
     ensures memory { IfErr result (λ h. h ≡ Memory) }
 {
-    match length_of(alloc, WholeRef { value: of })? {
+    match length_of(alloc, of)? {
         Some(length) => count_data(alloc, length),
-        None => Ok(Data::Nothing),
+        None => Ok(WholeData::nothing()),
     }
 }
 
 /// What `count` returns.
-pub fn node_count<'a, T: Queryable>(alloc: Global, given: Data<'a, T>) -> Walked<Data<'a, T>>
-    ensures value { IfOk result (λ d. content_of T.tree d ≡ count_content (content_of T.tree given.entry)) }
-    ensures whole { IfOk result (λ d. DataIsWhole T.is_whole d) }
+pub fn node_count<'a, T: Queryable>(alloc: Global, given: WholeData<'a, T>) -> Returned<'a, T>
+    ensures value { IfOk result (λ d. content_at d ≡ count_content (content_at given.entry)) }
     ensures memory { IfErr result (λ h. h ≡ Memory) }
 {
-    match given {
+    let content = given.content;
+    match content {
         Data::Ref(_from) => count_data(alloc, 1),
         Data::Refs(all) => count_data(alloc, all.len()),
         Data::Value(_own) => count_data(alloc, 1),
@@ -64,40 +64,36 @@ pub fn node_count<'a, T: Queryable>(alloc: Global, given: Data<'a, T>) -> Walked
 }
 
 /// What `value` returns.
-pub fn only_value<'a, T: Queryable>(given: Data<'a, T>) -> Data<'a, T>
-    requires { DataIsWhole T.is_whole given }
-    ensures value { content_of T.tree result ≡ value_content (content_of T.tree given.entry) }
-    ensures whole { DataIsWhole T.is_whole result }
+pub fn only_value<'a, T: Queryable>(given: WholeData<'a, T>) -> WholeData<'a, T>
+    ensures { content_at result ≡ value_content (content_at given.entry) }
 {
-    match given {
-        Data::Ref(from) => Data::Ref(from),
+    let content = given.content;
+    match content {
+        Data::Ref(pointer) => WholeData::node(WholePointer { pointer }),
         Data::Refs(mut all) => {
             if all.len() == 1 {
                 match all.pop() {
-                    Some(from) => Data::Ref(from),
-                    None => Data::Nothing,
+                    Some(pointer) => WholeData::node(WholePointer { pointer }),
+                    None => WholeData::nothing(),
                 }
             } else {
-                Data::Nothing
+                WholeData::nothing()
             }
         }
-        Data::Value(own) => Data::Value(own),
-        Data::Nothing => Data::Nothing,
+        Data::Value(value) => WholeData::own(Whole { value }),
+        Data::Nothing => WholeData::nothing(),
     }
 }
 
 /// What `match` returns of the entire text, or `search` of its substrings.
 pub fn found_data<'a, T: Queryable>(
     alloc: Global,
-    text: &Data<'a, T>,
-    pattern: &Data<'a, T>,
+    text: &WholeData<'a, T>,
+    pattern: &WholeData<'a, T>,
     extent: Extent,
-) -> Walked<Data<'a, T>>
-    requires text { DataIsWhole T.is_whole text.now }
-    requires pattern { DataIsWhole T.is_whole pattern.now }
-    ensures value { IfOk result (λ d. content_of T.tree d ≡ value (truth (functions.is_matched (is_entire extent) (plain (content_of T.tree text.now)) (plain (content_of T.tree pattern.now))))) }
-    ensures whole { IfOk result (λ d. DataIsWhole T.is_whole d) }
-    ensures refused { IfErr result (λ h. (h ≡ Memory → ⊥) → IsPattern (is_entire extent) (plain (content_of T.tree pattern.now))) }
+) -> Returned<'a, T>
+    ensures value { IfOk result (λ d. content_at d ≡ value (truth (functions.is_matched (is_entire extent) (plain (content_at text.now)) (plain (content_at pattern.now))))) }
+    ensures refused { IfErr result (λ h. (h ≡ Memory → ⊥) → IsPattern (is_entire extent) (plain (content_at pattern.now))) }
 {
     let found = is_matched(alloc, plain_value(text), plain_value(pattern), extent)?;
     truth_data(alloc, found)
@@ -129,21 +125,24 @@ pub fn custom_data<'a, T: Queryable>(
     alloc: Global,
     name: &String,
     args: &Args<'a, T>,
-) -> Walked<Data<'a, T>>
-    ensures value { IfOk result (λ d. content_of T.tree d ≡ value (T.custom (string_bytes name.now) (arg_trees args.now))) }
-    ensures whole { IfOk result (λ d. DataIsWhole T.is_whole d) }
+) -> Returned<'a, T>
+    ensures value { IfOk result (λ d. content_at d ≡ value (T.custom (string_bytes name.now) (arg_trees args.now))) }
     ensures memory { IfErr result (λ h. h ≡ Memory) }
 {
-    Ok(Data::Value(T::extension_custom(alloc, name, &args.list)?))
+    let content = Data::Value(T::extension_custom(alloc, name, &args.list)?);
+    Ok(WholeData { content })
 }
 
 /// Follows the arguments of a custom function by what a result stands for: its value, or the values of its nodes.
-pub fn push_values<'a, T: Queryable>(values: &mut Args<'a, T>, answer: Data<'a, T>) -> Walked<()>
-    requires { DataIsWhole T.is_whole answer }
-    ensures value { OnOk result (arg_trees values.new ≡ arg_trees values.old ++ content_trees (content_of T.tree answer.entry)) }
+pub fn push_values<'a, T: Queryable>(
+    values: &mut Args<'a, T>,
+    answer: WholeData<'a, T>,
+) -> Walked<()>
+    ensures value { OnOk result (arg_trees values.new ≡ arg_trees values.old ++ content_trees (content_at answer.entry)) }
     ensures memory { IfErr result (λ h. h ≡ Memory) }
 {
-    match answer {
+    let content = answer.content;
+    match content {
         Data::Ref(from) => Ok(values.push_lent(WholeRef { value: from.inner })?),
         Data::Refs(all) => {
             for from in &all {

@@ -1,37 +1,39 @@
 //! What tests make of data (RFC 9535, 2.3.5.2.1).
-ghost use Rattle.std.specs.Prelude.{◌≡◌, ◌∷◌, [], ◌++◌, cond, IsTrue, IfOk, IfErr, OnOk};
+ghost use Rattle.std.specs.Prelude.{◌≡◌, ◌∷◌, [], ◌++◌, cond, IfOk, IfErr, OnOk};
 ghost use Rattle.jsonpath_parser.specs.tree.Making.{is_truth_call};
 ghost use Rattle.jsonpath_parser.specs.tree.View.{test_view};
 ghost use Rattle.jsonpath_parser.specs.declared.errors.JsonPathError.TheVariants.{OutOfMemory};
+ghost use Rattle.jsonpath_rust.specs.documents.inner.Refusing.{MemoryAlone};
 ghost use Rattle.jsonpath_rust.specs.states.Process as process;
 ghost use Rattle.jsonpath_rust.specs.states.Process.{is_truth, test_truth};
-ghost use Rattle.jsonpath_rust.specs.states.State.{targets, target_of, targets_of, content_of, PointersAreWhole, DataIsWhole};
+ghost use Rattle.jsonpath_rust.specs.states.State.{targets};
+ghost use Rattle.jsonpath_rust.specs.states.inner.Evaluating.{content_at, target_at, targets_at};
 ghost use Rattle.jsonpath_rust.specs.declared.documents.halt.Halt.TheVariants.{Memory};
 
 use crate::documents::Queried;
-use crate::documents::halt::Walked;
 use crate::documents::queryable::Queryable;
+use crate::states::evaluate::Returned;
 use crate::states::evaluate::value::truth_data;
-use crate::states::state::{Data, Pointer};
+use crate::states::state::Data;
+use crate::states::whole::{WholeData, WholePointerRef, WholePointers};
 use jsonpath_parser::model::Test;
 use std::alloc::Global;
 
 /// Whether it is a value of its own that is true.
-pub fn is_true<'a, T: Queryable>(given: &Data<'a, T>) -> bool
-    requires { DataIsWhole T.is_whole given.now }
-    ensures { result ≡ is_truth (content_of T.tree given.now) }
+pub fn is_true<'a, T: Queryable>(given: &WholeData<'a, T>) -> bool
+    ensures { result ≡ is_truth (content_at given.now) }
 {
-    match given {
+    match &given.content {
         Data::Value(own) => own.as_bool() == Some(true),
         _ => false,
     }
 }
 
 /// Whether it has a node.
-fn has_target<'a, T: Queryable>(given: &Data<'a, T>) -> bool
-    ensures { result ≡ process.has_target (targets (content_of T.tree given.now)) }
+fn has_target<'a, T: Queryable>(given: &WholeData<'a, T>) -> bool
+    ensures { result ≡ process.has_target (targets (content_at given.now)) }
 {
-    match given {
+    match &given.content {
         Data::Ref(_) => true,
         Data::Refs(all) => !all.is_empty(),
         _ => false,
@@ -44,11 +46,9 @@ pub fn test_answer<'a, T: Queryable>(
     alloc: Global,
     not: bool,
     test: &Test,
-    answer: Data<'a, T>,
-) -> Walked<Data<'a, T>>
-    requires { DataIsWhole T.is_whole answer }
-    ensures value { IfOk result (λ d. content_of T.tree d ≡ test_truth not (is_truth_call (test_view test.now)) (content_of T.tree answer.entry)) }
-    ensures whole { IfOk result (λ d. DataIsWhole T.is_whole d) }
+    answer: WholeData<'a, T>,
+) -> Returned<'a, T>
+    ensures value { IfOk result (λ d. content_at d ≡ test_truth not (is_truth_call (test_view test.now)) (content_at answer.entry)) }
     ensures memory { IfErr result (λ h. h ≡ Memory) }
 {
     if !test.is_res_bool() {
@@ -64,14 +64,11 @@ pub fn test_answer<'a, T: Queryable>(
 pub fn keep_if<'a, T: Queryable>(
     alloc: Global,
     is_kept: bool,
-    pointer: &Pointer<'a, T>,
-    found: &mut Vec<Pointer<'a, T>>,
+    pointer: WholePointerRef<'_, 'a, T>,
+    found: &mut WholePointers<'a, T>,
 ) -> Queried<()>
-    requires own { IsTrue (T.is_whole pointer.now.inner.now) }
-    requires others { PointersAreWhole T.is_whole found.old.items }
-    ensures value { OnOk result (targets_of T.tree found.new.items ≡ targets_of T.tree found.old.items ++ cond is_kept (target_of T.tree pointer.now ∷ []) []) }
-    ensures whole { OnOk result (PointersAreWhole T.is_whole found.new.items) }
-    ensures memory { IfErr result (λ e. e ≡ OutOfMemory) }
+    ensures value { OnOk result (targets_at found.new ≡ targets_at found.old ++ cond is_kept (target_at pointer.entry ∷ []) []) }
+    ensures memory { MemoryAlone result }
 {
     if is_kept {
         found.push(pointer.try_clone(alloc)?)?;

@@ -6,48 +6,49 @@ ghost use Rattle.jsonpath_rust.specs.documents.Functions.{count_value};
 ghost use Rattle.jsonpath_rust.specs.documents.Meaning.{literal_tree};
 ghost use Rattle.jsonpath_rust.specs.documents.inner.Whole.{tree_of};
 ghost use Rattle.jsonpath_rust.specs.states.Process.{plain};
-ghost use Rattle.jsonpath_rust.specs.states.State.{value, content_of, DataIsWhole};
+ghost use Rattle.jsonpath_rust.specs.states.State.{value};
+ghost use Rattle.jsonpath_rust.specs.states.inner.Evaluating.{content_at};
 ghost use Rattle.jsonpath_rust.specs.declared.documents.halt.Halt.TheVariants.{Memory};
 
-use crate::documents::halt::Walked;
 use crate::documents::queryable::Queryable;
 use crate::documents::value::{count_scalar, made, scalar_of};
 use crate::documents::whole::WholeRef;
+use crate::states::evaluate::Returned;
 use crate::states::state::Data;
+use crate::states::whole::WholeData;
 use jsonpath_parser::model::Literal;
 use std::alloc::Global;
 
 /// A truth.
-pub fn truth_data<'a, T: Queryable>(alloc: Global, b: bool) -> Walked<Data<'a, T>>
-    ensures value { IfOk result (λ d. content_of T.tree d ≡ value (truth b)) }
-    ensures whole { IfOk result (λ d. DataIsWhole T.is_whole d) }
+pub fn truth_data<'a, T: Queryable>(alloc: Global, b: bool) -> Returned<'a, T>
+    ensures value { IfOk result (λ d. content_at d ≡ value (truth b)) }
     ensures memory { IfErr result (λ h. h ≡ Memory) }
 {
-    Ok(Data::Value(T::from_bool(alloc, b)?))
+    let content = Data::Value(T::from_bool(alloc, b)?);
+    Ok(WholeData { content })
 }
 
 /// A count.
-pub fn count_data<'a, T: Queryable>(alloc: Global, count: usize) -> Walked<Data<'a, T>>
-    ensures value { IfOk result (λ d. content_of T.tree d ≡ value (count_value count)) }
-    ensures whole { IfOk result (λ d. DataIsWhole T.is_whole d) }
+pub fn count_data<'a, T: Queryable>(alloc: Global, count: usize) -> Returned<'a, T>
+    ensures value { IfOk result (λ d. content_at d ≡ value (count_value count)) }
     ensures memory { IfErr result (λ h. h ≡ Memory) }
 {
-    Ok(Data::Value(made(alloc, count_scalar(count))?.value))
+    let content = Data::Value(made(alloc, count_scalar(count))?.value);
+    Ok(WholeData { content })
 }
 
 /// A literal.
-pub fn literal_data<'a, T: Queryable>(alloc: Global, literal: &Literal) -> Walked<Data<'a, T>>
-    ensures value { IfOk result (λ d. content_of T.tree d ≡ value (literal_tree (literal_view literal.now))) }
-    ensures whole { IfOk result (λ d. DataIsWhole T.is_whole d) }
+pub fn literal_data<'a, T: Queryable>(alloc: Global, literal: &Literal) -> Returned<'a, T>
+    ensures value { IfOk result (λ d. content_at d ≡ value (literal_tree (literal_view literal.now))) }
     ensures memory { IfErr result (λ h. h ≡ Memory) }
 {
-    Ok(Data::Value(made(alloc, scalar_of(literal))?.value))
+    let content = Data::Value(made(alloc, scalar_of(literal))?.value);
+    Ok(WholeData { content })
 }
 
 /// The value that it is or points to.
-pub fn plain_value<'d, 'a, T: Queryable>(given: &'d Data<'a, T>) -> Option<WholeRef<'d, T>>
-    requires { DataIsWhole T.is_whole given.now }
-    ensures { option_map tree_of result ≡ plain (content_of T.tree given.now) }
+pub fn plain_value<'d, 'a, T: Queryable>(given: &'d WholeData<'a, T>) -> Option<WholeRef<'d, T>>
+    ensures { option_map tree_of result ≡ plain (content_at given.now) }
 {
     match lent_value(given) {
         Some(value) => Some(WholeRef { value }),
@@ -56,12 +57,11 @@ pub fn plain_value<'d, 'a, T: Queryable>(given: &'d Data<'a, T>) -> Option<Whole
 }
 
 /// The same, as a plain borrow.
-fn lent_value<'d, 'a, T: Queryable>(given: &'d Data<'a, T>) -> Option<&'d T>
-    requires { DataIsWhole T.is_whole given.now }
-    ensures value { option_map (λ v. T.tree v.now) result ≡ plain (content_of T.tree given.now) }
+fn lent_value<'d, 'a, T: Queryable>(given: &'d WholeData<'a, T>) -> Option<&'d T>
+    ensures value { option_map (λ v. T.tree v.now) result ≡ plain (content_at given.now) }
     ensures whole { IfSome result (λ v. IsTrue (T.is_whole v.now)) }
 {
-    match given {
+    match &given.content {
         Data::Ref(from) => Some(from.inner),
         Data::Value(own) => Some(own),
         _ => None,

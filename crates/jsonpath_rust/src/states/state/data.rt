@@ -171,7 +171,7 @@ impl<'a, T: Queryable> Default for Data<'a, T> {
     fn default() -> Self
         ensures { content_of T.tree result ≡ nothing }
     {
-        Data::Nothing
+        Self::Nothing
     }
 }
 
@@ -200,10 +200,7 @@ fn write_joined<'a, T: Debug, W: Write>(
 }
 
 /// Follows the nodes by those of a result.
-pub(crate) fn push_nodes<'a, T: Queryable>(
-    all: &mut Vec<Pointer<'a, T>>,
-    found: Data<'a, T>,
-) -> Queried<()>
+fn push_nodes<'a, T: Queryable>(all: &mut Vec<Pointer<'a, T>>, found: Data<'a, T>) -> Queried<()>
     ensures ok { OnOk result (all.new.items ≡ all.old.items ++ pointers found.entry) }
     ensures err { IfErr result (λ e. e ≡ OutOfMemory) }
 {

@@ -1,6 +1,5 @@
-use Rattle.std.proofs.Common.{rules, refl, sym, ap, ◌∙◌, arith, ◌≡◌, ◌∷◌, ◌++◌, [], map, filter, cond, List, Bool, Some, option_map, IsTrue, w64, SFits, string_bytes, inl, true, false}
+use Rattle.std.proofs.Common.{rules, refl, sym, ap, ◌∙◌, arith, ◌≡◌, ◌∷◌, ◌++◌, [], map, filter, cond, List, Bool, Some, option_map, w64, SFits, string_bytes, inl, true, false}
 use Rattle.std.proofs.lemmas.Int.{to_z-of_z}
-use Rattle.std.proofs.lemmas.List.{map-append}
 use Rattle.std.specs.List.{flat_map}
 use Rattle.jsonpath_parser.specs.tree.View.{segment_view, selector_view, filter_view, call_view, argument_view, test_view}
 use Rattle.jsonpath_parser.specs.declared.tree.model.Filter.{Filter}
@@ -10,13 +9,12 @@ use Rattle.jsonpath_parser.specs.declared.tree.model.FnArg.{FnArg}
 use Rattle.jsonpath_parser.proofs.laws.tree.ViewEquations.{segment_view-Selectors, selector_view-Index, selector_view-Slice, call_view-Custom, segment_view-Descendant, test_view-RelQuery, test_view-AbsQuery, query_view-segments, call_view-Search, call_view-Match}
 use Rattle.jsonpath_base.specs.Tree.{Tree}
 use Rattle.jsonpath_rust.specs.states.Process.{holds_at, some_holds_at, each_holds_at, several_content, segments_content, segment_content, selector_content, joined_from, call_content, arguments_trees, plain}
-use Rattle.jsonpath_rust.specs.states.State.{Target, Content, ref, refs, value, mapped, reduced, targets, inside, indexed_from, target_of, content_of, pointers, root_content}
-use Rattle.jsonpath_rust.specs.states.inner.Evaluating.{document, parts_from, part_content}
+use Rattle.jsonpath_rust.specs.states.State.{Target, Content, ref, refs, value, mapped, reduced, targets, inside, indexed_from, target_of, content_of, root_content}
+use Rattle.jsonpath_rust.specs.states.inner.Evaluating.{document, content_at, target_at, targets_at, parts_from, part_content}
 use Rattle.jsonpath_rust.specs.documents.inner.Parts.{segments_in, selectors_in, filters_in, arguments_in}
 use Rattle.jsonpath_rust.specs.documents.inner.Weight.{segment_weight, segments_weight, selector_weight, selectors_weight, filter_weight, filters_weight, argument_weight, arguments_weight}
 use Rattle.jsonpath_rust.proofs.laws.states.Found.{kept-parts}
-use Rattle.jsonpath_rust.proofs.laws.states.Maps.{targets_seen, whole_pointers}
-use Rattle.jsonpath_rust.proofs.laws.documents.Parts.{part_of, some_found, some_next, each_failed, each_next, fold_next, parts_end, ok_through, joined_next, joined_end, all_joined, filter_more}
+use Rattle.jsonpath_rust.proofs.laws.documents.Parts.{part_of, some_found, some_next, each_failed, each_next, fold_next, parts_end, ok_through, joined_next, joined_end, filter_more}
 use Rattle.jsonpath_parser.specs.tree.Syntax.{absolute}
 use Rattle.jsonpath_rust.specs.documents.Patterns.{segments_patterns, segment_patterns, selectors_patterns, selector_patterns, filters_patterns, filter_patterns, test_patterns, comparison_patterns, call_patterns, argument_patterns, arguments_patterns}
 use Rattle.jsonpath_rust.proofs.laws.states.Asking.{asks_left, asks_right, asks_rest, asks_at, asks_here, asks_nothing, asks_same, asks_below, asks_parents, asks_target, asks_child, asks_root, asks_too, asks_within, stays_next, data-distinct, halts_as, halts_so}
@@ -26,187 +24,159 @@ use Rattle.jsonpath_rust.proofs.states.evaluate.Evaluation.+evaluate.Goals as go
 pub arguments-argument_data-requires : goal.arguments-argument_data-requires
 arguments-argument_data-requires g t c κs within =
     let w = part_of (λ (x : FnArg). argument_weight (argument_view x)) (λ xs. arguments_weight (arguments_in xs)) (λ x xs. refl) c.args.args.now c.loop-arg.arg-index c.arg-item.result c.loop-arg-test.true c.arg-item.is in
-    (omega (arith, c.decreases, w), (within, (c.requires.root, c.requires.whole)))
+    (omega (arith, c.decreases, w), within)
 
 pub segment_data-returns-in-Selectors-clause-value : goal.segment_data-returns-in-Selectors-clause-value
 segment_data-returns-in-Selectors-clause-value g t c =
-    let tree = g.T.Queryable.tree in
-    let d = document tree g.T.Queryable.custom c.args.self.now in
-    let k = content_of tree c.args.given in
+    let d = document c.args.self.now in
+    let k = content_at c.args.given in
     let e = ap segment_view c.in-Selectors.is ∙ segment_view-Selectors c.in-Selectors.several in
-    ok_through _ (content_of tree) _ _ (ap (λ (xs : List Selector). several_content (selectors_in xs) d k) c.deref.ensures.value ∙ sym (ap (λ s. segment_content s d k) e)) c.several_data.ensures.value
+    ok_through _ content_at _ _ (ap (λ (xs : List Selector). several_content (selectors_in xs) d k) c.deref.ensures.value ∙ sym (ap (λ s. segment_content s d k) e)) c.several_data.ensures.value
 
 pub selector_data-returns-in-Index-clause-value : goal.selector_data-returns-in-Index-clause-value
 selector_data-returns-in-Index-clause-value g t c =
-    let tree = g.T.Queryable.tree in
-    let d = document tree g.T.Queryable.custom c.args.self.now in
-    let k = content_of tree c.args.given in
+    let d = document c.args.self.now in
+    let k = content_at c.args.given in
     let e = ap selector_view c.in-Index.is ∙ selector_view-Index c.in-Index.index in
     let fits : SFits w64 c.in-Index.index = search rules in
-    ok_through _ (content_of tree) _ _ (ap (λ i. mapped (indexed_from i) k) (to_z-of_z w64 c.in-Index.index fits) ∙ sym (ap (λ s. selector_content s d k) e)) c.each_target-in-Index.ensures.value
+    ok_through _ content_at _ _ (ap (λ i. mapped (indexed_from i) k) (to_z-of_z w64 c.in-Index.index fits) ∙ sym (ap (λ s. selector_content s d k) e)) c.each_target-in-Index.ensures.value
 
 pub selector_data-returns-in-Slice-clause-value : goal.selector_data-returns-in-Slice-clause-value
 selector_data-returns-in-Slice-clause-value g t c =
-    let tree = g.T.Queryable.tree in
-    let d = document tree g.T.Queryable.custom c.args.self.now in
-    let k = content_of tree c.args.given in
+    let d = document c.args.self.now in
+    let k = content_at c.args.given in
     let e = ap selector_view c.in-Slice.is ∙ selector_view-Slice c.in-Slice.start c.in-Slice.end c.in-Slice.step in
-    ok_through _ (content_of tree) _ _ (sym (ap (λ s. selector_content s d k) e)) c.each_target-in-Slice.ensures.value
+    ok_through _ content_at _ _ (sym (ap (λ s. selector_content s d k) e)) c.each_target-in-Slice.ensures.value
 
 pub each_target-loop-from-preserved : goal.each_target-loop-from-preserved
 each_target-loop-from-preserved g t c =
     let tree = g.T.Queryable.tree in
-    let whole = g.T.Queryable.is_whole in
-    let d = document tree g.T.Queryable.custom c.args.self.now in
+    let d = document c.args.self.now in
     let f : Target → List Target = λ p. targets (part_content c.args.part d p) in
     let items = c.deref-from-items.result.now in
-    let x = c.from-item.result in
-    let was = c.loop-from.all.items in
-    let found = c.in_ok-found-in-Refs.found in
-    let inv = c.loop-from.invariant in
-    let pushed = ap (map (target_of tree)) c.in_ok-push_nodes-in-Refs.ensures.ok ∙ map-append (target_of tree) was (pointers found) ∙ ap (λ qs. map (target_of tree) was ++ qs) (targets_seen tree found ∙ ap targets c.in_ok-found-in-Refs.ensures.value) in
-    record {
-      made = joined_next (λ xs. flat_map f (map (target_of tree) xs)) (λ y. f (target_of tree y)) (λ y ys. refl) items c.loop-from.from-index x _ _ _ c.loop-from-test.true c.from-item.is pushed inv.made;
-      whole = all_joined (λ p. IsTrue (whole p.inner.now)) was _ (pointers found) c.in_ok-push_nodes-in-Refs.ensures.ok (whole_pointers whole found c.in_ok-found-in-Refs.ensures.whole) inv.whole;
-    }
+    let pushed = c.in_ok-append-in-Refs.ensures ∙ ap (λ k. targets_at c.loop-from.all ++ targets k) c.in_ok-found-in-Refs.ensures.value in
+    joined_next (λ xs. flat_map f (map (target_of tree) xs)) (λ y. f (target_of tree y)) (λ y ys. refl) items c.loop-from.from-index c.from-item.result _ _ _ c.loop-from-test.true c.from-item.is pushed c.loop-from.invariant
 
 pub each_target-returns-after-loop-from-clause-value : goal.each_target-returns-after-loop-from-clause-value
 each_target-returns-after-loop-from-clause-value g t c =
     let tree = g.T.Queryable.tree in
-    let d = document tree g.T.Queryable.custom c.args.self.now in
+    let d = document c.args.self.now in
     let f : Target → List Target = λ p. targets (part_content c.args.part d p) in
-    ap refs (joined_end (λ xs. flat_map f (map (target_of tree) xs)) refl c.deref-from-items.result.now c.loop-from.from-index (map (target_of tree) c.loop-from.all.items) _ c.loop-from-test.false c.loop-from.invariant.made ∙ ap (λ xs. flat_map f (map (target_of tree) xs)) c.deref-from-items.ensures.value)
+    c.nodes.ensures
+    ∙ ap refs (joined_end (λ xs. flat_map f (map (target_of tree) xs)) refl c.deref-from-items.result.now c.loop-from.from-index (targets_at c.loop-from.all) _ c.loop-from-test.false c.loop-from.invariant ∙ ap (λ xs. flat_map f (map (target_of tree) xs)) c.deref-from-items.ensures.value)
     ∙ ap (λ z. mapped (part_content c.args.part d) (content_of tree z)) (sym c.in-Refs.is)
 
 pub kept-loop-child-preserved : goal.kept-loop-child-preserved
 kept-loop-child-preserved g t c =
     let tree = g.T.Queryable.tree in
-    let d = document tree g.T.Queryable.custom c.args.self.now in
+    let d = document c.args.self.now in
     let h : Target → Bool = λ p. holds_at (filter_view c.args.filter.now) d (inside p.tree) in
     let items = c.deref-child-items.result.now in
     let x = c.child-item.result in
-    let inv = c.loop-child.invariant in
     let holds = c.in_ok-is_kept-in-Some.ensures.value ∙ ap (λ q. holds_at (filter_view c.args.filter.now) d (ref q)) c.empty.ensures.seen in
-    let pushed = c.in_ok-keep_if-in-Some.ensures.value ∙ ap (λ b. map (target_of tree) c.loop-child.found.items ++ cond b (target_of tree x ∷ []) []) holds in
-    record {
-      made = joined_next (λ xs. filter h (map (target_of tree) xs)) (λ y. cond (h (target_of tree y)) (target_of tree y ∷ []) []) (λ y ys. filter_more h (target_of tree y) (map (target_of tree) ys)) items c.loop-child.child-index x _ _ _ c.loop-child-test.true c.child-item.is pushed inv.made;
-      whole = c.in_ok-keep_if-in-Some.ensures.whole;
-    }
+    let pushed = c.in_ok-keep_if-in-Some.ensures.value ∙ ap (λ b. targets_at c.loop-child.found ++ cond b (target_of tree x ∷ []) []) holds in
+    joined_next (λ xs. filter h (map (target_of tree) xs)) (λ y. cond (h (target_of tree y)) (target_of tree y ∷ []) []) (λ y ys. filter_more h (target_of tree y) (map (target_of tree) ys)) items c.loop-child.child-index x _ _ _ c.loop-child-test.true c.child-item.is pushed c.loop-child.invariant
 
 pub kept-returns-after-loop-child-clause-value : goal.kept-returns-after-loop-child-clause-value
 kept-returns-after-loop-child-clause-value g t c =
     let tree = g.T.Queryable.tree in
-    let d = document tree g.T.Queryable.custom c.args.self.now in
+    let d = document c.args.self.now in
     let h : Target → Bool = λ p. holds_at (filter_view c.args.filter.now) d (inside p.tree) in
-    let from = target_of tree c.args.from.now in
+    let from = target_at c.args.from in
     let items = c.deref-child-items.result.now in
-    let here : Some (map (target_of tree) items) ≡ parts_from from = ap (λ xs. Some (map (target_of tree) xs)) c.deref-child-items.ensures.value ∙ ap (λ o. option_map (λ v. map (target_of tree) v.items) o) (sym c.in-Some.is) ∙ c.in_ok-children.ensures.value in
-    ap refs (joined_end (λ xs. filter h (map (target_of tree) xs)) refl items c.loop-child.child-index (map (target_of tree) c.loop-child.found.items) _ c.loop-child-test.false c.loop-child.invariant.made)
+    let here : Some (map (target_of tree) items) ≡ parts_from from = ap (λ xs. Some (map (target_of tree) xs)) c.deref-child-items.ensures.value ∙ ap (option_map targets_at) (sym c.in-Some.is) ∙ c.in_ok-children.ensures.value in
+    c.nodes.ensures
+    ∙ ap refs (joined_end (λ xs. filter h (map (target_of tree) xs)) refl items c.loop-child.child-index (targets_at c.loop-child.found) _ c.loop-child-test.false c.loop-child.invariant)
     ∙ kept-parts h from (map (target_of tree) items) here
 
 pub call_data-returns-in_ok-values-in-Custom-clause-value : goal.call_data-returns-in_ok-values-in-Custom-clause-value
 call_data-returns-in_ok-values-in-Custom-clause-value g t c =
-    let tree = g.T.Queryable.tree in
     let custom = g.T.Queryable.custom in
-    let d = document tree custom c.args.self.now in
-    let k = content_of tree c.args.given.now in
+    let d = document c.args.self.now in
+    let k = content_at c.args.given.now in
     let e = ap call_view c.in-Custom.is ∙ call_view-Custom c.in-Custom.name c.in-Custom.args in
     let seen : List Tree → Content = λ ts. value (custom (string_bytes c.in-Custom.name) ts) in
-    ok_through _ (content_of tree) _ _ (ap seen (c.in_ok-values-in-Custom.ensures.value ∙ ap (λ (xs : List FnArg). arguments_trees (arguments_in xs) d k) c.deref.ensures.value) ∙ sym (ap (λ s. call_content s d k) e)) c.custom_data.ensures.value
+    ok_through _ content_at _ _ (ap seen (c.in_ok-values-in-Custom.ensures.value ∙ ap (λ (xs : List FnArg). arguments_trees (arguments_in xs) d k) c.deref.ensures.value) ∙ sym (ap (λ s. call_content s d k) e)) c.custom_data.ensures.value
 
 pub segments_data-segment_data-requires : goal.segments_data-segment_data-requires
 segments_data-segment_data-requires g t c κs within =
     let w = part_of (λ (x : Segment). segment_weight (segment_view x)) (λ xs. segments_weight (segments_in xs)) (λ x xs. refl) c.args.segments.now c.loop-segment.segment-index c.segment-item.result c.loop-segment-test.true c.segment-item.is in
-    (omega (arith, c.decreases, w), (within, (c.requires.root, c.loop-segment.invariant.whole)))
+    (omega (arith, c.decreases, w), within)
 
 pub segments_data-loop-segment-preserved : goal.segments_data-loop-segment-preserved
 segments_data-loop-segment-preserved g t c =
-    let tree = g.T.Queryable.tree in
-    let d = document tree g.T.Queryable.custom c.args.self.now in
+    let d = document c.args.self.now in
     record {
       made = fold_next (λ (gs : List Segment) (k : Content). segments_content (segments_in gs) d k) (λ x. segment_content (segment_view x) d) (λ x xs k. refl) c.args.segments.now c.loop-segment.segment-index c.segment-item.result _ _ _ c.loop-segment-test.true c.segment-item.is c.in_ok-answer.ensures.value c.loop-segment.invariant.made;
-      whole = c.in_ok-answer.ensures.whole;
       within = stays_next (segment_view c.segment-item.result) d _ _ _ c.in_ok-answer.ensures.value c.loop-segment.invariant.within;
     }
 
 pub segments_data-returns-clause-value : goal.segments_data-returns-clause-value
 segments_data-returns-clause-value g t c =
-    let tree = g.T.Queryable.tree in
-    let d = document tree g.T.Queryable.custom c.args.self.now in
-    parts_end (λ (gs : List Segment). segments_content (segments_in gs) d (content_of tree c.loop-segment.answer)) c.args.segments.now c.loop-segment.segment-index _ c.loop-segment-test.false c.loop-segment.invariant.made
+    let d = document c.args.self.now in
+    parts_end (λ (gs : List Segment). segments_content (segments_in gs) d (content_at c.loop-segment.answer)) c.args.segments.now c.loop-segment.segment-index _ c.loop-segment-test.false c.loop-segment.invariant.made
 
 pub joined-selector_data-requires : goal.joined-selector_data-requires
 joined-selector_data-requires g t c κs within =
     let w = part_of (λ (x : Selector). selector_weight (selector_view x)) (λ xs. selectors_weight (selectors_in xs)) (λ x xs. refl) c.args.selectors.now c.loop-selector.selector-index c.selector-item.result c.loop-selector-test.true c.selector-item.is in
-    (omega (arith, c.decreases, w), (within, (c.requires.root, search rules)))
+    (omega (arith, c.decreases, w), within)
 
 pub joined-loop-selector-preserved : goal.joined-loop-selector-preserved
 joined-loop-selector-preserved g t c =
-    let tree = g.T.Queryable.tree in
-    let d = document tree g.T.Queryable.custom c.args.self.now in
-    let p = target_of tree c.args.from.now in
-    let inv = c.loop-selector.invariant in
-    let found = c.in_ok-found.ensures.value ∙ ap (λ q. selector_content (selector_view c.selector-item.result) d (ref q)) c.in_ok-try_clone.ensures.seen in
-    record {
-      made = fold_next (λ (ss : List Selector) (k : Content). joined_from (selectors_in ss) d k p) (λ x k. reduced k (selector_content (selector_view x) d (ref p))) (λ x xs k. refl) c.args.selectors.now c.loop-selector.selector-index c.selector-item.result _ _ _ c.loop-selector-test.true c.selector-item.is (c.in_ok-all.ensures.value ∙ ap (reduced (content_of tree c.loop-selector.all)) found) inv.made;
-      whole = c.in_ok-all.ensures.whole inv.whole c.in_ok-found.ensures.whole;
-    }
+    let d = document c.args.self.now in
+    let p = target_at c.args.from in
+    let here = c.node-here.ensures ∙ ap ref c.in_ok-try_clone.ensures.value in
+    let found = c.in_ok-found.ensures.value ∙ ap (λ k. selector_content (selector_view c.selector-item.result) d k) here in
+    fold_next (λ (ss : List Selector) (k : Content). joined_from (selectors_in ss) d k p) (λ x k. reduced k (selector_content (selector_view x) d (ref p))) (λ x xs k. refl) c.args.selectors.now c.loop-selector.selector-index c.selector-item.result _ _ _ c.loop-selector-test.true c.selector-item.is (c.in_ok-all.ensures.value ∙ ap (reduced (content_at c.loop-selector.all)) found) c.loop-selector.invariant
 
 pub joined-returns-clause-value : goal.joined-returns-clause-value
 joined-returns-clause-value g t c =
-    let tree = g.T.Queryable.tree in
-    let d = document tree g.T.Queryable.custom c.args.self.now in
-    parts_end (λ (ss : List Selector). joined_from (selectors_in ss) d (content_of tree c.loop-selector.all) (target_of tree c.args.from.now)) c.args.selectors.now c.loop-selector.selector-index _ c.loop-selector-test.false c.loop-selector.invariant.made
+    let d = document c.args.self.now in
+    parts_end (λ (ss : List Selector). joined_from (selectors_in ss) d (content_at c.loop-selector.all) (target_at c.args.from)) c.args.selectors.now c.loop-selector.selector-index _ c.loop-selector-test.false c.loop-selector.invariant
 
 pub some_holds-holds-requires : goal.some_holds-holds-requires
 some_holds-holds-requires g t c κs within =
     let w = part_of (λ (x : Filter). filter_weight (filter_view x)) (λ xs. filters_weight (filters_in xs)) (λ x xs. refl) c.args.parts.now c.loop-part.part-index c.part-item.result c.loop-part-test.true c.part-item.is in
-    (omega (arith, c.decreases, w), (within, (c.requires.root, c.requires.whole)))
+    (omega (arith, c.decreases, w), within)
 
 pub some_holds-returns-then-branch-clause-value : goal.some_holds-returns-then-branch-clause-value
 some_holds-returns-then-branch-clause-value g t c =
-    let tree = g.T.Queryable.tree in
-    let d = document tree g.T.Queryable.custom c.args.self.now in
-    let k = content_of tree c.args.given.now in
+    let d = document c.args.self.now in
+    let k = content_at c.args.given.now in
     some_found (λ (fs : List Filter). some_holds_at (filters_in fs) d k) (λ f. holds_at (filter_view f) d k) (λ x xs. refl) c.args.parts.now c.loop-part.part-index c.part-item.result _ c.loop-part-test.true c.part-item.is (sym c.in_ok-holds.ensures.value ∙ c.if-branch.true) c.loop-part.invariant
 
 pub some_holds-loop-part-preserved : goal.some_holds-loop-part-preserved
 some_holds-loop-part-preserved g t c =
-    let tree = g.T.Queryable.tree in
-    let d = document tree g.T.Queryable.custom c.args.self.now in
-    let k = content_of tree c.args.given.now in
+    let d = document c.args.self.now in
+    let k = content_at c.args.given.now in
     some_next (λ (fs : List Filter). some_holds_at (filters_in fs) d k) (λ f. holds_at (filter_view f) d k) (λ x xs. refl) c.args.parts.now c.loop-part.part-index c.part-item.result _ c.loop-part-test.true c.part-item.is (sym c.in_ok-holds.ensures.value ∙ c.if-branch.false) c.loop-part.invariant
 
 pub some_holds-returns-clause-value : goal.some_holds-returns-clause-value
 some_holds-returns-clause-value g t c =
-    let tree = g.T.Queryable.tree in
-    let d = document tree g.T.Queryable.custom c.args.self.now in
-    parts_end (λ (fs : List Filter). some_holds_at (filters_in fs) d (content_of tree c.args.given.now)) c.args.parts.now c.loop-part.part-index _ c.loop-part-test.false c.loop-part.invariant
+    let d = document c.args.self.now in
+    parts_end (λ (fs : List Filter). some_holds_at (filters_in fs) d (content_at c.args.given.now)) c.args.parts.now c.loop-part.part-index _ c.loop-part-test.false c.loop-part.invariant
 
 pub each_holds-holds-requires : goal.each_holds-holds-requires
 each_holds-holds-requires g t c κs within =
     let w = part_of (λ (x : Filter). filter_weight (filter_view x)) (λ xs. filters_weight (filters_in xs)) (λ x xs. refl) c.args.parts.now c.loop-part.part-index c.part-item.result c.loop-part-test.true c.part-item.is in
-    (omega (arith, c.decreases, w), (within, (c.requires.root, c.requires.whole)))
+    (omega (arith, c.decreases, w), within)
 
 pub each_holds-returns-then-not-branch-clause-value : goal.each_holds-returns-then-not-branch-clause-value
 each_holds-returns-then-not-branch-clause-value g t c =
-    let tree = g.T.Queryable.tree in
-    let d = document tree g.T.Queryable.custom c.args.self.now in
-    let k = content_of tree c.args.given.now in
+    let d = document c.args.self.now in
+    let k = content_at c.args.given.now in
     each_failed (λ (fs : List Filter). each_holds_at (filters_in fs) d k) (λ f. holds_at (filter_view f) d k) (λ x xs. refl) c.args.parts.now c.loop-part.part-index c.part-item.result _ c.loop-part-test.true c.part-item.is (sym c.in_ok-holds.ensures.value ∙ c.if-not-branch.true) c.loop-part.invariant
 
 pub each_holds-loop-part-preserved : goal.each_holds-loop-part-preserved
 each_holds-loop-part-preserved g t c =
-    let tree = g.T.Queryable.tree in
-    let d = document tree g.T.Queryable.custom c.args.self.now in
-    let k = content_of tree c.args.given.now in
+    let d = document c.args.self.now in
+    let k = content_at c.args.given.now in
     each_next (λ (fs : List Filter). each_holds_at (filters_in fs) d k) (λ f. holds_at (filter_view f) d k) (λ x xs. refl) c.args.parts.now c.loop-part.part-index c.part-item.result _ c.loop-part-test.true c.part-item.is (sym c.in_ok-holds.ensures.value ∙ c.if-not-branch.false) c.loop-part.invariant
 
 pub each_holds-returns-clause-value : goal.each_holds-returns-clause-value
 each_holds-returns-clause-value g t c =
-    let tree = g.T.Queryable.tree in
-    let d = document tree g.T.Queryable.custom c.args.self.now in
-    parts_end (λ (fs : List Filter). each_holds_at (filters_in fs) d (content_of tree c.args.given.now)) c.args.parts.now c.loop-part.part-index _ c.loop-part-test.false c.loop-part.invariant
+    let d = document c.args.self.now in
+    parts_end (λ (fs : List Filter). each_holds_at (filters_in fs) d (content_at c.args.given.now)) c.args.parts.now c.loop-part.part-index _ c.loop-part-test.false c.loop-part.invariant
 
 pub segment_data-returns-in_err-below-in-Descendant-clause-refused : goal.segment_data-returns-in_err-below-in-Descendant-clause-refused
 segment_data-returns-in_err-below-in-Descendant-clause-refused g t c =
@@ -219,10 +189,9 @@ segment_data-returns-in-Selectors-clause-refused g t c =
 
 pub segment_data-returns-in_ok-below-in-Descendant-clause-refused : goal.segment_data-returns-in_ok-below-in-Descendant-clause-refused
 segment_data-returns-in_ok-below-in-Descendant-clause-refused g t c =
-    let tree = g.T.Queryable.tree in
-    let d = document g.T.Queryable.tree g.T.Queryable.custom c.args.self.now in
-    let k = content_of g.T.Queryable.tree c.args.given in
-    let distinct = data-distinct tree g.T.Queryable.is_whole g.met.T.Queryable.distinct c.args.given c.requires.whole in
+    let d = document c.args.self.now in
+    let k = content_at c.args.given in
+    let distinct = data-distinct g.T.Queryable.tree g.T.Queryable.is_whole g.met.T.Queryable.distinct c.args.given.content c.args.given.whole in
     let e = ap segment_view c.in-Descendant.is ∙ segment_view-Descendant c.in-Descendant.inner in
     let same = ap (λ (s : Segment). segment_patterns (segment_view s)) c.deref-in-Descendant.ensures ∙ sym (ap segment_patterns e) in
     halts_as _ c.segment_data.ensures.refused (λ h. asks_same _ _ same (asks_parents d k _ distinct c.in_ok-below-in-Descendant.ensures.value h))
@@ -230,9 +199,9 @@ segment_data-returns-in_ok-below-in-Descendant-clause-refused g t c =
 pub each_target-returns-in_err-found-in-Refs-clause-refused : goal.each_target-returns-in_err-found-in-Refs-clause-refused
 each_target-returns-in_err-found-in-Refs-clause-refused g t c =
     let tree = g.T.Queryable.tree in
-    let d = document g.T.Queryable.tree g.T.Queryable.custom c.args.self.now in
-    let k = content_of g.T.Queryable.tree c.args.given in
-    let distinct = data-distinct tree g.T.Queryable.is_whole g.met.T.Queryable.distinct c.args.given c.requires.whole in
+    let d = document c.args.self.now in
+    let k = content_at c.args.given in
+    let distinct = data-distinct g.T.Queryable.tree g.T.Queryable.is_whole g.met.T.Queryable.distinct c.args.given.content c.args.given.whole in
     let items = c.deref-from-items.result.now in
     let same = ap (λ z. targets (content_of tree z)) c.in-Refs.is ∙ ap (map (target_of tree)) (sym c.deref-from-items.ensures.value) in
     halts_so _ _ c.from_residual.ensures.1 c.in_err-found-in-Refs.ensures.refused (λ h. asks_target (target_of tree) d k items c.loop-from.from-index c.from-item.result distinct same c.loop-from-test.true c.from-item.is h)
@@ -240,11 +209,11 @@ each_target-returns-in_err-found-in-Refs-clause-refused g t c =
 pub kept-returns-in_err-is_kept-in-Some-clause-refused : goal.kept-returns-in_err-is_kept-in-Some-clause-refused
 kept-returns-in_err-is_kept-in-Some-clause-refused g t c =
     let tree = g.T.Queryable.tree in
-    let d = document g.T.Queryable.tree g.T.Queryable.custom c.args.self.now in
-    let from = target_of tree c.args.from.now in
+    let d = document c.args.self.now in
+    let from = target_at c.args.from in
     let items = c.deref-child-items.result.now in
-    let distinct = g.met.T.Queryable.distinct c.args.from.now.inner.now c.requires.whole in
-    let here : Some (map (target_of tree) items) ≡ parts_from from = ap (λ xs. Some (map (target_of tree) xs)) c.deref-child-items.ensures.value ∙ ap (λ o. option_map (λ v. map (target_of tree) v.items) o) (sym c.in-Some.is) ∙ c.in_ok-children.ensures.value in
+    let distinct = g.met.T.Queryable.distinct c.args.from.pointer.now.inner.now c.args.from.whole in
+    let here : Some (map (target_of tree) items) ≡ parts_from from = ap (λ xs. Some (map (target_of tree) xs)) c.deref-child-items.ensures.value ∙ ap (option_map targets_at) (sym c.in-Some.is) ∙ c.in_ok-children.ensures.value in
     halts_so _ _ c.from_residual-in_err-is_kept-in-Some.ensures.1 c.in_err-is_kept-in-Some.ensures.refused (λ h. asks_child (target_of tree) d from items c.loop-child.child-index c.child-item.result _ distinct here c.loop-child-test.true c.child-item.is (ap ref c.empty.ensures.seen) h)
 
 pub comparison_holds-returns-in_err-left-clause-refused : goal.comparison_holds-returns-in_err-left-clause-refused
@@ -259,16 +228,16 @@ comparison_holds-returns-in_err-right-clause-refused g t c =
 
 pub test_data-returns-in_ok-here-in-RelQuery-clause-refused : goal.test_data-returns-in_ok-here-in-RelQuery-clause-refused
 test_data-returns-in_ok-here-in-RelQuery-clause-refused g t c =
-    let d = document g.T.Queryable.tree g.T.Queryable.custom c.args.self.now in
-    let k = content_of g.T.Queryable.tree c.args.given.now in
+    let d = document c.args.self.now in
+    let k = content_at c.args.given.now in
     let e = ap test_view c.in-RelQuery.is ∙ test_view-RelQuery c.in-RelQuery.segments in
     let same = ap (λ (xs : List Segment). segments_patterns (segments_in xs)) c.deref.ensures.value ∙ sym (ap test_patterns e) in
-    halts_as _ c.segments_data.ensures.refused (λ h. asks_too d k (asks_below d _ k (c.in_ok-here-in-RelQuery.ensures.value c.requires.whole) (asks_same _ _ same h)))
+    halts_as _ c.segments_data.ensures.refused (λ h. asks_too d k (asks_below d _ k c.in_ok-here-in-RelQuery.ensures.value (asks_same _ _ same h)))
 
 pub test_data-returns-in_ok-here-in-AbsQuery-clause-refused : goal.test_data-returns-in_ok-here-in-AbsQuery-clause-refused
 test_data-returns-in_ok-here-in-AbsQuery-clause-refused g t c =
-    let d = document g.T.Queryable.tree g.T.Queryable.custom c.args.self.now in
-    let k = content_of g.T.Queryable.tree c.args.given.now in
+    let d = document c.args.self.now in
+    let k = content_at c.args.given.now in
     let e = ap test_view c.in-AbsQuery.is ∙ test_view-AbsQuery c.in-AbsQuery.query ∙ ap absolute (query_view-segments c.in-AbsQuery.query) in
     let same = ap (λ (xs : List Segment). segments_patterns (segments_in xs)) c.deref-in-AbsQuery.ensures.value ∙ sym (ap test_patterns e) in
     halts_as _ c.segments_data-in-AbsQuery.ensures.refused (λ h. asks_root d k (asks_below d _ (root_content d) c.in_ok-here-in-AbsQuery.ensures.value (asks_same _ _ same h)))
@@ -290,8 +259,8 @@ call_data-returns-in_err-pattern-in-Search-clause-refused g t c =
 
 pub call_data-returns-in_ok-pattern-in-Search-clause-refused : goal.call_data-returns-in_ok-pattern-in-Search-clause-refused
 call_data-returns-in_ok-pattern-in-Search-clause-refused g t c =
-    let d = document g.T.Queryable.tree g.T.Queryable.custom c.args.self.now in
-    let k = content_of g.T.Queryable.tree c.args.given.now in
+    let d = document c.args.self.now in
+    let k = content_at c.args.given.now in
     let e = ap call_patterns (ap call_view c.in-Search.is ∙ call_view-Search c.in-Search.text c.in-Search.pattern) in
     halts_as _ c.found_data.ensures.refused (λ h. asks_same _ _ (sym e) (asks_here d false (argument_view c.in-Search.pattern) _ k _ (inl refl) (ap plain c.in_ok-pattern-in-Search.ensures.value) h))
 
@@ -307,8 +276,8 @@ call_data-returns-in_err-pattern-in-Match-clause-refused g t c =
 
 pub call_data-returns-in_ok-pattern-in-Match-clause-refused : goal.call_data-returns-in_ok-pattern-in-Match-clause-refused
 call_data-returns-in_ok-pattern-in-Match-clause-refused g t c =
-    let d = document g.T.Queryable.tree g.T.Queryable.custom c.args.self.now in
-    let k = content_of g.T.Queryable.tree c.args.given.now in
+    let d = document c.args.self.now in
+    let k = content_at c.args.given.now in
     let e = ap call_patterns (ap call_view c.in-Match.is ∙ call_view-Match c.in-Match.text c.in-Match.pattern) in
     halts_as _ c.found_data-in-Match.ensures.refused (λ h. asks_same _ _ (sym e) (asks_here d true (argument_view c.in-Match.pattern) _ k _ (inl refl) (ap plain c.in_ok-pattern-in-Match.ensures.value) h))
 
@@ -320,18 +289,18 @@ arguments-returns-in_err-answer-clause-refused g t c =
 
 pub segments_data-returns-in_err-answer-clause-refused : goal.segments_data-returns-in_err-answer-clause-refused
 segments_data-returns-in_err-answer-clause-refused g t c =
-    let d = document g.T.Queryable.tree g.T.Queryable.custom c.args.self.now in
-    let k = content_of g.T.Queryable.tree c.args.given in
+    let d = document c.args.self.now in
+    let k = content_at c.args.given in
     let f = λ (x : Segment). segment_patterns (segment_view x) in
     let all = λ (xs : List Segment). segments_patterns (segments_in xs) in
     halts_so _ _ c.from_residual.ensures.1 c.in_err-answer.ensures.refused (λ h. asks_at f all (λ x xs. refl) c.args.segments.now c.loop-segment.segment-index c.segment-item.result c.loop-segment-test.true c.segment-item.is (asks_within d k _ c.loop-segment.invariant.within h))
 
 pub joined-returns-in_err-found-clause-refused : goal.joined-returns-in_err-found-clause-refused
 joined-returns-in_err-found-clause-refused g t c =
-    let d = document g.T.Queryable.tree g.T.Queryable.custom c.args.self.now in
+    let d = document c.args.self.now in
     let f = λ (x : Selector). selector_patterns (selector_view x) in
     let all = λ (xs : List Selector). selectors_patterns (selectors_in xs) in
-    halts_so _ _ c.from_residual-in_err-found.ensures.1 c.in_err-found.ensures.refused (λ h. asks_at f all (λ x xs. refl) c.args.selectors.now c.loop-selector.selector-index c.selector-item.result c.loop-selector-test.true c.selector-item.is (asks_below d _ _ (ap ref c.in_ok-try_clone.ensures.seen) h))
+    halts_so _ _ c.from_residual-in_err-found.ensures.1 c.in_err-found.ensures.refused (λ h. asks_at f all (λ x xs. refl) c.args.selectors.now c.loop-selector.selector-index c.selector-item.result c.loop-selector-test.true c.selector-item.is (asks_below d _ _ (c.node-here.ensures ∙ ap ref c.in_ok-try_clone.ensures.value) h))
 
 pub some_holds-returns-in_err-holds-clause-refused : goal.some_holds-returns-in_err-holds-clause-refused
 some_holds-returns-in_err-holds-clause-refused g t c =
@@ -347,10 +316,8 @@ each_holds-returns-in_err-holds-clause-refused g t c =
 
 pub segments_data-loop-segment-init : goal.segments_data-loop-segment-init
 segments_data-loop-segment-init g t c =
-    let tree = g.T.Queryable.tree in
-    let d = document tree g.T.Queryable.custom c.args.self.now in
+    let d = document c.args.self.now in
     record {
       made = refl;
-      whole = c.requires.whole;
-      within = stays-itself d (content_of tree c.args.given) (data-distinct tree g.T.Queryable.is_whole g.met.T.Queryable.distinct c.args.given c.requires.whole);
+      within = stays-itself d (content_at c.args.given) (data-distinct g.T.Queryable.tree g.T.Queryable.is_whole g.met.T.Queryable.distinct c.args.given.content c.args.given.whole);
     }

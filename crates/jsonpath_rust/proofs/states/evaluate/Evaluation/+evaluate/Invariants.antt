@@ -3,8 +3,8 @@ use Rattle.std.specs.List.{AllByRecursion, flat_map}
 use Rattle.jsonpath_parser.specs.tree.View.{segment_view, selector_view, filter_view, atom_view, test_view, comparison_view, comparable_view, call_view, argument_view}
 use Rattle.jsonpath_rust.specs.documents.inner.Operands.{arg_trees}
 use Rattle.jsonpath_rust.specs.states.Process.{segments_content, joined_from, holds_at, some_holds_at, each_holds_at, arguments_trees}
-use Rattle.jsonpath_rust.specs.states.State.{Target, nothing, targets, inside, target_of, content_of, PointersAreWhole, DataIsWhole}
-use Rattle.jsonpath_rust.specs.states.inner.Evaluating.{document, part_content}
+use Rattle.jsonpath_rust.specs.states.State.{Target, nothing, targets, inside, target_of}
+use Rattle.jsonpath_rust.specs.states.inner.Evaluating.{document, content_at, target_at, targets_at, part_content}
 use Rattle.jsonpath_rust.specs.documents.inner.Parts.{segments_in, selectors_in, filters_in, arguments_in}
 use Rattle.jsonpath_rust.proofs.laws.states.PartWeight.{part_weight}
 use Rattle.jsonpath_rust.specs.documents.inner.Weight.{segments_weight, segment_weight, selectors_weight, selector_weight, filter_weight, filters_weight, atom_weight, test_weight, comparison_weight, comparable_weight, call_weight, argument_weight, arguments_weight}
@@ -70,61 +70,46 @@ decreases-argument_data g l = 4 * argument_weight (argument_view l.arg.now)
 abbrev pub invariant-each_target-loop-from : goal.invariant-each_target-loop-from
 invariant-each_target-loop-from g l =
     let tree = g.T.Queryable.tree in
-    let d = document tree g.T.Queryable.custom l.self in
+    let d = document l.self in
     let f : Target → List Target = λ p. targets (part_content l.part d p) in
-    record {
-      made : map (target_of tree) l.all.items ++ flat_map f (map (target_of tree) (drop l.from-index l.from-items)) ≡ flat_map f (map (target_of tree) l.from-items);
-      whole : PointersAreWhole g.T.Queryable.is_whole l.all.items;
-    }
+    targets_at l.all ++ flat_map f (map (target_of tree) (drop l.from-index l.from-items)) ≡ flat_map f (map (target_of tree) l.from-items)
 
 abbrev pub invariant-kept-loop-child : goal.invariant-kept-loop-child
 invariant-kept-loop-child g l =
     let tree = g.T.Queryable.tree in
-    let d = document tree g.T.Queryable.custom l.self in
+    let d = document l.self in
     let h : Target → Bool = λ p. holds_at (filter_view l.filter) d (inside p.tree) in
-    record {
-      made : map (target_of tree) l.found.items ++ filter h (map (target_of tree) (drop l.child-index l.child-items)) ≡ filter h (map (target_of tree) l.child-items);
-      whole : PointersAreWhole g.T.Queryable.is_whole l.found.items;
-    }
+    targets_at l.found ++ filter h (map (target_of tree) (drop l.child-index l.child-items)) ≡ filter h (map (target_of tree) l.child-items)
 
 abbrev pub invariant-arguments-loop-arg : goal.invariant-arguments-loop-arg
 invariant-arguments-loop-arg g l =
-    let tree = g.T.Queryable.tree in
-    let d = document tree g.T.Queryable.custom l.self in
-    arg_trees l.values ++ arguments_trees (arguments_in (drop l.arg-index l.args)) d (content_of tree l.given) ≡ arguments_trees (arguments_in l.args) d (content_of tree l.given)
+    let d = document l.self in
+    arg_trees l.values ++ arguments_trees (arguments_in (drop l.arg-index l.args)) d (content_at l.given) ≡ arguments_trees (arguments_in l.args) d (content_at l.given)
 
 -- what the segments that are left make of the answer so far
 abbrev pub invariant-segments_data-loop-segment : goal.invariant-segments_data-loop-segment
 invariant-segments_data-loop-segment g l =
-    let tree = g.T.Queryable.tree in
-    let d = document tree g.T.Queryable.custom l.self in
+    let d = document l.self in
     record {
-      made : segments_content (segments_in (drop l.segment-index l.segments)) d (content_of tree l.answer) ≡ segments_content (segments_in l.segments) d (content_of tree l.initial.answer);
-      whole : DataIsWhole g.T.Queryable.is_whole l.answer;
-      within : AllByRecursion (Stays (tops d (content_of tree l.initial.answer))) (targets (content_of tree l.answer));
+      made : segments_content (segments_in (drop l.segment-index l.segments)) d (content_at l.answer) ≡ segments_content (segments_in l.segments) d (content_at l.initial.answer);
+      within : AllByRecursion (Stays (tops d (content_at l.initial.answer))) (targets (content_at l.answer));
     }
 
 -- what the selectors that are left join behind what there is
 abbrev pub invariant-joined-loop-selector : goal.invariant-joined-loop-selector
 invariant-joined-loop-selector g l =
-    let tree = g.T.Queryable.tree in
-    let d = document tree g.T.Queryable.custom l.self in
-    let p = target_of tree l.from in
-    record {
-      made : joined_from (selectors_in (drop l.selector-index l.selectors)) d (content_of tree l.all) p ≡ joined_from (selectors_in l.selectors) d nothing p;
-      whole : DataIsWhole g.T.Queryable.is_whole l.all;
-    }
+    let d = document l.self in
+    let p = target_at l.from in
+    joined_from (selectors_in (drop l.selector-index l.selectors)) d (content_at l.all) p ≡ joined_from (selectors_in l.selectors) d nothing p
 
 -- the parts that are left decide
 abbrev pub invariant-some_holds-loop-part : goal.invariant-some_holds-loop-part
 invariant-some_holds-loop-part g l =
-    let tree = g.T.Queryable.tree in
-    let d = document tree g.T.Queryable.custom l.self in
-    some_holds_at (filters_in (drop l.part-index l.parts)) d (content_of tree l.given) ≡ some_holds_at (filters_in l.parts) d (content_of tree l.given)
+    let d = document l.self in
+    some_holds_at (filters_in (drop l.part-index l.parts)) d (content_at l.given) ≡ some_holds_at (filters_in l.parts) d (content_at l.given)
 
 -- the parts that are left decide
 abbrev pub invariant-each_holds-loop-part : goal.invariant-each_holds-loop-part
 invariant-each_holds-loop-part g l =
-    let tree = g.T.Queryable.tree in
-    let d = document tree g.T.Queryable.custom l.self in
-    each_holds_at (filters_in (drop l.part-index l.parts)) d (content_of tree l.given) ≡ each_holds_at (filters_in l.parts) d (content_of tree l.given)
+    let d = document l.self in
+    each_holds_at (filters_in (drop l.part-index l.parts)) d (content_at l.given) ≡ each_holds_at (filters_in l.parts) d (content_at l.given)

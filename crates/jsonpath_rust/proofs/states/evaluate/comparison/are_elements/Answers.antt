@@ -1,5 +1,6 @@
 use Rattle.std.proofs.Common.{◌≡◌, map, ap, ◌∙◌, sym, Some}
 use Rattle.jsonpath_base.specs.Tree.{as_list}
+use Rattle.jsonpath_rust.specs.documents.inner.Whole.{tree_of}
 use Rattle.jsonpath_rust.specs.states.Process.{lists_same}
 use Rattle.jsonpath_rust.specs.states.State.{target_of}
 use Rattle.jsonpath_rust.proofs.laws.states.Found.{targets-trees, are_trees-list}
@@ -9,5 +10,5 @@ pub returns-in-Some : goal.returns-in-Some
 returns-in-Some g c =
     let tree = g.T.Queryable.tree in
     let ts = map tree c.deref.result.now in
-    let is_list : Some ts ≡ as_list (tree c.args.list.now) = ap (λ xs. Some (map tree xs)) c.deref.ensures.value ∙ c.in-Some.ensures.value c.requires.left in
-    c.are_same_values.ensures ∙ ap (lists_same ts) (sym (targets-trees tree c.args.nodes.now)) ∙ are_trees-list (tree c.args.list.now) ts (map (target_of tree) c.args.nodes.now) is_list
+    let is_list : Some ts ≡ as_list (tree_of c.args.list) = ap (λ xs. Some (map tree xs)) c.deref.ensures.value ∙ c.in-Some.ensures.value in
+    c.are_same_values.ensures ∙ ap (lists_same ts) (sym (targets-trees tree c.args.nodes.now)) ∙ are_trees-list (tree_of c.args.list) ts (map (target_of tree) c.args.nodes.now) is_list

@@ -1,14 +1,10 @@
 use Rattle.std.proofs.Common.{◌≡◌, map, drop}
 use Rattle.jsonpath_parser.specs.tree.View.{step_view}
 use Rattle.jsonpath_rust.specs.states.Process.{steps_content}
-use Rattle.jsonpath_rust.specs.states.State.{content_of, DataIsWhole}
+use Rattle.jsonpath_rust.specs.states.inner.Evaluating.{content_at}
 use Rattle.jsonpath_rust.proofs.states.evaluate.singular.steps_data.Given as goal
 
 -- what the steps that are left make of the answer so far
 abbrev pub invariant-loop-step : goal.invariant-loop-step
 invariant-loop-step g l =
-    let tree = g.T.Queryable.tree in
-    record {
-      made : steps_content (map step_view (drop l.step-index l.steps)) (content_of tree l.answer) ≡ steps_content (map step_view l.steps) (content_of tree l.initial.answer);
-      whole : DataIsWhole g.T.Queryable.is_whole l.answer;
-    }
+    steps_content (map step_view (drop l.step-index l.steps)) (content_at l.answer) ≡ steps_content (map step_view l.steps) (content_at l.initial.answer)

@@ -1,0 +1,15 @@
+use Rattle.std.proofs.Common.{◌≡◌, ◌++◌, map, drop}
+use Rattle.std.specs.List.{flat_map}
+use Rattle.jsonpath_rust.specs.documents.Node.{root_node}
+use Rattle.jsonpath_rust.specs.documents.Meaning.{element}
+use Rattle.jsonpath_rust.specs.states.State.{under}
+use Rattle.jsonpath_rust.specs.states.inner.Evaluating.{target_at, targets_at}
+use Rattle.jsonpath_rust.proofs.states.whole.WholePointerRef.sliced.Given as goal
+
+-- what was found, with what is left
+abbrev pub invariant-loop-at : goal.invariant-loop-at
+invariant-loop-at g l =
+    let from = target_at l.self in
+    let path = from.path in
+    let n = root_node from.tree in
+    targets_at l.found ++ map (under path) (flat_map (λ k. element k n) (drop l.at-index l.at-items)) ≡ map (under path) (flat_map (λ k. element k n) l.at-items)
