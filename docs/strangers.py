@@ -1,11 +1,14 @@
-"""Measures what queries of strangers cost, and the stack that they need: two tables of docs/PERFORMANCE.md.
+"""Measures what queries of strangers cost, the stack that they need, and what a unit of work takes: tables of docs/PERFORMANCE.md.
 
     python3 docs/strangers.py times crates/jpath/out/jpath
     python3 docs/strangers.py stack crates/jpath/out/jpath
+    python3 docs/strangers.py units crates/uses/out/uses
 
 Each row of the first table is a query with its document, in several sizes: the least of three runs of `jpath values`, in
 processor seconds, a slash between the sizes. Its like, which looks at the current node where the query looks at the
-root, comes behind. The second table has the least stack of `jpath nodes`, in KB, to within 64.
+root, comes behind. The second table has the least stack of `jpath nodes`, in KB, to within 64. The third has, for several
+sizes of query or document, the least units that are enough for `js_path_limited`, and nanoseconds a unit: the least of three
+runs with one unit less, and less the time of a run with none.
 """
 
 import json
@@ -82,6 +85,33 @@ def members(size):
     return f"$.l[?{ored(f'in({i},$.a)' for i in range(1, 700))}]", {"l": numbers(size), "a": numbers(size)}
 
 
+def side_by_side(nest):
+    """A function of a count: so many nests of the form, each of its own, as tests of one filter. No document is needed."""
+
+    return lambda count: (f"$[?{ored(nest(i) for i in range(count))}]", [])
+
+
+def filters_from_the_root(depth):
+    """A function of a number: filters from the root in one another."""
+
+    return lambda number: "$" + "[?$" * (depth - 1) + f"[?@.a{number}]" + "]" * (depth - 1)
+
+
+def calls(innermost):
+    """A function of a depth: calls in one another, 400 numbers beside each, around this. No document is needed."""
+
+    return lambda depth: (f"$[?{('f(' + '1,' * 400) * depth}{innermost}{')' * depth}]", [])
+
+
+def guarded(size):
+    """A count behind a name that is not there, with a third query in its nest, on lists in one another."""
+    return "$.none[?count($..*..*..*..*..*[?$[?$[?@.x]]])>9]", nest_of_lists(size)
+
+
+def nest_of_lists(size):
+    return json.loads("[" * size + "]" * size)
+
+
 def with_query(row, query):
     """The same document under another query."""
     return lambda size: (query, row(size)[1])
@@ -97,6 +127,8 @@ def of_current_nodes(row):
     return like
 
 
+TOWERS = side_by_side(filters_from_the_root(123))
+EQUAL = side_by_side(lambda number: filters_from_the_root(123)(0))
 EIGHT = [f"x{i}" for i in range(8)]
 # What the row is, the row, its like, and its sizes.
 ROWS = [
@@ -110,6 +142,10 @@ ROWS = [
     ("subset_of", subsets, subsets_like, [200, 400, 800]),
     ("length", lengths, with_query(lengths, "$.l[?@==5]"), [20000, 40000]),
     ("unequal lists", differing, with_query(differing, "$.l[?@.a!=@.b]"), [1000, 2000, 4000]),
+    ("nests of 123 filters side by side", TOWERS, of_current_nodes(TOWERS), [60, 125, 250]),
+    ("equal nests", EQUAL, of_current_nodes(EQUAL), [60, 125, 250]),
+    ("calls in one another", calls("1"), calls("@"), [30, 60, 120]),
+    ("a guard", guarded, with_query(guarded, "$.none[?count($..*..*..*..*..*[?$[?@.x]])>9]"), [30, 60, 90]),
     ("699 tests of a list", members, with_query(members, f"$.l[?{ored(f'@==-{i}' for i in range(1, 700))}]"), [2000, 4000, 8000]),
 ]
 
@@ -226,8 +262,64 @@ def stack(program):
         print(f"| {name}, {columns[0]} and {columns[1]} | {found[0]} | {found[1]} |", flush=True)
 
 
+# What is asked under a limit, and in which sizes.
+UNITS = [
+    ("a name below all", lambda size: ("$..x", [{"k": {str(i): i for i in range(10)}} for _ in range(size)]), [1000, 10000]),
+    ("lists compared", lambda size: ("$[" + "0," * 199 + "0][?@==$[1]]", [[numbers(size)], numbers(size)]), [1000, 10000, 100000]),
+    ("objects compared", lambda size: ("$[" + "0," * 199 + "0][?@==$[1]]", [[named(size)], named(size)]), [1000, 10000]),
+    ("a list on the left of an object", lambda size: ("$.l[?$.o==@]", {"l": numbers(size), "o": named(size)}), [1000, 4000, 16000]),
+    ("a nodelist spliced", lambda size: ("$.l[?f(@,$.l[*])]", {"l": numbers(size)}), [1000, 2000, 4000]),
+    ("a long name compared", lambda size: ("$[" + "0," * 299 + "0][?@==$[1]]", [[{"a" * size: 1}], {"a" * size: 1}]), [10**5, 10**6]),
+    ("patterns of the query", lambda size: (f"$[?{ored(f'search(@,{chr(39)}(a{{1000}}){{500}}{i}{chr(39)})' for i in range(size))}]", ["b"]), [1, 10, 40]),
+    ("patterns of the document", lambda size: ("$[?search('b',@)]", ["(a{1000}){500}" + str(i) for i in range(size)]), [1, 10, 40]),
+    ("a large pattern on a text", lambda size: ("$[?search(@,'(a|b)*a(a|b){400}c')]", ["ab" * size]), [1000, 10000]),
+    ("a third query in a nest", lambda size: ("$.l[?@.x&&count($..*..*..*[?$[?$[?@.x]]])>9]", {"l": [1, 2], "m": nest_of_lists(size)}), [30, 60, 120]),
+    ("sets", lambda size: ("$[?subset_of(@.a,@.b)]", subsets_like(size)[1]), [200, 400, 800]),
+    ("paths of a long name", lambda size: ("$.*[*]", {"a" * size: numbers(100)}), [10**4, 10**5, 10**6]),
+]
+
+
+def named(count):
+    return {f"k{i}": i for i in range(count)}
+
+
+def asked(program, text, units):
+    """Whether so many units are enough, and nanoseconds."""
+    run = subprocess.run([program, "units", str(units)], input=text, capture_output=True, check=True, text=True)
+    enough, nanoseconds = run.stdout.split()
+    return enough == "true", int(nanoseconds)
+
+
+def least_units(program, text):
+    """It doubles the units until they are enough, and then halves what is between."""
+    enough = 1
+    while not asked(program, text, enough)[0]:
+        enough *= 2
+    less = enough // 2
+    while enough - less > 1:
+        middle = (enough + less) // 2
+        if asked(program, text, middle)[0]:
+            enough = middle
+        else:
+            less = middle
+    return enough
+
+
+def units(program):
+    for name, row, sizes in UNITS:
+        counts, times = [], []
+        for size in sizes:
+            query, document = row(size)
+            text = query + "\n" + json.dumps(document) + "\n"
+            count = least_units(program, text)
+            without, taken = (min(asked(program, text, so_many)[1] for _ in range(3)) for so_many in (0, count - 1))
+            counts.append(count)
+            times.append(f"{(taken - without) / count:.0f}")
+        print(f"| {name}, {'/'.join(map(str, sizes))} | {'/'.join(map(str, counts))} | {'/'.join(times)} |", flush=True)
+
+
 if __name__ == "__main__":
-    tables = {"times": times, "stack": stack}
+    tables = {"times": times, "stack": stack, "units": units}
     if len(sys.argv) != 3 or sys.argv[1] not in tables:
         sys.exit(__doc__)
     tables[sys.argv[1]](sys.argv[2])

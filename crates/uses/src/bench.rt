@@ -5,6 +5,8 @@
 //! - `route COUNT`: nanoseconds for each message that all of a table is asked of, by runners, prepared and by `js_path_process`.
 //! - `calls COUNT`: nanoseconds for each call on a tiny document, by text and by tree, query.
 //! - `delete BYTES`: locations deleted, nanoseconds for each of these, query.
+//! - `units COUNT`: whether so many units of work are enough for the query that is the first line of standard input on the document
+//!   that is the second one, and nanoseconds.
 //! - `document BYTES`, `messages COUNT`: what was asked; before the messages stand the queries of the table.
 mod calls;
 pub mod counts;
@@ -13,6 +15,7 @@ mod queries;
 mod report;
 mod routes;
 mod timing;
+mod units;
 
 use std::io;
 use std::io::ErrorKind;
@@ -25,6 +28,7 @@ pub fn run(rt: &HostRuntime, word: &str, size: &str) -> io::Result<()> {
         ("route", Ok(count)) => report::routes(rt, count),
         ("calls", Ok(count)) => report::calls(rt, count),
         ("delete", Ok(bytes)) => report::deletions(rt, bytes),
+        ("units", Ok(count)) => units::limited(rt, count),
         ("document", Ok(bytes)) => report::document(rt, bytes),
         ("messages", Ok(count)) => report::messages(rt, count),
         _ => Err(ErrorKind::InvalidInput.into()),

@@ -10,6 +10,7 @@ pub mod Leaves
 pub mod LookupLaws
 pub mod NodelistLaws
 pub mod Passing
+pub mod PlanEquality
 pub mod PlanEquations
 pub mod PlanLaws
 pub mod RootedLaws

@@ -41,6 +41,11 @@ impl Budget {
         }
     }
 
+    /// How many units are left.
+    pub fn left(&self) -> usize {
+        self.left
+    }
+
     /// Takes so many units from what is left. Where it is less, and limited, the walk halts.
     #[inline(always)]
     pub fn spend(&mut self, limit: Limit, units: usize) -> Walked<()>

@@ -28,35 +28,41 @@ impl Limit {
         }
     }
 
-    /// What a comparison costs: the size of the smaller side.
+    /// What a comparison costs: the size of the smaller side, or `most` where that is less. No more of them is looked at.
     #[inline(always)]
     pub fn comparison_cost<T: Queryable>(
         self,
         alloc: Global,
-        left: &Operand<'_, '_, T>,
-        right: &Operand<'_, '_, T>,
+        sides: (&Operand<'_, '_, T>, &Operand<'_, '_, T>),
+        most: usize,
     ) -> Walked<usize>
-        ensures cost { IfOk result (λ n. self ≡ Limited → n ≡ compared_cost (valued left.now) (valued right.now)) }
+        ensures cost { IfOk result (λ n. self ≡ Limited → n ≡ min (compared_cost (valued sides.entry.0.now) (valued sides.entry.1.now)) most) }
         ensures memory { IfErr result (λ h. h ≡ Memory) }
     {
         match self {
             Limit::Unlimited => Ok(0),
-            Limit::Limited => match (value_in(left), value_in(right)) {
-                (Some(left), Some(right)) => smaller_size(alloc, left, right),
-                _ => Ok(1),
+            Limit::Limited => match (value_in(sides.0), value_in(sides.1)) {
+                (Some(left), Some(right)) => smaller_size(alloc, left, right, most),
+                _ => Ok(most.min(1)),
             },
         }
     }
 
-    /// What a custom function costs: one for each value that it is given, and the product of their sizes.
+    /// What a custom function costs: one for each value that it is given, and the product of their sizes; or at least `most`, where
+    /// no more of them is looked at.
     #[inline(always)]
-    pub fn custom_cost<T: Queryable>(self, alloc: Global, args: &Args<'_, T>) -> Walked<usize>
-        ensures each { IfOk result (λ n. self ≡ Limited → length (arg_trees args.now) ≤ n) }
+    pub fn custom_cost<T: Queryable>(
+        self,
+        alloc: Global,
+        args: &Args<'_, T>,
+        most: usize,
+    ) -> Walked<usize>
+        ensures each { IfOk result (λ n. self ≡ Limited → min (length (arg_trees args.now)) most ≤ n) }
         ensures memory { IfErr result (λ h. h ≡ Memory) }
     {
         match self {
             Limit::Unlimited => Ok(0),
-            Limit::Limited => size_of_arguments(alloc, args),
+            Limit::Limited => size_of_arguments(alloc, args, most),
         }
     }
 }
@@ -83,54 +89,68 @@ fn value_in<'k, T: Queryable>(operand: &'k Operand<'_, '_, T>) -> Option<WholeRe
     }
 }
 
-/// The size of the smaller of two values. The time goes with that, not with the larger one.
+/// The size of the smaller of two values, or `most` where that is less. The time goes with that, not with the larger one.
 fn smaller_size<T: Queryable>(
     alloc: Global,
     left: WholeRef<'_, T>,
     right: WholeRef<'_, T>,
+    most: usize,
 ) -> Walked<usize>
-    ensures size { IfOk result (λ n. n ≡ smaller_cost (tree_of left.entry) (tree_of right.entry)) }
+    ensures size { IfOk result (λ n. n ≡ min (smaller_cost (tree_of left.entry) (tree_of right.entry)) most) }
     ensures memory { IfErr result (λ h. h ≡ Memory) }
 {
-    let most = bound_of_smaller(alloc, left, right)?;
-    let size = size_within(alloc, left, most)?;
+    let bound = bound_of_smaller(alloc, left, right, most)?;
+    let size = size_within(alloc, left, bound)?;
     size_within(alloc, right, size)
 }
 
-/// A bound that the size of the smaller of two values keeps. Each is counted as far as some bound, which is raised until one of
-/// them lies below it.
+/// A bound that the size of the smaller of two values keeps, or `most`. Each is counted as far as some bound, which is raised
+/// until one of them lies below it.
 fn bound_of_smaller<T: Queryable>(
     alloc: Global,
     left: WholeRef<'_, T>,
     right: WholeRef<'_, T>,
+    most: usize,
 ) -> Walked<usize>
-    ensures bound { IfOk result (λ n. smaller_cost (tree_of left.entry) (tree_of right.entry) ≤ n) }
+    ensures bound { IfOk result (λ n. min (smaller_cost (tree_of left.entry) (tree_of right.entry)) most ≤ n) }
+    ensures within { IfOk result (λ n. n ≤ most) }
     ensures memory { IfErr result (λ h. h ≡ Memory) }
 {
-    let mut most: usize = 4;
-    while most < usize::MAX {
-        if size_within(alloc, left, most)? < most {
-            return Ok(most);
+    let mut bound: usize = 4;
+    while bound < most {
+        if size_within(alloc, left, bound)? < bound {
+            return Ok(bound);
         }
-        if size_within(alloc, right, most)? < most {
-            return Ok(most);
+        if size_within(alloc, right, bound)? < bound {
+            return Ok(bound);
         }
-        most = most.saturating_mul(4);
+        bound = bound.saturating_mul(4);
     }
     Ok(most)
 }
 
-/// How many these values are, and the product of their sizes.
-fn size_of_arguments<T: Queryable>(alloc: Global, args: &Args<'_, T>) -> Walked<usize>
-    ensures each { IfOk result (λ n. length (arg_trees args.now) ≤ n) }
+/// How many these values are, and the product of their sizes; or at least `most`, where no more of them is looked at.
+fn size_of_arguments<T: Queryable>(
+    alloc: Global,
+    args: &Args<'_, T>,
+    most: usize,
+) -> Walked<usize>
+    ensures each { IfOk result (λ n. min (length (arg_trees args.now)) most ≤ n) }
     ensures memory { IfErr result (λ h. h ≡ Memory) }
 {
+    let count = args.list.len();
+    if count >= most {
+        return Ok(count);
+    }
     let mut product: usize = 1;
     for arg in &args.list {
-        let size = size_within(alloc, WholeRef { value: arg.get() }, usize::MAX)?;
+        if product >= most {
+            return Ok(product);
+        }
+        let size = size_within(alloc, WholeRef { value: arg.get() }, most)?;
         product = product.saturating_mul(size);
     }
-    Ok(product.saturating_add(args.list.len()))
+    Ok(product.saturating_add(count))
 }
 
 /// The size of a value, or `most` where that is less: one for each value in it, and for each few bytes of its texts and names.

@@ -1,13 +1,13 @@
 //! Entries that are worked out before the walk, so that never more than a few are on their way at once.
 ghost use Rattle.std.specs.Prelude.{◌≡◌, [], IfErr, OnOk};
-ghost use Rattle.jsonpath_rust.specs.declared.documents.halt.Halt.TheVariants.{Memory};
-ghost use Rattle.jsonpath_rust.specs.selection.inner.Keeping.{IsReady};
+ghost use Rattle.jsonpath_rust.specs.selection.inner.Halting.{IsHalt};
+ghost use Rattle.jsonpath_rust.specs.selection.inner.Keeping.{IsReady, document};
 
 use crate::documents::depth::is_deeper;
 use crate::documents::halt::{Halt, Walked};
 use crate::documents::queryable::Queryable;
-use crate::selection::budget::Limit;
-use crate::selection::plan::{MOST_AT_ONCE, Rooted, Turn};
+use crate::selection::budget::{Budget, Limit};
+use crate::selection::plan::{MOST_AT_ONCE, Rooted};
 use crate::selection::sink::Wanted;
 use crate::selection::trail::Trail;
 use crate::selection::walk::Task;
@@ -26,9 +26,9 @@ impl<'a: 's, 's, T: Queryable> Task<'a, 's, T> {
         requires { IsReady self.now trail.old.cache }
         ensures ready { OnOk result (IsReady self.now trail.new.cache) }
         ensures way { OnOk result (trail.new.way.steps.items ≡ []) }
-        ensures memory { IfErr result (λ h. h ≡ Memory) }
+        ensures halts { IfErr result (IsHalt self.now.limit [] (document self.now)) }
     {
-        if !self.stands_deep()? {
+        if !self.stands_deep(&mut trail.budget)? {
             trail.way = Way::new(self.alloc);
             return Ok(());
         }
@@ -42,33 +42,35 @@ impl<'a: 's, 's, T: Queryable> Task<'a, 's, T> {
     }
 
     /// Whether queries from the root that are asked in one another's walks could stand on more than `MOST_LEVELS` levels of the
-    /// document, all together. Where the work is limited the answer is yes: the document is not looked at.
-    fn stands_deep(&self) -> Walked<bool>
-        ensures { IfErr result (λ h. h ≡ Memory) }
+    /// document, all together. Only where so many stand in one another is the document looked at, for a unit a value.
+    fn stands_deep(&self, budget: &mut Budget) -> Walked<bool>
+        ensures { IfErr result (IsHalt self.now.limit [] (document self.now)) }
     {
         if self.plan.nesting < MOST_AT_ONCE {
             return Ok(false);
         }
         let levels = MOST_LEVELS / self.plan.nesting.saturating_add(1);
-        match self.limit {
-            Limit::Unlimited if levels >= LEVELS_BESIDE => {
-                is_deeper(self.alloc, self.root.value, levels - LEVELS_BESIDE)
-            }
-            _ => Ok(true),
+        if levels < LEVELS_BESIDE {
+            return Ok(true);
         }
+        let most = budget.left();
+        let mut looks = most;
+        let levels = levels - LEVELS_BESIDE;
+        let deep = is_deeper(self.alloc, self.root.value, levels, &mut looks)?;
+        budget.spend(self.limit, most.saturating_sub(looks))?;
+        Ok(deep)
     }
 
-    /// What is wanted of the entry of this number, if its turn is early.
+    /// What is wanted of the entry of this number, if it is worked out early.
     fn early_want(&self, number: usize) -> Option<Wanted> {
         let entry = self.plan.kept.get(number)?;
-        match (&entry.part, entry.turn) {
-            (Rooted::Nodes(_segments, wanted), Turn::Early) => Some(*wanted),
+        match &entry.part {
+            Rooted::Nodes(_segments, wanted) if entry.nesting.is_early() => Some(*wanted),
             _ => None,
         }
     }
 
-    /// Works out an entry. Where a pattern in it is too large that is kept, for the walk may never ask it. Where no work is left
-    /// the walk finds that out by itself.
+    /// Works out an entry. Where a pattern in it is too large that is kept, for the walk may never ask it.
     fn work_out(
         &self,
         number: usize,
@@ -77,13 +79,16 @@ impl<'a: 's, 's, T: Queryable> Task<'a, 's, T> {
     ) -> Walked<()>
         requires { IsReady self.now trail.old.cache }
         ensures ready { IsReady self.now trail.new.cache }
-        ensures memory { IfErr result (λ h. h ≡ Memory) }
+        ensures halts { IfErr result (IsHalt self.now.limit [] (document self.now)) }
     {
         match self.kept_nodes(number, wanted, trail) {
             Ok(_gathered) => Ok(()),
             Err(Halt::Pattern) => Ok(()),
-            Err(Halt::Spent) => Ok(()),
             Err(Halt::Memory) => Err(Halt::Memory),
+            Err(Halt::Spent) => match self.limit {
+                Limit::Limited => Err(Halt::Spent),
+                Limit::Unlimited => Ok(()),
+            },
         }
     }
 }

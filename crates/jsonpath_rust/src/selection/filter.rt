@@ -134,7 +134,9 @@ impl<'a: 's, 's, T: Queryable> Task<'a, 's, T> {
         }
         let left = self.side(sides.0, at, trail)?;
         let right = self.side(sides.1, at, trail)?;
-        let cost = self.limit.comparison_cost(self.alloc, &left, &right)?;
+        let most = trail.budget.left().saturating_add(1);
+        let both = (&left, &right);
+        let cost = self.limit.comparison_cost(self.alloc, both, most)?;
         trail.budget.spend(self.limit, cost)?;
         Ok(compares(operator, &left.as_side(), &right.as_side()))
     }

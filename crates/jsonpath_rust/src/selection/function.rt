@@ -117,7 +117,8 @@ impl<'a: 's, 's, T: Queryable> Task<'a, 's, T> {
             let argument = self.argument(arg, Wanted::Values, at, trail)?;
             argument.push_to(self.alloc, &trail.cache, &mut values)?;
         }
-        let cost = self.limit.custom_cost(self.alloc, &values)?;
+        let most = trail.budget.left().saturating_add(1);
+        let cost = self.limit.custom_cost(self.alloc, &values, most)?;
         trail.budget.spend(self.limit, cost)?;
         let value = T::extension_custom(self.alloc, name, &values.list)?;
         Ok(Operand::Made(Whole { value }))

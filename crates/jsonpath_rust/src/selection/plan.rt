@@ -9,7 +9,7 @@ mod make;
 mod patterns;
 mod steps;
 
-pub use self::keeping::MOST_AT_ONCE;
+pub use self::keeping::{MOST_AT_ONCE, Nesting};
 pub use self::make::plan_of;
 use crate::selection::sink::Wanted;
 use jsonpath_parser::model::{Literal, Operator, SingularQuerySegment};
@@ -37,11 +37,11 @@ pub struct Plan {
 #[derive(Drop)]
 pub struct Entry {
     pub part: Rooted,
-    pub turn: Turn,
+    pub nesting: Nesting,
 }
 
 /// A part of the query without `@`.
-#[derive(Drop)]
+#[derive(Drop, PartialEq)]
 pub enum Rooted {
     /// What is wanted of the nodes of a query from the root.
     Nodes(Vec<Segment>, Wanted),
@@ -53,17 +53,8 @@ pub enum Rooted {
     Comparison(Operator, Side, Side),
 }
 
-/// When an entry is worked out.
-#[derive(Clone, Copy)]
-pub enum Turn {
-    /// When it is first asked.
-    Asked,
-    /// Before the walk where the document is deep, so that never more than a few entries are on their way at once.
-    Early,
-}
-
 /// A segment, which replaces each node by nodes below it (RFC 9535, 2.5).
-#[derive(Drop)]
+#[derive(Drop, PartialEq)]
 #[cycle(plan)]
 pub enum Segment {
     /// `..`: the segment at each node and at all nodes below it.
@@ -75,7 +66,7 @@ pub enum Segment {
 }
 
 /// Where a segment goes from a node (2.3).
-#[derive(Drop)]
+#[derive(Drop, PartialEq)]
 #[cycle(plan)]
 pub enum Selector {
     /// To the member of this name.
@@ -91,7 +82,7 @@ pub enum Selector {
 }
 
 /// A logical expression (2.3.5).
-#[derive(Drop)]
+#[derive(Drop, PartialEq)]
 #[cycle(plan)]
 pub enum Filter {
     /// Some part holds.
@@ -111,7 +102,7 @@ pub enum Filter {
 }
 
 /// The nodes of a query inside a filter, by how they are found. The place where they stand tells what is wanted of them.
-#[derive(Drop)]
+#[derive(Drop, PartialEq)]
 #[cycle(plan)]
 pub enum Nodes {
     /// By these steps from the current node.
@@ -123,7 +114,7 @@ pub enum Nodes {
 }
 
 /// A side of a comparison (2.3.5.1).
-#[derive(Drop)]
+#[derive(Drop, PartialEq)]
 #[cycle(plan)]
 pub enum Side {
     /// A literal.
@@ -137,7 +128,7 @@ pub enum Side {
 }
 
 /// A call, by where it is worked out.
-#[derive(Drop)]
+#[derive(Drop, PartialEq)]
 #[cycle(plan)]
 pub enum Called {
     /// A call that is made at each node.
@@ -147,7 +138,7 @@ pub enum Called {
 }
 
 /// A call of a function (2.4).
-#[derive(Drop)]
+#[derive(Drop, PartialEq)]
 #[cycle(plan)]
 pub enum Call {
     /// A function of any name. All values of its arguments are wanted.
@@ -165,7 +156,7 @@ pub enum Call {
 }
 
 /// An argument of a call.
-#[derive(Drop)]
+#[derive(Drop, PartialEq)]
 #[cycle(plan)]
 pub enum Argument {
     /// A literal.

@@ -29,7 +29,7 @@ pub enum Only<'a, T: Queryable> {
 }
 
 /// What is wanted of the nodes of a query inside a filter.
-#[derive(Clone, Copy, Debug)]
+#[derive(Clone, Copy, Debug, PartialEq)]
 pub enum Wanted {
     /// Whether there is one.
     Any,

@@ -9,11 +9,10 @@ use Rattle.std.specs.List.{list_all}
 use Rattle.jsonpath_parser.specs.tree.Syntax as tree
 use Rattle.jsonpath_parser.specs.tree.View.{segments_of}
 use Rattle.jsonpath_rust.specs.selection.inner.PlanViews.{Kept, KeptPart, nodes, value, kept_view, kept_from, rooted_view, segments_meant, segment_view, is_same_wanted, query_in, part_at, part_is_rooted, IsSettled, IsRooted, AreRooted}
-use Rattle.jsonpath_rust.specs.selection.inner.PlanMaking.{Extends, IsRight, Made, IsBeside, IsKept, IsNumbered, IsNumberOf, kept_in, parts_of, source_of}
+use Rattle.jsonpath_rust.specs.selection.inner.PlanMaking.{Extends, IsRight, Made, IsBeside, IsKept, IsNumbered, IsNumberOf, kept_in, parts_where}
 use Rattle.jsonpath_rust.specs.declared.selection.plan.Entry.{Entry}
 use Rattle.jsonpath_rust.specs.declared.selection.plan.Rooted.{Rooted}
 use Rattle.jsonpath_rust.specs.declared.selection.plan.Segment.{Segment}
-use Rattle.jsonpath_rust.specs.declared.selection.plan.keeping.Source.{Source}
 use Rattle.jsonpath_rust.specs.declared.selection.plan.make.Maker.{Maker}
 use Rattle.jsonpath_rust.specs.declared.selection.sink.Wanted.{Wanted}
 use Rattle.jsonpath_rust.specs.declared.selection.sink.Wanted.TheVariants.{Any, Count, Only, Values}
@@ -26,50 +25,49 @@ extends_on a b c h k = record { more = h.more ++ k.more; is = k.is ∙ ap (λ x.
 
 -- nothing more is kept
 pub made_none : {A : Type 0} (m : Maker) (part : Kept → A) (a : A) → ((kept : Kept) → part kept ≡ a) → Made m m part a
-made_none m part a s = record { grows = extends_none (kept_in m); says = λ kept h. s kept; right = λ r. r }
+made_none m part a s = record { grows = extends_none (kept_in m); says = λ r kept h. s kept; right = λ r. r }
 
 -- nothing is kept between the two
 right_beside : (old new : Maker) → IsBeside old new → IsRight old → IsRight new
 right_beside old new b r =
-    let e : kept_in new ≡ kept_in old = ap parts_of b.met in
+    let e : kept_in new ≡ kept_in old = ap kept_view b.entries in
     record {
-      is = ap kept_view b.entries ∙ r.is ∙ sym e;
-      settled = λ kept x. ap (map (λ p. rooted_view kept p.part)) b.entries ∙ r.settled kept (subst (λ k. Extends k kept) e x) ∙ sym e;
+      settled = λ kept x. ap (parts_where kept) b.entries ∙ r.settled kept (subst (λ k. Extends k kept) e x) ∙ sym e;
       rooted = ap (list_all part_is_rooted) e ∙ r.rooted;
     }
 
 pub made_beside : {A : Type 0} (old new : Maker) (part : Kept → A) (a : A) → IsBeside old new → ((kept : Kept) → part kept ≡ a) → Made old new part a
 made_beside old new part a b s = record {
-  grows = subst (Extends (kept_in old)) (sym (ap parts_of b.met)) (extends_none (kept_in old));
-  says = λ kept h. s kept;
+  grows = subst (Extends (kept_in old)) (sym (ap kept_view b.entries)) (extends_none (kept_in old));
+  says = λ r kept h. s kept;
   right = right_beside old new b;
 }
 
 pub made_after : {A : Type 0} {old mid new : Maker} {part : Kept → A} {a : A} → IsBeside old mid → Made mid new part a → Made old new part a
 made_after {old = old} {mid = mid} {new = new} b m = record {
-  grows = subst (λ k. Extends k (kept_in new)) (ap parts_of b.met) m.grows;
-  says = m.says;
+  grows = subst (λ k. Extends k (kept_in new)) (ap kept_view b.entries) m.grows;
+  says = λ r. m.says (right_beside old mid b r);
   right = λ r. m.right (right_beside old mid b r);
 }
 
 pub made_before : {A : Type 0} {old mid new : Maker} {part : Kept → A} {a : A} → IsBeside mid new → Made old mid part a → Made old new part a
 made_before {old = old} {mid = mid} {new = new} b m =
-    let e : kept_in new ≡ kept_in mid = ap parts_of b.met in
+    let e : kept_in new ≡ kept_in mid = ap kept_view b.entries in
     record {
       grows = subst (Extends (kept_in old)) (sym e) m.grows;
-      says = λ kept x. m.says kept (subst (λ k. Extends k kept) e x);
+      says = λ r kept x. m.says r kept (subst (λ k. Extends k kept) e x);
       right = λ r. right_beside mid new b (m.right r);
     }
 
 -- the part in other words, or what holds it
 pub made_as : {A B : Type 0} {old new : Maker} {part : Kept → A} {a : A} (k : A → B) (whole : Kept → B) (b : B) → ((kept : Kept) → whole kept ≡ k (part kept)) → b ≡ k a → Made old new part a → Made old new whole b
-made_as k whole b e f m = record { grows = m.grows; says = λ kept h. e kept ∙ ap k (m.says kept h) ∙ sym f; right = m.right }
+made_as k whole b e f m = record { grows = m.grows; says = λ r kept h. e kept ∙ ap k (m.says r kept h) ∙ sym f; right = m.right }
 
 -- two parts, one after the other
 pub made_both : {A B C : Type 0} {old mid new : Maker} {first : Kept → A} {second : Kept → B} {a : A} {b : B} (k : A → B → C) (whole : Kept → C) (c : C) → ((kept : Kept) → whole kept ≡ k (first kept) (second kept)) → c ≡ k a b → Made old mid first a → Made mid new second b → Made old new whole c
 made_both {old = old} {mid = mid} {new = new} {first = first} {second = second} {a = a} {b = b} k whole c e f m n = record {
   grows = extends_on (kept_in old) (kept_in mid) (kept_in new) m.grows n.grows;
-  says = λ kept h. e kept ∙ ap (λ x. k x (second kept)) (m.says kept (extends_on (kept_in mid) (kept_in new) kept n.grows h)) ∙ ap (k a) (n.says kept h) ∙ sym f;
+  says = λ r kept h. e kept ∙ ap (λ x. k x (second kept)) (m.says r kept (extends_on (kept_in mid) (kept_in new) kept n.grows h)) ∙ ap (k a) (n.says (m.right r) kept h) ∙ sym f;
   right = λ r. n.right (m.right r);
 }
 
@@ -79,7 +77,7 @@ made_start m view source xs ys e = made_none m (λ kept. map (view kept) xs) (ma
 
 -- all of a list
 pub made_end : {Y A : Type 0} {old new : Maker} (part : Kept → List A) (source : Y → A) (ys : List Y) (i : ℕ) → length ys ≤ i → Made old new part (map source (take i ys)) → Made old new part (map source ys)
-made_end part source ys i h m = record { grows = m.grows; says = λ kept x. m.says kept x ∙ ap (map source) (take_all i ys h); right = m.right }
+made_end part source ys i h m = record { grows = m.grows; says = λ r kept x. m.says r kept x ∙ ap (map source) (take_all i ys h); right = m.right }
 
 -- one more of a list
 pub made_next : {X Y A : Type 0} {old mid new : Maker} (view : Kept → X → A) (source : Y → A) (xs zs : List X) (x : X) (ys : List Y) (i : ℕ) (y : Y) → zs ≡ xs ++ x ∷ [] → i < length ys → y ≡ get_or ys i y → Made old mid (λ kept. map (view kept) xs) (map source (take i ys)) → Made mid new (λ kept. view kept x) (source y) → Made old new (λ kept. map (view kept) zs) (map source (take (i + 1) ys))
@@ -101,65 +99,65 @@ kept_push : (kept : Kept) (es : List Entry) (e : Entry) → kept_from kept (es +
 kept_push kept [] e = refl
 kept_push kept (x ∷ es) e = kept_push (kept ++ rooted_view kept x.part ∷ []) es e
 
--- the entry of this number keeps what is sought
-pub made_found : (old new : Maker) (s : Source) (n : ℕ) → IsBeside old new → IsNumberOf old.met.items s n → Made old new (λ kept. part_at kept n) (source_of s)
-made_found old new s n b h = made_before b (record {
-  grows = extends_none (kept_in old);
-  says = λ kept x. ap (λ l. part_at l n) x.is ∙ get_or_append_left (kept_in old) x.more (value []) n (subst (λ k. n < k) (sym (length-map old.met.items (λ e. source_of e.source))) h.within) ∙ h.is;
-  right = λ r. r;
-})
+-- as many are kept as there are entries
+kept_count : (m : Maker) → IsRight m → length (kept_in m) ≡ length m.kept.items
+kept_count m r = sym (ap (λ l. length l) (r.settled (kept_in m) (extends_none (kept_in m)))) ∙ length-map m.kept.items (λ e. rooted_view (kept_in m) e.part)
 
--- the entry that was made keeps what it was made of
-pub made_kept : {old mid new : Maker} (part : Rooted) (s : Source) (n : ℕ) → IsKept mid new part s n → (AreRooted (kept_in mid) → IsTrue (part_is_rooted (source_of s))) → Made old mid (λ kept. rooted_view kept part) (source_of s) → Made old new (λ kept. part_at kept n) (source_of s)
-made_kept {old = old} {mid = mid} {new = new} part s n k root m =
-    let p : KeptPart = source_of s in
-    let seam : n ≡ length (kept_in mid) = k.number ∙ sym (length-map mid.met.items (λ e. source_of e.source)) in
-    let grown : kept_in new ≡ kept_in mid ++ p ∷ [] = ap parts_of k.met ∙ map-append (λ e. source_of e.source) mid.met.items _ in
-    let grows : Extends (kept_in mid) (kept_in new) = record { more = p ∷ []; is = grown } in
+-- the entry of this number stands for what the part stands for
+numbered_found : (m : Maker) (part : Rooted) (n : ℕ) → IsNumberOf m.kept.items part n → IsNumbered m m part n
+numbered_found m part n h = record { made = λ {first} {p} d root. record {
+  grows = d.grows;
+  says = λ r kept x.
+      let right : IsRight m = d.right r in
+      ap (λ l. part_at l n) x.is ∙ get_or_append_left (kept_in m) x.more (value []) n (subst (λ k. n < k) (sym (kept_count m right)) h.within) ∙ ap (λ l. part_at l n) (sym (right.settled kept x)) ∙ h.is kept ∙ d.says r kept x;
+  right = d.right;
+} }
+
+-- the entry that was made stands for what the part stands for
+pub numbered_kept : (old new : Maker) (part : Rooted) (n : ℕ) → IsKept old new part n → IsNumbered old new part n
+numbered_kept old new part n k = record { made = λ {first} {p} m root.
+    let last : KeptPart = rooted_view (kept_in old) part in
+    let grown : kept_in new ≡ kept_in old ++ last ∷ [] = ap kept_view k.entries ∙ kept_push [] old.kept.items _ in
+    let grows : Extends (kept_in old) (kept_in new) = record { more = last ∷ []; is = grown } in
+    let is : IsRight first → last ≡ p = λ r. m.says r (kept_in old) (extends_none (kept_in old)) in
     record {
-      grows = extends_on (kept_in old) (kept_in mid) (kept_in new) m.grows grows;
-      says = λ kept x. ap (λ l. part_at l n) (x.is ∙ ap (λ l. l ++ x.more) grown ∙ append_assoc (kept_in mid) (p ∷ []) x.more) ∙ ap (λ i. part_at (kept_in mid ++ p ∷ x.more) i) seam ∙ get_or-append_seam (kept_in mid) p x.more (value []);
+      grows = extends_on (kept_in first) (kept_in old) (kept_in new) m.grows grows;
+      says = λ r kept x. ap (λ l. part_at l n) (x.is ∙ ap (λ l. l ++ x.more) grown ∙ append_assoc (kept_in old) (last ∷ []) x.more) ∙ ap (λ i. part_at (kept_in old ++ last ∷ x.more) i) (k.number ∙ sym (kept_count old (m.right r))) ∙ get_or-append_seam (kept_in old) last x.more (value []) ∙ is r;
       right = λ r.
-          let was : IsRight mid = m.right r in
+          let was : IsRight old = m.right r in
           record {
-            is = ap kept_view k.entries ∙ kept_push [] mid.kept.items _ ∙ ap (λ l. l ++ rooted_view l part ∷ []) was.is ∙ ap (λ q. kept_in mid ++ q ∷ []) (m.says (kept_in mid) (extends_none (kept_in mid))) ∙ sym grown;
             settled = λ kept x.
-                let on : Extends (kept_in mid) kept = extends_on (kept_in mid) (kept_in new) kept grows x in
-                ap (map (λ e. rooted_view kept e.part)) k.entries ∙ map-append (λ e. rooted_view kept e.part) mid.kept.items _ ∙ ap (λ l. l ++ rooted_view kept part ∷ []) (was.settled kept on) ∙ ap (λ q. kept_in mid ++ q ∷ []) (m.says kept on) ∙ sym grown;
-            rooted = ap (list_all part_is_rooted) grown ∙ list_all-append part_is_rooted (kept_in mid) (p ∷ []) ∙ and_from _ _ was.rooted (and_from _ _ (root was.rooted) refl);
+                let on : Extends (kept_in old) kept = extends_on (kept_in old) (kept_in new) kept grows x in
+                ap (parts_where kept) k.entries ∙ map-append (λ e. rooted_view kept e.part) old.kept.items _ ∙ ap (λ l. l ++ rooted_view kept part ∷ []) (was.settled kept on) ∙ ap (λ q. kept_in old ++ q ∷ []) (m.says r kept on ∙ sym (is r)) ∙ sym grown;
+            rooted = ap (list_all part_is_rooted) grown ∙ list_all-append part_is_rooted (kept_in old) (last ∷ []) ∙ and_from _ _ was.rooted (and_from _ _ (ap part_is_rooted (is r) ∙ root r) refl);
           };
-    }
+    } }
 
-pub numbered_kept : (old mid new : Maker) (part : Rooted) (s : Source) (n : ℕ) → IsBeside old mid → IsKept mid new part s n → IsNumbered old new part s n
-numbered_kept old mid new part s n b k = record { made = λ m root. made_kept part s n k (λ r. root (subst AreRooted (ap parts_of b.met) r)) (made_before b m) }
+pub numbered_by : {old new : Maker} {part : Rooted} {n : ℕ} → IsNumberOf old.kept.items part n → IsBeside old new → IsNumbered old new part n
+numbered_by {old = old} {new = new} {part = part} {n = n} h b = record { made = λ m root. made_before b ((numbered_found old part n h).made m root) }
 
--- the part that was made stands for the source, so what it shows, the source has
-pub source_rooted : {A : Type 0} {old new : Maker} {part : Kept → A} {a : A} (test : A → Bool) → Made old new part a → ((kept : Kept) → AreRooted kept → IsTrue (test (part kept))) → AreRooted (kept_in new) → IsTrue (test a)
-source_rooted {new = new} test m shows r = sym (ap test (m.says (kept_in new) (extends_none (kept_in new)))) ∙ shows (kept_in new) r
+-- nothing else was kept before it
+pub numbered_after : {old mid new : Maker} {part : Rooted} {n : ℕ} → IsBeside old mid → IsNumbered mid new part n → IsNumbered old new part n
+numbered_after b k = record { made = λ m root. k.made (made_before b m) root }
+
+-- the part that was made stands for this, so what it shows, this has
+pub source_rooted : {A : Type 0} {old new : Maker} {part : Kept → A} {a : A} (test : A → Bool) → Made old new part a → ((kept : Kept) → AreRooted kept → IsTrue (test (part kept))) → IsRight old → IsTrue (test a)
+source_rooted {new = new} test m shows r = sym (ap test (m.says r (kept_in new) (extends_none (kept_in new)))) ∙ shows (kept_in new) (m.right r).rooted
 
 -- ---- the plan
 
--- where nothing was kept before, what is kept is what each entry was made of
-end_right : {A : Type 0} {old new : Maker} {part : Kept → A} {a : A} → Made old new part a → old.kept.items ≡ [] → old.met.items ≡ [] → IsRight new
-end_right m k s = m.right (record {
-  is = ap kept_view k ∙ sym (ap parts_of s);
-  settled = λ kept x. ap (map (λ e. rooted_view kept e.part)) k ∙ sym (ap parts_of s);
-  rooted = ap (λ l. list_all part_is_rooted (parts_of l)) s;
-})
+-- where nothing is kept, it is right
+begun_right : (m : Maker) → m.kept.items ≡ [] → IsRight m
+begun_right m k = record {
+  settled = λ kept x. ap (parts_where kept) k ∙ sym (ap kept_view k);
+  rooted = ap (λ l. list_all part_is_rooted (kept_view l)) k;
+}
 
--- that is all that is kept
-end_extends : (new : Maker) → IsRight new → Extends (kept_in new) (kept_view new.kept.items)
-end_extends new r = subst (Extends (kept_in new)) (sym r.is) (extends_none (kept_in new))
+pub plan_made : {old new : Maker} {was : List tree.Segment} (gs : List Segment) → Made old new (λ kept. map (segment_view kept) gs) was → old.kept.items ≡ [] → segments_meant (kept_view new.kept.items) gs ≡ segments_of was
+plan_made {old = old} {new = new} gs m k = ap segments_of (m.says (begun_right old k) (kept_in new) (extends_none (kept_in new)))
 
-pub plan_made : {old new : Maker} {was : List tree.Segment} (gs : List Segment) → Made old new (λ kept. map (segment_view kept) gs) was → old.kept.items ≡ [] → old.met.items ≡ [] → segments_meant (kept_view new.kept.items) gs ≡ segments_of was
-plan_made {new = new} gs m k s = ap segments_of (m.says (kept_view new.kept.items) (end_extends new (end_right m k s)))
+pub plan_settled : {A : Type 0} {old new : Maker} {part : Kept → A} {a : A} → Made old new part a → old.kept.items ≡ [] → IsSettled new.kept.items
+plan_settled {old = old} {new = new} m k = (m.right (begun_right old k)).settled (kept_in new) (extends_none (kept_in new))
 
-pub plan_settled : {A : Type 0} {old new : Maker} {part : Kept → A} {a : A} → Made old new part a → old.kept.items ≡ [] → old.met.items ≡ [] → IsSettled new.kept.items
-plan_settled {new = new} m k s =
-    let r : IsRight new = end_right m k s in
-    r.settled (kept_view new.kept.items) (end_extends new r) ∙ sym r.is
-
-pub plan_rooted : {A : Type 0} {old new : Maker} {part : Kept → A} {a : A} → Made old new part a → old.kept.items ≡ [] → old.met.items ≡ [] → IsRooted new.kept.items
-plan_rooted m k s =
-    let r = end_right m k s in
-    ap (list_all part_is_rooted) r.is ∙ r.rooted
+pub plan_rooted : {A : Type 0} {old new : Maker} {part : Kept → A} {a : A} → Made old new part a → old.kept.items ≡ [] → IsRooted new.kept.items
+plan_rooted {old = old} m k = (m.right (begun_right old k)).rooted

@@ -1,10 +1,9 @@
 //! What is kept under a number.
-ghost use Rattle.std.specs.Prelude.{◌≡◌, ◌<◌, [], length, map, IfSome, IfNone};
+ghost use Rattle.std.specs.Prelude.{◌≡◌, ◌<◌, [], length, map, IfSome, IfNone, IsTrue};
 ghost use Rattle.jsonpath_parser.specs.tree.Syntax as tree;
 ghost use Rattle.jsonpath_parser.specs.tree.View.{operator_view, step_view};
-ghost use Rattle.jsonpath_rust.specs.selection.inner.PlanViews.{kept_view, part_at, nodes, value, answered, compared, query_at, segments_meant, steps_at, call_at, call_view, comparison_at, side_view};
+ghost use Rattle.jsonpath_rust.specs.selection.inner.PlanViews.{is_same_wanted, kept_view, part_at, nodes, value, answered, compared, query_at, segments_meant, steps_at, call_at, call_view, comparison_at, side_view};
 
-use super::keeping::is_same_wanted;
 use super::{Call, Plan, Rooted, Segment, Side};
 use crate::selection::sink::Wanted;
 use jsonpath_parser::model::{Operator, SingularQuerySegment};
@@ -78,5 +77,20 @@ impl Plan {
             Rooted::Comparison(operator, left, right) => Some((*operator, left, right)),
             _ => None,
         }
+    }
+}
+
+/// Whether the same is wanted.
+#[inline(always)]
+fn is_same_wanted(left: Wanted, right: Wanted) -> bool
+    ensures same { IsTrue result → left ≡ right }
+    ensures is { result ≡ is_same_wanted left right }
+{
+    match (left, right) {
+        (Wanted::Any, Wanted::Any) => true,
+        (Wanted::Count, Wanted::Count) => true,
+        (Wanted::Only, Wanted::Only) => true,
+        (Wanted::Values, Wanted::Values) => true,
+        _ => false,
     }
 }

@@ -10,10 +10,9 @@ ghost use Rattle.jsonpath_rust.specs.declared.selection.sink.Wanted.{Wanted};
 ghost use Rattle.jsonpath_rust.specs.declared.selection.sink.Wanted.TheVariants.{Only, Values};
 
 use super::absolute::is_rooted_call;
-use super::keeping::{Met, Nesting, Source};
 use super::steps::{steps_again, steps_of};
 use super::{
-    Argument, Call, Called, Entry, Filter, Nodes, Plan, Rooted, Segment, Selector, Side, Turn,
+    Argument, Call, Called, Entry, Filter, Nesting, Nodes, Plan, Rooted, Segment, Selector, Side,
 };
 use crate::selection::sink::Wanted;
 use jsonpath_base::Extent;
@@ -23,7 +22,8 @@ use jsonpath_parser::model as tree;
 use jsonpath_parser::model::{JpQuery, Operator, SingularQuery};
 use std::alloc::Global;
 
-/// The plan of a query. Linear in the query, but that each query from the root is compared with a few others.
+/// The plan of a query. Linear in the query: each part without `@` is compared with a few others, each by itself, without what
+/// has a number in it.
 pub fn plan_of(alloc: Global, query: &JpQuery) -> Parsed<Plan>
     ensures same { IfOk result (λ p. plan_view p ≡ tree.query_view query.now) }
     ensures memory { MemoryAlone result }
@@ -31,7 +31,6 @@ pub fn plan_of(alloc: Global, query: &JpQuery) -> Parsed<Plan>
     let mut maker = Maker {
         alloc,
         kept: Vec::new(alloc),
-        met: Vec::new(alloc),
         nesting: Nesting::NONE,
         patterns: Vec::new(alloc),
     };
@@ -51,8 +50,6 @@ pub struct Maker<'q> {
     pub alloc: Global,
     /// The entries that are made.
     pub kept: Vec<Entry>,
-    /// What each of them is made of.
-    pub met: Vec<Met<'q>>,
     /// The greatest nesting of the entries that were met since the one at hand began.
     pub nesting: Nesting,
     /// The patterns that have a number.
@@ -192,38 +189,16 @@ impl<'q> Maker<'q> {
         ensures memory { MemoryAlone result }
     {
         let around = self.begin();
-        match comparison {
-            tree::Comparison::Eq(left, right) => {
-                let source = Source::Comparison(Operator::Equal, left, right);
-                let sides = (self.side(left)?, self.side(right)?);
-                self.compare(source, Operator::Equal, sides, around)
-            }
-            tree::Comparison::Ne(left, right) => {
-                let source = Source::Comparison(Operator::NotEqual, left, right);
-                let sides = (self.side(left)?, self.side(right)?);
-                self.compare(source, Operator::NotEqual, sides, around)
-            }
-            tree::Comparison::Gt(left, right) => {
-                let source = Source::Comparison(Operator::Greater, left, right);
-                let sides = (self.side(left)?, self.side(right)?);
-                self.compare(source, Operator::Greater, sides, around)
-            }
-            tree::Comparison::Gte(left, right) => {
-                let source = Source::Comparison(Operator::GreaterOrEqual, left, right);
-                let sides = (self.side(left)?, self.side(right)?);
-                self.compare(source, Operator::GreaterOrEqual, sides, around)
-            }
-            tree::Comparison::Lt(left, right) => {
-                let source = Source::Comparison(Operator::Less, left, right);
-                let sides = (self.side(left)?, self.side(right)?);
-                self.compare(source, Operator::Less, sides, around)
-            }
-            tree::Comparison::Lte(left, right) => {
-                let source = Source::Comparison(Operator::LessOrEqual, left, right);
-                let sides = (self.side(left)?, self.side(right)?);
-                self.compare(source, Operator::LessOrEqual, sides, around)
-            }
-        }
+        let (operator, left, right) = match comparison {
+            tree::Comparison::Eq(left, right) => (Operator::Equal, left, right),
+            tree::Comparison::Ne(left, right) => (Operator::NotEqual, left, right),
+            tree::Comparison::Gt(left, right) => (Operator::Greater, left, right),
+            tree::Comparison::Gte(left, right) => (Operator::GreaterOrEqual, left, right),
+            tree::Comparison::Lt(left, right) => (Operator::Less, left, right),
+            tree::Comparison::Lte(left, right) => (Operator::LessOrEqual, left, right),
+        };
+        let sides = (self.side(left)?, self.side(right)?);
+        self.compare(operator, sides, around)
     }
 
     #[cycle(make)]
@@ -248,13 +223,8 @@ impl<'q> Maker<'q> {
         match query {
             SingularQuery::Current(steps) => Ok(Side::Lookup(steps_again(self.alloc, steps)?)),
             SingularQuery::Root(steps) => {
-                let source = Source::Side(query);
-                if let Some(number) = self.found(source) {
-                    return Ok(Side::Kept(number));
-                }
                 let part = Rooted::Value(steps_again(self.alloc, steps)?);
-                let nesting = Nesting::NONE;
-                Ok(Side::Kept(self.keep(part, Turn::Asked, Met { source, nesting })?))
+                Ok(Side::Kept(self.number(part, Nesting::NONE)?))
             }
         }
     }
@@ -279,13 +249,9 @@ impl<'q> Maker<'q> {
             (tree.query_view query.now)) }
         ensures memory { MemoryAlone result }
     {
-        let source = Source::Query(query, wanted);
-        if let Some(number) = self.found(source) {
-            return Ok(number);
-        }
         let around = self.begin();
         let segments = self.segments(&query.segments)?;
-        self.keep_query(Rooted::Nodes(segments, wanted), source, around)
+        self.number_query(Rooted::Nodes(segments, wanted), around)
     }
 
     /// A call: the number of its entry, where it has no `@`.
@@ -298,8 +264,7 @@ impl<'q> Maker<'q> {
         let made = self.call(call)?;
         let nesting = self.end(around);
         if is_rooted_call(&made) {
-            let source = Source::Call(call);
-            let number = self.number(Rooted::Answer(made), Met { source, nesting })?;
+            let number = self.number(Rooted::Answer(made), nesting)?;
             return Ok(Called::Kept(number));
         }
         Ok(Called::Here(Box::new(self.alloc, made)?))

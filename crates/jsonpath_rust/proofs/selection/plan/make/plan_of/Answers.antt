@@ -6,10 +6,10 @@ use Rattle.jsonpath_rust.proofs.selection.plan.make.plan_of.Goals as goal
 
 pub returns-clause-same : goal.returns-clause-same
 returns-clause-same c =
-    plan_made _ c.in_ok-segments.ensures.made (search rules) (search rules) ∙ ap (λ xs. tree.segments_of (map tree.segment_view xs)) c.deref.ensures.value ∙ sym (query_view-segments c.args.query.now)
+    plan_made _ c.in_ok-segments.ensures.made (search rules) ∙ ap (λ xs. tree.segments_of (map tree.segment_view xs)) c.deref.ensures.value ∙ sym (query_view-segments c.args.query.now)
 
 pub invariant_of-result : goal.invariant_of-result
 invariant_of-result c = record {
-  settled = plan_settled c.in_ok-segments.ensures.made (search rules) (search rules);
-  rooted = plan_rooted c.in_ok-segments.ensures.made (search rules) (search rules);
+  settled = plan_settled c.in_ok-segments.ensures.made (search rules);
+  rooted = plan_rooted c.in_ok-segments.ensures.made (search rules);
 }

@@ -9,10 +9,13 @@ use Rattle.jsonpath_parser.proofs.laws.tree.ViewEquations as source
 use Rattle.jsonpath_rust.specs.selection.inner.PlanViews.{segment_view, selector_view, filter_view, call_view, argument_view, step_segment, nodes, answered, compared, query_in, call_in}
 use Rattle.jsonpath_rust.specs.selection.inner.Rooted.{call_is_rooted}
 use Rattle.jsonpath_rust.specs.declared.selection.sink.Wanted.TheVariants.{Any, Values}
-use Rattle.jsonpath_rust.specs.declared.selection.plan.keeping.Source.{Source}
-use Rattle.jsonpath_rust.proofs.laws.selection.PlanLaws.{made_none, made_as, made_both, made_start, made_next, made_end, made_after, made_before, made_found, made_kept, source_rooted, query_in-nodes}
+use Rattle.jsonpath_rust.proofs.laws.selection.PlanLaws.{made_none, made_as, made_both, made_start, made_next, made_end, made_after, made_before, source_rooted, query_in-nodes}
 use Rattle.jsonpath_rust.proofs.laws.selection.PlanEquations as plan
+use Rattle.std.specs.Borrow.{Bor}
+use Rattle.jsonpath_parser.specs.declared.tree.model.Comparable.{Comparable}
+use Rattle.jsonpath_parser.specs.declared.tree.model.operator.Operator.{Operator}
 use Rattle.jsonpath_rust.proofs.selection.plan.make.Maker.+make.Goals as goal
+use Rattle.jsonpath_rust.proofs.selection.plan.make.Maker.+make.Goals.{comparison-in-Eq, comparison-in-Ne, comparison-in-Gt, comparison-in-Gte, comparison-in-Lt, comparison-in-Lte}
 
 pub segments-segments-init : goal.segments-segments-init
 segments-segments-init t c =
@@ -151,14 +154,11 @@ pub relative-returns-in_ok-segments-in-None-clause-made : goal.relative-returns-
 relative-returns-in_ok-segments-in-None-clause-made t c = λ w.
     made_as (λ gs. syntax.relative (tree.segments_of gs)) _ _ (λ kept. plan.nodes_view-Walk kept _ w) refl c.in_ok-segments-in-None.ensures.made
 
-pub absolute-returns-in-Some-clause-made : goal.absolute-returns-in-Some-clause-made
-absolute-returns-in-Some-clause-made t c =
-    made_as (query_in c.args.wanted) _ _ (λ kept. refl) (sym (query_in-nodes c.args.wanted _)) (made_found _ _ (Source.Query c.args.query c.args.wanted) _ c.found.ensures.beside c.in-Some.ensures.number)
-
 pub absolute-returns-clause-made : goal.absolute-returns-clause-made
 absolute-returns-clause-made t c =
     let of_query : tree.query_view c.args.query.now ≡ tree.segments_of (map tree.segment_view c.deref.result.now) = source.query_view-segments c.args.query.now ∙ ap (λ xs. tree.segments_of (map tree.segment_view xs)) (sym c.deref.ensures.value) in
-    IfOk-weaker c.keep_query.result _ _ (λ n k. made_as (query_in c.args.wanted) _ _ (λ kept. refl) (sym (query_in-nodes c.args.wanted _)) (made_kept _ (Source.Query c.args.query c.args.wanted) n k (λ r. refl) (made_after c.found.ensures.beside (made_after c.begin-around.ensures (made_as (λ gs. nodes c.args.wanted (tree.segments_of gs)) _ _ (λ kept. refl) (ap (nodes c.args.wanted) of_query) c.in_ok-segments.ensures.made))))) c.keep_query.ensures.kept
+    let part = made_after c.begin-around.ensures (made_as (λ gs. nodes c.args.wanted (tree.segments_of gs)) _ _ (λ kept. refl) (ap (nodes c.args.wanted) of_query) c.in_ok-segments.ensures.made) in
+    IfOk-weaker c.number_query.result _ _ (λ n k. made_as (query_in c.args.wanted) _ _ (λ kept. refl) (sym (query_in-nodes c.args.wanted _)) (k.made part (λ r. refl))) c.number_query.ensures.numbered
 
 pub call-returns-in_ok-argument-in-Length-clause-made : goal.call-returns-in_ok-argument-in-Length-clause-made
 call-returns-in_ok-argument-in-Length-clause-made t c =
@@ -212,35 +212,20 @@ pub pattern-returns-in-Literal-clause-made : goal.pattern-returns-in-Literal-cla
 pattern-returns-in-Literal-clause-made t c =
     rw (ap tree.argument_view c.in-Literal.is ∙ source.argument_view-Literal c.in-Literal.literal) c.literal_pattern.ensures.made
 
-pub comparison-returns-in_ok-side-in-Eq-2-clause-made : goal.comparison-returns-in_ok-side-in-Eq-2-clause-made
-comparison-returns-in_ok-side-in-Eq-2-clause-made t c =
-    let sides = made_after c.begin-around.ensures (made_both (λ a b. compared (syntax.compare syntax.equal a b)) _ _ (λ kept. refl) refl c.in_ok-side-in-Eq.ensures.made c.in_ok-side-in-Eq-2.ensures.made) in
-    rw (ap tree.comparison_view c.in-Eq.is ∙ source.comparison_view-Eq c.in-Eq.left c.in-Eq.right) (IfOk-weaker c.compare.result _ _ (λ f k. k.made sides) c.compare.ensures.made)
-
-pub comparison-returns-in_ok-side-in-Ne-2-clause-made : goal.comparison-returns-in_ok-side-in-Ne-2-clause-made
-comparison-returns-in_ok-side-in-Ne-2-clause-made t c =
-    let sides = made_after c.begin-around.ensures (made_both (λ a b. compared (syntax.compare syntax.not_equal a b)) _ _ (λ kept. refl) refl c.in_ok-side-in-Ne.ensures.made c.in_ok-side-in-Ne-2.ensures.made) in
-    rw (ap tree.comparison_view c.in-Ne.is ∙ source.comparison_view-Ne c.in-Ne.left c.in-Ne.right) (IfOk-weaker c.compare-in-Ne.result _ _ (λ f k. k.made sides) c.compare-in-Ne.ensures.made)
-
-pub comparison-returns-in_ok-side-in-Gt-2-clause-made : goal.comparison-returns-in_ok-side-in-Gt-2-clause-made
-comparison-returns-in_ok-side-in-Gt-2-clause-made t c =
-    let sides = made_after c.begin-around.ensures (made_both (λ a b. compared (syntax.compare syntax.greater a b)) _ _ (λ kept. refl) refl c.in_ok-side-in-Gt.ensures.made c.in_ok-side-in-Gt-2.ensures.made) in
-    rw (ap tree.comparison_view c.in-Gt.is ∙ source.comparison_view-Gt c.in-Gt.left c.in-Gt.right) (IfOk-weaker c.compare-in-Gt.result _ _ (λ f k. k.made sides) c.compare-in-Gt.ensures.made)
-
-pub comparison-returns-in_ok-side-in-Gte-2-clause-made : goal.comparison-returns-in_ok-side-in-Gte-2-clause-made
-comparison-returns-in_ok-side-in-Gte-2-clause-made t c =
-    let sides = made_after c.begin-around.ensures (made_both (λ a b. compared (syntax.compare syntax.greater_or_equal a b)) _ _ (λ kept. refl) refl c.in_ok-side-in-Gte.ensures.made c.in_ok-side-in-Gte-2.ensures.made) in
-    rw (ap tree.comparison_view c.in-Gte.is ∙ source.comparison_view-Gte c.in-Gte.left c.in-Gte.right) (IfOk-weaker c.compare-in-Gte.result _ _ (λ f k. k.made sides) c.compare-in-Gte.ensures.made)
-
-pub comparison-returns-in_ok-side-in-Lt-2-clause-made : goal.comparison-returns-in_ok-side-in-Lt-2-clause-made
-comparison-returns-in_ok-side-in-Lt-2-clause-made t c =
-    let sides = made_after c.begin-around.ensures (made_both (λ a b. compared (syntax.compare syntax.less a b)) _ _ (λ kept. refl) refl c.in_ok-side-in-Lt.ensures.made c.in_ok-side-in-Lt-2.ensures.made) in
-    rw (ap tree.comparison_view c.in-Lt.is ∙ source.comparison_view-Lt c.in-Lt.left c.in-Lt.right) (IfOk-weaker c.compare-in-Lt.result _ _ (λ f k. k.made sides) c.compare-in-Lt.ensures.made)
-
-pub comparison-returns-in_ok-side-in-Lte-2-clause-made : goal.comparison-returns-in_ok-side-in-Lte-2-clause-made
-comparison-returns-in_ok-side-in-Lte-2-clause-made t c =
-    let sides = made_after c.begin-around.ensures (made_both (λ a b. compared (syntax.compare syntax.less_or_equal a b)) _ _ (λ kept. refl) refl c.in_ok-side-in-Lte.ensures.made c.in_ok-side-in-Lte-2.ensures.made) in
-    rw (ap tree.comparison_view c.in-Lte.is ∙ source.comparison_view-Lte c.in-Lte.left c.in-Lte.right) (IfOk-weaker c.compare-in-Lte.result _ _ (λ f k. k.made sides) c.compare-in-Lte.ensures.made)
+pub comparison-returns-clause-made : goal.comparison-returns-clause-made
+comparison-returns-clause-made t c =
+    let p = c.match-comparison.operator in
+    let of = λ (q : Operator × Bor Comparable × Bor Comparable). syntax.compare (tree.operator_view q.0) (tree.comparable_view q.1.now) (tree.comparable_view q.2.now) in
+    let same : tree.comparison_view c.args.comparison.now ≡ of p = elim c.match-comparison.branch [
+      comparison-in-Eq w ↦ ap tree.comparison_view w.in-Eq.is ∙ source.comparison_view-Eq w.in-Eq.left w.in-Eq.right ∙ ap of (sym w.operator-is)
+      | comparison-in-Ne w ↦ ap tree.comparison_view w.in-Ne.is ∙ source.comparison_view-Ne w.in-Ne.left w.in-Ne.right ∙ ap of (sym w.operator-is)
+      | comparison-in-Gt w ↦ ap tree.comparison_view w.in-Gt.is ∙ source.comparison_view-Gt w.in-Gt.left w.in-Gt.right ∙ ap of (sym w.operator-is)
+      | comparison-in-Gte w ↦ ap tree.comparison_view w.in-Gte.is ∙ source.comparison_view-Gte w.in-Gte.left w.in-Gte.right ∙ ap of (sym w.operator-is)
+      | comparison-in-Lt w ↦ ap tree.comparison_view w.in-Lt.is ∙ source.comparison_view-Lt w.in-Lt.left w.in-Lt.right ∙ ap of (sym w.operator-is)
+      | comparison-in-Lte w ↦ ap tree.comparison_view w.in-Lte.is ∙ source.comparison_view-Lte w.in-Lte.left w.in-Lte.right ∙ ap of (sym w.operator-is)
+    ] in
+    let sides = made_after c.begin-around.ensures (made_both (λ a b. compared (syntax.compare (tree.operator_view p.0) a b)) _ _ (λ kept. refl) refl c.in_ok-side.ensures.made c.in_ok-side-2.ensures.made) in
+    rw same (IfOk-weaker c.compare.result _ _ (λ f k. k.made sides) c.compare.ensures.made)
 
 pub called-returns-then-is_rooted_call-clause-made : goal.called-returns-then-is_rooted_call-clause-made
 called-returns-then-is_rooted_call-clause-made t c =

@@ -1,6 +1,9 @@
-use Rattle.std.proofs.lemmas.Result.{IfOk-weaker}
-use Rattle.jsonpath_rust.proofs.laws.selection.PlanLaws.{numbered_kept}
+use Rattle.std.proofs.Common.{rules}
+use Rattle.jsonpath_rust.proofs.laws.selection.PlanLaws.{numbered_by, numbered_kept}
 use Rattle.jsonpath_rust.proofs.selection.plan.make.Maker.number.Goals as goal
 
-pub returns-in-None-clause-numbered : goal.returns-in-None-clause-numbered
-returns-in-None-clause-numbered c = IfOk-weaker c.keep.result _ _ (λ n k. numbered_kept _ _ _ _ _ n c.found.ensures.beside k) c.keep.ensures.kept
+pub returns-in-Some-clause-numbered : goal.returns-in-Some-clause-numbered
+returns-in-Some-clause-numbered c = numbered_by c.in-Some.ensures (search rules)
+
+pub returns-clause-numbered : goal.returns-clause-numbered
+returns-clause-numbered c = numbered_kept _ _ _ _ (record { number = search rules; nesting = c.args.nesting; entries = c.in_ok-push.ensures.items })
