@@ -1,16 +1,17 @@
 //! The patterns of `match` and `search` (RFC 9535, 2.4.6 and 2.4.7): read (`Pattern`), asked of many texts (`Finder`), and kept
-//! with what asks them for the length of a call (`cells`, `finders`, `lent`, `recent`). `unbuilt` has why one cannot be built.
+//! with what asks them for the length of a call (`cells`, `finders`). `weight` estimates what one takes, `unbuilt` has why one
+//! cannot be built.
 ghost use Rattle.std.specs.Prelude.{◌≡◌, ◌↔◌, ◌++◌, ◌==◌, IsTrue, false, is_some, chars, codes, IfOk, IfErr, OnOk, string_bytes, encode_utf8_all};
 ghost use Rattle.jsonpath_base.specs.Pattern.{translated, reading, wrapped, is_entire, sought, pattern_sought, found, IsPatternRefusal, IsUnbuilt};
 ghost use Rattle.jsonpath_base.specs.inner.PatternParts.{written, inside_after, escaped_after, FindsSame, MatchesSame};
 
 pub mod cells;
 pub mod finders;
-mod lent;
-mod recent;
 pub mod unbuilt;
+pub mod weight;
 
 use crate::pattern::unbuilt::{Built, Unbuilt};
+use crate::pattern::weight::byte_cost;
 use jsonpath_parser::errors::Parsed;
 use regex::{Error, Matcher, Regex};
 use regex_syntax::{Config, ErrorKind, parse};
@@ -43,6 +44,7 @@ impl Extent {
 pub struct Pattern {
     source: String,
     extent: Extent,
+    byte_cost: usize,
     // None where there is nothing to look for
     regex: Option<Regex>,
     ghost same: { FindsSame (pattern_sought (is_entire extent) (string_bytes source)) regex },
@@ -71,11 +73,13 @@ impl Pattern {
         ensures extent { IfOk result (λ p. is_for_match p ≡ is_entire extent) }
         ensures refused { IfErr result (IsUnbuilt (pattern_sought (is_entire extent) pattern.now)) }
     {
+        let byte_cost = byte_cost(alloc, pattern)?;
         let regex = built_for(alloc, pattern, extent)?;
         let source = String::from_str(alloc, pattern)?;
         Ok(Pattern {
             source,
             extent,
+            byte_cost,
             regex,
         })
     }
@@ -141,6 +145,11 @@ impl<'p> Finder<'p> {
         ensures { IsTrue result ↔ (source_of (pattern_of self.now) ≡ pattern.now) × (is_for_match (pattern_of self.now) ≡ is_entire extent) }
     {
         self.pattern.is_of(pattern, extent)
+    }
+
+    /// What each byte costs that it searches, in units of work beside one.
+    pub(crate) fn byte_cost(&self) -> usize {
+        self.pattern.byte_cost
     }
 
     /// What `match` or `search` returns for a text. It never fails: where memory runs out it searches more slowly.

@@ -10,28 +10,31 @@ use std::cell::OnceCell;
 pub enum Origin {
     /// It is the one of this number among those that stand in the query.
     Query(usize),
-    /// It is a value of the document.
+    /// It is a value of the document, or one that stands in the query and has no number.
     Document,
 }
 
 /// Holds one pattern. It is built once, and then stays.
 pub type PatternCell = OnceCell<Box<Pattern>>;
 
-/// A cell for each pattern that stands in a query, by its number. What is built there stays from one call to the next.
+/// Cells for patterns, by number. What is built there stays as long as they do.
 #[derive(Drop)]
-pub struct QueryCells {
+pub struct Cells {
     cells: Vec<PatternCell>,
 }
 
-impl QueryCells {
+impl Cells {
     ghost use Rattle.jsonpath_base.specs.Engine.{cell_count};
 
     /// So many, all empty.
-    pub fn new(alloc: Global, pattern_count: usize) -> Result<Self, AllocError>
-        ensures { IfOk result (λ made. cell_count made ≡ pattern_count) }
+    pub fn new(alloc: Global, count: usize) -> Result<Self, AllocError>
+        ensures { IfOk result (λ made. cell_count made ≡ count) }
     {
-        let cells = empty_cells(alloc, pattern_count)?;
-        Ok(QueryCells { cells })
+        let mut cells = Vec::with_capacity(alloc, count)?;
+        for _ in 0..count {
+            cells.push(OnceCell::new())?;
+        }
+        Ok(Cells { cells })
     }
 
     /// The one of this number.
@@ -45,8 +48,11 @@ impl QueryCells {
 #[derive(Drop)]
 pub struct LentCells {
     /// None are made before the first is asked for.
-    cells: OnceCell<Vec<PatternCell>>,
+    cells: OnceCell<Cells>,
 }
+
+/// How many there are.
+const MOST_LENT: usize = 32;
 
 impl LentCells {
     /// All empty. Nothing is allocated.
@@ -57,33 +63,12 @@ impl LentCells {
         }
     }
 
-    /// The one at this index, if there are so many.
-    pub(crate) fn cell(
-        &self,
-        alloc: Global,
-        index: usize,
-    ) -> Result<Option<&PatternCell>, AllocError> {
+    /// They themselves.
+    pub(crate) fn made(&self, alloc: Global) -> Result<Option<&Cells>, AllocError> {
         if self.cells.get().is_none() {
-            let cells = empty_cells(alloc, MOST_LENT)?;
+            let cells = Cells::new(alloc, MOST_LENT)?;
             let _ = self.cells.set(cells);
         }
-        match self.cells.get() {
-            Some(cells) => Ok(cells.get(index)),
-            None => Ok(None),
-        }
+        Ok(self.cells.get())
     }
-}
-
-/// How many cells a call has for patterns that come from the document.
-const MOST_LENT: usize = 32;
-
-/// So many cells.
-fn empty_cells(alloc: Global, count: usize) -> Result<Vec<PatternCell>, AllocError>
-    ensures { IfOk result (λ cells. vec_len cells ≡ count) }
-{
-    let mut cells = Vec::with_capacity(alloc, count)?;
-    for _ in 0..count {
-        cells.push(OnceCell::new())?;
-    }
-    Ok(cells)
 }

@@ -1,12 +1,11 @@
-//! What asks patterns (RFC 9535, 2.4.6 and 2.4.7). One that stands in the query is built when it is first asked, unless an
-//! earlier call has built it, and is then kept with what asks it, at its number.
-ghost use Rattle.std.specs.Prelude.{◌≡◌, IfOk, IfErr, IfSome, box_value};
+//! What asks patterns (RFC 9535, 2.4.6 and 2.4.7). One is built when it is first asked, unless an earlier call has built it, and
+//! is then kept with what asks it: one of the query at its number, those of the document in the order in which they come.
+ghost use Rattle.std.specs.Prelude.{◌≡◌, IfOk, IfErr, IfSome};
 ghost use Rattle.jsonpath_base.specs.Pattern.{is_entire, pattern_sought, found, IsUnbuilt};
-ghost use Rattle.jsonpath_base.specs.PatternViews.{source_of, is_for_match};
 
-use crate::pattern::cells::{LentCells, Origin, PatternCell, QueryCells};
-use crate::pattern::lent::LentFinders;
+use crate::pattern::cells::{Cells, LentCells, Origin};
 use crate::pattern::unbuilt::Built;
+use crate::pattern::weight::{MOST_WEIGHT, byte_cost, weight_of};
 use crate::pattern::{Extent, Finder, Pattern};
 use std::alloc::{AllocError, Global};
 
@@ -18,14 +17,9 @@ pub struct Asked<'p> {
 }
 
 impl<'p> Asked<'p> {
-    /// Builds the pattern.
-    pub(crate) fn built(self, alloc: Global) -> Built<Box<Pattern>>
-        ensures source { IfOk result (λ p. source_of (box_value p) ≡ self.entry.pattern.now) }
-        ensures extent { IfOk result (λ p. is_for_match (box_value p) ≡ is_entire self.entry.extent) }
-        ensures refused { IfErr result (IsUnbuilt (pattern_sought (is_entire self.entry.extent) self.entry.pattern.now)) }
-    {
-        let pattern = Pattern::build(alloc, self.pattern, self.extent)?;
-        Ok(Box::new(alloc, pattern)?)
+    /// Its weight for `regex`.
+    pub fn weight(self, alloc: Global) -> Result<usize, AllocError> {
+        weight_of(alloc, self.pattern)
     }
 
     /// What `match` or `search` returns for a text. It builds the pattern anew each time.
@@ -36,38 +30,26 @@ impl<'p> Asked<'p> {
         let pattern = Pattern::build(alloc, self.pattern, self.extent)?;
         Ok(pattern.is_found(alloc, text)?)
     }
-
-    /// What the finder returns for a text, if it is one of this pattern.
-    #[inline(always)]
-    pub(crate) fn answer_of(self, finder: &mut Finder<'_>, text: &str) -> Option<bool>
-        ensures { IfSome result (λ b. b ≡ found (is_entire self.entry.extent) self.entry.pattern.now text.now) }
-    {
-        if !finder.is_of(self.pattern, self.extent) {
-            return None;
-        }
-        Some(finder.is_found(text))
-    }
 }
 
-/// What asks the patterns that stand in a query, by their numbers.
+/// Cells for patterns, with what asks each of these.
 #[derive(Drop)]
-pub struct QueryFinders<'p> {
-    /// Where they are built.
-    cells: &'p QueryCells,
-    /// What asks each of them. Those that were not asked yet have none.
+pub struct KeptFinders<'p> {
+    cells: &'p Cells,
+    /// By the numbers of the cells. Those that were not asked yet have none.
     finders: Vec<Option<Box<Finder<'p>>>>,
 }
 
-impl<'p> QueryFinders<'p> {
+impl<'p> KeptFinders<'p> {
     ghost use Rattle.jsonpath_base.specs.Engine.{cells_of, finder_count};
 
     /// With these cells, and nothing that asks yet. Nothing is allocated.
     #[inline(always)]
-    pub fn new(alloc: Global, cells: &'p QueryCells) -> Self
+    pub fn new(alloc: Global, cells: &'p Cells) -> Self
         ensures cells { cells_of result ≡ cells.entry }
         ensures none { finder_count result ≡ 0 }
     {
-        QueryFinders {
+        KeptFinders {
             cells,
             finders: Vec::new(alloc),
         }
@@ -79,7 +61,30 @@ impl<'p> QueryFinders<'p> {
         ensures { IfSome result (λ b. b ≡ found (is_entire asked.entry.extent) asked.entry.pattern.now text.now) }
     {
         let finder = self.finders.get_mut(number)?.as_mut()?;
-        asked.answer_of(finder, text)
+        if !finder.is_of(asked.pattern, asked.extent) {
+            return None;
+        }
+        Some(finder.is_found(text))
+    }
+
+    /// What each byte costs that is searched for this pattern, if what asks it stands at this number.
+    fn byte_cost(&self, number: usize, asked: Asked<'_>) -> Option<usize> {
+        let finder = self.finders.get(number)?.as_ref()?;
+        if finder.is_of(asked.pattern, asked.extent) {
+            return Some(finder.byte_cost());
+        }
+        None
+    }
+
+    /// The first number at which this pattern is asked, or the one behind all of them.
+    fn number(&self, asked: Asked<'_>) -> usize {
+        let count = self.finders.len();
+        for number in 0..count {
+            if self.byte_cost(number, asked).is_some() {
+                return number;
+            }
+        }
+        count
     }
 
     /// Makes what asks the pattern of this number, if it is this one, or none was built there yet.
@@ -91,26 +96,29 @@ impl<'p> QueryFinders<'p> {
             return Ok(());
         };
         if cell.get().is_none() {
-            let _ = cell.set(asked.built(alloc)?);
+            let pattern = Pattern::build(alloc, asked.pattern, asked.extent)?;
+            let _ = cell.set(Box::new(alloc, pattern)?);
         }
-        if !holds(cell, asked) {
-            return Ok(());
+        match cell.get() {
+            Some(pattern) if pattern.is_of(asked.pattern, asked.extent) => {
+                Ok(self.keep(alloc, number, pattern)?)
+            }
+            _ => Ok(()),
         }
-        Ok(self.keep(alloc, number, cell)?)
     }
 
-    /// Keeps at this number what asks the pattern of this cell.
+    /// Keeps at this number what asks this pattern.
     fn keep(
         &mut self,
         alloc: Global,
         number: usize,
-        cell: &'p PatternCell,
+        pattern: &'p Pattern,
     ) -> Result<(), AllocError> {
+        let finder = Box::new(alloc, pattern.finder(alloc)?)?;
         for _ in self.finders.len()..number.saturating_add(1) {
             self.finders.push(None)?;
         }
-        if let (Some(pattern), Some(kept)) = (cell.get(), self.finders.get_mut(number)) {
-            let finder = Box::new(alloc, pattern.finder(alloc)?)?;
+        if let Some(kept) = self.finders.get_mut(number) {
             *kept = Some(finder);
         }
         Ok(())
@@ -121,26 +129,35 @@ impl<'p> QueryFinders<'p> {
 #[derive(Drop)]
 pub struct Finders<'s, 'p> {
     /// Those that stand in the query. What asks them outlasts the call, if it is handed on.
-    pub query: QueryFinders<'p>,
-    /// Those that come from the document.
-    lent: LentFinders<'s>,
+    pub query: KeptFinders<'p>,
+    /// The cells of those that come from the document, and what asks them, once there is one.
+    cells: &'s LentCells,
+    lent: Option<KeptFinders<'s>>,
+    /// The number of that which was asked last.
+    last: usize,
+    /// What they weigh together.
+    weight: usize,
 }
 
 impl<'s, 'p> Finders<'s, 'p> {
     /// With what asks those of the query so far, and these cells for those that come from the document. Nothing is allocated.
     #[inline(always)]
-    pub fn new(alloc: Global, query: QueryFinders<'p>, lent: &'s LentCells) -> Self
+    pub fn new(query: KeptFinders<'p>, cells: &'s LentCells) -> Self
         ensures { result.query ≡ query.entry }
     {
         Finders {
             query,
-            lent: LentFinders::new(alloc, lent),
+            cells,
+            lent: None,
+            last: 0,
+            weight: 0,
         }
     }
 
     /// What `match` or `search` returns for a text and a pattern. It refuses where [`Pattern::new`] does. A number tells
     /// only where to look: where there is no such cell, or another pattern was built in it, the pattern is asked as one that
-    /// comes from the document.
+    /// comes from the document. Of these the first 32 are kept, but none that brings their weights above [`MOST_WEIGHT`]. One
+    /// that is not kept is built at each use.
     pub fn is_found(
         &mut self,
         alloc: Global,
@@ -160,14 +177,76 @@ impl<'s, 'p> Finders<'s, 'p> {
                 return Ok(found);
             }
         }
-        self.lent.is_found(alloc, text, asked)
+        if let Some(found) = self.ask_lent(self.last, text, asked) {
+            return Ok(found);
+        }
+        let number = self.lent_number(alloc, asked)?;
+        match self.ask_lent(number, text, asked) {
+            Some(found) => Ok(found),
+            None => asked.is_found(alloc, text),
+        }
     }
-}
 
-/// Whether this pattern was built in the cell.
-fn holds(cell: &PatternCell, asked: Asked<'_>) -> bool {
-    match cell.get() {
-        Some(pattern) => pattern.is_of(asked.pattern, asked.extent),
-        None => false,
+    /// What it costs to ask that, in units of work, beside one for each byte: what the search takes, and its weight where the
+    /// pattern has to be built.
+    pub fn cost(
+        &self,
+        alloc: Global,
+        text: &str,
+        asked: Asked<'_>,
+        origin: Origin,
+    ) -> Result<usize, AllocError> {
+        if let Some(each) = self.kept_byte_cost(asked, origin) {
+            return Ok(each.saturating_mul(text.len()));
+        }
+        let search = byte_cost(alloc, asked.pattern)?.saturating_mul(text.len());
+        Ok(search.saturating_add(asked.weight(alloc)?))
+    }
+
+    /// What each byte costs that is searched for this pattern, if what asks it is kept.
+    fn kept_byte_cost(&self, asked: Asked<'_>, origin: Origin) -> Option<usize> {
+        if let Origin::Query(number) = origin {
+            if let Some(each) = self.query.byte_cost(number, asked) {
+                return Some(each);
+            }
+        }
+        let lent = self.lent.as_ref()?;
+        match lent.byte_cost(self.last, asked) {
+            Some(each) => Some(each),
+            None => lent.byte_cost(lent.number(asked), asked),
+        }
+    }
+
+    /// What the finder at this number among those of the document returns for a text, if it is one of this pattern.
+    #[inline(always)]
+    fn ask_lent(&mut self, number: usize, text: &str, asked: Asked<'_>) -> Option<bool>
+        ensures { IfSome result (λ b. b ≡ found (is_entire asked.entry.extent) asked.entry.pattern.now text.now) }
+    {
+        let found = self.lent.as_mut()?.ask(number, text, asked)?;
+        self.last = number;
+        Some(found)
+    }
+
+    /// The number of a pattern among those of the document. One that is not among them is kept there, if it can be.
+    fn lent_number(&mut self, alloc: Global, asked: Asked<'_>) -> Built<usize>
+        ensures { IfErr result (IsUnbuilt (pattern_sought (is_entire asked.entry.extent) asked.entry.pattern.now)) }
+    {
+        if self.lent.is_none() {
+            let cells = self.cells.made(alloc)?;
+            self.lent = cells.map(|cells| KeptFinders::new(alloc, cells));
+        }
+        let Some(lent) = &mut self.lent else {
+            return Ok(0);
+        };
+        let number = lent.number(asked);
+        if number < lent.finders.len() {
+            return Ok(number);
+        }
+        let weight = asked.weight(alloc)?.saturating_add(self.weight);
+        if weight <= MOST_WEIGHT {
+            lent.make(alloc, number, asked)?;
+            self.weight = weight;
+        }
+        Ok(number)
     }
 }

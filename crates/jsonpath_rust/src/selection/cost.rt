@@ -13,6 +13,8 @@ use crate::documents::queryable::Queryable;
 use crate::documents::value::Operand;
 use crate::documents::whole::WholeRef;
 use crate::selection::budget::Limit;
+use jsonpath_base::Extent;
+use jsonpath_base::engine::{Asked, Finders, Origin};
 use std::alloc::Global;
 
 /// How many bytes of a text are compared for one unit.
@@ -25,6 +27,23 @@ impl Limit {
         match self {
             Limit::Unlimited => 0,
             Limit::Limited => text_bytes(operand),
+        }
+    }
+
+    /// What `match` or `search` costs: what it costs to read both texts, and to ask the pattern ([`Finders::cost`]).
+    #[inline(always)]
+    pub fn search_cost<T: Queryable>(
+        self,
+        alloc: Global,
+        finders: &Finders<'_, '_>,
+        sides: (&Operand<'_, '_, T>, &Operand<'_, '_, T>),
+        how: (Extent, Origin),
+    ) -> Walked<usize>
+        ensures memory { IfErr result (λ h. h ≡ Memory) }
+    {
+        match self {
+            Limit::Unlimited => Ok(0),
+            Limit::Limited => cost_of_search(alloc, finders, sides, how),
         }
     }
 
@@ -76,6 +95,26 @@ fn text_bytes<T: Queryable>(operand: &Operand<'_, '_, T>) -> usize {
         },
         None => 0,
     }
+}
+
+/// What it costs to read these texts, a unit for each byte of one of the document, and to ask the second as a pattern of the
+/// first.
+fn cost_of_search<T: Queryable>(
+    alloc: Global,
+    finders: &Finders<'_, '_>,
+    sides: (&Operand<'_, '_, T>, &Operand<'_, '_, T>),
+    how: (Extent, Origin),
+) -> Walked<usize>
+    ensures memory { IfErr result (λ h. h ≡ Memory) }
+{
+    let read = text_bytes(sides.0).saturating_add(text_bytes(sides.1));
+    let (Some(text), Some(pattern)) = (sides.0.as_text(), sides.1.as_text()) else {
+        return Ok(read);
+    };
+    let (extent, origin) = how;
+    let asked = Asked { pattern, extent };
+    let cost = finders.cost(alloc, text, asked, origin)?;
+    Ok(cost.saturating_add(read))
 }
 
 /// The value, if it is one of the document or one that a custom function made.

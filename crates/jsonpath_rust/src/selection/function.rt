@@ -91,9 +91,11 @@ impl<'a: 's, 's, T: Queryable> Task<'a, 's, T> {
         let origin = origin_of(args.1);
         let text = self.value(args.0, at, trail)?;
         let pattern = self.value(args.1, at, trail)?;
-        let cost = self.limit.text_cost(&text);
-        let also = self.limit.text_cost(&pattern);
-        trail.budget.spend(self.limit, cost.saturating_add(also))?;
+        let how = (extent, origin);
+        let cost = self
+            .limit
+            .search_cost(self.alloc, &trail.finders, (&text, &pattern), how)?;
+        trail.budget.spend(self.limit, cost)?;
         let finders = &mut trail.finders;
         let found = is_matched(self.alloc, finders, (&text, &pattern), extent, origin)?;
         Ok(Operand::Plain(Scalar::Truth(found)))

@@ -19,7 +19,7 @@ use crate::selection::plan::{Plan, plan_of, release};
 use crate::selection::sink::Sink;
 use crate::selection::trail::Trail;
 use crate::selection::walk::Task;
-use jsonpath_base::engine::{Finders, LentCells, QueryCells, QueryFinders, Way};
+use jsonpath_base::engine::{Cells, Finders, KeptFinders, LentCells, Way};
 use jsonpath_parser::model::JpQuery;
 use std::alloc::Global;
 
@@ -27,7 +27,7 @@ use std::alloc::Global;
 #[derive(Drop)]
 pub struct Request<'s, 'p> {
     pub plan: &'s Plan,
-    pub finders: QueryFinders<'p>,
+    pub finders: KeptFinders<'p>,
     pub budget: Budget,
 }
 
@@ -76,10 +76,10 @@ fn give_once<'a, T: Queryable>(
     ensures gave { Takes sink.old sink.new (nodelist (plan_view plan.now) (document_at root.entry)) result }
     ensures refused { IfErr result (IsStop (plan_view plan.now) (document_at root.entry)) }
 {
-    let cells = QueryCells::new(alloc, plan.pattern_count)?;
+    let cells = Cells::new(alloc, plan.pattern_count)?;
     let request = Request {
         plan,
-        finders: QueryFinders::new(alloc, &cells),
+        finders: KeptFinders::new(alloc, &cells),
         budget: Budget::unlimited(),
     };
     let (given, _finders) = give_requested(alloc, request, root, sink);
@@ -96,7 +96,7 @@ pub fn give_requested<'a, 'p, T: Queryable>(
     request: Request<'_, 'p>,
     root: WholeRef<'a, T>,
     sink: &mut Sink<'a, T>,
-) -> (Walked<bool>, QueryFinders<'p>)
+) -> (Walked<bool>, KeptFinders<'p>)
     ensures gave { Takes sink.old sink.new (nodelist (plan_view request.entry.plan.now) (document_at root.entry)) result.0 }
     ensures refused { IfErr result.0 (IsHalt request.entry.budget.limit (segments_patterns (plan_view request.entry.plan.now)) (document_at root.entry)) }
 {
@@ -106,7 +106,7 @@ pub fn give_requested<'a, 'p, T: Queryable>(
         budget,
     } = request;
     let lent = LentCells::new();
-    let finders = Finders::new(alloc, finders, &lent);
+    let finders = Finders::new(finders, &lent);
     give_from_root(alloc, plan, (finders, budget), root, sink)
 }
 
@@ -117,7 +117,7 @@ fn give_from_root<'a: 's, 's, 'p, T: Queryable>(
     means: (Finders<'s, 'p>, Budget),
     root: WholeRef<'a, T>,
     sink: &mut Sink<'a, T>,
-) -> (Walked<bool>, QueryFinders<'p>)
+) -> (Walked<bool>, KeptFinders<'p>)
     ensures gave { Takes sink.old sink.new (nodelist (plan_view plan.now) (document_at root.entry)) result.0 }
     ensures refused { IfErr result.0 (IsHalt means.entry.1.limit (segments_patterns (plan_view plan.now)) (document_at root.entry)) }
 {

@@ -161,7 +161,7 @@ pub enum Call {
 pub enum Argument {
     /// A literal.
     Literal(Literal),
-    /// A text that is asked as a pattern. Equal ones that stand near one another have one number.
+    /// A text that is asked as a pattern. Equal ones have one number.
     Pattern(String, usize),
     /// What is wanted of nodes.
     Nodes(Nodes),

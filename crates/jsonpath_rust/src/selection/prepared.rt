@@ -17,7 +17,7 @@ use crate::selection::budget::Budget;
 use crate::selection::give::Request;
 use crate::selection::planned::Planned;
 use crate::selection::runner::Runner;
-use jsonpath_base::engine::{QueryCells, QueryFinders};
+use jsonpath_base::engine::{Cells, KeptFinders};
 use jsonpath_parser::model::JpQuery;
 use std::alloc::Global;
 
@@ -36,7 +36,7 @@ use std::alloc::Global;
 pub struct Prepared {
     planned: Planned,
     /// Where its patterns are built.
-    cells: QueryCells,
+    cells: Cells,
 }
 
 impl Prepared {
@@ -47,7 +47,7 @@ impl Prepared {
         ensures memory { IfErr result (λ e. e ≡ OutOfMemory) }
     {
         let planned = Planned::new(alloc, query)?;
-        match QueryCells::new(alloc, planned.plan.pattern_count) {
+        match Cells::new(alloc, planned.plan.pattern_count) {
             Ok(cells) => Ok(Prepared { planned, cells }),
             Err(error) => {
                 planned.release();
@@ -133,18 +133,14 @@ impl Prepared {
     }
 
     /// What asks its patterns, with none asked yet.
-    pub(crate) fn finders(&self, alloc: Global) -> QueryFinders<'_>
+    pub(crate) fn finders(&self, alloc: Global) -> KeptFinders<'_>
         ensures { finder_count result ≡ 0 }
     {
-        QueryFinders::new(alloc, &self.cells)
+        KeptFinders::new(alloc, &self.cells)
     }
 
     /// What is asked of a document, for this work.
-    pub(crate) fn request<'p>(
-        &'p self,
-        finders: QueryFinders<'p>,
-        budget: Budget,
-    ) -> Request<'p, 'p>
+    pub(crate) fn request<'p>(&'p self, finders: KeptFinders<'p>, budget: Budget) -> Request<'p, 'p>
         ensures plan { plan_view result.plan.now ≡ prepared_view self.now }
         ensures budget { result.budget ≡ budget }
     {

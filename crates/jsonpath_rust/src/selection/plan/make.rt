@@ -10,13 +10,13 @@ ghost use Rattle.jsonpath_rust.specs.declared.selection.sink.Wanted.{Wanted};
 ghost use Rattle.jsonpath_rust.specs.declared.selection.sink.Wanted.TheVariants.{Only, Values};
 
 use super::absolute::is_rooted_call;
+use super::patterns::Numbers;
 use super::steps::{steps_again, steps_of};
 use super::{
     Argument, Call, Called, Entry, Filter, Nesting, Nodes, Plan, Rooted, Segment, Selector, Side,
 };
 use crate::selection::sink::Wanted;
 use jsonpath_base::Extent;
-use jsonpath_base::engine::Asked;
 use jsonpath_parser::errors::Parsed;
 use jsonpath_parser::model as tree;
 use jsonpath_parser::model::{JpQuery, Operator, SingularQuery};
@@ -32,10 +32,10 @@ pub fn plan_of(alloc: Global, query: &JpQuery) -> Parsed<Plan>
         alloc,
         kept: Vec::new(alloc),
         nesting: Nesting::NONE,
-        patterns: Vec::new(alloc),
+        patterns: Numbers::new(alloc),
     };
     let segments = maker.segments(&query.segments)?;
-    let pattern_count = maker.patterns.len();
+    let pattern_count = maker.patterns.count;
     Ok(Plan {
         segments,
         kept: maker.kept,
@@ -53,7 +53,7 @@ pub struct Maker<'q> {
     /// The greatest nesting of the entries that were met since the one at hand began.
     pub nesting: Nesting,
     /// The patterns that have a number.
-    pub patterns: Vec<Asked<'q>>,
+    pub patterns: Numbers<'q>,
 }
 
 impl<'q> Maker<'q> {

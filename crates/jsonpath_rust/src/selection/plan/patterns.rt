@@ -11,9 +11,65 @@ ghost use Rattle.jsonpath_rust.specs.declared.selection.sink.Wanted.TheVariants.
 use super::Argument;
 use super::make::Maker;
 use jsonpath_base::Extent;
-use jsonpath_base::engine::Asked;
+use jsonpath_base::engine::{Asked, MOST_WEIGHT};
 use jsonpath_parser::errors::Parsed;
 use jsonpath_parser::model as tree;
+use std::alloc::{AllocError, Global};
+use std::collections::BTreeMap;
+
+/// The patterns of a query that have a number. Equal ones have the same.
+#[derive(Drop)]
+pub struct Numbers<'q> {
+    entire: BTreeMap<&'q str, usize>,
+    substring: BTreeMap<&'q str, usize>,
+    /// How many there are.
+    pub count: usize,
+    /// What they weigh together.
+    weight: usize,
+}
+
+impl<'q> Numbers<'q> {
+    /// None yet.
+    pub fn new(alloc: Global) -> Self {
+        Numbers {
+            entire: BTreeMap::new(alloc),
+            substring: BTreeMap::new(alloc),
+            count: 0,
+            weight: 0,
+        }
+    }
+
+    /// The number of a pattern. One that would bring their weights above [`MOST_WEIGHT`] gets none.
+    fn number(&mut self, alloc: Global, asked: Asked<'q>) -> Result<Option<usize>, AllocError> {
+        if let Some(number) = self.known(asked) {
+            return Ok(Some(number));
+        }
+        let weight = asked.weight(alloc)?.saturating_add(self.weight);
+        if weight > MOST_WEIGHT {
+            return Ok(None);
+        }
+        let number = self.count;
+        self.add(asked, number)?;
+        self.count = number.saturating_add(1);
+        self.weight = weight;
+        Ok(Some(number))
+    }
+
+    fn known(&self, asked: Asked<'_>) -> Option<usize> {
+        match asked.extent {
+            Extent::Entire => Some(*self.entire.get(asked.pattern)?),
+            Extent::Substring => Some(*self.substring.get(asked.pattern)?),
+        }
+    }
+
+    fn add(&mut self, asked: Asked<'q>, number: usize) -> Result<(), AllocError> {
+        match asked.extent {
+            Extent::Entire => drop(self.entire.insert(asked.pattern, number)?),
+            Extent::Substring => drop(self.substring.insert(asked.pattern, number)?),
+        }
+        Ok(())
+    }
+}
 
 impl<'q> Maker<'q> {
     /// A literal that is asked as a pattern.
@@ -27,44 +83,20 @@ impl<'q> Maker<'q> {
         ensures memory { MemoryAlone result }
     {
         match literal {
-            tree::Literal::String(text) => {
-                let number = self.pattern_number(text, extent)?;
-                Ok(Argument::Pattern(String::from_str(self.alloc, text)?, number))
-            }
+            tree::Literal::String(text) => match self.pattern_number(text, extent)? {
+                Some(number) => Ok(Argument::Pattern(String::from_str(self.alloc, text)?, number)),
+                None => Ok(Argument::Literal(literal.try_clone(self.alloc)?)),
+            },
             _ => Ok(Argument::Literal(literal.try_clone(self.alloc)?)),
         }
     }
 
-    /// The number of a pattern.
-    fn pattern_number(&mut self, pattern: &'q str, extent: Extent) -> Parsed<usize>
+    /// The number of a pattern, if it has one.
+    fn pattern_number(&mut self, pattern: &'q str, extent: Extent) -> Parsed<Option<usize>>
         ensures beside { OnOk result (IsBeside self.old self.new) }
         ensures memory { MemoryAlone result }
     {
         let asked = Asked { pattern, extent };
-        if let Some(number) = near_pattern(&self.patterns, asked) {
-            return Ok(number);
-        }
-        let number = self.patterns.len();
-        self.patterns.push(asked)?;
-        Ok(number)
+        Ok(self.patterns.number(self.alloc, asked)?)
     }
-}
-
-/// How many patterns are near.
-const NEAR: usize = 8;
-
-/// The number of an equal pattern among the last ones.
-fn near_pattern(patterns: &Vec<Asked<'_>>, asked: Asked<'_>) -> Option<usize> {
-    let count = patterns.len();
-    for number in count.saturating_sub(NEAR)..count {
-        if is_same_pattern(patterns[number], asked) {
-            return Some(number);
-        }
-    }
-    None
-}
-
-/// Whether the same is asked.
-fn is_same_pattern(left: Asked<'_>, right: Asked<'_>) -> bool {
-    left.extent.is_entire() == right.extent.is_entire() && left.pattern == right.pattern
 }

@@ -1327,6 +1327,11 @@ match_or_search-returns-in_err-pattern-clause-comes g t c =
     let pattern = argument_view kept c.args.args.1.now Only in
     comes_so _ _ c.from_residual-in_err-pattern.ensures.1 c.in_err-pattern.ensures.comes (λ h. asked_rest (is_entire c.args.extent, pattern) _ (asked_right (argument_patterns text) (argument_patterns pattern) h))
 
+pub match_or_search-returns-in_err-cost-clause-comes : goal.match_or_search-returns-in_err-cost-clause-comes
+match_or_search-returns-in_err-cost-clause-comes g t c =
+    let back = on c.in_ok-text.ensures.comes.back c.in_ok-pattern.ensures.comes.back in
+    comes_err _ _ c.from_residual-in_err-cost.ensures.1 back.ready (λ y e memory spent. absurd (memory (e ∙ c.in_err-cost.ensures.memory)))
+
 pub custom-returns-in_err-argument-clause-comes : goal.custom-returns-in_err-argument-clause-comes
 custom-returns-in_err-argument-clause-comes g t c =
     let kept = kept_of c.args.self.now in
