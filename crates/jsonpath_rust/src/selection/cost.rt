@@ -13,20 +13,45 @@ use crate::documents::queryable::Queryable;
 use crate::documents::value::Operand;
 use crate::documents::whole::WholeRef;
 use crate::selection::budget::Limit;
-use jsonpath_base::Extent;
-use jsonpath_base::engine::{Asked, Finders, Origin};
+use crate::selection::sink::Sink;
+use jsonpath_base::engine::{Asked, Finders, Origin, Way};
+use jsonpath_base::{Extent, StepRef};
 use std::alloc::Global;
 
 /// How many bytes of a text are compared for one unit.
 const BYTES: usize = 16;
 
+/// How many bytes of names are copied for one unit.
+const COPIED: usize = 64;
+
 impl Limit {
-    /// What it costs to read a text of the document: a unit for each byte.
+    /// What `length` costs: a unit for each byte of a text of the document, and for each member of an object.
     #[inline(always)]
-    pub fn text_cost<T: Queryable>(self, operand: &Operand<'_, '_, T>) -> usize {
+    pub fn length_cost<T: Queryable>(
+        self,
+        alloc: Global,
+        operand: &Operand<'_, '_, T>,
+    ) -> Walked<usize>
+        ensures memory { IfErr result (λ h. h ≡ Memory) }
+    {
+        match self {
+            Limit::Unlimited => Ok(0),
+            Limit::Limited => cost_of_length(alloc, operand),
+        }
+    }
+
+    /// What it costs to give a node to a sink: where that keeps a path or a location, a unit for each few bytes of names in it.
+    #[inline(always)]
+    pub fn path_cost<T: Queryable>(self, sink: &Sink<'_, T>, way: &Way<'_>) -> usize {
         match self {
             Limit::Unlimited => 0,
-            Limit::Limited => text_bytes(operand),
+            Limit::Limited => match sink {
+                Sink::Nodes(_) => name_bytes(way) / COPIED,
+                Sink::Paths(_) => name_bytes(way) / COPIED,
+                Sink::Locations(_) => name_bytes(way) / COPIED,
+                Sink::First(_) => name_bytes(way) / COPIED,
+                _ => 0,
+            },
         }
     }
 
@@ -95,6 +120,30 @@ fn text_bytes<T: Queryable>(operand: &Operand<'_, '_, T>) -> usize {
         },
         None => 0,
     }
+}
+
+/// How many bytes the text has, or how many members the object, if it is one of the document.
+fn cost_of_length<T: Queryable>(alloc: Global, operand: &Operand<'_, '_, T>) -> Walked<usize>
+    ensures memory { IfErr result (λ h. h ≡ Memory) }
+{
+    match value_in(operand) {
+        Some(value) => match value.as_str() {
+            Some(text) => Ok(text.len()),
+            None => Ok(value.member_count(alloc)?.unwrap_or(0)),
+        },
+        None => Ok(0),
+    }
+}
+
+/// How many bytes the names on the way have.
+fn name_bytes(way: &Way<'_>) -> usize {
+    let mut bytes: usize = 0;
+    for step in &way.steps {
+        if let StepRef::Name(name) = step {
+            bytes = bytes.saturating_add(name.len());
+        }
+    }
+    bytes
 }
 
 /// What it costs to read these texts, a unit for each byte of one of the document, and to ask the second as a pattern of the
@@ -169,11 +218,7 @@ fn bound_of_smaller<T: Queryable>(
 }
 
 /// How many these values are, and the product of their sizes; or at least `most`, where no more of them is looked at.
-fn size_of_arguments<T: Queryable>(
-    alloc: Global,
-    args: &Args<'_, T>,
-    most: usize,
-) -> Walked<usize>
+fn size_of_arguments<T: Queryable>(alloc: Global, args: &Args<'_, T>, most: usize) -> Walked<usize>
     ensures each { IfOk result (λ n. min (length (arg_trees args.now)) most ≤ n) }
     ensures memory { IfErr result (λ h. h ≡ Memory) }
 {

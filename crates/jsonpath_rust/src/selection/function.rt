@@ -46,7 +46,7 @@ impl<'a: 's, 's, T: Queryable> Task<'a, 's, T> {
             Call::Custom(name, args) => self.custom(name, args, at, trail),
             Call::Length(arg) => {
                 let value = self.value(arg, at, trail)?;
-                let cost = self.limit.text_cost(&value);
+                let cost = self.limit.length_cost(self.alloc, &value)?;
                 trail.budget.spend(self.limit, cost)?;
                 value.length(self.alloc)
             }

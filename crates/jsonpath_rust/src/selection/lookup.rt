@@ -12,6 +12,7 @@ use crate::documents::halt::Walked;
 use crate::documents::queryable::Queryable;
 use crate::documents::value::GREATEST_COUNT;
 use crate::documents::whole::WholeRef;
+use crate::selection::budget::Limit;
 use crate::selection::plan::{Segment, Selector};
 use crate::selection::sink::{Sink, Wanted};
 use std::alloc::Global;
@@ -29,9 +30,31 @@ pub enum Followed<'a, T: Queryable> {
     Open,
 }
 
+/// The same as [`short_cut`], but that where the work is limited the members of an object are walked: to count them its type may
+/// have to list them.
+#[inline(always)]
+pub fn short_cut_within<'a, T: Queryable>(
+    alloc: Global,
+    segments: &[Segment],
+    wanted: Wanted,
+    at: WholeRef<'a, T>,
+    limit: Limit,
+) -> Walked<Option<Sink<'a, T>>>
+    ensures given { (kept : Kept) → IfOk result (λ o. IfSome o (GivesThrough wanted (segments_meant kept segments.now) (tree_of at.entry))) }
+    ensures memory { IfErr result (λ h. h ≡ Memory) }
+{
+    match limit {
+        Limit::Unlimited => short_cut(alloc, segments, wanted, at),
+        Limit::Limited => match follow(segments, at) {
+            Followed::Children(parent) if parent.elements().is_none() => Ok(None),
+            _ => short_cut(alloc, segments, wanted, at),
+        },
+    }
+}
+
 /// What the nodes of these segments, from a value on, give of what is wanted, where that needs no walk. The cost goes with the
 /// steps that lead somewhere, not with the segments.
-pub fn short_cut<'a, T: Queryable>(
+fn short_cut<'a, T: Queryable>(
     alloc: Global,
     segments: &[Segment],
     wanted: Wanted,

@@ -34,18 +34,21 @@ use std::mem;
 /// - one for each child that a `*`, a slice or `..` looks at, and two for each that a filter is tried on;
 /// - one for each selector of several in one segment, and for each operand of `&&` and `||`;
 /// - one for each value in the smaller side of a comparison, and for each 16 bytes of its texts and names;
-/// - one for each byte of a text, or of a pattern of the document, that `length`, `match` or `search` reads;
+/// - one for each byte of a text, or of a pattern of the document, that `length`, `match` or `search` reads, and for each member
+///   of an object that `length` counts;
 /// - for a pattern that is not kept 256, and one for each of its characters where counted repetitions are written out, but
 ///   2^20 at most: what is larger `regex` refuses. A class such as `\w` or `\p{L}` counts as 700, one such as `\d` as 71, and a
 ///   pattern with the flag `x` as the largest;
 /// - for each byte of a text that is searched, one for each eight of these characters, where a class such as `\w` has eight;
 /// - one for each value that a custom function is given, and the product of their sizes, counted so; `count` and `value` spend
-///   what their walks spend.
+///   what their walks spend;
+/// - one for each 64 bytes of the names in a path that is returned;
+/// - where three queries from the root stand in one another, one for each value of the document that is looked at to see how
+///   deep it is.
 ///
-/// Names and indexes cost nothing by themselves. The time of a unit grows with the length of the query alone, but for two
-/// things: the path of a node, which is copied, and the members of an object, which are listed where its type has no
-/// `member_count` of its own. What a comparison or a custom function costs is counted before it is spent, so a
-/// call that returns None may have looked at so much more.
+/// Names and indexes cost nothing by themselves. The time of a unit grows with the length of the query alone. What is spent at
+/// once is counted first, as far as what is left; so a call that returns None may have listed the members of one object, and
+/// counted as many values more as it had units.
 #[derive(Drop)]
 pub struct Runner<'p> {
     prepared: &'p Prepared,

@@ -56,7 +56,11 @@ impl<'a: 's, 's, T: Queryable> Task<'a, 's, T> {
         ensures comes { Comes self.now trail.old trail.new (segments_patterns (segments_meant (kept_of self.now) segments.now)) result }
     {
         match segments.split_first() {
-            None => sink.take(self.alloc, at, &mut trail.way),
+            None => {
+                let cost = self.limit.path_cost(sink, &trail.way);
+                trail.budget.spend(self.limit, cost)?;
+                sink.take(self.alloc, at, &mut trail.way)
+            }
             Some((next, rest)) => self.pass(Onward { next, rest }, at, trail, sink),
         }
     }

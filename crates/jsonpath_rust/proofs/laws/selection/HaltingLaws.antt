@@ -22,6 +22,10 @@ use Rattle.jsonpath_rust.proofs.laws.documents.Parts.{contains_part, err_so}
 asked_by : {d : Document} (xs ys : List (Bool × Argument)) → ((p : Bool × Argument) → Contains xs p → Contains ys p) → AsksPattern xs d → AsksPattern ys d
 asked_by xs ys k h = record { entire = h.entire; pattern = h.pattern; stands = k (h.entire, h.pattern) h.stands; node = h.node; here = h.here; read = h.read }
 
+-- none stands in no part
+pub asked_none : {d : Document} (ys : List (Bool × Argument)) → AsksPattern [] d → AsksPattern ys d
+asked_none ys h = asked_by [] ys (λ p c. absurd (omega (arith, c.1))) h
+
 -- the same part in other words
 pub asked_as : {X : Type 0} {d : Document} (f : X → List (Bool × Argument)) (x y : X) → x ≡ y → AsksPattern (f y) d → AsksPattern (f x) d
 asked_as {d = d} f x y e h = subst (λ z. AsksPattern (f z) d) (sym e) h

@@ -105,33 +105,37 @@ kept_count m r = sym (ap (λ l. length l) (r.settled (kept_in m) (extends_none (
 
 -- the entry of this number stands for what the part stands for
 numbered_found : (m : Maker) (part : Rooted) (n : ℕ) → IsNumberOf m.kept.items part n → IsNumbered m m part n
-numbered_found m part n h = record { made = λ {first} {p} d root. record {
-  grows = d.grows;
-  says = λ r kept x.
-      let right : IsRight m = d.right r in
-      ap (λ l. part_at l n) x.is ∙ get_or_append_left (kept_in m) x.more (value []) n (subst (λ k. n < k) (sym (kept_count m right)) h.within) ∙ ap (λ l. part_at l n) (sym (right.settled kept x)) ∙ h.is kept ∙ d.says r kept x;
-  right = d.right;
-} }
+numbered_found m part n h = record {
+  made = λ {first} {p} d root. record {
+    grows = d.grows;
+    says = λ r kept x.
+        let right : IsRight m = d.right r in
+        ap (λ l. part_at l n) x.is ∙ get_or_append_left (kept_in m) x.more (value []) n (subst (λ k. n < k) (sym (kept_count m right)) h.within) ∙ ap (λ l. part_at l n) (sym (right.settled kept x)) ∙ h.is kept ∙ d.says r kept x;
+    right = d.right;
+  };
+}
 
 -- the entry that was made stands for what the part stands for
 pub numbered_kept : (old new : Maker) (part : Rooted) (n : ℕ) → IsKept old new part n → IsNumbered old new part n
-numbered_kept old new part n k = record { made = λ {first} {p} m root.
-    let last : KeptPart = rooted_view (kept_in old) part in
-    let grown : kept_in new ≡ kept_in old ++ last ∷ [] = ap kept_view k.entries ∙ kept_push [] old.kept.items _ in
-    let grows : Extends (kept_in old) (kept_in new) = record { more = last ∷ []; is = grown } in
-    let is : IsRight first → last ≡ p = λ r. m.says r (kept_in old) (extends_none (kept_in old)) in
-    record {
-      grows = extends_on (kept_in first) (kept_in old) (kept_in new) m.grows grows;
-      says = λ r kept x. ap (λ l. part_at l n) (x.is ∙ ap (λ l. l ++ x.more) grown ∙ append_assoc (kept_in old) (last ∷ []) x.more) ∙ ap (λ i. part_at (kept_in old ++ last ∷ x.more) i) (k.number ∙ sym (kept_count old (m.right r))) ∙ get_or-append_seam (kept_in old) last x.more (value []) ∙ is r;
-      right = λ r.
-          let was : IsRight old = m.right r in
-          record {
-            settled = λ kept x.
-                let on : Extends (kept_in old) kept = extends_on (kept_in old) (kept_in new) kept grows x in
-                ap (parts_where kept) k.entries ∙ map-append (λ e. rooted_view kept e.part) old.kept.items _ ∙ ap (λ l. l ++ rooted_view kept part ∷ []) (was.settled kept on) ∙ ap (λ q. kept_in old ++ q ∷ []) (m.says r kept on ∙ sym (is r)) ∙ sym grown;
-            rooted = ap (list_all part_is_rooted) grown ∙ list_all-append part_is_rooted (kept_in old) (last ∷ []) ∙ and_from _ _ was.rooted (and_from _ _ (ap part_is_rooted (is r) ∙ root r) refl);
-          };
-    } }
+numbered_kept old new part n k = record {
+  made = λ {first} {p} m root.
+      let last : KeptPart = rooted_view (kept_in old) part in
+      let grown : kept_in new ≡ kept_in old ++ last ∷ [] = ap kept_view k.entries ∙ kept_push [] old.kept.items _ in
+      let grows : Extends (kept_in old) (kept_in new) = record { more = last ∷ []; is = grown } in
+      let is : IsRight first → last ≡ p = λ r. m.says r (kept_in old) (extends_none (kept_in old)) in
+      record {
+        grows = extends_on (kept_in first) (kept_in old) (kept_in new) m.grows grows;
+        says = λ r kept x. ap (λ l. part_at l n) (x.is ∙ ap (λ l. l ++ x.more) grown ∙ append_assoc (kept_in old) (last ∷ []) x.more) ∙ ap (λ i. part_at (kept_in old ++ last ∷ x.more) i) (k.number ∙ sym (kept_count old (m.right r))) ∙ get_or-append_seam (kept_in old) last x.more (value []) ∙ is r;
+        right = λ r.
+            let was : IsRight old = m.right r in
+            record {
+              settled = λ kept x.
+                  let on : Extends (kept_in old) kept = extends_on (kept_in old) (kept_in new) kept grows x in
+                  ap (parts_where kept) k.entries ∙ map-append (λ e. rooted_view kept e.part) old.kept.items _ ∙ ap (λ l. l ++ rooted_view kept part ∷ []) (was.settled kept on) ∙ ap (λ q. kept_in old ++ q ∷ []) (m.says r kept on ∙ sym (is r)) ∙ sym grown;
+              rooted = ap (list_all part_is_rooted) grown ∙ list_all-append part_is_rooted (kept_in old) (last ∷ []) ∙ and_from _ _ was.rooted (and_from _ _ (ap part_is_rooted (is r) ∙ root r) refl);
+            };
+      };
+}
 
 pub numbered_by : {old new : Maker} {part : Rooted} {n : ℕ} → IsNumberOf old.kept.items part n → IsBeside old new → IsNumbered old new part n
 numbered_by {old = old} {new = new} {part = part} {n = n} h b = record { made = λ m root. made_before b ((numbered_found old part n h).made m root) }

@@ -217,7 +217,7 @@ comparison-returns-clause-made t c =
     let p = c.match-comparison.operator in
     let of = λ (q : Operator × Bor Comparable × Bor Comparable). syntax.compare (tree.operator_view q.0) (tree.comparable_view q.1.now) (tree.comparable_view q.2.now) in
     let same : tree.comparison_view c.args.comparison.now ≡ of p = elim c.match-comparison.branch [
-      comparison-in-Eq w ↦ ap tree.comparison_view w.in-Eq.is ∙ source.comparison_view-Eq w.in-Eq.left w.in-Eq.right ∙ ap of (sym w.operator-is)
+      | comparison-in-Eq w ↦ ap tree.comparison_view w.in-Eq.is ∙ source.comparison_view-Eq w.in-Eq.left w.in-Eq.right ∙ ap of (sym w.operator-is)
       | comparison-in-Ne w ↦ ap tree.comparison_view w.in-Ne.is ∙ source.comparison_view-Ne w.in-Ne.left w.in-Ne.right ∙ ap of (sym w.operator-is)
       | comparison-in-Gt w ↦ ap tree.comparison_view w.in-Gt.is ∙ source.comparison_view-Gt w.in-Gt.left w.in-Gt.right ∙ ap of (sym w.operator-is)
       | comparison-in-Gte w ↦ ap tree.comparison_view w.in-Gte.is ∙ source.comparison_view-Gte w.in-Gte.left w.in-Gte.right ∙ ap of (sym w.operator-is)
