@@ -13,6 +13,8 @@ pub mod PutLaws
 pub mod Putting
 pub mod PutWhole
 pub mod Marking
+pub mod Counting
+pub mod InOrder
 pub mod Removing
 pub mod Removed
 pub mod WithoutLaws

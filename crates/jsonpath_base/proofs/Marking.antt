@@ -1,20 +1,20 @@
 -- Marks beside the set of locations that they hold.
-use Rattle.std.proofs.Common.{◌≡◌, ◌≤◌, ◌<◌, ℕ, suc, ◌+◌, List, [], ◌∷◌, map, Bool, true, false, true≢false, cond, ◌&&◌, ◌||◌, Option, Some, None, option_map, Result, Ok, Err, OnOk, Ordering, Less, Equal, Greater, is_eq, nat_cmp, nat_eq, bytes_eq, String, Global, string_bytes, string_cmp, BTreeMap, unwrap_or, refl, sym, ap, ◌∙◌, subst, rules, arith, eqb-true, ne_eqb}
+use Rattle.std.proofs.Common.{◌≡◌, ◌≤◌, ◌<◌, ℕ, suc, ◌+◌, List, [], ◌∷◌, ◌++◌, map, length, set, get_or, zero, append_assoc, ap₂, if◌then◌else◌, Vec, Bool, true, false, true≢false, cond, ◌&&◌, ◌||◌, Option, Some, None, Result, Ok, Err, OnOk, Ordering, Less, Equal, Greater, is_eq, nat_cmp, nat_eq, bytes_eq, String, Global, string_bytes, string_cmp, unwrap_or, refl, sym, ap, ◌∙◌, rules, arith, eqb-true, ne_eqb}
 use Rattle.std.proofs.Math.Dec.{ltb}
-use Rattle.std.proofs.lemmas.Bool.{ltb-true, ltb-false}
+use Rattle.std.proofs.lemmas.Bool.{ltb-true, ltb-false, and_right}
+use Rattle.std.proofs.lemmas.List.Folds.{list_any-append}
 use Rattle.std.proofs.lemmas.Cmp.{ranked}
 use Rattle.std.proofs.lemmas.Map.Text.{is_eq-slice_cmp}
 use Rattle.std.proofs.lemmas.Slice.Eq.{bytes_eq-Decides}
-use Rattle.std.specs.BTreeMap.{insert_entry, is_at}
+use Rattle.std.specs.BTreeMap.{insert_entry}
 use Rattle.std.specs.Cmp.{nat_eq_equiv, unsigned_tied}
-use Rattle.std.specs.Cmp.Lexicographic.{slice_cmp}
 use Rattle.std.specs.List.{AllByRecursion}
 use Rattle.std.specs.List.Sorted.{IsStrictlySortedBy}
-use Rattle.std.specs.Map.{lookup, set_value, keys_of}
+use Rattle.std.specs.Map.{lookup, keys_of}
 use Rattle.std.specs.Ordering.{match_ordering}
 use Rattle.jsonpath_parser.specs.Location.{Step, name, index, Location}
-use Rattle.jsonpath_base.specs.Without.{is_same_step, is_location, HasAlso}
-use Rattle.jsonpath_base.specs.inner.Marks.{to_member, is_key, in_set, marked, marked_by, marked_below, total, marks_count}
+use Rattle.jsonpath_base.specs.Without.{is_same_step, is_location, is_among, HasAlso}
+use Rattle.jsonpath_base.specs.inner.Marks.{to_member, is_key, listed, listed_of, listed_in, marked, marked_in, marked_by, marked_below, total, marks_count, marks_total, TestsSteps}
 use Rattle.jsonpath_base.specs.declared.marks.Marks.{Marks, the_lemmas}
 use Rattle.jsonpath_base.specs.declared.marks.Marks.TheViews.{out-Marks, roll-Marks}
 
@@ -40,87 +40,222 @@ flipped (name k) (index j) h = refl
 flipped (index i) (name l) h = refl
 flipped (index i) (index j) h = nat_eq_equiv.symm i j ∙ h
 
--- an order of keys tells apart what their steps tell apart
-abbrev pub TestsSteps : {K : Type 0} → (K → Step) → (K → K → Ordering) → Type 0
-TestsSteps {K} to compare = (k l : K) → is_eq (compare k l) ≡ is_key to (to k) l
-
 pub name_test : TestsSteps to_member string_cmp
 name_test k l = is_eq-slice_cmp (string_bytes k) (string_bytes l)
 
 pub index_test : TestsSteps index nat_cmp
 index_test i j = unsigned_tied i j
 
--- a test of keys by a step
-abbrev pub TestsFor : {K : Type 0} → (K → Step) → Step → (K → Bool) → Type 0
-TestsFor {K} to s test = (k : K) → test k ≡ is_key to s k
+-- ---- lists of locations
 
--- as the calls of a map test its keys
-pub member_test : (q : List ℕ) → TestsFor to_member (name q) (is_at (λ k. slice_cmp nat_cmp q (string_bytes k)))
-member_test q k = is_eq-slice_cmp q (string_bytes k)
+or_none : (b : Bool) → (b || false) ≡ b
+or_none true = refl
+or_none false = refl
 
-pub element_test : (i : ℕ) → TestsFor index (index i) (is_at (nat_cmp i))
-element_test i j = unsigned_tied i j
+pub among_append : (ms ns : List Location) (l : Location) → is_among (ms ++ ns) l ≡ (is_among ms l || is_among ns l)
+among_append ms ns l = list_any-append (λ m. is_location m l) ms ns
+
+pub among_here : (r : Step) (ms : List Location) → is_among (map (λ m. r ∷ m) ms) [] ≡ false
+among_here r [] = refl
+among_here r (m ∷ ms) = among_here r ms
+
+pub among_under : (r s : Step) (ms : List Location) (l : Location) → is_among (map (λ m. r ∷ m) ms) (s ∷ l) ≡ (is_same_step r s && is_among ms l)
+among_under r s [] l = sym (and_right (is_same_step r s) false refl)
+among_under r s (m ∷ ms) l = pick (is_same_step r s) (is_location m l) (is_among (map (λ m. r ∷ m) ms) (s ∷ l)) (is_among ms l) (among_under r s ms l)
+  where
+    pick : (a b c d : Bool) → c ≡ (a && d) → ((a && b) || c) ≡ (a && (b || d))
+    pick true b c d e = ap (λ x. b || x) e
+    pick false b c d e = e
 
 -- ---- one level
 
-lookup-map : {K X Y : Type 0} (f : X → Y) (test : K → Bool) (es : List (K × X)) → lookup test (map (λ e. (e.0, f e.1)) es) ≡ option_map f (lookup test es)
-lookup-map f test [] = refl
-lookup-map f test (e ∷ es) = pick (test e.0) (lookup-map f test es)
-  where
-    pick : (b : Bool) → lookup test (map (λ e. (e.0, f e.1)) es) ≡ option_map f (lookup test es)
-        → cond b (Some (f e.1)) (lookup test (map (λ e. (e.0, f e.1)) es)) ≡ option_map f (cond b (Some e.1) (lookup test es))
-    pick true more = refl
-    pick false more = more
+pub in_here : {K : Type 0} (to : K → Step) (es : List (K × Marks)) → marked_in to es [] ≡ false
+in_here to [] = refl
+in_here to (e ∷ es) = among_append (map (λ l. to e.0 ∷ l) (listed e.1)) (listed_in to es) [] ∙ rw (among_here (to e.0) (listed e.1), in_here to es)
 
-in_set-marked : (o : Option Marks) (l : Location) → in_set (option_map marked o) l ≡ marked_by o l
-in_set-marked None l = refl
-in_set-marked (Some m) l = refl
+pub in_step : {K : Type 0} (to : K → Step) (e : K × Marks) (es : List (K × Marks)) (s : Step) (l : Location) → marked_in to (e ∷ es) (s ∷ l) ≡ ((is_same_step (to e.0) s && marked e.1 l) || marked_in to es (s ∷ l))
+in_step to e es s l = among_append (map (λ l. to e.0 ∷ l) (listed e.1)) (listed_in to es) (s ∷ l) ∙ ap (λ b. b || marked_in to es (s ∷ l)) (among_under (to e.0) s (listed e.1) l)
 
-found_marked : {K : Type 0} (to : K → Step) (es : List (K × Marks)) (s : Step) (l : Location) → in_set (lookup (is_key to s) (map (λ e. (e.0, marked e.1)) es)) l ≡ marked_below to es (s ∷ l)
-found_marked to es s l = ap (λ o. in_set o l) (lookup-map marked (is_key to s) es) ∙ in_set-marked _ l
+listed-append : {K : Type 0} (to : K → Step) (es fs : List (K × Marks)) → listed_in to (es ++ fs) ≡ listed_in to es ++ listed_in to fs
+listed-append to [] fs = refl
+listed-append to (e ∷ es) fs = ap (λ x. map (λ l. to e.0 ∷ l) (listed e.1) ++ x) (listed-append to es fs) ∙ sym (append_assoc (map (λ l. to e.0 ∷ l) (listed e.1)) (listed_in to es) (listed_in to fs))
 
-pub marked_here : (m : Marks) → marked m [] ≡ (out-Marks m).here
-marked_here m = search (rules, the_lemmas)
+pub in_append : {K : Type 0} (to : K → Step) (es fs : List (K × Marks)) (l : Location) → marked_in to (es ++ fs) l ≡ (marked_in to es l || marked_in to fs l)
+in_append to es fs l = ap (λ x. is_among x l) (listed-append to es fs) ∙ among_append (listed_in to es) (listed_in to fs) l
 
-member_further : (m : Marks) (k : List ℕ) (l : Location) → marked m (name k ∷ l) ≡ in_set (lookup (is_key to_member (name k)) (map (λ e. (e.0, marked e.1)) (out-Marks m).names.entries)) l
-member_further m k l = search (rules, the_lemmas)
+-- ---- marks
 
-pub marked_member : (m : Marks) (k : List ℕ) (l : Location) → marked m (name k ∷ l) ≡ marked_below to_member (out-Marks m).names.entries (name k ∷ l)
-marked_member m k l = member_further m k l ∙ found_marked to_member (out-Marks m).names.entries (name k) l
+listed_of-map : {K : Type 0} (to : K → Step) (es : List (K × Marks)) → listed_of to (map (λ e. (e.0, listed e.1)) es) ≡ listed_in to es
+listed_of-map to [] = refl
+listed_of-map to (e ∷ es) = ap (λ x. map (λ l. to e.0 ∷ l) (listed e.1) ++ x) (listed_of-map to es)
 
-element_further : (m : Marks) (i : ℕ) (l : Location) → marked m (index i ∷ l) ≡ in_set (lookup (is_key index (index i)) (map (λ e. (e.0, marked e.1)) (out-Marks m).indexes.entries)) l
-element_further m i l = search (rules, the_lemmas)
+-- the locations of marks, by its fields
+abbrev pub parts : Bool → List (String Global × Marks) → List (ℕ × Marks) → List Location
+parts here names indexes = (if here then [] ∷ [] else []) ++ (listed_in to_member names ++ listed_in index indexes)
 
-pub marked_element : (m : Marks) (i : ℕ) (l : Location) → marked m (index i ∷ l) ≡ marked_below index (out-Marks m).indexes.entries (index i ∷ l)
-marked_element m i l = element_further m i l ∙ found_marked index (out-Marks m).indexes.entries (index i) l
+listed_further : (m : Marks) → listed m
+    ≡ (if (out-Marks m).here then [] ∷ [] else []) ++ (listed_of to_member (map (λ e. (e.0, listed e.1)) (out-Marks m).names.items) ++ listed_of index (map (λ e. (e.0, listed e.1)) (out-Marks m).indexes.items))
+listed_further m = search (rules, the_lemmas)
 
-abbrev rolled : Bool → BTreeMap (String Global) Marks → BTreeMap ℕ Marks → Marks
+pub listed_out : (m : Marks) → listed m ≡ parts (out-Marks m).here (out-Marks m).names.items (out-Marks m).indexes.items
+listed_out m = listed_further m ∙ rw (listed_of-map to_member (out-Marks m).names.items, listed_of-map index (out-Marks m).indexes.items)
+
+abbrev pub rolled : Bool → Vec (String Global × Marks) Global → Vec (ℕ × Marks) Global → Marks
 rolled b names indexes = roll-Marks (record { here = b; names = names; indexes = indexes })
 
-rolled_here : (b : Bool) (ns : BTreeMap (String Global) Marks) (is : BTreeMap ℕ Marks) → marked (rolled b ns is) [] ≡ b
-rolled_here b ns is = search (rules, the_lemmas)
+rolled_further : (b : Bool) (ns : Vec (String Global × Marks) Global) (is : Vec (ℕ × Marks) Global) → listed (rolled b ns is)
+    ≡ (if b then [] ∷ [] else []) ++ (listed_of to_member (map (λ e. (e.0, listed e.1)) ns.items) ++ listed_of index (map (λ e. (e.0, listed e.1)) is.items))
+rolled_further b ns is = search (rules, the_lemmas)
 
-member_rolled : (b : Bool) (ns : BTreeMap (String Global) Marks) (is : BTreeMap ℕ Marks) (k : List ℕ) (l : Location) → marked (rolled b ns is) (name k ∷ l) ≡ in_set (lookup (is_key to_member (name k)) (map (λ e. (e.0, marked e.1)) ns.entries)) l
-member_rolled b ns is k l = search (rules, the_lemmas)
+pub listed_rolled : (b : Bool) (ns : Vec (String Global × Marks) Global) (is : Vec (ℕ × Marks) Global) → listed (rolled b ns is) ≡ parts b ns.items is.items
+listed_rolled b ns is = rolled_further b ns is ∙ rw (listed_of-map to_member ns.items, listed_of-map index is.items)
 
-element_rolled : (b : Bool) (ns : BTreeMap (String Global) Marks) (is : BTreeMap ℕ Marks) (i : ℕ) (l : Location) → marked (rolled b ns is) (index i ∷ l) ≡ in_set (lookup (is_key index (index i)) (map (λ e. (e.0, marked e.1)) is.entries)) l
-element_rolled b ns is i l = search (rules, the_lemmas)
+pub no_member : (es : List (ℕ × Marks)) (k : List ℕ) (l : Location) → marked_in index es (name k ∷ l) ≡ false
+no_member [] k l = refl
+no_member (e ∷ es) k l = in_step index e es (name k) l ∙ no_member es k l
+
+pub no_element : (es : List (String Global × Marks)) (i : ℕ) (l : Location) → marked_in to_member es (index i ∷ l) ≡ false
+no_element [] i l = refl
+no_element (e ∷ es) i l = in_step to_member e es (index i) l ∙ no_element es i l
+
+parts_split : (b : Bool) (ns : List (String Global × Marks)) (is : List (ℕ × Marks)) (l : Location) → is_among (parts b ns is) l ≡ (is_among (if b then [] ∷ [] else []) l || (marked_in to_member ns l || marked_in index is l))
+parts_split b ns is l =
+    among_append (if b then [] ∷ [] else []) (listed_in to_member ns ++ listed_in index is) l ∙ ap (λ x. is_among (if b then [] ∷ [] else []) l || x) (among_append (listed_in to_member ns) (listed_in index is) l)
+
+here_here : (b : Bool) → is_among (if b then [] ∷ [] else []) [] ≡ b
+here_here true = refl
+here_here false = refl
+
+here_further : (b : Bool) (s : Step) (l : Location) → is_among (if b then [] ∷ [] else []) (s ∷ l) ≡ false
+here_further true s l = refl
+here_further false s l = refl
+
+pub parts_here : (b : Bool) (ns : List (String Global × Marks)) (is : List (ℕ × Marks)) → is_among (parts b ns is) [] ≡ b
+parts_here b ns is = parts_split b ns is [] ∙ rw (here_here b, in_here to_member ns, in_here index is) (or_none b)
+
+pub parts_member : (b : Bool) (ns : List (String Global × Marks)) (is : List (ℕ × Marks)) (k : List ℕ) (l : Location) → is_among (parts b ns is) (name k ∷ l) ≡ marked_in to_member ns (name k ∷ l)
+parts_member b ns is k l = parts_split b ns is (name k ∷ l) ∙ rw (here_further b (name k) l, no_member is k l) (or_none (marked_in to_member ns (name k ∷ l)))
+
+pub parts_element : (b : Bool) (ns : List (String Global × Marks)) (is : List (ℕ × Marks)) (i : ℕ) (l : Location) → is_among (parts b ns is) (index i ∷ l) ≡ marked_in index is (index i ∷ l)
+parts_element b ns is i l = parts_split b ns is (index i ∷ l) ∙ rw (here_further b (index i) l, no_element ns i l)
+
+pub marked_here : (m : Marks) → marked m [] ≡ (out-Marks m).here
+marked_here m = ap (λ x. is_among x []) (listed_out m) ∙ parts_here (out-Marks m).here (out-Marks m).names.items (out-Marks m).indexes.items
 
 -- ---- how many
-
-abbrev pub marks_total : {K : Type 0} → List (K × Marks) → ℕ
-marks_total [] = 0
-marks_total (e ∷ es) = marks_count e.1 + marks_total es
 
 total-map : {K : Type 0} (es : List (K × Marks)) → total (map (λ e. (e.0, marks_count e.1)) es) ≡ marks_total es
 total-map [] = refl
 total-map (e ∷ es) = ap (λ n. marks_count e.1 + n) (total-map es)
 
-count_further : (m : Marks) → marks_count m ≡ suc (total (map (λ e. (e.0, marks_count e.1)) (out-Marks m).names.entries) + total (map (λ e. (e.0, marks_count e.1)) (out-Marks m).indexes.entries))
+count_further : (m : Marks) → marks_count m ≡ suc (total (map (λ e. (e.0, marks_count e.1)) (out-Marks m).names.items) + total (map (λ e. (e.0, marks_count e.1)) (out-Marks m).indexes.items))
 count_further m = search (rules, the_lemmas)
 
-pub count_out : (m : Marks) → marks_count m ≡ suc (marks_total (out-Marks m).names.entries + marks_total (out-Marks m).indexes.entries)
-count_out m = count_further m ∙ rw (total-map (out-Marks m).names.entries, total-map (out-Marks m).indexes.entries)
+pub count_out : (m : Marks) → marks_count m ≡ suc (marks_total (out-Marks m).names.items + marks_total (out-Marks m).indexes.items)
+count_out m = count_further m ∙ rw (total-map (out-Marks m).names.items, total-map (out-Marks m).indexes.items)
+
+count_rolled_further : (b : Bool) (ns : Vec (String Global × Marks) Global) (is : Vec (ℕ × Marks) Global) → marks_count (rolled b ns is) ≡ suc (total (map (λ e. (e.0, marks_count e.1)) ns.items) + total (map (λ e. (e.0, marks_count e.1)) is.items))
+count_rolled_further b ns is = search (rules, the_lemmas)
+
+pub count_rolled : (b : Bool) (ns : Vec (String Global × Marks) Global) (is : Vec (ℕ × Marks) Global) → marks_count (rolled b ns is) ≡ suc (marks_total ns.items + marks_total is.items)
+count_rolled b ns is = count_rolled_further b ns is ∙ rw (total-map ns.items, total-map is.items)
+
+-- ---- another location
+
+pub on_ok : {A B : Type 0} {X Y : Type 0} (r : Result A B) → (X → Y) → OnOk r X → OnOk r Y
+on_ok (Ok a) f x = f x
+on_ok (Err e) f x = x
+
+also_here_in : (b : Bool) (ns : List (String Global × Marks)) (is : List (ℕ × Marks)) (l : Location) → is_among (parts true ns is) l ≡ (is_location [] l || is_among (parts b ns is) l)
+also_here_in b ns is [] = parts_here true ns is
+also_here_in b ns is (name k ∷ l) = parts_member true ns is k l ∙ sym (parts_member b ns is k l)
+also_here_in b ns is (index i ∷ l) = parts_element true ns is i l ∙ sym (parts_element b ns is i l)
+
+-- the location with no step
+pub also_here : (m : Marks) (at : Location) → at ≡ [] → HasAlso (marked m) at (marked (rolled true (out-Marks m).names (out-Marks m).indexes))
+also_here m at e = record {
+  each = λ l. ap (λ x. is_among x l) (listed_rolled true (out-Marks m).names (out-Marks m).indexes)
+      ∙ also_here_in (out-Marks m).here (out-Marks m).names.items (out-Marks m).indexes.items l
+      ∙ ap₂ (λ x y. is_location x l || y) (sym e) (ap (λ x. is_among x l) (sym (listed_out m)));
+}
+
+also_member_in : (b : Bool) (ns new : List (String Global × Marks)) (is : List (ℕ × Marks)) (k : List ℕ) (rest : Location) → HasAlso (marked_in to_member ns) (name k ∷ rest) (marked_in to_member new)
+    → (l : Location) → is_among (parts b new is) l ≡ (is_location (name k ∷ rest) l || is_among (parts b ns is) l)
+also_member_in b ns new is k rest h [] = parts_here b new is ∙ sym (parts_here b ns is)
+also_member_in b ns new is k rest h (name n ∷ l) = parts_member b new is n l ∙ h.each (name n ∷ l) ∙ ap (λ x. is_location (name k ∷ rest) (name n ∷ l) || x) (sym (parts_member b ns is n l))
+also_member_in b ns new is k rest h (index i ∷ l) = parts_element b new is i l ∙ sym (parts_element b ns is i l)
+
+pub also_member : (m : Marks) (ns : Vec (String Global × Marks) Global) (k : List ℕ) (rest at : Location) → at ≡ name k ∷ rest → HasAlso (marked_in to_member (out-Marks m).names.items) (name k ∷ rest) (marked_in to_member ns.items)
+    → HasAlso (marked m) at (marked (rolled (out-Marks m).here ns (out-Marks m).indexes))
+also_member m ns k rest at e h = record {
+  each = λ l. ap (λ x. is_among x l) (listed_rolled (out-Marks m).here ns (out-Marks m).indexes)
+      ∙ also_member_in (out-Marks m).here (out-Marks m).names.items ns.items (out-Marks m).indexes.items k rest h l
+      ∙ ap₂ (λ x y. is_location x l || y) (sym e) (ap (λ x. is_among x l) (sym (listed_out m)));
+}
+
+also_element_in : (b : Bool) (ns : List (String Global × Marks)) (is new : List (ℕ × Marks)) (j : ℕ) (rest : Location) → HasAlso (marked_in index is) (index j ∷ rest) (marked_in index new)
+    → (l : Location) → is_among (parts b ns new) l ≡ (is_location (index j ∷ rest) l || is_among (parts b ns is) l)
+also_element_in b ns is new j rest h [] = parts_here b ns new ∙ sym (parts_here b ns is)
+also_element_in b ns is new j rest h (name n ∷ l) = parts_member b ns new n l ∙ sym (parts_member b ns is n l)
+also_element_in b ns is new j rest h (index i ∷ l) = parts_element b ns new i l ∙ h.each (index i ∷ l) ∙ ap (λ x. is_location (index j ∷ rest) (index i ∷ l) || x) (sym (parts_element b ns is i l))
+
+pub also_element : (m : Marks) (is : Vec (ℕ × Marks) Global) (j : ℕ) (rest at : Location) → at ≡ index j ∷ rest → HasAlso (marked_in index (out-Marks m).indexes.items) (index j ∷ rest) (marked_in index is.items)
+    → HasAlso (marked m) at (marked (rolled (out-Marks m).here (out-Marks m).names is))
+also_element m is j rest at e h = record {
+  each = λ l. ap (λ x. is_among x l) (listed_rolled (out-Marks m).here (out-Marks m).names is)
+      ∙ also_element_in (out-Marks m).here (out-Marks m).names.items (out-Marks m).indexes.items is.items j rest h l
+      ∙ ap₂ (λ x y. is_location x l || y) (sym e) (ap (λ x. is_among x l) (sym (listed_out m)));
+}
+
+-- in the entry at a place
+set_step : {K : Type 0} (to : K → Step) (es : List (K × Marks)) (n : ℕ) (e : K × Marks) (w : Marks) (rest : Location) → n < length es → e ≡ get_or es n e → HasAlso (marked e.1) rest (marked w)
+    → (s : Step) (l : Location) → marked_in to (set es n (e.0, w)) (s ∷ l) ≡ ((is_same_step (to e.0) s && is_location rest l) || marked_in to es (s ∷ l))
+set_step to [] n e w rest within read h s l = absurd (omega (arith, within))
+set_step {K = K} to (x ∷ es) zero e w rest within read h s l =
+    in_step to (e.0, w) es s l ∙ pick (is_same_step (to e.0) s) (is_location rest l) (marked e.1 l) (marked w l) (marked_in to es (s ∷ l)) (h.each l)
+    ∙ ap (λ (y : K × Marks). (is_same_step (to e.0) s && is_location rest l) || ((is_same_step (to y.0) s && marked y.1 l) || marked_in to es (s ∷ l))) read
+    ∙ ap (λ z. (is_same_step (to e.0) s && is_location rest l) || z) (sym (in_step to x es s l))
+  where
+    pick : (a b c d r : Bool) → d ≡ (b || c) → ((a && d) || r) ≡ ((a && b) || ((a && c) || r))
+    pick true true c d r e = ap (λ z. z || r) e
+    pick true false c d r e = ap (λ z. z || r) e
+    pick false b c d r e = refl
+set_step to (x ∷ es) (suc n) e w rest within read h s l =
+    in_step to x (set es n (e.0, w)) s l ∙ pick (is_same_step (to x.0) s && marked x.1 l) (is_same_step (to e.0) s && is_location rest l) (marked_in to es (s ∷ l)) _ (set_step to es n e w rest (omega (arith, within)) read h s l)
+    ∙ ap (λ z. (is_same_step (to e.0) s && is_location rest l) || z) (sym (in_step to x es s l))
+  where
+    pick : (a b c d : Bool) → d ≡ (b || c) → (a || d) ≡ (b || (a || c))
+    pick true true c d e = refl
+    pick true false c d e = refl
+    pick false b c d e = e
+
+pub also_set : {K : Type 0} (to : K → Step) (es : List (K × Marks)) (n : ℕ) (e : K × Marks) (w : Marks) (s : Step) (rest : Location) → n < length es → e ≡ get_or es n e → to e.0 ≡ s → HasAlso (marked e.1) rest (marked w)
+    → HasAlso (marked_in to es) (s ∷ rest) (marked_in to (set es n (e.0, w)))
+also_set to es n e w s rest within read is h = record { each = each }
+  where
+    each : (l : Location) → marked_in to (set es n (e.0, w)) l ≡ (is_location (s ∷ rest) l || marked_in to es l)
+    each [] = in_here to (set es n (e.0, w)) ∙ sym (in_here to es)
+    each (t ∷ l) = set_step to es n e w rest within read h t l ∙ ap (λ r. (is_same_step r t && is_location rest l) || marked_in to es (t ∷ l)) is
+
+-- in one entry more
+pub also_push : {K : Type 0} (to : K → Step) (es fs : List (K × Marks)) (k : K) (empty w : Marks) (s : Step) (rest : Location) → fs ≡ es ++ (k, w) ∷ [] → listed empty ≡ [] → to k ≡ s → HasAlso (marked empty) rest (marked w)
+    → HasAlso (marked_in to es) (s ∷ rest) (marked_in to fs)
+also_push to es fs k empty w s rest now none is h = record { each = each }
+  where
+    only : (l : Location) → marked w l ≡ is_location rest l
+    only l = h.each l ∙ ap (λ x. is_location rest l || is_among x l) none ∙ or_none (is_location rest l)
+
+    swap : (a b : Bool) → (a || (b || false)) ≡ (b || a)
+    swap true true = refl
+    swap true false = refl
+    swap false true = refl
+    swap false false = refl
+
+    each : (l : Location) → marked_in to fs l ≡ (is_location (s ∷ rest) l || marked_in to es l)
+    each [] = in_here to fs ∙ sym (in_here to es)
+    each (t ∷ l) =
+        ap (λ x. marked_in to x (t ∷ l)) now ∙ in_append to es ((k, w) ∷ []) (t ∷ l) ∙ ap (λ z. marked_in to es (t ∷ l) || z) (in_step to (k, w) [] t l)
+        ∙ ap₂ (λ r b. marked_in to es (t ∷ l) || ((is_same_step r t && b) || false)) is (only l) ∙ swap (marked_in to es (t ∷ l)) (is_same_step s t && is_location rest l)
 
 -- ---- look-ups
 
@@ -142,87 +277,34 @@ unfolding IsStrictlySortedBy
 are_keys to compare test [] h = tt
 are_keys to compare test (e ∷ es) h = (none_above to compare test e.0 es h.0, are_keys to compare test es h.1)
 
--- ---- another location
-
-pub on_ok : {A B : Type 0} {X Y : Type 0} (r : Result A B) → (X → Y) → OnOk r X → OnOk r Y
-on_ok (Ok a) f x = f x
-on_ok (Err e) f x = x
-
-pub also_member : (m : Marks) (ns : BTreeMap (String Global) Marks) (k : List ℕ) (rest at : Location) → at ≡ name k ∷ rest
-    → HasAlso (marked_below to_member (out-Marks m).names.entries) (name k ∷ rest) (marked_below to_member ns.entries)
-    → HasAlso (marked m) at (marked (roll-Marks (record { here = (out-Marks m).here; names = ns; indexes = (out-Marks m).indexes })))
-also_member m ns k rest at e h = record { each = each }
+-- where no step stands twice, the marks below a step are those of one entry
+pub not_held : {K : Type 0} (to : K → Step) (es : List (K × Marks)) (s : Step) (l : Location) → lookup (is_key to s) es ≡ None → marked_in to es (s ∷ l) ≡ false
+not_held to [] s l h = refl
+not_held to (e ∷ es) s l h = pick (is_key to s e.0) refl h (not_held to es s l)
   where
-    each : (l : Location) → marked (rolled (out-Marks m).here ns (out-Marks m).indexes) l ≡ (is_location at l || marked m l)
-    each [] = rolled_here (out-Marks m).here ns (out-Marks m).indexes ∙ sym (rw (e, marked_here m))
-    each (name n ∷ l) =
-        member_rolled (out-Marks m).here ns (out-Marks m).indexes n l ∙ found_marked to_member ns.entries (name n) l ∙ h.each (name n ∷ l) ∙ sym (rw (e, marked_member m n l))
-    each (index i ∷ l) =
-        element_rolled (out-Marks m).here ns (out-Marks m).indexes i l ∙ found_marked index (out-Marks m).indexes.entries (index i) l ∙ sym (rw (e, marked_element m i l))
+    pick : (b : Bool) → is_key to s e.0 ≡ b → cond b (Some e.1) (lookup (is_key to s) es) ≡ None → (lookup (is_key to s) es ≡ None → marked_in to es (s ∷ l) ≡ false) → marked_in to (e ∷ es) (s ∷ l) ≡ false
+    pick true same none more = absurd cc
+    pick false other none more = in_step to e es s l ∙ rw (flipped (to e.0) s other, more none)
 
-pub also_element : (m : Marks) (is : BTreeMap ℕ Marks) (j : ℕ) (rest at : Location) → at ≡ index j ∷ rest
-    → HasAlso (marked_below index (out-Marks m).indexes.entries) (index j ∷ rest) (marked_below index is.entries)
-    → HasAlso (marked m) at (marked (roll-Marks (record { here = (out-Marks m).here; names = (out-Marks m).names; indexes = is })))
-also_element m is j rest at e h = record { each = each }
+pub held_once : {K : Type 0} (to : K → Step) (es : List (K × Marks)) → AreKeys to es → (s : Step) (l : Location) → marked_in to es (s ∷ l) ≡ marked_below to es (s ∷ l)
+held_once to [] keys s l = refl
+held_once to (e ∷ es) keys s l = in_step to e es s l ∙ pick (is_key to s e.0) refl (held_once to es keys.1 s l)
   where
-    each : (l : Location) → marked (rolled (out-Marks m).here (out-Marks m).names is) l ≡ (is_location at l || marked m l)
-    each [] = rolled_here (out-Marks m).here (out-Marks m).names is ∙ sym (rw (e, marked_here m))
-    each (name n ∷ l) =
-        member_rolled (out-Marks m).here (out-Marks m).names is n l ∙ found_marked to_member (out-Marks m).names.entries (name n) l ∙ sym (rw (e, marked_member m n l))
-    each (index i ∷ l) =
-        element_rolled (out-Marks m).here (out-Marks m).names is i l ∙ found_marked index is.entries (index i) l ∙ h.each (index i ∷ l) ∙ sym (rw (e, marked_element m i l))
+    pick : (b : Bool) → is_key to s e.0 ≡ b → marked_in to es (s ∷ l) ≡ marked_below to es (s ∷ l)
+        → ((is_same_step (to e.0) s && marked e.1 l) || marked_in to es (s ∷ l)) ≡ marked_by (cond b (Some e.1) (lookup (is_key to s) es)) l
+    pick true same more =
+        let is : s ≡ to e.0 = same_step s (to e.0) same in
+        let none : marked_in to es (s ∷ l) ≡ false = ap (λ r. marked_in to es (r ∷ l)) is ∙ not_held to es (to e.0) l keys.0 in
+        let this : is_same_step (to e.0) s ≡ true = ap (is_same_step (to e.0)) is ∙ step_itself (to e.0) in
+        rw (this, none) (or_none (marked e.1 l))
+    pick false other more = rw (flipped (to e.0) s other) more
 
-by_step : {K : Type 0} (to : K → Step) (b : Bool) (s t : Step) (l rest : Location) (old new : List (K × Marks)) (o : Option Marks) (w : Marks) → is_same_step s t ≡ b
-    → lookup (is_key to s) old ≡ o → lookup (is_key to s) new ≡ Some w → (is_same_step s t ≡ false → lookup (is_key to t) new ≡ lookup (is_key to t) old) → HasAlso (marked_by o) rest (marked w)
-    → marked_below to new (t ∷ l) ≡ ((b && is_location rest l) || marked_below to old (t ∷ l))
-by_step to true s t l rest old new o w e was is others h =
-    let same : s ≡ t = same_step s t e in
-    rw (← same, was, is) (h.each l)
-by_step to false s t l rest old new o w e was is others h = ap (λ x. marked_by x l) (others e)
+-- ---- after an insertion
 
--- where none are there, empty ones stand for them
-pub marked_or : (o : Option Marks) (empty : Marks) → ((l : Location) → marked empty l ≡ false) → (l : Location) → marked (unwrap_or o empty) l ≡ marked_by o l
-marked_or None empty none l = none l
-marked_or (Some m) empty none l = refl
-
--- one more location than in the same set in other words
-pub also_alike : (f g : Location → Bool) (at : Location) (new : Location → Bool) → ((l : Location) → f l ≡ g l) → HasAlso g at new → HasAlso f at new
-also_alike f g at new same h = record { each = λ l. h.each l ∙ ap (λ b. is_location at l || b) (sym (same l)) }
-
--- where the marks below one step are others
-pub also_below : {K : Type 0} (to : K → Step) (old new : List (K × Marks)) (s : Step) (rest : Location) (o : Option Marks) (w : Marks) → lookup (is_key to s) old ≡ o → lookup (is_key to s) new ≡ Some w
-    → ((t : Step) → is_same_step s t ≡ false → lookup (is_key to t) new ≡ lookup (is_key to t) old) → HasAlso (marked_by o) rest (marked w) → HasAlso (marked_below to old) (s ∷ rest) (marked_below to new)
-also_below to old new s rest o w was is others h = record { each = each }
-  where
-    each : (l : Location) → marked_below to new l ≡ (is_location (s ∷ rest) l || marked_below to old l)
-    each [] = refl
-    each (t ∷ l) = by_step to (is_same_step s t) s t l rest old new o w refl was is (others t) h
-
--- ---- after a write
-
-key_apart : {K : Type 0} (to : K → Step) (s : Step) (test : K → Bool) → TestsFor to s test → (k : K) (t : Step) → is_same_step s t ≡ false → test k ≡ true → is_key to t k ≡ false
+key_apart : {K : Type 0} (to : K → Step) (s : Step) (test : K → Bool) → ((k : K) → test k ≡ is_key to s k) → (k : K) (t : Step) → is_same_step s t ≡ false → test k ≡ true → is_key to t k ≡ false
 key_apart to s test same k t other e =
     let is : s ≡ to k = same_step s (to k) (sym (same k) ∙ e) in
     flipped t (to k) (ap (λ r. is_same_step r t) (sym is) ∙ other)
-
-pub set_found : {K : Type 0} (to : K → Step) (s : Step) (test : K → Bool) → TestsFor to s test → (es : List (K × Marks)) (v w : Marks) → lookup test es ≡ Some v → lookup (is_key to s) (set_value test es w) ≡ Some w
-set_found to s test same [] v w h = absurd cc
-set_found to s test same (e ∷ es) v w h = pick (test e.0) refl (set_found to s test same es v w)
-  where
-    pick : (b : Bool) → test e.0 ≡ b → (lookup test es ≡ Some v → lookup (is_key to s) (set_value test es w) ≡ Some w) → lookup (is_key to s) (set_value test (e ∷ es) w) ≡ Some w
-    pick true t more = let is : is_key to s e.0 ≡ true = sym (same e.0) ∙ t in rw (t, is)
-    pick false t more =
-        let other : is_key to s e.0 ≡ false = sym (same e.0) ∙ t in
-        let later : lookup test es ≡ Some v = sym (rw t) ∙ h in
-        rw (t, other) (more later)
-
-pub set_apart : {K : Type 0} (to : K → Step) (s : Step) (test : K → Bool) → TestsFor to s test → (t : Step) (es : List (K × Marks)) (w : Marks) → is_same_step s t ≡ false → lookup (is_key to t) (set_value test es w) ≡ lookup (is_key to t) es
-set_apart to s test same t [] w h = refl
-set_apart to s test same t (e ∷ es) w h = pick (test e.0) refl (set_apart to s test same t es w h)
-  where
-    pick : (b : Bool) → test e.0 ≡ b → lookup (is_key to t) (set_value test es w) ≡ lookup (is_key to t) es → lookup (is_key to t) (set_value test (e ∷ es) w) ≡ lookup (is_key to t) (e ∷ es)
-    pick true is more = rw (is, key_apart to s test same e.0 t h is)
-    pick false other more = rw other (ap (λ o. cond (is_key to t e.0) (Some e.1) o) more)
 
 pub insert_found : {K : Type 0} (to : K → Step) (compare : K → K → Ordering) → TestsSteps to compare → (k : K) (es : List (K × Marks)) (w : Marks) → lookup (is_key to (to k)) (insert_entry compare es k w) ≡ Some w
 insert_found to compare test k [] w = rw (step_itself (to k))
@@ -242,12 +324,16 @@ insert_apart to compare test k t (e ∷ es) w h = pick (compare k e.0) refl (ins
     pick Equal o more = rw (key_apart to (to k) (λ l. is_eq (compare k l)) (test k) e.0 t h (ap is_eq o))
     pick Greater o more = ap (λ x. cond (is_key to t e.0) (Some e.1) x) more
 
--- what is left of a walk over keys
-pub next_keys : {K : Type 0} (to : K → Step) (all : List (K × Marks)) (e : K × Marks) (es : List (K × Marks)) (n : ℕ) → all ≡ e ∷ es → AreKeys to all → marks_total all ≤ n
-    → (lookup (is_key to (to e.0)) es ≡ None) × (AreKeys to es × (marks_total es ≤ n))
-next_keys to all e es n is keys le =
-    let k = subst (AreKeys to) is keys in let t = subst (λ xs. marks_total xs ≤ n) is le in
-    (k.0, (k.1, omega (arith, t)))
+pub marked_member : (m : Marks) → AreKeys to_member (out-Marks m).names.items → (k : List ℕ) (l : Location) → marked m (name k ∷ l) ≡ marked_below to_member (out-Marks m).names.items (name k ∷ l)
+marked_member m keys k l = ap (λ x. is_among x (name k ∷ l)) (listed_out m) ∙ parts_member (out-Marks m).here (out-Marks m).names.items (out-Marks m).indexes.items k l ∙ held_once to_member (out-Marks m).names.items keys (name k) l
+
+pub marked_element : (m : Marks) → AreKeys index (out-Marks m).indexes.items → (i : ℕ) (l : Location) → marked m (index i ∷ l) ≡ marked_below index (out-Marks m).indexes.items (index i ∷ l)
+marked_element m keys i l = ap (λ x. is_among x (index i ∷ l)) (listed_out m) ∙ parts_element (out-Marks m).here (out-Marks m).names.items (out-Marks m).indexes.items i l ∙ held_once index (out-Marks m).indexes.items keys (index i) l
+
+-- where none are there, empty ones stand for them
+pub marked_or : (o : Option Marks) (empty : Marks) → listed empty ≡ [] → (l : Location) → marked (unwrap_or o empty) l ≡ marked_by o l
+marked_or None empty none l = ap (λ x. is_among x l) none
+marked_or (Some m) empty none l = refl
 
 -- ---- the indexes in their order
 

@@ -151,13 +151,13 @@ whole_thinned gone d h =
 
 -- ---- the marks
 
-same_location : (l m : Location) → is_location l m ≡ true → l ≡ m
+pub same_location : (l m : Location) → is_location l m ≡ true → l ≡ m
 same_location [] [] h = refl
 same_location [] (r ∷ m) h = absurd cc
 same_location (s ∷ l) [] h = absurd cc
 same_location (s ∷ l) (r ∷ m) h = let parts = and_parts (is_same_step s r) (is_location l m) h in ap₂ (λ a b. a ∷ b) (same_step s r parts.0) (same_location l m parts.1)
 
-location_itself : (l : Location) → is_location l l ≡ true
+pub location_itself : (l : Location) → is_location l l ≡ true
 location_itself [] = refl
 location_itself (s ∷ l) = and_from (is_same_step s s) (is_location l l) (step_itself s) (location_itself l)
 
@@ -170,7 +170,7 @@ with_last (m ∷ ls) l x = pick (is_location m x) (is_location l x) _ (is_among 
     pick true false c d e = refl
     pick false b c d e = e
 
-location_back : (l m : Location) (b : Bool) → is_location l m ≡ b → is_location m l ≡ b
+pub location_back : (l m : Location) (b : Bool) → is_location l m ≡ b → is_location m l ≡ b
 location_back l m true e = ap (λ x. is_location x l) (sym (same_location l m e)) ∙ location_itself l
 location_back l m false e = differ (is_location m l) refl
   where

@@ -1,5 +1,5 @@
 -- What each step of removal leaves of data.
-use Rattle.std.proofs.Common.{◌≡◌, ℕ, zero, suc, ◌+◌, ◌<◌, ◌≤◌, List, [], ◌∷◌, ◌++◌, length, take, drop, set, get_or, Bool, true, false, Option, Some, None, nat_eq, bytes_eq, String, Global, string_bytes, string_cmp, nat_cmp, Less, is_eq, ◌⊎◌, inl, inr, eq-or-lt_of_le, eqb-true, eq-eqb, ne_eqb, add-one, swap, append_assoc, unwrap_or, refl, sym, ap, ap₂, ◌∙◌, arith}
+use Rattle.std.proofs.Common.{◌≡◌, ℕ, zero, suc, ◌+◌, ◌<◌, ◌≤◌, List, [], ◌∷◌, ◌++◌, length, take, drop, set, get_or, Bool, true, false, Option, Some, None, nat_eq, bytes_eq, String, Global, string_bytes, string_cmp, nat_cmp, Less, is_eq, ◌⊎◌, inl, inr, eq-or-lt_of_le, eqb-true, eq-eqb, ne_eqb, add-one, swap, append_assoc, unwrap_or, ◌-◌, refl, sym, ap, ap₂, ◌∙◌, subst, arith}
 use Rattle.std.proofs.lemmas.List.{take_more_set, take-set, take-set-le, drop-set-lt, drop_more, drop_all, length-set}
 use Rattle.std.proofs.lemmas.Map.{NonePasses, none_passes_from_lookup}
 use Rattle.std.proofs.lemmas.Map.Text.{is_eq-slice_cmp}
@@ -17,7 +17,7 @@ use Rattle.serde_json.proofs.Views.{Entry}
 use Rattle.jsonpath_parser.specs.Location.{Step, name, index, Location}
 use Rattle.jsonpath_base.specs.inner.Marks.{to_member, is_key, marked, marked_below}
 use Rattle.jsonpath_base.specs.inner.Thinning.{data_thinned, items_thinned, members_thinned, thinned_by, thinned_below, sieved}
-use Rattle.jsonpath_base.proofs.Marking.{HoldsNoneBelow}
+use Rattle.jsonpath_base.proofs.Marking.{HoldsNoneBelow, IsFrom}
 use Rattle.jsonpath_base.specs.declared.marks.Marks.{Marks}
 
 -- ---- sets that say the same
@@ -114,6 +114,17 @@ beyond_below [] i j m es h = refl
 beyond_below (v ∷ vs) i j m es h =
     let test : nat_eq i j ≡ false = ne_eqb i j (λ e. omega (arith, h, e)) in
     rw (test, beyond_below vs (suc i) j m es (omega (arith, h)))
+
+-- an element that goes itself
+pub here_below : (j : ℕ) (m : Marks) (es : List (ℕ × Marks)) → lookup (is_key index (index j)) es ≡ None → marked m [] ≡ true → (i : ℕ) (ds : Items) → thinned_below es i ds ≡ thinned_below ((j, m) ∷ es) i ds
+here_below j m es none here i no_items = refl
+here_below j m es none here i (item d ds) = pick (nat_eq i j) refl (here_below j m es none here (suc i) ds)
+  where
+    pick : (b : Bool) → nat_eq i j ≡ b → thinned_below es (suc i) ds ≡ thinned_below ((j, m) ∷ es) (suc i) ds → thinned_below es i (item d ds) ≡ thinned_below ((j, m) ∷ es) i (item d ds)
+    pick true e more =
+        let absent : lookup (is_key index (index i)) es ≡ None = ap (λ k. lookup (is_key index (index k)) es) (eqb-true i j e) ∙ none in
+        rw (e, absent, here, more)
+    pick false e more = rw (e, more)
 
 -- then the elements
 sieve_one : (o : Option Marks) (d : Data) (es : List (ℕ × Marks)) (i : ℕ) (ds : Items) → lookup (is_key index (index i)) es ≡ o → sieved es (suc i) (thinned_below es (suc i) ds) ≡ items_thinned (marked_below index es) (suc i) ds
@@ -212,6 +223,16 @@ unheld_sieved j m es end none absent (v ∷ vs) i le = pick (nat_eq i j) refl (u
 
 pub none_left : (es : List (ℕ × Marks)) (xs : List Value) (kept i : ℕ) (all : Items) → length xs ≤ i → joined (items_view (take kept xs)) (sieved es i (items_view (drop i xs))) ≡ all → items_view (take kept xs) ≡ all
 none_left es xs kept i all past h = sym (joined_none _) ∙ ap (λ ys. joined (items_view (take kept xs)) (sieved es i (items_view ys))) (sym (drop_all i xs past)) ∙ h
+
+-- of so many marks those in front are gone through: what is kept so far stands in front, and what is not looked at yet, and is in no
+-- mark before, where it did
+abbrev pub DropsSoFar : List (ℕ × Marks) → List Value → ℕ → List Value → ℕ → ℕ → Type 0
+DropsSoFar marks start i now gone next =
+    (joined (items_view (take (next - gone) now)) (sieved (drop i marks) next (items_view (drop next now))) ≡ sieved marks 0 (items_view start))
+    × IsFrom (drop i marks) next × (gone ≤ next) × (next ≤ length now) × (length now ≡ length start)
+
+pub drops_as : (marks : List (ℕ × Marks)) (start : List Value) (i : ℕ) (now new : List Value) (gone next g n : ℕ) → new ≡ now → g ≡ gone → n ≡ next → DropsSoFar marks start i now gone next → DropsSoFar marks start i new g n
+drops_as marks start i now new gone next g n e f h d = subst (λ xs. DropsSoFar marks start i xs g n) (sym e) (subst (λ k. DropsSoFar marks start i now k n) (sym f) (subst (DropsSoFar marks start i now gone) (sym h) d))
 
 -- ---- objects
 

@@ -1,47 +1,47 @@
-//! Sets of locations.
-ghost use Rattle.std.specs.Prelude.{◌≡◌, IfOk, OnOk, not, ◌∷◌, [], false};
+//! Sets of locations, in the order in which these were added.
+ghost use Rattle.std.specs.Prelude.{◌≡◌, ℕ, ◌-◌, OnOk, ◌∷◌, [], length, slice_index_or, IsTrue, String, string_bytes};
 ghost use Rattle.jsonpath_parser.specs.Location as location;
-ghost use Rattle.jsonpath_parser.specs.Location.{Location};
 ghost use Rattle.jsonpath_base.specs.Steps.{lent_location};
 ghost use Rattle.jsonpath_base.specs.Without.{HasAlso};
-ghost use Rattle.jsonpath_base.specs.inner.Marks.{to_member, marked, marked_below};
+ghost use Rattle.jsonpath_base.specs.inner.Marks.{to_member, listed, marked, marked_in, marks_count};
+ghost use Rattle.jsonpath_base.specs.declared.marks.Marks.{Marks};
+ghost use Rattle.std.specs.Global.{Global};
 
 use crate::step::StepRef;
 use std::alloc::{AllocError, Global};
-use std::collections::BTreeMap;
 
 /// A set of locations, by their first steps: whether it holds the location with no step, and the rests of those that go on.
+/// A step may stand several times.
 #[derive(Drop)]
 pub struct Marks {
     pub here: bool,
-    pub names: BTreeMap<String, Marks>,
-    pub indexes: BTreeMap<usize, Marks>,
+    pub names: Vec<(String, Marks)>,
+    pub indexes: Vec<(usize, Marks)>,
 }
 
 impl Marks {
     /// The empty set.
     pub fn new(alloc: Global) -> Self
-        ensures { (l : Location) → marked result l ≡ false }
+        ensures none { listed result ≡ [] }
+        ensures one { marks_count result ≡ 1 }
     {
         Marks {
             here: false,
-            names: BTreeMap::new(alloc),
-            indexes: BTreeMap::new(alloc),
+            names: Vec::new(alloc),
+            indexes: Vec::new(alloc),
         }
     }
 }
 
-/// Adds a location to the set. The result says whether it is new there.
+/// Adds a location to the set: at each level in the last entry, where that has its step, and else in a new one.
 #[cycle(mark)]
-pub fn mark(alloc: Global, marks: &mut Marks, steps: &[StepRef<'_>]) -> Result<bool, AllocError>
-    ensures fresh { IfOk result (λ b. b ≡ not (marked marks.old (lent_location steps.now))) }
-    ensures added { OnOk result (HasAlso (marked marks.old) (lent_location steps.now) (marked marks.new)) }
+pub fn mark(alloc: Global, marks: &mut Marks, steps: &[StepRef<'_>]) -> Result<(), AllocError>
+    ensures { OnOk result (HasAlso (marked marks.old) (lent_location steps.now) (marked marks.new)) }
 {
     match steps.split_first() {
         None => {
-            let fresh = !marks.here;
             marks.here = true;
-            Ok(fresh)
+            Ok(())
         }
         Some((StepRef::Name(name), rest)) => mark_member(alloc, &mut marks.names, *name, rest),
         Some((StepRef::Index(index), rest)) => mark_element(
@@ -57,34 +57,61 @@ pub fn mark(alloc: Global, marks: &mut Marks, steps: &[StepRef<'_>]) -> Result<b
 #[cycle(mark)]
 fn mark_member(
     alloc: Global,
-    below: &mut BTreeMap<String, Marks>,
+    below: &mut Vec<(String, Marks)>,
     name: &str,
     rest: &[StepRef<'_>],
-) -> Result<bool, AllocError>
-    ensures fresh { IfOk result (λ b. b ≡ not (marked_below to_member below.old.entries (location.name name.now ∷ lent_location rest.now))) }
-    ensures added { OnOk result (HasAlso (marked_below to_member below.old.entries) (location.name name.now ∷ lent_location rest.now) (marked_below to_member below.new.entries)) }
+) -> Result<(), AllocError>
+    ensures { OnOk result (HasAlso (marked_in to_member below.old.items) (location.name name.now ∷ lent_location rest.now) (marked_in to_member below.new.items)) }
 {
-    if let Some(marks) = below.get_mut(name) {
-        return mark(alloc, marks, rest);
+    if ends_with_name(below, name) {
+        if let Some(last) = below.last_mut() {
+            return mark(alloc, &mut last.1, rest);
+        }
     }
     let key = String::from_str(alloc, name)?;
     let mut marks = Marks::new(alloc);
-    let fresh = mark(alloc, &mut marks, rest)?;
-    below.insert(key, marks)?;
-    Ok(fresh)
+    mark(alloc, &mut marks, rest)?;
+    below.push((key, marks))?;
+    Ok(())
 }
 
 /// The same, of a location that goes to the element of this index first.
 #[cycle(mark)]
 fn mark_element(
     alloc: Global,
-    below: &mut BTreeMap<usize, Marks>,
+    below: &mut Vec<(usize, Marks)>,
     index: usize,
     rest: &[StepRef<'_>],
-) -> Result<bool, AllocError>
-    ensures fresh { IfOk result (λ b. b ≡ not (marked_below location.index below.old.entries (location.index index ∷ lent_location rest.now))) }
-    ensures added { OnOk result (HasAlso (marked_below location.index below.old.entries) (location.index index ∷ lent_location rest.now) (marked_below location.index below.new.entries)) }
+) -> Result<(), AllocError>
+    ensures { OnOk result (HasAlso (marked_in location.index below.old.items) (location.index index ∷ lent_location rest.now) (marked_in location.index below.new.items)) }
 {
-    let marks = below.entry(index)?.or_insert(Marks::new(alloc));
-    mark(alloc, marks, rest)
+    if ends_with_index(below, index) {
+        if let Some(last) = below.last_mut() {
+            return mark(alloc, &mut last.1, rest);
+        }
+    }
+    let mut marks = Marks::new(alloc);
+    mark(alloc, &mut marks, rest)?;
+    below.push((index, marks))?;
+    Ok(())
+}
+
+/// Whether the last entry is of this name.
+fn ends_with_name(below: &[(String, Marks)], name: &str) -> bool
+    ensures { (e : String Global × Marks) → IsTrue result → string_bytes (slice_index_or below.now (length below.now - 1) e).0 ≡ name.now }
+{
+    match below.last() {
+        Some(last) => last.0.as_str() == name,
+        None => false,
+    }
+}
+
+/// Whether the last entry is of this index.
+fn ends_with_index(below: &[(usize, Marks)], index: usize) -> bool
+    ensures { (e : ℕ × Marks) → IsTrue result → (slice_index_or below.now (length below.now - 1) e).0 ≡ index }
+{
+    match below.last() {
+        Some(last) => last.0 == index,
+        None => false,
+    }
 }

@@ -1,33 +1,32 @@
 //! Removal of locations from a value, all at once.
-ghost use Rattle.std.specs.Prelude.{◌≡◌, ◌<◌, ◌≤◌, ◌-◌, ◌++◌, take, drop, length, map, false, IfOk, IfErr, OnOk, OnErr, IsTrue};
+ghost use Rattle.std.specs.Prelude.{◌≡◌, ◌<◌, ◌≤◌, ◌-◌, ◌++◌, take, drop, length, map, false, IfOk, IfErr, OnOk, OnErr, IsTrue, string_cmp};
 ghost use Rattle.std.specs.Vec.{vec_len};
 ghost use Rattle.serde_json.specs.View.{view, items_view, members_view};
+ghost use Rattle.std.specs.Ordering.{nat_cmp};
 ghost use Rattle.jsonpath_parser.specs.Location as location;
 ghost use Rattle.jsonpath_parser.specs.Location.{Location};
 ghost use Rattle.jsonpath_base.specs.Steps.{location_view, lent_location};
 ghost use Rattle.jsonpath_base.specs.Values.{value_tree, value_is_whole};
 ghost use Rattle.jsonpath_base.specs.Without.{without, is_among, distinct_count, counted_with, HasAlso};
-ghost use Rattle.jsonpath_base.specs.inner.Marks.{to_member, marked, marked_below};
-ghost use Rattle.jsonpath_base.specs.inner.Thinning.{data_thinned, items_thinned, members_thinned, sieved};
+ghost use Rattle.jsonpath_base.specs.inner.Marks.{to_member, marked, marked_below, in_order, level_in_order, IsSameSet};
+ghost use Rattle.jsonpath_base.specs.inner.Thinning.{data_thinned, items_thinned, members_thinned, sieved, IsThinnedAt, IsThinnedBy};
 
 use crate::marks::{Marks, mark};
+use crate::ordering::put_in_order;
 use crate::step::{Step, StepRef};
 use jsonpath_parser::errors::{JsonPathError, Parsed};
 use serde_json::{Map, Value};
 use std::alloc::Global;
-use std::collections::BTreeMap;
 use std::mem;
 
-/// Locations to be removed from a value, and how many distinct ones they are. Each step that several of them begin with is
-/// held once.
+/// Locations to be removed from a value. Of those that come one after the other each step that they begin with is held once.
 #[derive(Drop)]
 pub struct Removal {
     marks: Marks,
-    count: usize,
 }
 
 impl Removal {
-    ghost use Rattle.jsonpath_base.specs.RemovalViews.{removal_set, removal_count};
+    ghost use Rattle.jsonpath_base.specs.RemovalViews.{removal_set, removal_count, ordered_set, ordered_count};
 
     /// Of no location.
     pub fn new(alloc: Global) -> Self
@@ -36,30 +35,46 @@ impl Removal {
     {
         Removal {
             marks: Marks::new(alloc),
-            count: 0,
         }
     }
 
     /// Adds the location of these steps. It refuses by `OutOfMemory` alone. Time linear in the steps and in the names that they
-    /// hold, times the logarithm of the locations.
+    /// hold.
     pub fn add(&mut self, alloc: Global, steps: &[StepRef<'_>]) -> Parsed<()>
         ensures added { OnOk result (HasAlso (removal_set self.old) (lent_location steps.now) (removal_set self.new)) }
         ensures count { OnOk result (removal_count self.new ≡ counted_with (lent_location steps.now) (removal_set self.old) (removal_count self.old)) }
         ensures memory { IfErr result (λ e. e ≡ JsonPathError.OutOfMemory) }
     {
-        if mark(alloc, &mut self.marks, steps)? {
-            // No memory holds so many marks that this fails.
-            match self.count.checked_add(1) {
-                Some(count) => self.count = count,
-                None => return Err(JsonPathError::OutOfMemory),
-            }
-        }
-        Ok(())
+        Ok(mark(alloc, &mut self.marks, steps)?)
     }
+
+    /// The same locations, in order and counted. It refuses by `OutOfMemory` alone. Time linear in the steps that are held
+    /// where they were added in order, and else n log n.
+    pub fn ordered(self, alloc: Global) -> Parsed<OrderedRemoval>
+        ensures set { IfOk result (λ r. IsSameSet (removal_set self) (ordered_set r)) }
+        ensures count { IfOk result (λ r. ordered_count r ≡ removal_count self) }
+        ensures memory { IfErr result (λ e. e ≡ JsonPathError.OutOfMemory) }
+    {
+        let Removal { mut marks } = self;
+        let count = put_in_order(alloc, &mut marks)?;
+        Ok(OrderedRemoval { marks, count })
+    }
+}
+
+/// Locations to be removed from a value, in order, and how many distinct ones they are.
+#[derive(Drop)]
+pub struct OrderedRemoval {
+    marks: Marks,
+    count: usize,
+    ghost ordered: { IsTrue (in_order marks) },
+}
+
+impl OrderedRemoval {
+    ghost use Rattle.jsonpath_base.specs.RemovalViews.{ordered_set, ordered_count};
 
     /// How many distinct locations there are.
     pub fn count(&self) -> usize
-        ensures { result ≡ removal_count self.now }
+        ensures { result ≡ ordered_count self.now }
     {
         self.count
     }
@@ -67,7 +82,7 @@ impl Removal {
     /// Removes the locations from the value, all at once and each by its original place. One where nothing is changes nothing;
     /// where the root is one of them, null is left. It takes no memory.
     pub fn remove_from(&self, value: &mut Value)
-        ensures removed { value_tree value.new ≡ without (removal_set self.now) (value_tree value.old) }
+        ensures removed { value_tree value.new ≡ without (ordered_set self.now) (value_tree value.old) }
         ensures whole { IsTrue (value_is_whole value.old) → IsTrue (value_is_whole value.new) }
     {
         if self.marks.here {
@@ -96,6 +111,7 @@ pub fn remove_all(alloc: Global, value: &mut Value, places: &[Vec<Step>]) -> Par
         let steps = lent_steps(alloc, place)?;
         removal.add(alloc, &steps)?;
     }
+    let removal = removal.ordered(alloc)?;
     removal.remove_from(value);
     Ok(removal.count)
 }
@@ -115,6 +131,7 @@ fn lent_steps<'s>(alloc: Global, steps: &'s [Step]) -> Parsed<Vec<StepRef<'s>>>
 /// Removes what is marked below a value.
 #[cycle(thin)]
 fn thin(value: &mut Value, marks: &Marks)
+    requires { IsTrue (in_order marks.now) }
     ensures { view value.new ≡ data_thinned (marked marks.now) (view value.old) }
 {
     if let Some(items) = value.as_array_mut() {
@@ -126,42 +143,66 @@ fn thin(value: &mut Value, marks: &Marks)
 
 /// Removes what is marked in a list: first below its elements, while each stands in its place, then the elements.
 #[cycle(thin)]
-fn thin_items(items: &mut Vec<Value>, marks: &BTreeMap<usize, Marks>)
-    ensures { items_view items.new.items ≡ items_thinned (marked_below location.index marks.now.entries) 0 (items_view items.old.items) }
+fn thin_items(items: &mut Vec<Value>, marks: &[(usize, Marks)])
+    requires { IsTrue (level_in_order nat_cmp marks.now) }
+    ensures { items_view items.new.items ≡ items_thinned (marked_below location.index marks.now) 0 (items_view items.old.items) }
 {
-    for (index, below) in marks.iter() {
-        if !below.here {
-            if let Some(item) = items.get_mut(*index) {
-                thin(item, below);
-            }
-        }
+    for (index, below) in marks {
+        thin_item(items, *index, below);
     }
     drop_marked(items, marks);
 }
 
+/// Removes what is marked below an element, where the element itself is not marked.
+#[cycle(thin)]
+fn thin_item(items: &mut Vec<Value>, index: usize, marks: &Marks)
+    requires { IsTrue (in_order marks.now) }
+    ensures { IsThinnedAt index marks.now (items_view items.old.items) (items_view items.new.items) }
+{
+    if marks.here {
+        return;
+    }
+    if let Some(item) = items.get_mut(index) {
+        thin(item, marks);
+    }
+}
+
 /// Removes what is marked in an object.
 #[cycle(thin)]
-fn thin_members(members: &mut Map<String, Value>, marks: &BTreeMap<String, Marks>)
-    ensures { members_view members.new.entries ≡ members_thinned (marked_below to_member marks.now.entries) (members_view members.old.entries) }
+fn thin_members(members: &mut Map<String, Value>, marks: &[(String, Marks)])
+    requires { IsTrue (level_in_order string_cmp marks.now) }
+    ensures { members_view members.new.entries ≡ members_thinned (marked_below to_member marks.now) (members_view members.old.entries) }
 {
-    for (name, below) in marks.iter() {
-        if below.here {
-            drop(members.remove(name.as_str()));
-        } else if let Some(member) = members.get_mut(name.as_str()) {
-            thin(member, below);
-        }
+    for (name, below) in marks {
+        thin_member(members, name, below);
+    }
+}
+
+/// Removes a member that is marked, and else what is marked below it.
+#[cycle(thin)]
+fn thin_member(members: &mut Map<String, Value>, name: &String, marks: &Marks)
+    requires { IsTrue (in_order marks.now) }
+    ensures { IsThinnedBy name.now marks.now (members_view members.old.entries) (members_view members.new.entries) }
+{
+    if marks.here {
+        drop(members.remove(name.as_str()));
+        return;
+    }
+    if let Some(member) = members.get_mut(name.as_str()) {
+        thin(member, marks);
     }
 }
 
 /// Removes the elements that the marks hold. No element is looked up: the marks are gone through in their order, and each
 /// run of elements between two of them is moved by itself.
-fn drop_marked(items: &mut Vec<Value>, marks: &BTreeMap<usize, Marks>)
-    ensures { items_view items.new.items ≡ sieved marks.now.entries 0 (items_view items.old.items) }
+fn drop_marked(items: &mut Vec<Value>, marks: &[(usize, Marks)])
+    requires { IsTrue (level_in_order nat_cmp marks.now) }
+    ensures { items_view items.new.items ≡ sieved marks.now 0 (items_view items.old.items) }
 {
     let length = items.len();
     let mut gone = 0;
     let mut next = 0;
-    for (index, below) in marks.iter() {
+    for (index, below) in marks {
         if below.here && *index < length {
             move_down(items, gone, next, *index);
             gone += 1;

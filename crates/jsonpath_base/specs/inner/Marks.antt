@@ -1,9 +1,12 @@
--- The set of locations that marks hold, for the contracts of marks and of removal alone.
-use Rattle.std.specs.Prelude.{ℕ, ◌+◌, suc, List, [], ◌∷◌, Bool, false, Option, Some, None, String, string_bytes}
+-- The locations that marks hold, for the contracts of marks and of removal alone.
+use Rattle.std.specs.Prelude.{◌≡◌, ◌||◌, ℕ, ◌+◌, suc, List, [], ◌∷◌, ◌++◌, map, Bool, true, ◌&&◌, false, if◌then◌else◌, Option, Some, None, String, string_cmp, string_bytes}
 use Rattle.std.specs.Global.{Global}
+use Rattle.std.specs.List.{list_all}
 use Rattle.std.specs.Map.{lookup}
+use Rattle.std.specs.Ordering.{nat_cmp, is_lt, is_eq}
+use Rattle.std.specs.declared.cmp.Ordering.{Ordering}
 use Rattle.jsonpath_parser.specs.Location.{Step, name, index, Location}
-use Rattle.jsonpath_base.specs.Without.{is_same_step, also, counted_with}
+use Rattle.jsonpath_base.specs.Without.{is_same_step, is_among, also, counted_with}
 use Rattle.jsonpath_base.specs.declared.marks.Marks.{Marks, fold-Marks}
 use Rattle.jsonpath_base.specs.declared.marks.Marks.TheOpen.{Marks-F}
 
@@ -15,25 +18,72 @@ to_member k = name (string_bytes k)
 abbrev pub is_key : {K : Type 0} → (K → Step) → Step → K → Bool
 is_key to s k = is_same_step s (to k)
 
-abbrev pub in_set : Option (Location → Bool) → Location → Bool
-in_set None l = false
-in_set (Some set) l = set l
+-- the locations of entries, with those below each key already listed
+abbrev pub listed_of : {K : Type 0} → (K → Step) → List (K × List Location) → List Location
+listed_of to [] = []
+listed_of to (e ∷ es) = map (λ l. to e.0 ∷ l) e.1 ++ listed_of to es
 
--- one level, with the marks below each step already seen as their set
-abbrev pub marks_step : Marks-F (Location → Bool) → Location → Bool
-marks_step m [] = m.here
-marks_step m (name k ∷ l) = in_set (lookup (is_key to_member (name k)) m.names.entries) l
-marks_step m (index i ∷ l) = in_set (lookup (is_key index (index i)) m.indexes.entries) l
+abbrev pub listed_step : Marks-F (List Location) → List Location
+listed_step m = (if m.here then [] ∷ [] else []) ++ (listed_of to_member m.names.items ++ listed_of index m.indexes.items)
+
+abbrev pub listed : Marks → List Location
+listed = fold-Marks (List Location) listed_step
 
 abbrev pub marked : Marks → Location → Bool
-marked = fold-Marks (Location → Bool) marks_step
+marked m = is_among (listed m)
+
+-- the same of the entries of one level
+abbrev pub listed_in : {K : Type 0} → (K → Step) → List (K × Marks) → List Location
+listed_in to [] = []
+listed_in to (e ∷ es) = map (λ l. to e.0 ∷ l) (listed e.1) ++ listed_in to es
+
+abbrev pub marked_in : {K : Type 0} → (K → Step) → List (K × Marks) → Location → Bool
+marked_in to es = is_among (listed_in to es)
+
+-- ---- marks in order
+
+-- whether each key is less than those behind it
+abbrev pub keys_rise : {K A : Type 0} → (K → K → Ordering) → List (K × A) → Bool
+keys_rise compare [] = true
+keys_rise compare (e ∷ es) = list_all (λ x. is_lt (compare e.0 x.0)) es && keys_rise compare es
+
+abbrev pub order_step : Marks-F Bool → Bool
+order_step m = (keys_rise string_cmp m.names.items && list_all (λ e. e.1) m.names.items) && (keys_rise nat_cmp m.indexes.items && list_all (λ e. e.1) m.indexes.items)
+
+-- whether at each level the keys rise
+abbrev pub in_order : Marks → Bool
+in_order = fold-Marks Bool order_step
+
+-- the same of the entries of one level
+abbrev pub level_in_order : {K : Type 0} → (K → K → Ordering) → List (K × Marks) → Bool
+level_in_order compare es = keys_rise compare es && list_all (λ e. in_order e.1) es
+
+-- The two sets have the same locations.
+pub record IsSameSet (old new : Location → Bool) : Type 0 where
+  pub each : (l : Location) → new l ≡ old l
+
+-- The set has the locations of both.
+pub record IsJoined (left right both : Location → Bool) : Type 0 where
+  pub each : (l : Location) → both l ≡ left l || right l
+
+-- an order of keys tells apart what their steps tell apart
+abbrev pub TestsSteps : {K : Type 0} → (K → Step) → (K → K → Ordering) → Type 0
+TestsSteps {K} to compare = (k l : K) → is_eq (compare k l) ≡ is_key to (to k) l
+
+-- The entries have the same locations, whatever steps their keys stand for.
+pub record HoldsSame {K : Type 0} (compare : K → K → Ordering) (old new : List (K × Marks)) : Type 0 where
+  pub each : (to : K → Step) → TestsSteps to compare → (l : Location) → marked_in to new l ≡ marked_in to old l
+
+-- The entries have those of one more entry too.
+pub record HoldsAlso {K : Type 0} (compare : K → K → Ordering) (old : List (K × Marks)) (key : K) (marks : Marks) (new : List (K × Marks)) : Type 0 where
+  pub each : (to : K → Step) → TestsSteps to compare → (l : Location) → marked_in to new l ≡ (marked_in to old l || marked_in to ((key, marks) ∷ []) l)
 
 -- the locations of the marks below a step, where there are any
 abbrev pub marked_by : Option Marks → Location → Bool
 marked_by None l = false
 marked_by (Some m) l = marked m l
 
--- the locations of the marks below any step of these
+-- the locations of the marks below any step of these, of which each stands once
 abbrev pub marked_below : {K : Type 0} → (K → Step) → List (K × Marks) → Location → Bool
 marked_below to es [] = false
 marked_below to es (s ∷ l) = marked_by (lookup (is_key to s) es) l
@@ -47,9 +97,13 @@ abbrev pub total : {K : Type 0} → List (K × ℕ) → ℕ
 total [] = 0
 total (e ∷ es) = e.1 + total es
 
--- how many marks there are, for the measure of removal
+-- how many marks there are, for measures
 abbrev pub count_step : Marks-F ℕ → ℕ
-count_step m = suc (total m.names.entries + total m.indexes.entries)
+count_step m = suc (total m.names.items + total m.indexes.items)
 
 abbrev pub marks_count : Marks → ℕ
 marks_count = fold-Marks ℕ count_step
+
+abbrev pub marks_total : {K : Type 0} → List (K × Marks) → ℕ
+marks_total [] = 0
+marks_total (e ∷ es) = marks_count e.1 + marks_total es

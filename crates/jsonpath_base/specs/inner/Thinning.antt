@@ -1,9 +1,10 @@
 -- What removal leaves of the data of a value, for its contracts alone: as Without says it of trees.
-use Rattle.std.specs.Prelude.{ℕ, suc, List, [], ◌∷◌, Bool, if◌then◌else◌, Option, Some, None}
+use Rattle.std.specs.Prelude.{◌≡◌, String, ℕ, suc, List, [], ◌∷◌, Bool, if◌then◌else◌, Option, Some, None}
+use Rattle.std.specs.Global.{Global}
 use Rattle.std.specs.Map.{lookup}
 use Rattle.serde_json.specs.Data.{Data, null, boolean, number, string, array, object, Items, no_items, item, Members, no_members, member}
 use Rattle.jsonpath_parser.specs.Location.{name, index, Location}
-use Rattle.jsonpath_base.specs.inner.Marks.{is_key, marked, marked_by}
+use Rattle.jsonpath_base.specs.inner.Marks.{to_member, is_key, marked, marked_by, marked_below}
 use Rattle.jsonpath_base.specs.declared.marks.Marks.{Marks}
 
 abbrev mutual
@@ -38,3 +39,13 @@ thinned_below es i (item d ds) = item (thinned_by (lookup (is_key index (index i
 abbrev pub sieved : List (ℕ × Marks) → ℕ → Items → Items
 sieved es i no_items = no_items
 sieved es i (item d ds) = if marked_by (lookup (is_key index (index i)) es) [] then sieved es (suc i) ds else item d (sieved es (suc i) ds)
+
+-- ---- one entry of marks after the other
+
+-- With the marks behind this element's, the list is thinned as with its marks too.
+pub record IsThinnedAt (i : ℕ) (m : Marks) (old new : Items) : Type 0 where
+  pub each : (es : List (ℕ × Marks)) → lookup (is_key index (index i)) es ≡ None → thinned_below es 0 new ≡ thinned_below ((i, m) ∷ es) 0 old
+
+-- The same of a member.
+pub record IsThinnedBy (k : String Global) (m : Marks) (old new : Members) : Type 0 where
+  pub each : (es : List (String Global × Marks)) → lookup (is_key to_member (to_member k)) es ≡ None → members_thinned (marked_below to_member es) new ≡ members_thinned (marked_below to_member ((k, m) ∷ es)) old

@@ -110,7 +110,7 @@ pub fn delete_selected(alloc: Global, value: &mut Value, query: &JpQuery) -> Que
     ensures whole { IsTrue (value_is_whole value.new) }
     ensures refused { IfErr result (IsStop (query_view query.now) (document_of value_tree set_function value.old)) }
 {
-    let removal = selected_removal(alloc, query, value)?;
+    let removal = selected_removal(alloc, query, value)?.ordered(alloc)?;
     removal.remove_from(value);
     Ok(removal.count())
 }

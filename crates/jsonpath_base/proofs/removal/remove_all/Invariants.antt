@@ -1,11 +1,11 @@
 use Rattle.std.proofs.Common.{◌≡◌, drop, map}
 use Rattle.jsonpath_base.specs.Steps.{location_view}
 use Rattle.jsonpath_base.specs.Without.{is_among, distinct_count}
-use Rattle.jsonpath_base.specs.inner.Marks.{marked, set_with}
+use Rattle.jsonpath_base.specs.inner.Marks.{listed, marked, set_with}
 use Rattle.jsonpath_base.proofs.removal.remove_all.Given as goal
 
 -- with the places that are left, the removal is of all
 abbrev pub invariant-loop-place : goal.invariant-loop-place
 invariant-loop-place l =
     let places = map (λ p. location_view p.items) l.places in
-    set_with (map (λ p. location_view p.items) (drop l.place-index l.places)) (marked l.removal.marks) l.removal.count ≡ (is_among places, distinct_count places)
+    set_with (map (λ p. location_view p.items) (drop l.place-index l.places)) (marked l.removal.marks) (distinct_count (listed l.removal.marks)) ≡ (is_among places, distinct_count places)

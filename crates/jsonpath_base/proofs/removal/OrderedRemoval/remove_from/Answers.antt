@@ -5,7 +5,7 @@ use Rattle.jsonpath_base.specs.Values.{tree_of, value_tree}
 use Rattle.jsonpath_base.proofs.Views.{data_whole}
 use Rattle.jsonpath_base.proofs.Marking.{marked_here}
 use Rattle.jsonpath_base.proofs.Removed.{whole_thinned, root_stays, root_goes, null_tree}
-use Rattle.jsonpath_base.proofs.removal.Removal.remove_from.Goals as goal
+use Rattle.jsonpath_base.proofs.removal.OrderedRemoval.remove_from.Goals as goal
 
 pub returns-then-self-clause-removed : goal.returns-then-self-clause-removed
 returns-then-self-clause-removed c =

@@ -1,0 +1,399 @@
+-- Marks that are put in order.
+use Rattle.std.proofs.Common.{◌≡◌, ℕ, zero, suc, ◌+◌, ◌≤◌, ◌<◌, List, [], ◌∷◌, ◌++◌, map, length, take, drop, set, get_or, Bool, true, false, true≢false, cond, ◌&&◌, ◌||◌, if◌then◌else◌, Option, Some, None, option_map, unwrap_or, Ordering, Less, Equal, Greater, is_eq, nat_cmp, string_cmp, String, Global, Vec, Result, Ok, Err, OnOk, ◌⊎◌, inl, inr, refl, sym, ap, ap₂, ◌∙◌, subst, rules, arith}
+use Rattle.std.proofs.lemmas.Bool.{and_parts, and_from, cases_lt}
+use Rattle.std.proofs.lemmas.Map.Keys.{sorted_from_all_adjacent}
+use Rattle.std.proofs.lemmas.List.{drop_more, take_more_set, drop-set-lt}
+use Rattle.std.proofs.lemmas.List.Folds.{list_all-append, list_all-map}
+use Rattle.std.proofs.lemmas.List.Sums.{sum_by-cons}
+use Rattle.std.proofs.lemmas.Map.{lookup-none}
+use Rattle.std.proofs.lemmas.Map.Entries.{none_below_head, sum_by-insert_entry}
+use Rattle.std.specs.BTreeMap.{insert_entry, is_at}
+use Rattle.std.specs.Cmp.{IsTotalOrder}
+use Rattle.std.specs.List.{AllByRecursion, list_all, sum_by}
+use Rattle.std.specs.List.Sorted.{IsStrictlySortedBy}
+use Rattle.std.specs.Map.{lookup, keys_of, values_of}
+use Rattle.std.specs.Ordering.{match_ordering, is_lt}
+use Rattle.jsonpath_parser.specs.Location.{Step, name, index, Location}
+use Rattle.jsonpath_base.specs.Without.{is_same_step, is_among, distinct_count}
+use Rattle.jsonpath_base.specs.inner.Marks.{to_member, is_key, keys_rise, in_order, level_in_order, listed, listed_in, marked, marked_in, marked_by, marks_count, marks_total, TestsSteps, IsSameSet, IsJoined, HoldsSame, HoldsAlso}
+use Rattle.jsonpath_base.specs.declared.marks.Marks.{Marks, the_lemmas}
+use Rattle.jsonpath_base.specs.declared.marks.Marks.TheViews.{out-Marks}
+use Rattle.jsonpath_base.proofs.Marking.{same_step, in_here, in_step, in_append, parts, parts_here, parts_member, parts_element, rolled, listed_out, listed_rolled, count_out, count_rolled, are_keys, AreKeys}
+use Rattle.jsonpath_base.proofs.Counting.{counts, level_count, parts_count}
+
+-- ---- keys that rise
+
+all_less : {K A : Type 0} (compare : K → K → Ordering) (k : K) (es : List (K × A)) → AllByRecursion (λ l. compare k l ≡ Less) (keys_of es) → list_all (λ x. is_lt (compare k x.0)) es ≡ true
+all_less compare k [] h = refl
+all_less compare k (e ∷ es) h = rw h.0 (all_less compare k es h.1)
+
+rise_from : {K A : Type 0} (compare : K → K → Ordering) (es : List (K × A)) → IsStrictlySortedBy compare (keys_of es) → keys_rise compare es ≡ true
+unfolding IsStrictlySortedBy
+rise_from compare [] h = refl
+rise_from compare (e ∷ es) h = and_from _ _ (all_less compare e.0 es h.0) (rise_from compare es h.1)
+
+is_less : (o : Ordering) → is_lt o ≡ true → o ≡ Less
+is_less Less h = refl
+is_less Equal h = absurd (true≢false (sym h))
+is_less Greater h = absurd (true≢false (sym h))
+
+less_all : {K A : Type 0} (compare : K → K → Ordering) (k : K) (es : List (K × A)) → list_all (λ x. is_lt (compare k x.0)) es ≡ true → AllByRecursion (λ l. compare k l ≡ Less) (keys_of es)
+less_all compare k [] h = tt
+less_all compare k (e ∷ es) h = let both = and_parts (is_lt (compare k e.0)) (list_all (λ x. is_lt (compare k x.0)) es) h in (is_less (compare k e.0) both.0, less_all compare k es both.1)
+
+pub rise_sorted : {K A : Type 0} (compare : K → K → Ordering) (es : List (K × A)) → keys_rise compare es ≡ true → IsStrictlySortedBy compare (keys_of es)
+unfolding IsStrictlySortedBy
+rise_sorted compare [] h = tt
+rise_sorted compare (e ∷ es) h =
+    let both = and_parts (list_all (λ x. is_lt (compare e.0 x.0)) es) (keys_rise compare es) h in
+    (less_all compare e.0 es both.0, rise_sorted compare es both.1)
+
+-- ---- marks by their levels
+
+rise-map : {K A B : Type 0} (compare : K → K → Ordering) (f : A → B) (es : List (K × A)) → keys_rise compare (map (λ e. (e.0, f e.1)) es) ≡ keys_rise compare es
+rise-map compare f [] = refl
+rise-map compare f (e ∷ es) = ap₂ (λ a b. a && b) (list_all-map (λ x. is_lt (compare e.0 x.0)) (λ x. (x.0, f x.1)) es) (rise-map compare f es)
+
+level-map : {K : Type 0} (compare : K → K → Ordering) (es : List (K × Marks)) → (keys_rise compare (map (λ e. (e.0, in_order e.1)) es) && list_all (λ (p : K × Bool). p.1) (map (λ e. (e.0, in_order e.1)) es)) ≡ level_in_order compare es
+level-map {K} compare es = ap₂ (λ a b. a && b) (rise-map compare in_order es) (list_all-map (λ (e : K × Bool). e.1) (λ e. (e.0, in_order e.1)) es)
+
+order_further : (m : Marks) → in_order m
+    ≡ ((keys_rise string_cmp (map (λ e. (e.0, in_order e.1)) (out-Marks m).names.items) && list_all (λ (p : String Global × Bool). p.1) (map (λ e. (e.0, in_order e.1)) (out-Marks m).names.items))
+    && (keys_rise nat_cmp (map (λ e. (e.0, in_order e.1)) (out-Marks m).indexes.items) && list_all (λ (p : ℕ × Bool). p.1) (map (λ e. (e.0, in_order e.1)) (out-Marks m).indexes.items)))
+order_further m = search (rules, the_lemmas)
+
+pub order_out : (m : Marks) → in_order m ≡ (level_in_order string_cmp (out-Marks m).names.items && level_in_order nat_cmp (out-Marks m).indexes.items)
+order_out m = order_further m ∙ ap₂ (λ a b. a && b) (level-map string_cmp (out-Marks m).names.items) (level-map nat_cmp (out-Marks m).indexes.items)
+
+rolled_order : (b : Bool) (ns : Vec (String Global × Marks) Global) (is : Vec (ℕ × Marks) Global) → in_order (rolled b ns is)
+    ≡ ((keys_rise string_cmp (map (λ e. (e.0, in_order e.1)) ns.items) && list_all (λ (p : String Global × Bool). p.1) (map (λ e. (e.0, in_order e.1)) ns.items))
+    && (keys_rise nat_cmp (map (λ e. (e.0, in_order e.1)) is.items) && list_all (λ (p : ℕ × Bool). p.1) (map (λ e. (e.0, in_order e.1)) is.items)))
+rolled_order b ns is = search (rules, the_lemmas)
+
+pub order_rolled : (b : Bool) (ns : Vec (String Global × Marks) Global) (is : Vec (ℕ × Marks) Global) → level_in_order string_cmp ns.items ≡ true → level_in_order nat_cmp is.items ≡ true → in_order (rolled b ns is) ≡ true
+order_rolled b ns is e f = rolled_order b ns is ∙ ap₂ (λ a b. a && b) (level-map string_cmp ns.items ∙ e) (level-map nat_cmp is.items ∙ f)
+
+same_in : (b : Bool) (ns new_ns : List (String Global × Marks)) (is new_is : List (ℕ × Marks)) → IsSameSet (marked_in to_member ns) (marked_in to_member new_ns) → IsSameSet (marked_in index is) (marked_in index new_is)
+    → (l : Location) → is_among (parts b new_ns new_is) l ≡ is_among (parts b ns is) l
+same_in b ns new_ns is new_is f g [] = parts_here b new_ns new_is ∙ sym (parts_here b ns is)
+same_in b ns new_ns is new_is f g (name k ∷ l) = parts_member b new_ns new_is k l ∙ f.each (name k ∷ l) ∙ sym (parts_member b ns is k l)
+same_in b ns new_ns is new_is f g (index i ∷ l) = parts_element b new_ns new_is i l ∙ g.each (index i ∷ l) ∙ sym (parts_element b ns is i l)
+
+pub same_rolled : (m : Marks) (ns : Vec (String Global × Marks) Global) (is : Vec (ℕ × Marks) Global) → IsSameSet (marked_in to_member (out-Marks m).names.items) (marked_in to_member ns.items) → IsSameSet (marked_in index (out-Marks m).indexes.items) (marked_in index is.items)
+    → IsSameSet (marked m) (marked (rolled (out-Marks m).here ns is))
+same_rolled m ns is f g = record {
+  each = λ l. ap (λ x. is_among x l) (listed_rolled (out-Marks m).here ns is)
+      ∙ same_in (out-Marks m).here (out-Marks m).names.items ns.items (out-Marks m).indexes.items is.items f g l ∙ ap (λ x. is_among x l) (sym (listed_out m));
+}
+
+pub count_of_rolled : (b : Bool) (ns : Vec (String Global × Marks) Global) (is : Vec (ℕ × Marks) Global) (n h i j : ℕ) → n ≡ h + (i + j) → h ≡ (if b then 1 else 0) → i ≡ distinct_count (listed_in to_member ns.items) → j ≡ distinct_count (listed_in index is.items)
+    → n ≡ distinct_count (listed (rolled b ns is))
+count_of_rolled b ns is n h i j e f g k = e ∙ ap₂ (λ x y. x + y) f (ap₂ (λ x y. x + y) g k) ∙ sym (parts_count b ns.items is.items) ∙ ap distinct_count (sym (listed_rolled b ns is))
+
+-- ---- joined marks
+
+pub out_names : (b : Bool) (ns : Vec (String Global × Marks) Global) (is : Vec (ℕ × Marks) Global) → (out-Marks (rolled b ns is)).names ≡ ns
+out_names b ns is = search (rules, the_lemmas)
+
+pub out_indexes : (b : Bool) (ns : Vec (String Global × Marks) Global) (is : Vec (ℕ × Marks) Global) → (out-Marks (rolled b ns is)).indexes ≡ is
+out_indexes b ns is = search (rules, the_lemmas)
+
+pub out_here : (b : Bool) (ns : Vec (String Global × Marks) Global) (is : Vec (ℕ × Marks) Global) → (out-Marks (rolled b ns is)).here ≡ b
+out_here b ns is = search (rules, the_lemmas)
+
+four : (a b c d : Bool) → ((a || b) || (c || d)) ≡ ((a || c) || (b || d))
+four true b c d = refl
+four false true true d = refl
+four false true false d = refl
+four false false c d = refl
+
+join_in : (a b : Bool) (ns ms : List (String Global × Marks)) (is js : List (ℕ × Marks)) (l : Location) → is_among (parts (a || b) (ns ++ ms) (is ++ js)) l ≡ (is_among (parts a ns is) l || is_among (parts b ms js) l)
+join_in a b ns ms is js [] = parts_here (a || b) (ns ++ ms) (is ++ js) ∙ sym (ap₂ (λ x y. x || y) (parts_here a ns is) (parts_here b ms js))
+join_in a b ns ms is js (name k ∷ l) = parts_member (a || b) (ns ++ ms) (is ++ js) k l ∙ in_append to_member ns ms (name k ∷ l) ∙ sym (ap₂ (λ x y. x || y) (parts_member a ns is k l) (parts_member b ms js k l))
+join_in a b ns ms is js (index i ∷ l) = parts_element (a || b) (ns ++ ms) (is ++ js) i l ∙ in_append index is js (index i ∷ l) ∙ sym (ap₂ (λ x y. x || y) (parts_element a ns is i l) (parts_element b ms js i l))
+
+pub joined_rolled : (m other : Marks) (b : Bool) (ns : Vec (String Global × Marks) Global) (is : Vec (ℕ × Marks) Global) → b ≡ ((out-Marks m).here || (out-Marks other).here)
+    → ns.items ≡ (out-Marks m).names.items ++ (out-Marks other).names.items → is.items ≡ (out-Marks m).indexes.items ++ (out-Marks other).indexes.items → IsJoined (marked m) (marked other) (marked (rolled b ns is))
+joined_rolled m other b ns is e f g = record {
+  each = λ l. ap (λ x. is_among x l) (listed_rolled b ns is) ∙ ap (λ x. is_among (parts x ns.items is.items) l) e ∙ ap₂ (λ x y. is_among (parts ((out-Marks m).here || (out-Marks other).here) x y) l) f g
+      ∙ join_in (out-Marks m).here (out-Marks other).here (out-Marks m).names.items (out-Marks other).names.items (out-Marks m).indexes.items (out-Marks other).indexes.items l
+      ∙ ap₂ (λ x y. is_among x l || is_among y l) (sym (listed_out m)) (sym (listed_out other));
+}
+
+total-append : {K : Type 0} (es fs : List (K × Marks)) → marks_total (es ++ fs) ≡ marks_total es + marks_total fs
+total-append [] fs = omega arith
+total-append (e ∷ es) fs = omega (arith, total-append es fs)
+
+pub fewer_rolled : (m other : Marks) (b : Bool) (ns : Vec (String Global × Marks) Global) (is : Vec (ℕ × Marks) Global)
+    → ns.items ≡ (out-Marks m).names.items ++ (out-Marks other).names.items → is.items ≡ (out-Marks m).indexes.items ++ (out-Marks other).indexes.items → marks_count (rolled b ns is) + 1 ≤ marks_count m + marks_count other
+fewer_rolled m other b ns is f g =
+    omega (arith, count_rolled b ns is, count_out m, count_out other, ap marks_total f, ap marks_total g, total-append (out-Marks m).names.items (out-Marks other).names.items, total-append (out-Marks m).indexes.items (out-Marks other).indexes.items)
+
+-- ---- entries by their keys
+
+total-values : {K : Type 0} (es : List (K × Marks)) → marks_total es ≡ sum_by marks_count (values_of es)
+total-values [] = refl
+total-values (e ∷ es) = ap (λ n. marks_count e.1 + n) (total-values es) ∙ sym (sum_by-cons marks_count e.1 (values_of es))
+
+insert_step : {K : Type 0} (to : K → Step) (compare : K → K → Ordering) → IsTotalOrder compare → TestsSteps to compare → (es : List (K × Marks)) (k : K) (m w : Marks) → IsStrictlySortedBy compare (keys_of es)
+    → ((l : Location) → marked w l ≡ (marked_by (lookup (is_at (compare k)) es) l || marked m l))
+    → (t : Step) (l : Location) → marked_in to (insert_entry compare es k w) (t ∷ l) ≡ (marked_in to es (t ∷ l) || marked_in to ((k, m) ∷ []) (t ∷ l))
+unfolding IsStrictlySortedBy
+insert_step to compare order test [] k m w sorted is t l = in_step to (k, w) [] t l ∙ ap (λ b. (is_same_step (to k) t && b) || false) (is l) ∙ sym (in_step to (k, m) [] t l)
+insert_step {K} to compare order test (e ∷ es) k m w sorted is t l = pick (compare k e.0) refl is (λ h. insert_step to compare order test es k m w sorted.1 h t l)
+  where
+    same : (a b c d r : Bool) → d ≡ (b || c) → ((a && d) || r) ≡ (((a && b) || r) || ((a && c) || false))
+    same true true c d r e = ap (λ z. z || r) e
+    same true false true d true e = ap (λ z. z || true) e
+    same true false true d false e = ap (λ z. z || false) e
+    same true false false d true e = ap (λ z. z || true) e
+    same true false false d false e = ap (λ z. z || false) e
+    same false b c d true e = refl
+    same false b c d false e = refl
+
+    later : (a b c d : Bool) → d ≡ (b || c) → (a || d) ≡ ((a || b) || c)
+    later true b c d e = refl
+    later false b c d e = e
+
+    first : (a b : Bool) → (a || b) ≡ (b || (a || false))
+    first true true = refl
+    first true false = refl
+    first false true = refl
+    first false false = refl
+
+    pick : (o : Ordering) → compare k e.0 ≡ o → ((x : Location) → marked w x ≡ (marked_by (cond (is_eq (compare k e.0)) (Some e.1) (lookup (is_at (compare k)) es)) x || marked m x))
+        → (((x : Location) → marked w x ≡ (marked_by (lookup (is_at (compare k)) es) x || marked m x)) → marked_in to (insert_entry compare es k w) (t ∷ l) ≡ (marked_in to es (t ∷ l) || marked_in to ((k, m) ∷ []) (t ∷ l)))
+        → marked_in to (match_ordering o ((k, w) ∷ e ∷ es) ((e.0, w) ∷ es) (e ∷ insert_entry compare es k w)) (t ∷ l) ≡ (marked_in to (e ∷ es) (t ∷ l) || marked_in to ((k, m) ∷ []) (t ∷ l))
+    pick Less f h more =
+        let none : lookup (is_at (compare k)) (e ∷ es) ≡ None = lookup-none (is_at (compare k)) (e ∷ es) (none_below_head order k e es sorted f) in
+        let this : marked w l ≡ marked m l = h l ∙ ap (λ x. marked_by x l || marked m l) none in
+        in_step to (k, w) (e ∷ es) t l ∙ ap (λ b. (is_same_step (to k) t && b) || marked_in to (e ∷ es) (t ∷ l)) this
+        ∙ first (is_same_step (to k) t && marked m l) (marked_in to (e ∷ es) (t ∷ l)) ∙ ap (λ b. marked_in to (e ∷ es) (t ∷ l) || b) (sym (in_step to (k, m) [] t l))
+    pick Equal f h more =
+        let step : to k ≡ to e.0 = same_step (to k) (to e.0) (sym (test k e.0) ∙ ap is_eq f) in
+        let this : marked w l ≡ (marked e.1 l || marked m l) = h l ∙ ap (λ b. marked_by (cond b (Some e.1) (lookup (is_at (compare k)) es)) l || marked m l) (ap is_eq f) in
+        in_step to (e.0, w) es t l ∙ same (is_same_step (to e.0) t) (marked e.1 l) (marked m l) (marked w l) (marked_in to es (t ∷ l)) this
+        ∙ ap₂ (λ x y. x || y) (sym (in_step to e es t l)) (ap (λ s. (is_same_step s t && marked m l) || false) (sym step) ∙ sym (in_step to (k, m) [] t l))
+    pick Greater f h more =
+        let passed : (x : Location) → marked w x ≡ (marked_by (lookup (is_at (compare k)) es) x || marked m x) = λ x. h x ∙ ap (λ b. marked_by (cond b (Some e.1) (lookup (is_at (compare k)) es)) x || marked m x) (ap is_eq f) in
+        in_step to e (insert_entry compare es k w) t l ∙ later (is_same_step (to e.0) t && marked e.1 l) (marked_in to es (t ∷ l)) (marked_in to ((k, m) ∷ []) (t ∷ l)) _ (more passed)
+        ∙ ap (λ b. b || marked_in to ((k, m) ∷ []) (t ∷ l)) (sym (in_step to e es t l))
+
+pub inserted : {K : Type 0} (compare : K → K → Ordering) → IsTotalOrder compare → (es new : List (K × Marks)) (k : K) (m w : Marks) → new ≡ insert_entry compare es k w → IsStrictlySortedBy compare (keys_of es)
+    → ((l : Location) → marked w l ≡ (marked_by (lookup (is_at (compare k)) es) l || marked m l)) → HoldsAlso compare es k m new
+inserted {K} compare order es new k m w now sorted is = record { each = each }
+  where
+    each : (to : K → Step) → TestsSteps to compare → (l : Location) → marked_in to new l ≡ (marked_in to es l || marked_in to ((k, m) ∷ []) l)
+    each to test [] = in_here to new ∙ sym (ap₂ (λ a b. a || b) (in_here to es) (in_here to ((k, m) ∷ [])))
+    each to test (t ∷ l) = ap (λ x. marked_in to x (t ∷ l)) now ∙ insert_step to compare order test es k m w sorted is t l
+
+pub inserted_total : {K : Type 0} (compare : K → K → Ordering) → IsTotalOrder compare → (es new : List (K × Marks)) (k : K) (m w empty : Marks) → new ≡ insert_entry compare es k w → IsStrictlySortedBy compare (keys_of es)
+    → marks_count empty ≡ 1 → marks_count w + 1 ≤ marks_count (unwrap_or (lookup (is_at (compare k)) es) empty) + marks_count m → marks_total new ≤ marks_total es + marks_count m
+inserted_total compare order es new k m w empty now sorted one le =
+    pick (lookup (is_at (compare k)) es) (sum_by-insert_entry marks_count order es k w sorted) le
+  where
+    pick : (o : Option Marks) → sum_by marks_count (values_of (insert_entry compare es k w)) + unwrap_or (option_map marks_count o) 0 ≡ sum_by marks_count (values_of es) + marks_count w
+        → marks_count w + 1 ≤ marks_count (unwrap_or o empty) + marks_count m → marks_total new ≤ marks_total es + marks_count m
+    pick None e f = omega (arith, e, f, one, total-values es, ap marks_total now ∙ total-values (insert_entry compare es k w))
+    pick (Some v) e f = omega (arith, e, f, total-values es, ap marks_total now ∙ total-values (insert_entry compare es k w))
+
+-- of so many entries those in front are gathered
+pub record Gathered {K : Type 0} (compare : K → K → Ordering) (all got rest : List (K × Marks)) : Type 0 where
+  pub each : (to : K → Step) → TestsSteps to compare → (l : Location) → marked_in to all l ≡ (marked_in to got l || marked_in to rest l)
+  pub fewer : marks_total got + marks_total rest ≤ marks_total all
+
+pub gathered_none : {K : Type 0} (compare : K → K → Ordering) (all got rest : List (K × Marks)) → got ≡ [] → rest ≡ all → Gathered compare all got rest
+gathered_none compare all got rest e f = record {
+  each = λ to test l. sym (ap₂ (λ x y. marked_in to x l || marked_in to y l) e f);
+  fewer = omega (arith, ap marks_total e, ap marks_total f);
+}
+
+pub gathered_next : {K : Type 0} (compare : K → K → Ordering) (all got new rest more : List (K × Marks)) (k : K) (m : Marks) → rest ≡ (k, m) ∷ more → HoldsAlso compare got k m new → marks_total new ≤ marks_total got + marks_count m → Gathered compare all got rest → Gathered compare all new more
+gathered_next compare all got new rest more k m e h le g = record {
+  each = λ to test l. g.each to test l ∙ ap (λ x. marked_in to got l || marked_in to x l) e ∙ ap (λ b. marked_in to got l || b) (in_append to ((k, m) ∷ []) more l)
+      ∙ other (marked_in to got l) (marked_in to ((k, m) ∷ []) l) (marked_in to more l) ∙ ap (λ b. b || marked_in to more l) (sym (h.each to test l));
+  fewer = omega (arith, le, g.fewer, ap marks_total e);
+}
+  where
+    other : (a b c : Bool) → (a || (b || c)) ≡ ((a || b) || c)
+    other true b c = refl
+    other false b c = refl
+
+pub gathered_all : {K : Type 0} (compare : K → K → Ordering) (all got rest : List (K × Marks)) → rest ≡ [] → Gathered compare all got rest → HoldsSame compare all got
+gathered_all compare all got rest e g = record { each = λ to test l. sym (g.each to test l ∙ ap (λ x. marked_in to got l || marked_in to x l) e ∙ none (marked_in to got l)) }
+  where
+    none : (b : Bool) → (b || false) ≡ b
+    none true = refl
+    none false = refl
+
+pub held_same : {K : Type 0} (compare : K → K → Ordering) (es fs : List (K × Marks)) → fs ≡ es → HoldsSame compare es fs
+held_same compare es fs e = record { each = λ to test l. ap (λ x. marked_in to x l) e }
+
+-- ---- the entries of a level, one after the other
+
+-- those in front are in order, and the others as they were
+pub record Sofar {K : Type 0} (to : K → Step) (start now : List (K × Marks)) (i count : ℕ) : Type 0 where
+  pub keys : keys_of now ≡ keys_of start
+  pub size : length now ≡ length start
+  pub same : IsSameSet (marked_in to start) (marked_in to now)
+  pub ordered : list_all (λ e. in_order e.1) (take i now) ≡ true
+  pub counted : count ≡ counts (take i now)
+  pub rest : drop i now ≡ drop i start
+
+pub sofar_start : {K : Type 0} (to : K → Step) (start : List (K × Marks)) → Sofar to start start 0 0
+sofar_start to start = record { keys = refl; size = refl; same = record { each = λ l. refl }; ordered = refl; counted = refl; rest = refl }
+
+keys-set : {K : Type 0} (es : List (K × Marks)) (i : ℕ) (e : K × Marks) (w : Marks) → e ≡ get_or es i e → keys_of (set es i (e.0, w)) ≡ keys_of es
+keys-set [] i e w h = refl
+keys-set (x ∷ es) zero e w h = ap (λ y. y.0 ∷ keys_of es) h
+keys-set (x ∷ es) (suc i) e w h = ap (λ y. x.0 ∷ y) (keys-set es i e w h)
+
+size-set : {K : Type 0} (es : List (K × Marks)) (i : ℕ) (e : K × Marks) → length (set es i e) ≡ length es
+size-set [] i e = refl
+size-set (x ∷ es) zero e = refl
+size-set (x ∷ es) (suc i) e = ap suc (size-set es i e)
+
+same-set : {K : Type 0} (to : K → Step) (es : List (K × Marks)) (i : ℕ) (e : K × Marks) (w : Marks) → e ≡ get_or es i e → IsSameSet (marked e.1) (marked w) → (s : Step) (l : Location) → marked_in to (set es i (e.0, w)) (s ∷ l) ≡ marked_in to es (s ∷ l)
+same-set to [] i e w h g s l = refl
+same-set {K} to (x ∷ es) zero e w h g s l =
+    in_step to (e.0, w) es s l ∙ ap (λ b. (is_same_step (to e.0) s && b) || marked_in to es (s ∷ l)) (g.each l) ∙ ap (λ (y : K × Marks). (is_same_step (to y.0) s && marked y.1 l) || marked_in to es (s ∷ l)) h ∙ sym (in_step to x es s l)
+same-set to (x ∷ es) (suc i) e w h g s l = in_step to x (set es i (e.0, w)) s l ∙ ap (λ b. (is_same_step (to x.0) s && marked x.1 l) || b) (same-set to es i e w h g s l) ∙ sym (in_step to x es s l)
+
+same_each : {K : Type 0} (to : K → Step) (es : List (K × Marks)) (i : ℕ) (e : K × Marks) (w : Marks) → e ≡ get_or es i e → IsSameSet (marked e.1) (marked w) → (l : Location) → marked_in to (set es i (e.0, w)) l ≡ marked_in to es l
+same_each to es i e w h g [] = in_here to (set es i (e.0, w)) ∙ sym (in_here to es)
+same_each to es i e w h g (s ∷ l) = same-set to es i e w h g s l
+
+counts-append : {K : Type 0} (es fs : List (K × Marks)) → counts (es ++ fs) ≡ counts es + counts fs
+counts-append [] fs = omega arith
+counts-append (e ∷ es) fs = omega (arith, counts-append es fs)
+
+pub sofar_next : {K : Type 0} (to : K → Step) (start now : List (K × Marks)) (i n m k : ℕ) (e : K × Marks) (w : Marks) → i < length now → e ≡ get_or now i e → IsSameSet (marked e.1) (marked w) → in_order w ≡ true → m ≡ distinct_count (listed w) → k ≡ n + m
+    → Sofar to start now i n → Sofar to start (set now i (e.0, w)) (i + 1) k
+sofar_next {K} to start now i n m k e w within read same order count sum h =
+    let front : take (i + 1) (set now i (e.0, w)) ≡ take i now ++ (e.0, w) ∷ [] = take_more_set now i (e.0, w) within in
+    record {
+      keys = keys-set now i e w read ∙ h.keys;
+      size = size-set now i (e.0, w) ∙ h.size;
+      same = record { each = λ l. same_each to now i e w read same l ∙ h.same.each l };
+      ordered = ap (list_all (λ x. in_order x.1)) front ∙ list_all-append (λ (x : K × Marks). in_order x.1) (take i now) ((e.0, w) ∷ []) ∙ rw (h.ordered, order);
+      counted = sum ∙ omega (arith, h.counted, count, ap counts front, counts-append (take i now) ((e.0, w) ∷ []));
+      rest = drop-set-lt (i + 1) now i (e.0, w) (omega arith) ∙ later now start i within h.size h.rest;
+    }
+  where
+    tail : (x y : K × Marks) (xs ys : List (K × Marks)) → x ∷ xs ≡ y ∷ ys → xs ≡ ys
+    tail x y xs ys f = cc
+
+    later : (xs ys : List (K × Marks)) (j : ℕ) → j < length xs → length xs ≡ length ys → drop j xs ≡ drop j ys → drop (j + 1) xs ≡ drop (j + 1) ys
+    later xs ys j lt len same = tail _ _ _ _ (sym (drop_more xs j e lt) ∙ same ∙ drop_more ys j e (omega (arith, lt, len)))
+
+total-drop : {K : Type 0} (es : List (K × Marks)) (i : ℕ) → marks_total (drop i es) ≤ marks_total es
+total-drop [] zero = omega arith
+total-drop [] (suc i) = omega arith
+total-drop (e ∷ es) zero = omega arith
+total-drop (e ∷ es) (suc i) = omega (arith, total-drop es i)
+
+pub sofar_at : {K : Type 0} (to : K → Step) (start now : List (K × Marks)) (i n : ℕ) (e : K × Marks) → i < length now → e ≡ get_or now i e → Sofar to start now i n → marks_count e.1 ≤ marks_total start
+sofar_at {K} to start now i n e within read h =
+    let all : drop i start ≡ get_or now i e ∷ drop (i + 1) now = sym h.rest ∙ drop_more now i e within in
+    let first : marks_count (get_or now i e).1 ≡ marks_count e.1 = ap (λ (x : K × Marks). marks_count x.1) (sym read) in
+    omega (arith, ap marks_total all, first, total-drop start i)
+
+take_whole : {A : Type 0} (i : ℕ) (xs : List A) → length xs ≤ i → take i xs ≡ xs
+take_whole zero [] h = refl
+take_whole (suc i) [] h = refl
+take_whole zero (x ∷ xs) h = absurd (omega (arith, h))
+take_whole (suc i) (x ∷ xs) h = ap (λ ys. x ∷ ys) (take_whole i xs (omega (arith, h)))
+
+pub sofar_ordered : {K : Type 0} (to : K → Step) (compare : K → K → Ordering) (start now : List (K × Marks)) (i n : ℕ) → length now ≤ i → IsStrictlySortedBy compare (keys_of start) → Sofar to start now i n → level_in_order compare now ≡ true
+sofar_ordered {K} to compare start now i n past sorted h =
+    and_from _ _ (rise_from compare now (subst (IsStrictlySortedBy compare) (sym h.keys) sorted)) (ap (list_all (λ (e : K × Marks). in_order e.1)) (sym (take_whole i now past)) ∙ h.ordered)
+
+pub sofar_counted : {K : Type 0} (to : K → Step) (compare : K → K → Ordering) → TestsSteps to compare → (start now : List (K × Marks)) (i n : ℕ) → length now ≤ i → IsStrictlySortedBy compare (keys_of start) → Sofar to start now i n → n ≡ distinct_count (listed_in to now)
+sofar_counted to compare test start now i n past sorted h =
+    h.counted ∙ ap counts (take_whole i now past) ∙ sym (level_count to now (are_keys to compare test now (subst (IsStrictlySortedBy compare) (sym h.keys) sorted)))
+
+pub same_then : (a b c : Location → Bool) → IsSameSet a b → IsSameSet b c → IsSameSet a c
+same_then a b c f g = record { each = λ l. g.each l ∙ f.each l }
+
+pub sofar_as : {K : Type 0} (to : K → Step) (start now next : List (K × Marks)) (i n m : ℕ) → next ≡ now → m ≡ n → Sofar to start now i n → Sofar to start next i m
+sofar_as to start now next i n m e f h = subst (λ xs. Sofar to start xs i m) (sym e) (subst (Sofar to start now i) (sym f) h)
+
+pub rolled_as : (a b : Bool) (ns ms : Vec (String Global × Marks) Global) (is : Vec (ℕ × Marks) Global) → a ≡ b → ns ≡ ms → rolled a ns is ≡ rolled b ms is
+rolled_as a b ns ms is e f = ap₂ (λ x y. rolled x y is) e f
+
+pub ok_given : {A B X : Type 0} (r : Result A B) → X → OnOk r X
+ok_given (Ok a) x = x
+ok_given (Err e) x = tt
+
+-- ---- whether keys rise
+
+key_at : {K A : Type 0} (es : List (K × A)) (j : ℕ) (e : K × A) (d : K) → j < length es → get_or (keys_of es) j d ≡ (get_or es j e).0
+key_at [] j e d h = absurd (omega (arith, h))
+key_at (x ∷ es) zero e d h = refl
+key_at (x ∷ es) (suc j) e d h = key_at es j e d (omega (arith, h))
+
+pub rises_more : {K A : Type 0} (compare : K → K → Ordering) (es : List (K × A)) (i j : ℕ) (a b : K × A) → j + 1 ≡ i → i < length es → a ≡ get_or es j a → b ≡ get_or es i b → is_lt (compare a.0 b.0) ≡ true
+    → ((d : K) (k : ℕ) → k + 1 < i → compare (get_or (keys_of es) k d) (get_or (keys_of es) (k + 1) d) ≡ Less) → (d : K) (k : ℕ) → k + 1 < i + 1 → compare (get_or (keys_of es) k d) (get_or (keys_of es) (k + 1) d) ≡ Less
+rises_more {K} {A} compare es i j a b at within first second less h d k lt = pick (cases_lt (k + 1) i)
+  where
+    pick : (k + 1 < i) ⊎ (i ≤ k + 1) → compare (get_or (keys_of es) k d) (get_or (keys_of es) (k + 1) d) ≡ Less
+    pick (inl l) = h d k l
+    pick (inr l) =
+        let here : k ≡ j = omega (arith, lt, l, at) in
+        let next : k + 1 ≡ i = omega (arith, lt, l) in
+        ap₂ compare (ap (λ n. get_or (keys_of es) n d) here ∙ key_at es j a d (omega (arith, at, within)) ∙ ap (λ (x : K × A). x.0) (sym first)) (ap (λ n. get_or (keys_of es) n d) next ∙ key_at es i b d within ∙ ap (λ (x : K × A). x.0) (sym second))
+        ∙ is_less (compare a.0 b.0) less
+
+keys-length : {K A : Type 0} (es : List (K × A)) → length (keys_of es) ≡ length es
+keys-length [] = refl
+keys-length (e ∷ es) = ap suc (keys-length es)
+
+pub rises_all : {K A : Type 0} (compare : K → K → Ordering) → IsTotalOrder compare → (es : List (K × A)) (i : ℕ) → length es ≤ i
+    → ((d : K) (k : ℕ) → k + 1 < i → compare (get_or (keys_of es) k d) (get_or (keys_of es) (k + 1) d) ≡ Less) → IsStrictlySortedBy compare (keys_of es)
+unfolding IsStrictlySortedBy
+rises_all compare order [] i past h = tt
+rises_all compare order (e ∷ es) i past h = sorted_from_all_adjacent order (keys_of (e ∷ es)) e.0 (λ k lt. h e.0 k (omega (arith, lt, past, keys-length (e ∷ es))))
+
+-- ---- a walk over a level
+
+keys_drop : {K : Type 0} (to : K → Step) (i : ℕ) (es : List (K × Marks)) → AreKeys to es → AreKeys to (drop i es)
+keys_drop to zero [] h = tt
+keys_drop to zero (e ∷ es) h = h
+keys_drop to (suc i) [] h = tt
+keys_drop to (suc i) (e ∷ es) h = keys_drop to i es h.1
+
+ordered_at : {K : Type 0} (es : List (K × Marks)) (i : ℕ) (e : K × Marks) → i < length es → list_all (λ x. in_order x.1) es ≡ true → in_order (get_or es i e).1 ≡ true
+ordered_at [] i e lt h = absurd (omega (arith, lt))
+ordered_at {K} (x ∷ es) zero e lt h = (and_parts (in_order x.1) (list_all (λ (y : K × Marks). in_order y.1) es) h).0
+ordered_at {K} (x ∷ es) (suc i) e lt h = ordered_at es i e (omega (arith, lt)) (and_parts (in_order x.1) (list_all (λ (y : K × Marks). in_order y.1) es) h).1
+
+-- an entry of a level in order, and those behind it
+pub record Turn {K : Type 0} (to : K → Step) (es : List (K × Marks)) (i : ℕ) (e : K × Marks) : Type 0 where
+  pub all : drop i es ≡ e ∷ drop (i + 1) es
+  pub once : lookup (is_key to (to e.0)) (drop (i + 1) es) ≡ None
+  pub ordered : in_order e.1 ≡ true
+  pub fewer : marks_count e.1 ≤ marks_total es
+
+pub level_sorted : {K : Type 0} (compare : K → K → Ordering) (es : List (K × Marks)) → level_in_order compare es ≡ true → IsStrictlySortedBy compare (keys_of es)
+level_sorted {K} compare es h = rise_sorted compare es (and_parts (keys_rise compare es) (list_all (λ (e : K × Marks). in_order e.1) es) h).0
+
+pub turn : {K : Type 0} (to : K → Step) (compare : K → K → Ordering) → TestsSteps to compare → (es : List (K × Marks)) (i : ℕ) (e : K × Marks) → level_in_order compare es ≡ true → i < length es → e ≡ get_or es i e → Turn to es i e
+turn {K} to compare test es i e h within read =
+    let all : drop i es ≡ e ∷ drop (i + 1) es = drop_more es i e within ∙ ap (λ x. x ∷ drop (i + 1) es) (sym read) in
+    let keys = subst (AreKeys to) all (keys_drop to i es (are_keys to compare test es (level_sorted compare es h))) in
+    record {
+      all = all;
+      once = keys.0;
+      ordered = ap (λ (x : K × Marks). in_order x.1) read ∙ ordered_at es i e within (and_parts (keys_rise compare es) (list_all (λ (x : K × Marks). in_order x.1) es) h).1;
+      fewer = omega (arith, ap marks_total all, total-drop es i);
+    }
+
+sorted_drop : {K A : Type 0} (compare : K → K → Ordering) (i : ℕ) (es : List (K × A)) → IsStrictlySortedBy compare (keys_of es) → IsStrictlySortedBy compare (keys_of (drop i es))
+unfolding IsStrictlySortedBy
+sorted_drop compare zero [] h = tt
+sorted_drop compare zero (e ∷ es) h = h
+sorted_drop compare (suc i) [] h = tt
+sorted_drop compare (suc i) (e ∷ es) h = sorted_drop compare i es h.1
+
+pub turn_sorted : {K : Type 0} (compare : K → K → Ordering) (es : List (K × Marks)) (i : ℕ) (e : K × Marks) → level_in_order compare es ≡ true → drop i es ≡ e ∷ drop (i + 1) es → IsStrictlySortedBy compare (keys_of (e ∷ drop (i + 1) es))
+turn_sorted compare es i e h all = subst (λ xs. IsStrictlySortedBy compare (keys_of xs)) all (sorted_drop compare i es (level_sorted compare es h))
