@@ -71,6 +71,7 @@ fn mark_member(
     let key = String::from_str(alloc, name)?;
     let mut marks = Marks::new(alloc);
     mark(alloc, &mut marks, rest)?;
+    make_room(below)?;
     below.push((key, marks))?;
     Ok(())
 }
@@ -92,7 +93,18 @@ fn mark_element(
     }
     let mut marks = Marks::new(alloc);
     mark(alloc, &mut marks, rest)?;
+    make_room(below)?;
     below.push((index, marks))?;
+    Ok(())
+}
+
+/// Makes room for a first entry, and for no more, since most levels have one alone.
+fn make_room<K>(below: &mut Vec<(K, Marks)>) -> Result<(), AllocError>
+    ensures { below.new.items ≡ below.old.items }
+{
+    if below.is_empty() {
+        below.reserve_exact(1)?;
+    }
     Ok(())
 }
 

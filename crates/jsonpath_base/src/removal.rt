@@ -8,7 +8,7 @@ ghost use Rattle.jsonpath_parser.specs.Location.{Location};
 ghost use Rattle.jsonpath_base.specs.Steps.{location_view, lent_location};
 ghost use Rattle.jsonpath_base.specs.Values.{value_tree, value_is_whole};
 ghost use Rattle.jsonpath_base.specs.Without.{without, is_among, distinct_count, counted_with, HasAlso};
-ghost use Rattle.jsonpath_base.specs.inner.Marks.{to_member, marked, marked_below, in_order, level_in_order, IsSameSet};
+ghost use Rattle.jsonpath_base.specs.inner.Marks.{to_member, marked, marked_below, in_order, level_in_order};
 ghost use Rattle.jsonpath_base.specs.inner.Thinning.{data_thinned, items_thinned, members_thinned, sieved, IsThinnedAt, IsThinnedBy};
 
 use crate::marks::{Marks, mark};
@@ -51,7 +51,7 @@ impl Removal {
     /// The same locations, in order and counted. It refuses by `OutOfMemory` alone. Time linear in the steps that are held
     /// where they were added in order, and else n log n.
     pub fn ordered(self, alloc: Global) -> Parsed<OrderedRemoval>
-        ensures set { IfOk result (λ r. IsSameSet (removal_set self) (ordered_set r)) }
+        ensures set { IfOk result (λ r. ordered_set r ≡ removal_set self) }
         ensures count { IfOk result (λ r. ordered_count r ≡ removal_count self) }
         ensures memory { IfErr result (λ e. e ≡ JsonPathError.OutOfMemory) }
     {

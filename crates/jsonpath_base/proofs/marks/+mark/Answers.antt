@@ -33,7 +33,7 @@ mark_element-returns t c =
     let old = c.args.below.now.items in
     let same : c.if-ends_with_index.below.items ≡ old = elim c.if-ends_with_index.branch [ mark_element-then-ends_with_index+in_default w ↦ ap (λ v. v.items) w.below-is | mark_element-else-ends_with_index w ↦ ap (λ v. v.items) w.below-is ] in
     also_push index old c.push.new.self.items c.args.index c.new-marks.result c.mark-2.new.marks (index c.args.index) (lent_location c.args.rest.now)
-    (c.in_ok-push.ensures.items ∙ ap (λ x. x ++ (c.args.index, c.mark-2.new.marks) ∷ []) same) c.new-marks.ensures.none refl c.in_ok-mark.ensures
+    (c.in_ok-push.ensures.items ∙ ap (λ x. x ++ (c.args.index, c.mark-2.new.marks) ∷ []) (c.in_ok-make_room.ensures ∙ same)) c.new-marks.ensures.none refl c.in_ok-mark.ensures
 
 pub mark_member-returns-in-Some : goal.mark_member-returns-in-Some
 mark_member-returns-in-Some t c =
@@ -49,4 +49,4 @@ mark_member-returns t c =
     let old = c.args.below.now.items in
     let same : c.if-ends_with_name.below.items ≡ old = elim c.if-ends_with_name.branch [ mark_member-then-ends_with_name+in_default w ↦ ap (λ v. v.items) w.below-is | mark_member-else-ends_with_name w ↦ ap (λ v. v.items) w.below-is ] in
     also_push to_member old c.push.new.self.items c.in_ok-key.key c.new-marks.result c.mark-2.new.marks (name c.args.name.now) (lent_location c.args.rest.now)
-    (c.in_ok-push.ensures.items ∙ ap (λ x. x ++ (c.in_ok-key.key, c.mark-2.new.marks) ∷ []) same) c.new-marks.ensures.none (ap name c.in_ok-key.ensures.ok) c.in_ok-mark.ensures
+    (c.in_ok-push.ensures.items ∙ ap (λ x. x ++ (c.in_ok-key.key, c.mark-2.new.marks) ∷ []) (c.in_ok-make_room.ensures ∙ same)) c.new-marks.ensures.none (ap name c.in_ok-key.ensures.ok) c.in_ok-mark.ensures

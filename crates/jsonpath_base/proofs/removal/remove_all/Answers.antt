@@ -6,7 +6,7 @@ use Rattle.jsonpath_base.specs.Without.{without, distinct_count}
 use Rattle.jsonpath_base.specs.Values.{value_tree}
 use Rattle.jsonpath_base.specs.inner.Marks.{listed, marked, set_with}
 use Rattle.jsonpath_base.specs.declared.step.Step.{Step}
-use Rattle.jsonpath_base.proofs.Removed.{set_begun, marks_next, without_alike}
+use Rattle.jsonpath_base.proofs.Removed.{set_begun, marks_next}
 use Rattle.jsonpath_base.proofs.removal.remove_all.Goals as goal
 
 abbrev place : Vec Step Global → Location
@@ -31,7 +31,7 @@ pub returns-clause-removed : goal.returns-clause-removed
 returns-clause-removed c =
     let l = c.loop-place in let places = c.args.places.now in let m = l.removal.marks in
     let all = ap (λ xs. set_with (map place xs) (marked m) (distinct_count (listed m))) (sym (drop_all l.place-index places c.loop-place-test.false)) ∙ l.invariant in
-    c.remove_from.ensures.removed ∙ without_alike _ (marked m) c.in_ok-removal.ensures.set.each (value_tree c.args.value.now) ∙ ap (λ s. without s.0 (value_tree c.args.value.now)) all
+    c.remove_from.ensures.removed ∙ ap (λ s. without s (value_tree c.args.value.now)) c.in_ok-removal.ensures.set ∙ ap (λ s. without s.0 (value_tree c.args.value.now)) all
 
 pub returns-clause-count : goal.returns-clause-count
 returns-clause-count c =
