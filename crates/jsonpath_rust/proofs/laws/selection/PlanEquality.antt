@@ -1,14 +1,14 @@
 -- Parts of a plan that are equal by `==` stand for the same, whatever is kept.
-use Rattle.std.proofs.Common.{◌≡◌, ℕ, ℤ, int_eq, Bool, true, false, true≢false, List, [], ◌∷◌, map, Option, Some, None, String, Global, string_bytes, refl, ap, sym, ◌∙◌, rules, IsTrue, ◌&&◌}
+use Rattle.std.proofs.Common.{◌≡◌, ℤ, int_eq, Bool, true, false, true≢false, List, [], ◌∷◌, map, Option, Some, None, refl, ap, sym, ◌∙◌, rules, IsTrue, ◌&&◌}
 use Rattle.std.proofs.lemmas.Bool.{and_parts}
 use Rattle.std.proofs.lemmas.Bool.Decides.{Decides-eqb, Decides-int_eq}
-use Rattle.std.specs.Bool.{Decides, beq}
+use Rattle.std.specs.Bool.{beq}
 use Rattle.std.specs.Cmp.Lexicographic.{pointwise}
 use Rattle.std.specs.Option.{option_eq}
 use Rattle.jsonpath_parser.proofs.Deciding.{string_same}
 use Rattle.jsonpath_parser.proofs.laws.tree.TreeEquality.{literal_same, steps_same, operator_same}
 use Rattle.jsonpath_parser.specs.tree.Syntax as tree
-use Rattle.jsonpath_parser.specs.tree.View.{literal_view, step_view, operator_view, segments_of, selectors_of, filters_of, arguments_of}
+use Rattle.jsonpath_parser.specs.tree.View.{segments_of, selectors_of, filters_of, arguments_of}
 use Rattle.jsonpath_rust.specs.selection.inner.PlanViews.{Kept, nodes, value, answered, compared, rooted_view, query_at, steps_query, steps_at, call_at, comparison_at, segments_meant, argument_view, call_view, called_view, filter_view, nodes_view, segment_view, selector_view, side_view}
 use Rattle.jsonpath_rust.specs.declared.selection.plan.Filter.{the_lemmas}
 use Rattle.jsonpath_rust.specs.declared.selection.plan.Rooted.{Rooted}
