@@ -3,13 +3,14 @@
 //!
 //! A query is compiled to a plan (`plan`), once. The walk (`walk`, `children`) goes by the plan; inside filters (`filter`,
 //! `function`, `subquery`) it looks up names and indexes (`singular`, `sides`, `lookup`, `direct`), walks from the node at hand, or takes
-//! what is kept of the root (`cache`, `rooted`, `early`) and of patterns (`engine` of `jsonpath_base`). The nodes go to a sink
+//! what is kept of the root (`cache`, `constants`, `early`) and of patterns (`engine` of `jsonpath_base`). The nodes go to a sink
 //! (`sink`) with the way that leads to them (`Way` there).
 mod action;
 mod argument;
 mod budget;
 mod cache;
 mod children;
+mod constants;
 mod cost;
 mod direct;
 mod early;
@@ -22,7 +23,6 @@ mod onward;
 mod plan;
 mod planned;
 mod prepared;
-mod rooted;
 mod runner;
 mod sides;
 mod singular;

@@ -1,8 +1,8 @@
 pub mod Answers
 pub mod Arguing
+pub mod Constants
 pub mod CostLaws
 pub mod DirectLaws
-pub mod Entries
 pub mod HaltingLaws
 pub mod Kept
 pub mod Leading

@@ -3,7 +3,7 @@ ghost use Rattle.std.specs.Prelude.{◌≡◌, [], IsTrue, IfSome};
 ghost use Rattle.jsonpath_parser.specs.Location.{Location};
 ghost use Rattle.jsonpath_rust.specs.documents.Document.{Document};
 ghost use Rattle.jsonpath_rust.specs.documents.inner.Whole.{tree_of};
-ghost use Rattle.jsonpath_rust.specs.selection.inner.PlanViews.{Kept, segment_view};
+ghost use Rattle.jsonpath_rust.specs.selection.inner.PlanViews.{Constants, segment_view};
 ghost use Rattle.jsonpath_rust.specs.selection.inner.Walking.{acted};
 ghost use Rattle.jsonpath_rust.specs.selection.inner.Passing.{GoesToEachChild};
 
@@ -25,7 +25,7 @@ pub enum Action<'s> {
 /// Whether the action surely makes no node of the value: a leaf has nothing below.
 #[inline(always)]
 pub fn is_idle<T: Queryable>(action: Action<'_>, value: WholeRef<'_, T>) -> bool
-    ensures { IsTrue result → (kept : Kept) (d : Document) (l : Location) → acted kept action.entry d (record { location = l; tree = tree_of value.entry }) ≡ [] }
+    ensures { IsTrue result → (kept : Constants) (d : Document) (l : Location) → acted kept action.entry d (record { location = l; tree = tree_of value.entry }) ≡ [] }
 {
     match action {
         Action::Below(_) => value.is_leaf(),
@@ -45,7 +45,7 @@ pub fn visit_cost(action: Action<'_>, count: usize) -> usize {
 /// What the segment does at each child, where that is all it does.
 #[inline(always)]
 pub fn of_each_child(segment: &Segment) -> Option<Action<'_>>
-    ensures { (kept : Kept) → IfSome result (GoesToEachChild kept (segment_view kept segment.now)) }
+    ensures { (kept : Constants) → IfSome result (GoesToEachChild kept (segment_view kept segment.now)) }
 {
     match segment {
         Segment::Selector(selector) => match selector {

@@ -1,4 +1,4 @@
-//! What one call of the evaluator keeps: what was worked out once, by the number of its entry in the plan.
+//! What one call of the evaluator keeps: what was worked out once, by the number of its constant.
 ghost use Rattle.std.specs.Prelude.{◌≡◌, ◌<◌, ℕ, length, None, Some, option_map, IsTrue, IfOk, IfErr};
 ghost use Rattle.jsonpath_rust.specs.documents.Document.{Document};
 ghost use Rattle.jsonpath_parser.specs.tree.Syntax.{Query};
@@ -10,7 +10,7 @@ ghost use Rattle.jsonpath_rust.specs.declared.selection.sink.Wanted.{Wanted};
 ghost use Rattle.jsonpath_rust.specs.selection.inner.Halting.{IsHalt};
 ghost use Rattle.jsonpath_rust.specs.selection.inner.Keeping.{AreEmpty, Keeps, IsGiven, gathered, gave, nodes, nodes_or_none, part_patterns, slots_of, slot_at};
 ghost use Rattle.jsonpath_rust.specs.selection.inner.PlanViews as plan;
-ghost use Rattle.jsonpath_rust.specs.selection.inner.PlanViews.{Kept, part_at};
+ghost use Rattle.jsonpath_rust.specs.selection.inner.PlanViews.{Constants, part_at};
 ghost use Rattle.jsonpath_rust.specs.selection.inner.Sinks.{seen, start, give, any_in, count_in, only_in};
 
 use crate::documents::halt::{Halt, Walked};
@@ -23,11 +23,11 @@ use std::alloc::{AllocError, Global};
 /// What is kept for one call.
 #[derive(Drop)]
 pub struct Cache<'a, 's, T: Queryable> {
-    /// What each entry of the plan gave, once it is worked out.
+    /// What each constant gave, once it is worked out.
     pub slots: Vec<Option<Given<'a, 's, T>>>,
 }
 
-/// What an entry gave.
+/// What a constant gave.
 #[derive(Drop)]
 pub enum Given<'a, 's, T: Queryable> {
     /// What was wanted of nodes.
@@ -39,7 +39,7 @@ pub enum Given<'a, 's, T: Queryable> {
 }
 
 impl<'a, 's, T: Queryable> Cache<'a, 's, T> {
-    /// For no entry.
+    /// For no constant.
     #[inline(always)]
     pub fn empty(alloc: Global) -> Self {
         Cache {
@@ -47,15 +47,15 @@ impl<'a, 's, T: Queryable> Cache<'a, 's, T> {
         }
     }
 
-    /// For so many entries, none of which is worked out.
+    /// For so many constants, none of which is worked out.
     pub fn new(alloc: Global, count: usize) -> Result<Self, AllocError>
-        ensures { IfOk result (λ c. (kept : Kept) (doc : Document) → length kept ≡ count → Keeps kept doc c) }
+        ensures { IfOk result (λ c. (kept : Constants) (doc : Document) → length kept ≡ count → Keeps kept doc c) }
     {
         let slots = empty_slots(alloc, count)?;
         Ok(Cache { slots })
     }
 
-    /// What the entry of this number gave, if it is worked out.
+    /// What the constant of this number gave, if it is worked out.
     #[inline(always)]
     pub fn get(&self, number: usize) -> Option<&Given<'a, 's, T>>
         ensures { option_map (λ s. gave s.now) result ≡ slot_at (slots_of self.now) number }
@@ -66,12 +66,12 @@ impl<'a, 's, T: Queryable> Cache<'a, 's, T> {
         }
     }
 
-    /// Whether the nodes of the entry of this number are worked out. Where a pattern in it is too large, the walk halts.
+    /// Whether the nodes of the constant of this number are worked out. Where a pattern in it is too large, the walk halts.
     #[inline(always)]
     pub fn has_nodes(&self, number: usize) -> Walked<bool>
-        ensures nodes { (kept : Kept) (doc : Document) (wanted : Wanted) (query : Query) → Keeps kept doc self.now → part_at kept number ≡ plan.nodes wanted query →
+        ensures nodes { (kept : Constants) (doc : Document) (wanted : Wanted) (query : Query) → Keeps kept doc self.now → part_at kept number ≡ plan.nodes wanted query →
             IfOk result (λ b. IsTrue b → nodes_or_none (slot_at (slots_of self.now) number) ≡ give (start wanted) (nodelist query doc)) }
-        ensures refused { (kept : Kept) (doc : Document) (wanted : Wanted) (query : Query) (limit : Limit) → Keeps kept doc self.now → part_at kept number ≡ plan.nodes wanted query →
+        ensures refused { (kept : Constants) (doc : Document) (wanted : Wanted) (query : Query) (limit : Limit) → Keeps kept doc self.now → part_at kept number ≡ plan.nodes wanted query →
             IfErr result (IsHalt limit (segments_patterns query) doc) }
     {
         match self.get(number) {
@@ -81,20 +81,20 @@ impl<'a, 's, T: Queryable> Cache<'a, 's, T> {
         }
     }
 
-    /// Keeps what the entry of this number gave.
+    /// Keeps what the constant of this number gave.
     pub fn keep(&mut self, number: usize, given: Given<'a, 's, T>)
         requires { number < length (slots_of self.old) }
         ensures value { slot_at (slots_of self.new) number ≡ Some (gave given.entry) }
-        ensures right { (kept : Kept) (doc : Document) → IsGiven (gave given.entry) (part_at kept number) doc → Keeps kept doc self.old → Keeps kept doc self.new }
+        ensures right { (kept : Constants) (doc : Document) → IsGiven (gave given.entry) (part_at kept number) doc → Keeps kept doc self.old → Keeps kept doc self.new }
     {
         self.slots[number] = Some(given);
     }
 
-    /// Keeps that the entry of this number is refused, where that is why the walk halts. Nothing works it out again.
+    /// Keeps that the constant of this number is refused, where that is why the walk halts. Nothing works it out again.
     pub fn keep_halt(&mut self, number: usize, halt: Halt) -> Halt
         requires { number < length (slots_of self.old) }
         ensures same { result ≡ halt }
-        ensures right { (kept : Kept) (doc : Document) (limit : Limit) → IsHalt limit (part_patterns (part_at kept number)) doc halt → Keeps kept doc self.old → Keeps kept doc self.new }
+        ensures right { (kept : Constants) (doc : Document) (limit : Limit) → IsHalt limit (part_patterns (part_at kept number)) doc halt → Keeps kept doc self.old → Keeps kept doc self.new }
     {
         match halt {
             Halt::Pattern => {
@@ -122,11 +122,11 @@ fn empty_slots<'a, 's, T: Queryable>(
     Ok(slots)
 }
 
-/// What the nodes of a query gave to a sink: one of its own, or that of the entry of a number.
+/// What the nodes of a query gave to a sink: one of its own, or that of a constant.
 #[derive(Drop)]
 pub enum Gathered<'a, T: Queryable> {
     Own(Sink<'a, T>),
-    Kept(usize),
+    Constant(usize),
 }
 
 impl<'a, T: Queryable> Gathered<'a, T> {
@@ -137,7 +137,7 @@ impl<'a, T: Queryable> Gathered<'a, T> {
     {
         match self {
             Gathered::Own(sink) => Some(sink),
-            Gathered::Kept(number) => match cache.get(*number) {
+            Gathered::Constant(number) => match cache.get(*number) {
                 Some(Given::Nodes(sink)) => Some(sink),
                 _ => None,
             },

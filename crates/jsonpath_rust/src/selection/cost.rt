@@ -3,6 +3,7 @@ ghost use Rattle.std.specs.Prelude.{◌≡◌, ◌≤◌, ◌-◌, min, None, ma
 ghost use Rattle.jsonpath_base.specs.Tree.{as_list, as_text};
 ghost use Rattle.jsonpath_rust.specs.documents.inner.Operands.{arg_trees};
 ghost use Rattle.jsonpath_rust.specs.documents.inner.Whole.{tree_of};
+ghost use Rattle.jsonpath_rust.specs.selection.inner.Halting.{IsSpent};
 ghost use Rattle.jsonpath_rust.specs.selection.inner.Costs.{cost, elements_cost, pairs_cost, smaller_cost, valued, compared_cost};
 ghost use Rattle.jsonpath_rust.specs.declared.documents.halt.Halt.TheVariants.{Memory};
 ghost use Rattle.jsonpath_rust.specs.declared.selection.budget.Limit.TheVariants.{Limited};
@@ -12,7 +13,7 @@ use crate::documents::halt::Walked;
 use crate::documents::queryable::Queryable;
 use crate::documents::value::Operand;
 use crate::documents::whole::WholeRef;
-use crate::selection::budget::Limit;
+use crate::selection::budget::{Budget, Limit};
 use crate::selection::sink::Sink;
 use jsonpath_base::engine::{Asked, Finders, Origin, Way};
 use jsonpath_base::{Extent, StepRef};
@@ -37,21 +38,6 @@ impl Limit {
         match self {
             Limit::Unlimited => Ok(0),
             Limit::Limited => cost_of_length(alloc, operand),
-        }
-    }
-
-    /// What it costs to give a node to a sink: where that keeps a path or a location, a unit for each few bytes of names in it.
-    #[inline(always)]
-    pub fn path_cost<T: Queryable>(self, sink: &Sink<'_, T>, way: &Way<'_>) -> usize {
-        match self {
-            Limit::Unlimited => 0,
-            Limit::Limited => match sink {
-                Sink::Nodes(_) => name_bytes(way) / COPIED,
-                Sink::Paths(_) => name_bytes(way) / COPIED,
-                Sink::Locations(_) => name_bytes(way) / COPIED,
-                Sink::First(_) => name_bytes(way) / COPIED,
-                _ => 0,
-            },
         }
     }
 
@@ -132,6 +118,35 @@ fn cost_of_length<T: Queryable>(alloc: Global, operand: &Operand<'_, '_, T>) -> 
             None => Ok(value.member_count(alloc)?.unwrap_or(0)),
         },
         None => Ok(0),
+    }
+}
+
+impl Budget {
+    /// Spends what it costs to give a node to a sink.
+    #[inline(always)]
+    pub fn spend_path<T: Queryable>(
+        &mut self,
+        limit: Limit,
+        sink: &Sink<'_, T>,
+        way: &Way<'_>,
+    ) -> Walked<()>
+        ensures refused { IfErr result (IsSpent limit) }
+    {
+        match limit {
+            Limit::Unlimited => Ok(()),
+            Limit::Limited => self.spend(limit, path_cost(sink, way)),
+        }
+    }
+}
+
+/// What it costs to give a node to a sink: where that keeps a path or a location, a unit for each few bytes of names in it.
+fn path_cost<T: Queryable>(sink: &Sink<'_, T>, way: &Way<'_>) -> usize {
+    match sink {
+        Sink::Nodes(_) => name_bytes(way) / COPIED,
+        Sink::Paths(_) => name_bytes(way) / COPIED,
+        Sink::Locations(_) => name_bytes(way) / COPIED,
+        Sink::First(_) => name_bytes(way) / COPIED,
+        _ => 0,
     }
 }
 

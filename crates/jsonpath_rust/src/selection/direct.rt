@@ -8,7 +8,7 @@ ghost use Rattle.jsonpath_rust.specs.documents.Meaning.{answer, tested};
 ghost use Rattle.jsonpath_rust.specs.documents.Node.{Node};
 ghost use Rattle.jsonpath_rust.specs.documents.inner.Operands.{side_tree};
 ghost use Rattle.jsonpath_rust.specs.documents.inner.Whole.{tree_of};
-ghost use Rattle.jsonpath_rust.specs.selection.inner.PlanViews.{Kept, argument_view, call_view, nodes_view, segments_meant};
+ghost use Rattle.jsonpath_rust.specs.selection.inner.PlanViews.{Constants, argument_view, call_view, nodes_view, segments_meant};
 ghost use Rattle.jsonpath_rust.specs.selection.inner.Walking.{through};
 ghost use Rattle.jsonpath_rust.specs.declared.selection.sink.Wanted.{Wanted};
 ghost use Rattle.jsonpath_rust.specs.declared.selection.sink.Wanted.TheVariants.{Any, Count, Only};
@@ -28,7 +28,7 @@ pub fn direct_answer<'k, 's, T: Queryable>(
     call: &Call,
     at: WholeRef<'k, T>,
 ) -> Option<Side<'k, 's, T>>
-    ensures { (kept : Kept) (d : Document) (n : Node) → n.tree ≡ tree_of at.entry → IfSome result (λ s. side_tree s ≡ answer (call_view kept call.now) d n) }
+    ensures { (kept : Constants) (d : Document) (n : Node) → n.tree ≡ tree_of at.entry → IfSome result (λ s. side_tree s ≡ answer (call_view kept call.now) d n) }
 {
     match call {
         Call::Length(arg) => direct_length(nodes_of(arg)?, at),
@@ -41,7 +41,7 @@ pub fn direct_answer<'k, 's, T: Queryable>(
 /// The query that an argument is, if it is one.
 #[inline(always)]
 fn nodes_of(arg: &Argument) -> Option<&Nodes>
-    ensures { (kept : Kept) (w : Wanted) → IfSome result (λ ns. argument_view kept arg.now w ≡ test_argument (nodes_view kept ns.now w)) }
+    ensures { (kept : Constants) (w : Wanted) → IfSome result (λ ns. argument_view kept arg.now w ≡ test_argument (nodes_view kept ns.now w)) }
 {
     match arg {
         Argument::Nodes(nodes) => Some(nodes),
@@ -55,7 +55,7 @@ fn direct_length<'k, 's, T: Queryable>(
     nodes: &Nodes,
     at: WholeRef<'k, T>,
 ) -> Option<Side<'k, 's, T>>
-    ensures { (kept : Kept) (d : Document) (n : Node) → n.tree ≡ tree_of at.entry → IfSome result (λ s. side_tree s ≡ functions.length_of (as_value (tested (nodes_view kept nodes.now Only) d n))) }
+    ensures { (kept : Constants) (d : Document) (n : Node) → n.tree ≡ tree_of at.entry → IfSome result (λ s. side_tree s ≡ functions.length_of (as_value (tested (nodes_view kept nodes.now Only) d n))) }
 {
     match nodes {
         Nodes::Lookup(steps) => match value_at(steps, at) {
@@ -83,7 +83,7 @@ fn length_side<'k, 's, T: Queryable>(value: WholeRef<'_, T>) -> Option<Side<'k, 
 /// The value that is looked up (2.4.8).
 #[inline(always)]
 fn direct_value<'k, 's, T: Queryable>(nodes: &Nodes, at: WholeRef<'k, T>) -> Option<Side<'k, 's, T>>
-    ensures { (kept : Kept) (d : Document) (n : Node) → n.tree ≡ tree_of at.entry → IfSome result (λ s. side_tree s ≡ only_value (as_nodes (tested (nodes_view kept nodes.now Only) d n))) }
+    ensures { (kept : Constants) (d : Document) (n : Node) → n.tree ≡ tree_of at.entry → IfSome result (λ s. side_tree s ≡ only_value (as_nodes (tested (nodes_view kept nodes.now Only) d n))) }
 {
     match nodes {
         Nodes::Lookup(steps) => Some(Side::lent(value_at(steps, at))),
@@ -94,7 +94,7 @@ fn direct_value<'k, 's, T: Queryable>(nodes: &Nodes, at: WholeRef<'k, T>) -> Opt
 /// How many nodes are looked up (2.4.5).
 #[inline(always)]
 fn direct_count<'k, 's, T: Queryable>(nodes: &Nodes, at: WholeRef<'k, T>) -> Option<Side<'k, 's, T>>
-    ensures { (kept : Kept) (d : Document) (n : Node) → n.tree ≡ tree_of at.entry → IfSome result (λ s. side_tree s ≡ functions.count_of (as_nodes (tested (nodes_view kept nodes.now Count) d n))) }
+    ensures { (kept : Constants) (d : Document) (n : Node) → n.tree ≡ tree_of at.entry → IfSome result (λ s. side_tree s ≡ functions.count_of (as_nodes (tested (nodes_view kept nodes.now Count) d n))) }
 {
     match nodes {
         Nodes::Walk(segments) => match followed_count(segments, at) {
@@ -108,7 +108,7 @@ fn direct_count<'k, 's, T: Queryable>(nodes: &Nodes, at: WholeRef<'k, T>) -> Opt
 /// Whether there is a node (2.3.5.2.1); None where that takes a walk or memory, and where it is kept of the root.
 #[inline(always)]
 pub fn is_there<T: Queryable>(nodes: &Nodes, at: WholeRef<'_, T>) -> Option<bool>
-    ensures { (kept : Kept) (d : Document) (n : Node) → n.tree ≡ tree_of at.entry → IfSome result (λ b. b ≡ as_truth (tested (nodes_view kept nodes.now Any) d n)) }
+    ensures { (kept : Constants) (d : Document) (n : Node) → n.tree ≡ tree_of at.entry → IfSome result (λ b. b ≡ as_truth (tested (nodes_view kept nodes.now Any) d n)) }
 {
     match nodes {
         Nodes::Lookup(steps) => Some(value_at(steps, at).is_some()),
@@ -116,13 +116,13 @@ pub fn is_there<T: Queryable>(nodes: &Nodes, at: WholeRef<'_, T>) -> Option<bool
             Some(count) => Some(count > 0),
             None => None,
         },
-        Nodes::Kept(_number) => None,
+        Nodes::Constant(_number) => None,
     }
 }
 
 /// How many nodes the segments lead to, where that takes neither a walk nor memory.
 pub fn followed_count<T: Queryable>(segments: &[Segment], at: WholeRef<'_, T>) -> Option<usize>
-    ensures { (kept : Kept) (d : Document) (n : Node) → n.tree ≡ tree_of at.entry → IfSome result (λ k. k ≡ length (through (segments_meant kept segments.now) d n)) }
+    ensures { (kept : Constants) (d : Document) (n : Node) → n.tree ≡ tree_of at.entry → IfSome result (λ k. k ≡ length (through (segments_meant kept segments.now) d n)) }
 {
     match follow(segments, at) {
         Followed::To(_value) => Some(1),

@@ -1,4 +1,4 @@
-//! Entries that are worked out before the walk, so that never more than a few are on their way at once.
+//! Constants that are worked out before the walk, so that never more than a few queries are on their way at once.
 ghost use Rattle.std.specs.Prelude.{◌≡◌, [], IfErr, OnOk};
 ghost use Rattle.jsonpath_rust.specs.selection.inner.Halting.{IsHalt};
 ghost use Rattle.jsonpath_rust.specs.selection.inner.Keeping.{IsReady, document};
@@ -7,7 +7,7 @@ use crate::documents::depth::is_deeper;
 use crate::documents::halt::{Halt, Walked};
 use crate::documents::queryable::Queryable;
 use crate::selection::budget::{Budget, Limit};
-use crate::selection::plan::{MOST_AT_ONCE, Rooted};
+use crate::selection::plan::{Constant, MOST_AT_ONCE};
 use crate::selection::sink::Wanted;
 use crate::selection::trail::Trail;
 use crate::selection::walk::Task;
@@ -21,7 +21,7 @@ const MOST_LEVELS: usize = 405;
 const LEVELS_BESIDE: usize = 8;
 
 impl<'a: 's, 's, T: Queryable> Task<'a, 's, T> {
-    /// Where that would stand too deep, works out the entries whose turn is early, inner ones first. It comes back to the root.
+    /// Where that would stand too deep, works out the queries from the root that are early, inner ones first. It comes back to the root.
     pub fn work_out_early(&self, trail: &mut Trail<'a, 's, '_, T>) -> Walked<()>
         requires { IsReady self.now trail.old.cache }
         ensures ready { OnOk result (IsReady self.now trail.new.cache) }
@@ -32,7 +32,7 @@ impl<'a: 's, 's, T: Queryable> Task<'a, 's, T> {
             trail.way = Way::new(self.alloc);
             return Ok(());
         }
-        for number in 0..self.plan.kept.len() {
+        for number in 0..self.plan.constants.len() {
             if let Some(wanted) = self.early_want(number) {
                 self.work_out(number, wanted, trail)?;
             }
@@ -61,16 +61,19 @@ impl<'a: 's, 's, T: Queryable> Task<'a, 's, T> {
         Ok(deep)
     }
 
-    /// What is wanted of the entry of this number, if it is worked out early.
+    /// What is wanted of the query of this number, if it is early.
     fn early_want(&self, number: usize) -> Option<Wanted> {
-        let entry = self.plan.kept.get(number)?;
-        match &entry.part {
-            Rooted::Nodes(_segments, wanted) if entry.nesting.is_early() => Some(*wanted),
+        match self.plan.constants.get(number)? {
+            Constant::Nodes {
+                wanted,
+                nesting,
+                ..
+            } if nesting.is_early() => Some(*wanted),
             _ => None,
         }
     }
 
-    /// Works out an entry. Where a pattern in it is too large that is kept, for the walk may never ask it.
+    /// Works out a query from the root. Where a pattern in it is too large that is kept, for the walk may never ask it.
     fn work_out(
         &self,
         number: usize,
@@ -81,7 +84,7 @@ impl<'a: 's, 's, T: Queryable> Task<'a, 's, T> {
         ensures ready { IsReady self.now trail.new.cache }
         ensures halts { IfErr result (IsHalt self.now.limit [] (document self.now)) }
     {
-        match self.kept_nodes(number, wanted, trail) {
+        match self.constant_nodes(number, wanted, trail) {
             Ok(_gathered) => Ok(()),
             Err(Halt::Pattern) => Ok(()),
             Err(Halt::Memory) => Err(Halt::Memory),

@@ -47,7 +47,7 @@ impl<'a: 's, 's, T: Queryable> Task<'a, 's, T> {
             Filter::Comparison(operator, left, right) => {
                 self.comparison_holds(*operator, (left, right), at, trail)
             }
-            Filter::Kept(number) => self.kept_comparison(*number, trail),
+            Filter::Constant(number) => self.constant_comparison(*number, trail),
         }
     }
 
@@ -156,7 +156,7 @@ impl<'a: 's, 's, T: Queryable> Task<'a, 's, T> {
         match side {
             Side::Literal(literal) => Ok(Operand::Plain(scalar_of(literal))),
             Side::Lookup(steps) => Ok(Operand::lent(value_at(steps, at))),
-            Side::Kept(number) => Ok(self.kept_value(*number, &mut trail.cache)?),
+            Side::Constant(number) => Ok(self.constant_value(*number, &mut trail.cache)?),
             Side::Call(call) => self.called(call, at, trail),
         }
     }

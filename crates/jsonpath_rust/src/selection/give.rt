@@ -150,7 +150,7 @@ fn give_along<'a: 's, 's, T: Queryable>(
         root,
         limit: trail.budget.limit,
     };
-    let cache = Cache::new(alloc, plan.kept.len())?;
+    let cache = Cache::new(alloc, plan.constants.len())?;
     trail.cache = cache;
     task.work_out_early(trail)?;
     task.walk(&plan.segments, root, trail, sink)

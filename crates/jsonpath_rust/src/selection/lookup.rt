@@ -5,7 +5,7 @@ ghost use Rattle.jsonpath_parser.specs.tree.Syntax.{one};
 ghost use Rattle.jsonpath_rust.specs.declared.documents.halt.Halt.TheVariants.{Memory};
 ghost use Rattle.jsonpath_rust.specs.documents.Node.{children, root_node};
 ghost use Rattle.jsonpath_rust.specs.documents.inner.Whole.{tree_of};
-ghost use Rattle.jsonpath_rust.specs.selection.inner.PlanViews.{Kept, segment_view, segments_meant, selector_view};
+ghost use Rattle.jsonpath_rust.specs.selection.inner.PlanViews.{Constants, segment_view, segments_meant, selector_view};
 ghost use Rattle.jsonpath_rust.specs.selection.inner.Lookup.{Leads, LeadsOn, GivesThrough, GivesSoMany};
 
 use crate::documents::halt::Walked;
@@ -40,7 +40,7 @@ pub fn short_cut_within<'a, T: Queryable>(
     at: WholeRef<'a, T>,
     limit: Limit,
 ) -> Walked<Option<Sink<'a, T>>>
-    ensures given { (kept : Kept) → IfOk result (λ o. IfSome o (GivesThrough wanted (segments_meant kept segments.now) (tree_of at.entry))) }
+    ensures given { (kept : Constants) → IfOk result (λ o. IfSome o (GivesThrough wanted (segments_meant kept segments.now) (tree_of at.entry))) }
     ensures memory { IfErr result (λ h. h ≡ Memory) }
 {
     match limit {
@@ -60,7 +60,7 @@ fn short_cut<'a, T: Queryable>(
     wanted: Wanted,
     at: WholeRef<'a, T>,
 ) -> Walked<Option<Sink<'a, T>>>
-    ensures given { (kept : Kept) → IfOk result (λ o. IfSome o (GivesThrough wanted (segments_meant kept segments.now) (tree_of at.entry))) }
+    ensures given { (kept : Constants) → IfOk result (λ o. IfSome o (GivesThrough wanted (segments_meant kept segments.now) (tree_of at.entry))) }
     ensures memory { IfErr result (λ h. h ≡ Memory) }
 {
     match follow(segments, at) {
@@ -107,7 +107,7 @@ fn child_count<T: Queryable>(alloc: Global, parent: WholeRef<'_, T>) -> Walked<u
 
 /// Where the segments lead.
 pub fn follow<'a, T: Queryable>(segments: &[Segment], at: WholeRef<'a, T>) -> Followed<'a, T>
-    ensures { (kept : Kept) → Leads (segments_meant kept segments.now) (tree_of at.entry) result }
+    ensures { (kept : Constants) → Leads (segments_meant kept segments.now) (tree_of at.entry) result }
 {
     match segments.split_first() {
         None => Followed::To(at),
@@ -126,7 +126,7 @@ pub fn follow<'a, T: Queryable>(segments: &[Segment], at: WholeRef<'a, T>) -> Fo
 /// Where one segment leads.
 #[inline(always)]
 fn stepped<'a, T: Queryable>(segment: &Segment, at: WholeRef<'a, T>) -> Followed<'a, T>
-    ensures { (kept : Kept) → LeadsOn (segment_view kept segment.now) (tree_of at.entry) result }
+    ensures { (kept : Constants) → LeadsOn (segment_view kept segment.now) (tree_of at.entry) result }
 {
     match segment {
         Segment::Selector(selector) => picked(selector, at),
@@ -137,7 +137,7 @@ fn stepped<'a, T: Queryable>(segment: &Segment, at: WholeRef<'a, T>) -> Followed
 /// Where one selector leads.
 #[inline(always)]
 fn picked<'a, T: Queryable>(selector: &Selector, at: WholeRef<'a, T>) -> Followed<'a, T>
-    ensures { (kept : Kept) → LeadsOn (one (selector_view kept selector.now)) (tree_of at.entry) result }
+    ensures { (kept : Constants) → LeadsOn (one (selector_view kept selector.now)) (tree_of at.entry) result }
 {
     match selector {
         Selector::Name(name) => match at.member(name) {

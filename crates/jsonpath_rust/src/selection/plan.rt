@@ -3,14 +3,14 @@
 ghost use Rattle.jsonpath_rust.specs.selection.inner.PlanViews.{IsSettled, IsSettled-prop, IsRooted, IsRooted-prop};
 
 mod absolute;
-mod entries;
-mod keeping;
+mod constants;
 mod make;
+mod numbering;
 mod patterns;
 mod steps;
 
-pub use self::keeping::{MOST_AT_ONCE, Nesting};
 pub use self::make::plan_of;
+pub use self::numbering::{MOST_AT_ONCE, Nesting};
 use crate::selection::sink::Wanted;
 use jsonpath_parser::model::{Literal, Operator, SingularQuerySegment};
 
@@ -23,28 +23,25 @@ pub fn release(plan: Plan) {
 #[derive(Drop)]
 pub struct Plan {
     pub segments: Vec<Segment>,
-    /// What is kept, by number. An entry that stands in the filters of another has the smaller number.
-    pub kept: Vec<Entry>,
+    /// The constants of the query, by number. One that stands in the filters of another has the smaller number.
+    pub constants: Vec<Constant>,
     /// How many queries from the root stand in one another.
     pub nesting: usize,
     /// How many patterns have a number. Each is smaller than this.
     pub pattern_count: usize,
-    ghost settled: { IsSettled kept.items } by { IsSettled-prop kept.items },
-    ghost rooted: { IsRooted kept.items } by { IsRooted-prop kept.items },
+    ghost settled: { IsSettled constants.items } by { IsSettled-prop constants.items },
+    ghost rooted: { IsRooted constants.items } by { IsRooted-prop constants.items },
 }
 
-/// What is worked out once in a call, and then kept.
-#[derive(Drop)]
-pub struct Entry {
-    pub part: Rooted,
-    pub nesting: Nesting,
-}
-
-/// A part of the query without `@`.
+/// A part of the query without `@`, which is worked out once in a call.
 #[derive(Drop, PartialEq)]
-pub enum Rooted {
+pub enum Constant {
     /// What is wanted of the nodes of a query from the root.
-    Nodes(Vec<Segment>, Wanted),
+    Nodes {
+        segments: Vec<Segment>,
+        wanted: Wanted,
+        nesting: Nesting,
+    },
     /// The value of the one node, if there is one, by these steps from the root.
     Value(Vec<SingularQuerySegment>),
     /// What a call returns.
@@ -97,8 +94,8 @@ pub enum Filter {
     Call { call: Called, not: bool },
     /// The sides compare so.
     Comparison(Operator, Side, Side),
-    /// The comparison that is kept under this number holds.
-    Kept(usize),
+    /// The comparison that is the constant of this number holds.
+    Constant(usize),
 }
 
 /// The nodes of a query inside a filter, by how they are found. The place where they stand tells what is wanted of them.
@@ -109,8 +106,8 @@ pub enum Nodes {
     Lookup(Vec<SingularQuerySegment>),
     /// By a walk of these segments from the current node.
     Walk(Vec<Segment>),
-    /// By the kept entry of this number.
-    Kept(usize),
+    /// Those of the constant of this number.
+    Constant(usize),
 }
 
 /// A side of a comparison (2.3.5.1).
@@ -121,8 +118,8 @@ pub enum Side {
     Literal(Literal),
     /// The value of the one node, if there is one, by these steps from the current node.
     Lookup(Vec<SingularQuerySegment>),
-    /// The value of the one node, if there is one, by the kept entry of this number.
-    Kept(usize),
+    /// The constant of this number: the value of the one node, if there is one.
+    Constant(usize),
     /// What a call returns.
     Call(Called),
 }
@@ -133,8 +130,8 @@ pub enum Side {
 pub enum Called {
     /// A call that is made at each node.
     Here(Box<Call>),
-    /// The kept entry of this number.
-    Kept(usize),
+    /// The constant of this number.
+    Constant(usize),
 }
 
 /// A call of a function (2.4).

@@ -46,9 +46,9 @@ use std::mem;
 /// - where three queries from the root stand in one another, one for each value of the document that is looked at to see how
 ///   deep it is.
 ///
-/// Names and indexes cost nothing by themselves. The time of a unit grows with the length of the query alone. What is spent at
-/// once is counted first, as far as what is left; so a call that returns None may have listed the members of one object, and
-/// counted as many values more as it had units.
+/// Names and indexes cost nothing by themselves, so a unit takes longer where the query is longer. How long it takes is
+/// measured, and no clause says it. What is spent at once is counted first, as far as what is left; so a call that returns
+/// None may have listed the members of one object, and looked at a few times as many values more as it had units.
 #[derive(Drop)]
 pub struct Runner<'p> {
     prepared: &'p Prepared,

@@ -60,7 +60,7 @@ impl<'a: 's, 's, T: Queryable> Task<'a, 's, T> {
         match side {
             plan::Side::Literal(literal) => Some(Side::Plain(scalar_of(literal))),
             plan::Side::Lookup(steps) => Some(Side::lent(value_at(steps, at))),
-            plan::Side::Kept(number) => match self.plan.kept_steps(*number) {
+            plan::Side::Constant(number) => match self.plan.constant_steps(*number) {
                 Some(_steps) => self.lent_value(*number, cache),
                 None => None,
             },
@@ -68,7 +68,7 @@ impl<'a: 's, 's, T: Queryable> Task<'a, 's, T> {
         }
     }
 
-    /// What a call returns; None where that takes a walk or memory, and where it is an entry that is not worked out yet.
+    /// What a call returns; None where that takes a walk or memory, and where it is a constant that is not worked out yet.
     #[inline(always)]
     fn lent_answer<'k>(
         &self,
@@ -81,14 +81,14 @@ impl<'a: 's, 's, T: Queryable> Task<'a, 's, T> {
     {
         match call {
             Called::Here(call) => direct_answer(call, at),
-            Called::Kept(number) => match self.plan.kept_call(*number) {
+            Called::Constant(number) => match self.plan.constant_call(*number) {
                 Some(_call) => self.lent_value(*number, cache),
                 None => None,
             },
         }
     }
 
-    /// The value that is kept under this number; None where it is not worked out yet.
+    /// The value of the constant of this number; None where it is not worked out yet.
     #[inline(always)]
     pub fn lent_value<'k>(
         &self,

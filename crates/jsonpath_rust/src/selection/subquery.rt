@@ -43,7 +43,7 @@ impl<'a: 's, 's, T: Queryable> Task<'a, 's, T> {
             Nodes::Walk(segments) => {
                 Ok(Gathered::Own(self.gather(segments, wanted, at, trail)?))
             }
-            Nodes::Kept(number) => self.kept_nodes(*number, wanted, trail),
+            Nodes::Constant(number) => self.constant_nodes(*number, wanted, trail),
         }
     }
 
@@ -68,10 +68,10 @@ impl<'a: 's, 's, T: Queryable> Task<'a, 's, T> {
         Ok(sink)
     }
 
-    /// What the nodes of the query from the root that is kept under this number give of what is wanted. They are found when
+    /// What the nodes of the query from the root that has this number give of what is wanted. They are found when
     /// that is first asked, and kept; so is that a pattern in it is too large.
     #[cycle(walk)]
-    pub fn kept_nodes(
+    pub fn constant_nodes(
         &self,
         number: usize,
         wanted: Wanted,
@@ -81,11 +81,11 @@ impl<'a: 's, 's, T: Queryable> Task<'a, 's, T> {
         ensures given { IfOk result (λ g. gathered trail.new.cache g ≡ give (start wanted) (nodelist (query_at (kept_of self.now) wanted number) (document self.now))) }
         ensures comes { Comes self.now trail.old trail.new (segments_patterns (query_at (kept_of self.now) wanted number)) result }
     {
-        let Some(segments) = self.plan.kept_segments(number, wanted) else {
+        let Some(segments) = self.plan.constant_segments(number, wanted) else {
             return Ok(Gathered::Own(Sink::of_one(self.alloc, wanted, self.root)?));
         };
         if trail.cache.has_nodes(number)? {
-            return Ok(Gathered::Kept(number));
+            return Ok(Gathered::Constant(number));
         }
         let root = Way::new(self.alloc);
         let here = mem::replace(&mut trail.way, root);
@@ -93,7 +93,7 @@ impl<'a: 's, 's, T: Queryable> Task<'a, 's, T> {
             Ok(nodes) => {
                 trail.way = here;
                 trail.cache.keep(number, Given::Nodes(nodes));
-                Ok(Gathered::Kept(number))
+                Ok(Gathered::Constant(number))
             }
             Err(halt) => Err(trail.cache.keep_halt(number, halt)),
         }

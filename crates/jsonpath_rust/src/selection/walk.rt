@@ -57,8 +57,7 @@ impl<'a: 's, 's, T: Queryable> Task<'a, 's, T> {
     {
         match segments.split_first() {
             None => {
-                let cost = self.limit.path_cost(sink, &trail.way);
-                trail.budget.spend(self.limit, cost)?;
+                trail.budget.spend_path(self.limit, sink, &trail.way)?;
                 sink.take(self.alloc, at, &mut trail.way)
             }
             Some((next, rest)) => self.pass(Onward { next, rest }, at, trail, sink),

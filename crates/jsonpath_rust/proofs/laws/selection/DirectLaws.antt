@@ -9,7 +9,7 @@ use Rattle.jsonpath_rust.specs.documents.Functions.{as_nodes, as_truth, as_value
 use Rattle.jsonpath_rust.specs.documents.Meaning.{tested, value_at}
 use Rattle.jsonpath_rust.specs.documents.Node.{Node, has_node}
 use Rattle.jsonpath_rust.specs.selection.inner.Lookup.{trees_of}
-use Rattle.jsonpath_rust.specs.selection.inner.PlanViews.{Kept, nodes_view, segments_meant, steps_query}
+use Rattle.jsonpath_rust.specs.selection.inner.PlanViews.{Constants, nodes_view, segments_meant, steps_query}
 use Rattle.jsonpath_rust.specs.selection.inner.Walking.{through}
 use Rattle.jsonpath_rust.specs.declared.selection.plan.Nodes
 use Rattle.jsonpath_rust.specs.declared.selection.plan.Nodes.{Nodes}
@@ -34,10 +34,10 @@ only_of (n ∷ m ∷ ns) (Some t) e = absurd cc
 looked_up : (ss : List SingularStep) (d : Document) (n : Node) (t : Tree) → n.tree ≡ t → as_value (tested (relative (steps_query ss)) d n) ≡ value_at ss t
 looked_up ss d n t e = ap only_value (sym (through-applied (steps_query ss) d n)) ∙ only_of (through (steps_query ss) d n) (value_at ss n.tree) (steps_there ss d n) ∙ ap (value_at ss) e
 
-pub lookup_value : (kept : Kept) (ns : Nodes) (steps : Vec SingularQuerySegment Global) (w : Wanted) (d : Document) (n : Node) (t : Tree) → ns ≡ Nodes.Lookup steps → n.tree ≡ t → as_value (tested (nodes_view kept ns w) d n) ≡ value_at (map step_view steps.items) t
+pub lookup_value : (kept : Constants) (ns : Nodes) (steps : Vec SingularQuerySegment Global) (w : Wanted) (d : Document) (n : Node) (t : Tree) → ns ≡ Nodes.Lookup steps → n.tree ≡ t → as_value (tested (nodes_view kept ns w) d n) ≡ value_at (map step_view steps.items) t
 lookup_value kept ns steps w d n t i e = ap (λ x. as_value (tested (nodes_view kept x w) d n)) i ∙ ap (λ q. as_value (tested q d n)) (nodes_view-Lookup kept steps w) ∙ looked_up (map step_view steps.items) d n t e
 
-pub lookup_only : (kept : Kept) (ns : Nodes) (steps : Vec SingularQuerySegment Global) (w : Wanted) (d : Document) (n : Node) (t : Tree) → ns ≡ Nodes.Lookup steps → n.tree ≡ t → only_value (as_nodes (tested (nodes_view kept ns w) d n)) ≡ value_at (map step_view steps.items) t
+pub lookup_only : (kept : Constants) (ns : Nodes) (steps : Vec SingularQuerySegment Global) (w : Wanted) (d : Document) (n : Node) (t : Tree) → ns ≡ Nodes.Lookup steps → n.tree ≡ t → only_value (as_nodes (tested (nodes_view kept ns w) d n)) ≡ value_at (map step_view steps.items) t
 lookup_only kept ns steps w d n t i e = ap (λ x. only_value (as_nodes (tested (nodes_view kept x w) d n))) i ∙ ap (λ q. only_value (as_nodes (tested q d n))) (nodes_view-Lookup kept steps w) ∙ looked_up (map step_view steps.items) d n t e
 
 -- ---- how many there are
@@ -47,7 +47,7 @@ one_there [] t e = absurd cc
 one_there (n ∷ []) t e = refl
 one_there (n ∷ m ∷ ns) t e = absurd cc
 
-pub walk_count : (kept : Kept) (ns : Nodes) (gs : Vec Segment Global) (w : Wanted) (d : Document) (n : Node) (k : ℕ) → ns ≡ Nodes.Walk gs → k ≡ length (through (segments_meant kept gs.items) d n) → Some (count_value k) ≡ count_of (as_nodes (tested (nodes_view kept ns w) d n))
+pub walk_count : (kept : Constants) (ns : Nodes) (gs : Vec Segment Global) (w : Wanted) (d : Document) (n : Node) (k : ℕ) → ns ≡ Nodes.Walk gs → k ≡ length (through (segments_meant kept gs.items) d n) → Some (count_value k) ≡ count_of (as_nodes (tested (nodes_view kept ns w) d n))
 walk_count kept ns gs w d n k i h =
     ap (λ j. Some (count_value j)) (h ∙ ap (λ xs. length xs) (through-applied (segments_meant kept gs.items) d n)) ∙ sym (ap (λ q. count_of (as_nodes (tested q d n))) (ap (λ x. nodes_view kept x w) i ∙ nodes_view-Walk kept gs w))
 
@@ -57,5 +57,5 @@ some_of : (k : ℕ) (ns : List Node) → k ≡ length ns → nat_lt 0 k ≡ has_
 some_of k [] e = ap (λ j. nat_lt 0 j) e
 some_of k (n ∷ ns) e = grind (arith, e)
 
-pub walk_there : (kept : Kept) (ns : Nodes) (gs : Vec Segment Global) (w : Wanted) (d : Document) (n : Node) (k : ℕ) → ns ≡ Nodes.Walk gs → k ≡ length (through (segments_meant kept gs.items) d n) → nat_lt 0 k ≡ as_truth (tested (nodes_view kept ns w) d n)
+pub walk_there : (kept : Constants) (ns : Nodes) (gs : Vec Segment Global) (w : Wanted) (d : Document) (n : Node) (k : ℕ) → ns ≡ Nodes.Walk gs → k ≡ length (through (segments_meant kept gs.items) d n) → nat_lt 0 k ≡ as_truth (tested (nodes_view kept ns w) d n)
 walk_there kept ns gs w d n k i h = some_of k (through (segments_meant kept gs.items) d n) h ∙ ap has_node (through-applied (segments_meant kept gs.items) d n) ∙ sym (ap (λ q. as_truth (tested q d n)) (ap (λ x. nodes_view kept x w) i ∙ nodes_view-Walk kept gs w))

@@ -10,7 +10,7 @@ use Rattle.jsonpath_rust.specs.documents.Document.{Document}
 use Rattle.jsonpath_rust.specs.documents.Meaning.{nodelist}
 use Rattle.jsonpath_rust.specs.documents.Patterns.{AsksPattern, segments_patterns}
 use Rattle.jsonpath_rust.specs.selection.inner.Halting.{IsHalt}
-use Rattle.jsonpath_rust.specs.selection.inner.PlanViews.{Kept, KeptPart, nodes, value, answered, compared, query_in, part_at, query_at}
+use Rattle.jsonpath_rust.specs.selection.inner.PlanViews.{Constants, ConstantPart, nodes, value, answered, compared, query_in, part_at, query_at}
 use Rattle.jsonpath_rust.specs.selection.inner.Sinks.{Seen, start, give}
 use Rattle.jsonpath_rust.specs.selection.inner.Keeping.{Keeps, AreEmpty, Gave, IsGiven, gave, given_by, nodes_or_none, part_patterns, slots_of, slot_at, value_by}
 use Rattle.jsonpath_rust.specs.selection.inner.Keeping as keeping
@@ -33,7 +33,7 @@ none_at (x ∷ xs) zero s h e =
     absurd cc
 none_at (x ∷ xs) (suc n) s h e = none_at xs n s (All-tail (λ o. o ≡ None) x xs h) e
 
-pub keeps_none : {A : Type 0} {R : Ghosts A} {D : debug.Ghosts A} (kept : Kept) (doc : Document) (m : Cache A R D) → length (slots_of m) ≡ length kept → AreEmpty (slots_of m) → Keeps kept doc m
+pub keeps_none : {A : Type 0} {R : Ghosts A} {D : debug.Ghosts A} (kept : Constants) (doc : Document) (m : Cache A R D) → length (slots_of m) ≡ length kept → AreEmpty (slots_of m) → Keeps kept doc m
 keeps_none kept doc m e h = record { room = e; right = λ n s i. absurd (none_at (slots_of m) n s h i) }
 
 -- one more is kept
@@ -51,7 +51,7 @@ set_or (y ∷ ys) (suc n) (suc k) x = behind (set_or ys n k x)
     behind (inl h) = inl (h.0, ap suc h.1)
     behind (inr h) = inr h
 
-pub keeps_set : {A : Type 0} {R : Ghosts A} {D : debug.Ghosts A} (kept : Kept) (doc : Document) (old new : Cache A R D) (n : ℕ) (x : Given A R D) → slots_of new ≡ set (slots_of old) n (Some x) → IsGiven (gave x) (part_at kept n) doc → Keeps kept doc old → Keeps kept doc new
+pub keeps_set : {A : Type 0} {R : Ghosts A} {D : debug.Ghosts A} (kept : Constants) (doc : Document) (old new : Cache A R D) (n : ℕ) (x : Given A R D) → slots_of new ≡ set (slots_of old) n (Some x) → IsGiven (gave x) (part_at kept n) doc → Keeps kept doc old → Keeps kept doc new
 keeps_set kept doc old new n x e g h = record {
   room = ap (λ xs. length xs) e ∙ length-set (slots_of old) n (Some x) ∙ h.room;
   right = λ k s i. by_place k s (sym (ap (λ xs. get_or xs k None) (ap (map (option_map (gave))) e ∙ map-set (option_map (gave)) (slots_of old) n (Some x))) ∙ i) (set_or (map (option_map (gave)) (slots_of old)) n k (Some (gave x)));
@@ -64,29 +64,29 @@ keeps_set kept doc old new n x e g h = record {
         subst (λ y. IsGiven y (part_at kept k) doc) (sym is) (subst (λ j. IsGiven (gave x) (part_at kept j) doc) (sym m.1) g)
     by_place k s i (inr m) = h.right k s (sym m ∙ i)
 
--- the query of an entry, for what is wanted of it
-pub kept_query : (kept : Kept) (n : ℕ) (w : Wanted) (q : Query) → part_at kept n ≡ nodes w q → query_at kept w n ≡ q
+-- the query of a constant, for what is wanted of it
+pub kept_query : (kept : Constants) (n : ℕ) (w : Wanted) (q : Query) → part_at kept n ≡ nodes w q → query_at kept w n ≡ q
 kept_query kept n w q e = ap (query_in w) e ∙ query_in-nodes w q
 
 -- ---- values that are kept
 
 -- what a part gives is this value
-pub gives_value : (p q : KeptPart) (d : Document) (t u : Option Tree) → p ≡ q → given_by q d ≡ keeping.value u → t ≡ u → keeping.value t ≡ given_by p d
+pub gives_value : (p q : ConstantPart) (d : Document) (t u : Option Tree) → p ≡ q → given_by q d ≡ keeping.value u → t ≡ u → keeping.value t ≡ given_by p d
 gives_value p q d t u e g h = ap keeping.value h ∙ sym g ∙ sym (ap (λ x. given_by x d) e)
 
 -- the value that is kept is that of the part
-pub value_given : (p : KeptPart) (d : Document) (t : Option Tree) → keeping.value t ≡ given_by p d → t ≡ value_by p d
+pub value_given : (p : ConstantPart) (d : Document) (t : Option Tree) → keeping.value t ≡ given_by p d → t ≡ value_by p d
 value_given (nodes w q) d t e = absurd cc
 value_given (value ss) d t e = cc
 value_given (answered c) d t e = cc
 value_given (compared c) d t e = cc
 
 -- nodes that are kept are those of the part
-pub nodes_given : (p : KeptPart) (d : Document) (w : Wanted) (q : Query) (s : Seen) (slot : Option Gave) → p ≡ nodes w q → slot ≡ Some (keeping.nodes s) → IsGiven (keeping.nodes s) p d → nodes_or_none slot ≡ give (start w) (nodelist q d)
+pub nodes_given : (p : ConstantPart) (d : Document) (w : Wanted) (q : Query) (s : Seen) (slot : Option Gave) → p ≡ nodes w q → slot ≡ Some (keeping.nodes s) → IsGiven (keeping.nodes s) p d → nodes_or_none slot ≡ give (start w) (nodelist q d)
 nodes_given p d w q s slot part there g = ap nodes_or_none there ∙ ap (λ x. nodes_or_none (Some x)) (g ∙ ap (λ x. given_by x d) part)
 
 -- where they are refused, the query asks a pattern
-pub refused_asks : (p : KeptPart) (d : Document) (w : Wanted) (q : Query) (limit : Limit) (h : Halt) → p ≡ nodes w q → IsGiven keeping.refused p d → IsHalt limit (segments_patterns q) d h
+pub refused_asks : (p : ConstantPart) (d : Document) (w : Wanted) (q : Query) (limit : Limit) (h : Halt) → p ≡ nodes w q → IsGiven keeping.refused p d → IsHalt limit (segments_patterns q) d h
 refused_asks p d w q limit h part g = λ memory spent. subst (λ x. AsksPattern (part_patterns x) d) part g
 
 -- what is found

@@ -8,51 +8,50 @@ use Rattle.std.proofs.lemmas.List.Folds.{list_all-append}
 use Rattle.std.specs.List.{list_all}
 use Rattle.jsonpath_parser.specs.tree.Syntax as tree
 use Rattle.jsonpath_parser.specs.tree.View.{segments_of}
-use Rattle.jsonpath_rust.specs.selection.inner.PlanViews.{Kept, KeptPart, nodes, value, kept_view, kept_from, rooted_view, segments_meant, segment_view, is_same_wanted, query_in, part_at, part_is_rooted, IsSettled, IsRooted, AreRooted}
+use Rattle.jsonpath_rust.specs.selection.inner.PlanViews.{Constants, ConstantPart, nodes, value, kept_view, kept_from, constant_view, segments_meant, segment_view, is_same_wanted, query_in, part_at, part_is_rooted, IsSettled, IsRooted, AreRooted}
 use Rattle.jsonpath_rust.specs.selection.inner.PlanMaking.{Extends, IsRight, Made, IsBeside, IsKept, IsNumbered, IsNumberOf, kept_in, parts_where}
-use Rattle.jsonpath_rust.specs.declared.selection.plan.Entry.{Entry}
-use Rattle.jsonpath_rust.specs.declared.selection.plan.Rooted.{Rooted}
+use Rattle.jsonpath_rust.specs.declared.selection.plan.Constant.{Constant}
 use Rattle.jsonpath_rust.specs.declared.selection.plan.Segment.{Segment}
 use Rattle.jsonpath_rust.specs.declared.selection.plan.make.Maker.{Maker}
 use Rattle.jsonpath_rust.specs.declared.selection.sink.Wanted.{Wanted}
 use Rattle.jsonpath_rust.specs.declared.selection.sink.Wanted.TheVariants.{Any, Count, Only, Values}
 
-extends_none : (a : Kept) → Extends a a
+extends_none : (a : Constants) → Extends a a
 extends_none a = record { more = []; is = sym (append-nil a) }
 
-extends_on : (a b c : Kept) → Extends a b → Extends b c → Extends a c
+extends_on : (a b c : Constants) → Extends a b → Extends b c → Extends a c
 extends_on a b c h k = record { more = h.more ++ k.more; is = k.is ∙ ap (λ x. x ++ k.more) h.is ∙ append_assoc a h.more k.more }
 
 -- nothing more is kept
-pub made_none : {A : Type 0} (m : Maker) (part : Kept → A) (a : A) → ((kept : Kept) → part kept ≡ a) → Made m m part a
+pub made_none : {A : Type 0} (m : Maker) (part : Constants → A) (a : A) → ((kept : Constants) → part kept ≡ a) → Made m m part a
 made_none m part a s = record { grows = extends_none (kept_in m); says = λ r kept h. s kept; right = λ r. r }
 
 -- nothing is kept between the two
 right_beside : (old new : Maker) → IsBeside old new → IsRight old → IsRight new
 right_beside old new b r =
-    let e : kept_in new ≡ kept_in old = ap kept_view b.entries in
+    let e : kept_in new ≡ kept_in old = ap kept_view b.constants in
     record {
-      settled = λ kept x. ap (parts_where kept) b.entries ∙ r.settled kept (subst (λ k. Extends k kept) e x) ∙ sym e;
+      settled = λ kept x. ap (parts_where kept) b.constants ∙ r.settled kept (subst (λ k. Extends k kept) e x) ∙ sym e;
       rooted = ap (list_all part_is_rooted) e ∙ r.rooted;
     }
 
-pub made_beside : {A : Type 0} (old new : Maker) (part : Kept → A) (a : A) → IsBeside old new → ((kept : Kept) → part kept ≡ a) → Made old new part a
+pub made_beside : {A : Type 0} (old new : Maker) (part : Constants → A) (a : A) → IsBeside old new → ((kept : Constants) → part kept ≡ a) → Made old new part a
 made_beside old new part a b s = record {
-  grows = subst (Extends (kept_in old)) (sym (ap kept_view b.entries)) (extends_none (kept_in old));
+  grows = subst (Extends (kept_in old)) (sym (ap kept_view b.constants)) (extends_none (kept_in old));
   says = λ r kept h. s kept;
   right = right_beside old new b;
 }
 
-pub made_after : {A : Type 0} {old mid new : Maker} {part : Kept → A} {a : A} → IsBeside old mid → Made mid new part a → Made old new part a
+pub made_after : {A : Type 0} {old mid new : Maker} {part : Constants → A} {a : A} → IsBeside old mid → Made mid new part a → Made old new part a
 made_after {old = old} {mid = mid} {new = new} b m = record {
-  grows = subst (λ k. Extends k (kept_in new)) (ap kept_view b.entries) m.grows;
+  grows = subst (λ k. Extends k (kept_in new)) (ap kept_view b.constants) m.grows;
   says = λ r. m.says (right_beside old mid b r);
   right = λ r. m.right (right_beside old mid b r);
 }
 
-pub made_before : {A : Type 0} {old mid new : Maker} {part : Kept → A} {a : A} → IsBeside mid new → Made old mid part a → Made old new part a
+pub made_before : {A : Type 0} {old mid new : Maker} {part : Constants → A} {a : A} → IsBeside mid new → Made old mid part a → Made old new part a
 made_before {old = old} {mid = mid} {new = new} b m =
-    let e : kept_in new ≡ kept_in mid = ap kept_view b.entries in
+    let e : kept_in new ≡ kept_in mid = ap kept_view b.constants in
     record {
       grows = subst (Extends (kept_in old)) (sym e) m.grows;
       says = λ r kept x. m.says r kept (subst (λ k. Extends k kept) e x);
@@ -60,11 +59,11 @@ made_before {old = old} {mid = mid} {new = new} b m =
     }
 
 -- the part in other words, or what holds it
-pub made_as : {A B : Type 0} {old new : Maker} {part : Kept → A} {a : A} (k : A → B) (whole : Kept → B) (b : B) → ((kept : Kept) → whole kept ≡ k (part kept)) → b ≡ k a → Made old new part a → Made old new whole b
+pub made_as : {A B : Type 0} {old new : Maker} {part : Constants → A} {a : A} (k : A → B) (whole : Constants → B) (b : B) → ((kept : Constants) → whole kept ≡ k (part kept)) → b ≡ k a → Made old new part a → Made old new whole b
 made_as k whole b e f m = record { grows = m.grows; says = λ r kept h. e kept ∙ ap k (m.says r kept h) ∙ sym f; right = m.right }
 
 -- two parts, one after the other
-pub made_both : {A B C : Type 0} {old mid new : Maker} {first : Kept → A} {second : Kept → B} {a : A} {b : B} (k : A → B → C) (whole : Kept → C) (c : C) → ((kept : Kept) → whole kept ≡ k (first kept) (second kept)) → c ≡ k a b → Made old mid first a → Made mid new second b → Made old new whole c
+pub made_both : {A B C : Type 0} {old mid new : Maker} {first : Constants → A} {second : Constants → B} {a : A} {b : B} (k : A → B → C) (whole : Constants → C) (c : C) → ((kept : Constants) → whole kept ≡ k (first kept) (second kept)) → c ≡ k a b → Made old mid first a → Made mid new second b → Made old new whole c
 made_both {old = old} {mid = mid} {new = new} {first = first} {second = second} {a = a} {b = b} k whole c e f m n = record {
   grows = extends_on (kept_in old) (kept_in mid) (kept_in new) m.grows n.grows;
   says = λ r kept h. e kept ∙ ap (λ x. k x (second kept)) (m.says r kept (extends_on (kept_in mid) (kept_in new) kept n.grows h)) ∙ ap (k a) (n.says (m.right r) kept h) ∙ sym f;
@@ -72,18 +71,18 @@ made_both {old = old} {mid = mid} {new = new} {first = first} {second = second} 
 }
 
 -- none of a list
-pub made_start : {X Y A : Type 0} (m : Maker) (view : Kept → X → A) (source : Y → A) (xs : List X) (ys : List Y) → xs ≡ [] → Made m m (λ kept. map (view kept) xs) (map source (take 0 ys))
+pub made_start : {X Y A : Type 0} (m : Maker) (view : Constants → X → A) (source : Y → A) (xs : List X) (ys : List Y) → xs ≡ [] → Made m m (λ kept. map (view kept) xs) (map source (take 0 ys))
 made_start m view source xs ys e = made_none m (λ kept. map (view kept) xs) (map source (take 0 ys)) (λ kept. ap (map (view kept)) e)
 
 -- all of a list
-pub made_end : {Y A : Type 0} {old new : Maker} (part : Kept → List A) (source : Y → A) (ys : List Y) (i : ℕ) → length ys ≤ i → Made old new part (map source (take i ys)) → Made old new part (map source ys)
+pub made_end : {Y A : Type 0} {old new : Maker} (part : Constants → List A) (source : Y → A) (ys : List Y) (i : ℕ) → length ys ≤ i → Made old new part (map source (take i ys)) → Made old new part (map source ys)
 made_end part source ys i h m = record { grows = m.grows; says = λ r kept x. m.says r kept x ∙ ap (map source) (take_all i ys h); right = m.right }
 
 -- one more of a list
-pub made_next : {X Y A : Type 0} {old mid new : Maker} (view : Kept → X → A) (source : Y → A) (xs zs : List X) (x : X) (ys : List Y) (i : ℕ) (y : Y) → zs ≡ xs ++ x ∷ [] → i < length ys → y ≡ get_or ys i y → Made old mid (λ kept. map (view kept) xs) (map source (take i ys)) → Made mid new (λ kept. view kept x) (source y) → Made old new (λ kept. map (view kept) zs) (map source (take (i + 1) ys))
+pub made_next : {X Y A : Type 0} {old mid new : Maker} (view : Constants → X → A) (source : Y → A) (xs zs : List X) (x : X) (ys : List Y) (i : ℕ) (y : Y) → zs ≡ xs ++ x ∷ [] → i < length ys → y ≡ get_or ys i y → Made old mid (λ kept. map (view kept) xs) (map source (take i ys)) → Made mid new (λ kept. view kept x) (source y) → Made old new (λ kept. map (view kept) zs) (map source (take (i + 1) ys))
 made_next view source xs zs x ys i y p h e m n = made_both (λ done a. done ++ a ∷ []) _ _ (λ kept. ap (map (view kept)) p ∙ map-append (view kept) xs (x ∷ [])) (map_more source ys i y h ∙ ap (λ z. map source (take i ys) ++ source z ∷ []) (sym e)) m n
 
--- ---- entries
+-- ---- constants
 
 pub same_self : (w : Wanted) → is_same_wanted w w ≡ true
 same_self Any = refl
@@ -95,16 +94,16 @@ same_self Values = refl
 pub query_in-nodes : (w : Wanted) (q : tree.Query) → query_in w (nodes w q) ≡ q
 query_in-nodes w q = ap (λ b. (if b then q else tree.no_segments)) (same_self w)
 
-kept_push : (kept : Kept) (es : List Entry) (e : Entry) → kept_from kept (es ++ e ∷ []) ≡ kept_from kept es ++ rooted_view (kept_from kept es) e.part ∷ []
+kept_push : (kept : Constants) (es : List Constant) (e : Constant) → kept_from kept (es ++ e ∷ []) ≡ kept_from kept es ++ constant_view (kept_from kept es) e ∷ []
 kept_push kept [] e = refl
-kept_push kept (x ∷ es) e = kept_push (kept ++ rooted_view kept x.part ∷ []) es e
+kept_push kept (x ∷ es) e = kept_push (kept ++ constant_view kept x ∷ []) es e
 
--- as many are kept as there are entries
-kept_count : (m : Maker) → IsRight m → length (kept_in m) ≡ length m.kept.items
-kept_count m r = sym (ap (λ l. length l) (r.settled (kept_in m) (extends_none (kept_in m)))) ∙ length-map m.kept.items (λ e. rooted_view (kept_in m) e.part)
+-- as many are kept as there are constants
+kept_count : (m : Maker) → IsRight m → length (kept_in m) ≡ length m.constants.items
+kept_count m r = sym (ap (λ l. length l) (r.settled (kept_in m) (extends_none (kept_in m)))) ∙ length-map m.constants.items (constant_view (kept_in m))
 
--- the entry of this number stands for what the part stands for
-numbered_found : (m : Maker) (part : Rooted) (n : ℕ) → IsNumberOf m.kept.items part n → IsNumbered m m part n
+-- the constant of this number stands for what the part stands for
+numbered_found : (m : Maker) (part : Constant) (n : ℕ) → IsNumberOf m.constants.items part n → IsNumbered m m part n
 numbered_found m part n h = record {
   made = λ {first} {p} d root. record {
     grows = d.grows;
@@ -115,12 +114,12 @@ numbered_found m part n h = record {
   };
 }
 
--- the entry that was made stands for what the part stands for
-pub numbered_kept : (old new : Maker) (part : Rooted) (n : ℕ) → IsKept old new part n → IsNumbered old new part n
+-- so does the one that was added
+pub numbered_kept : (old new : Maker) (part : Constant) (n : ℕ) → IsKept old new part n → IsNumbered old new part n
 numbered_kept old new part n k = record {
   made = λ {first} {p} m root.
-      let last : KeptPart = rooted_view (kept_in old) part in
-      let grown : kept_in new ≡ kept_in old ++ last ∷ [] = ap kept_view k.entries ∙ kept_push [] old.kept.items _ in
+      let last : ConstantPart = constant_view (kept_in old) part in
+      let grown : kept_in new ≡ kept_in old ++ last ∷ [] = ap kept_view k.constants ∙ kept_push [] old.constants.items _ in
       let grows : Extends (kept_in old) (kept_in new) = record { more = last ∷ []; is = grown } in
       let is : IsRight first → last ≡ p = λ r. m.says r (kept_in old) (extends_none (kept_in old)) in
       record {
@@ -131,37 +130,33 @@ numbered_kept old new part n k = record {
             record {
               settled = λ kept x.
                   let on : Extends (kept_in old) kept = extends_on (kept_in old) (kept_in new) kept grows x in
-                  ap (parts_where kept) k.entries ∙ map-append (λ e. rooted_view kept e.part) old.kept.items _ ∙ ap (λ l. l ++ rooted_view kept part ∷ []) (was.settled kept on) ∙ ap (λ q. kept_in old ++ q ∷ []) (m.says r kept on ∙ sym (is r)) ∙ sym grown;
+                  ap (parts_where kept) k.constants ∙ map-append (constant_view kept) old.constants.items _ ∙ ap (λ l. l ++ constant_view kept part ∷ []) (was.settled kept on) ∙ ap (λ q. kept_in old ++ q ∷ []) (m.says r kept on ∙ sym (is r)) ∙ sym grown;
               rooted = ap (list_all part_is_rooted) grown ∙ list_all-append part_is_rooted (kept_in old) (last ∷ []) ∙ and_from _ _ was.rooted (and_from _ _ (ap part_is_rooted (is r) ∙ root r) refl);
             };
       };
 }
 
-pub numbered_by : {old new : Maker} {part : Rooted} {n : ℕ} → IsNumberOf old.kept.items part n → IsBeside old new → IsNumbered old new part n
+pub numbered_by : {old new : Maker} {part : Constant} {n : ℕ} → IsNumberOf old.constants.items part n → IsBeside old new → IsNumbered old new part n
 numbered_by {old = old} {new = new} {part = part} {n = n} h b = record { made = λ m root. made_before b ((numbered_found old part n h).made m root) }
 
--- nothing else was kept before it
-pub numbered_after : {old mid new : Maker} {part : Rooted} {n : ℕ} → IsBeside old mid → IsNumbered mid new part n → IsNumbered old new part n
-numbered_after b k = record { made = λ m root. k.made (made_before b m) root }
-
 -- the part that was made stands for this, so what it shows, this has
-pub source_rooted : {A : Type 0} {old new : Maker} {part : Kept → A} {a : A} (test : A → Bool) → Made old new part a → ((kept : Kept) → AreRooted kept → IsTrue (test (part kept))) → IsRight old → IsTrue (test a)
+pub source_rooted : {A : Type 0} {old new : Maker} {part : Constants → A} {a : A} (test : A → Bool) → Made old new part a → ((kept : Constants) → AreRooted kept → IsTrue (test (part kept))) → IsRight old → IsTrue (test a)
 source_rooted {new = new} test m shows r = sym (ap test (m.says r (kept_in new) (extends_none (kept_in new)))) ∙ shows (kept_in new) (m.right r).rooted
 
 -- ---- the plan
 
 -- where nothing is kept, it is right
-begun_right : (m : Maker) → m.kept.items ≡ [] → IsRight m
+begun_right : (m : Maker) → m.constants.items ≡ [] → IsRight m
 begun_right m k = record {
   settled = λ kept x. ap (parts_where kept) k ∙ sym (ap kept_view k);
   rooted = ap (λ l. list_all part_is_rooted (kept_view l)) k;
 }
 
-pub plan_made : {old new : Maker} {was : List tree.Segment} (gs : List Segment) → Made old new (λ kept. map (segment_view kept) gs) was → old.kept.items ≡ [] → segments_meant (kept_view new.kept.items) gs ≡ segments_of was
+pub plan_made : {old new : Maker} {was : List tree.Segment} (gs : List Segment) → Made old new (λ kept. map (segment_view kept) gs) was → old.constants.items ≡ [] → segments_meant (kept_view new.constants.items) gs ≡ segments_of was
 plan_made {old = old} {new = new} gs m k = ap segments_of (m.says (begun_right old k) (kept_in new) (extends_none (kept_in new)))
 
-pub plan_settled : {A : Type 0} {old new : Maker} {part : Kept → A} {a : A} → Made old new part a → old.kept.items ≡ [] → IsSettled new.kept.items
+pub plan_settled : {A : Type 0} {old new : Maker} {part : Constants → A} {a : A} → Made old new part a → old.constants.items ≡ [] → IsSettled new.constants.items
 plan_settled {old = old} {new = new} m k = (m.right (begun_right old k)).settled (kept_in new) (extends_none (kept_in new))
 
-pub plan_rooted : {A : Type 0} {old new : Maker} {part : Kept → A} {a : A} → Made old new part a → old.kept.items ≡ [] → IsRooted new.kept.items
+pub plan_rooted : {A : Type 0} {old new : Maker} {part : Constants → A} {a : A} → Made old new part a → old.constants.items ≡ [] → IsRooted new.constants.items
 plan_rooted {old = old} m k = (m.right (begun_right old k)).rooted

@@ -12,7 +12,7 @@ use Rattle.jsonpath_rust.specs.documents.Meaning.{holds, some_holds, each_holds,
 use Rattle.jsonpath_rust.specs.documents.Node.{Node, root_node}
 use Rattle.jsonpath_rust.specs.selection.inner.Keeping.{given_by}
 use Rattle.jsonpath_rust.specs.selection.inner.Keeping as keeping
-use Rattle.jsonpath_rust.specs.selection.inner.PlanViews.{Kept, KeptPart, nodes, value, answered, compared, part_at, part_is_rooted, call_in, comparison_in, call_at, comparison_at, AreRooted}
+use Rattle.jsonpath_rust.specs.selection.inner.PlanViews.{Constants, ConstantPart, nodes, value, answered, compared, part_at, part_is_rooted, call_in, comparison_in, call_at, comparison_at, AreRooted}
 use Rattle.jsonpath_rust.specs.selection.inner.Rooted.{filter_is_rooted, filters_are_rooted, atom_is_rooted, comparison_is_rooted, comparable_is_rooted, test_is_rooted, call_is_rooted, argument_is_rooted, arguments_are_rooted}
 
 mutual
@@ -79,33 +79,33 @@ mutual
 
 -- ---- what is kept
 
-part_rooted : (kept : Kept) (n : ℕ) → AreRooted kept → IsTrue (part_is_rooted (part_at kept n))
+part_rooted : (kept : Constants) (n : ℕ) → AreRooted kept → IsTrue (part_is_rooted (part_at kept n))
 part_rooted [] n h = refl
 part_rooted (p ∷ ps) zero h = (and_parts (part_is_rooted p) (list_all part_is_rooted ps) h).0
 part_rooted (p ∷ ps) (suc n) h = part_rooted ps n (and_parts (part_is_rooted p) (list_all part_is_rooted ps) h).1
 
-call_in_rooted : (p : KeptPart) → IsTrue (part_is_rooted p) → IsTrue (call_is_rooted (call_in p))
+call_in_rooted : (p : ConstantPart) → IsTrue (part_is_rooted p) → IsTrue (call_is_rooted (call_in p))
 call_in_rooted (nodes w q) h = refl
 call_in_rooted (value ss) h = refl
 call_in_rooted (answered c) h = h
 call_in_rooted (compared c) h = refl
 
-comparison_in_rooted : (p : KeptPart) → IsTrue (part_is_rooted p) → IsTrue (comparison_is_rooted (comparison_in p))
+comparison_in_rooted : (p : ConstantPart) → IsTrue (part_is_rooted p) → IsTrue (comparison_is_rooted (comparison_in p))
 comparison_in_rooted (nodes w q) h = refl
 comparison_in_rooted (value ss) h = refl
 comparison_in_rooted (answered c) h = refl
 comparison_in_rooted (compared c) h = h
 
-pub kept_call_rooted : (kept : Kept) (n : ℕ) → AreRooted kept → IsTrue (call_is_rooted (call_at kept n))
+pub kept_call_rooted : (kept : Constants) (n : ℕ) → AreRooted kept → IsTrue (call_is_rooted (call_at kept n))
 kept_call_rooted kept n h = call_in_rooted (part_at kept n) (part_rooted kept n h)
 
-pub kept_call_same : (kept : Kept) (k : ℕ) (d : Document) (n m : Node) → AreRooted kept → answer (call_at kept k) d n ≡ answer (call_at kept k) d m
+pub kept_call_same : (kept : Constants) (k : ℕ) (d : Document) (n m : Node) → AreRooted kept → answer (call_at kept k) d n ≡ answer (call_at kept k) d m
 kept_call_same kept k d n m h = call_same (call_at kept k) d n m (kept_call_rooted kept k h)
 
-pub kept_comparison_rooted : (kept : Kept) (n : ℕ) → AreRooted kept → IsTrue (comparison_is_rooted (comparison_at kept n))
+pub kept_comparison_rooted : (kept : Constants) (n : ℕ) → AreRooted kept → IsTrue (comparison_is_rooted (comparison_at kept n))
 kept_comparison_rooted kept n h = comparison_in_rooted (part_at kept n) (part_rooted kept n h)
 
-pub kept_comparison_same : (kept : Kept) (k : ℕ) (d : Document) (n m : Node) → AreRooted kept → comparison_holds (comparison_at kept k) d n ≡ comparison_holds (comparison_at kept k) d m
+pub kept_comparison_same : (kept : Constants) (k : ℕ) (d : Document) (n m : Node) → AreRooted kept → comparison_holds (comparison_at kept k) d n ≡ comparison_holds (comparison_at kept k) d m
 kept_comparison_same kept k d n m h = comparison_same (comparison_at kept k) d n m (kept_comparison_rooted kept k h)
 
 -- ---- what is worked out at the root
@@ -113,11 +113,11 @@ kept_comparison_same kept k d n m h = comparison_same (comparison_at kept k) d n
 pub answer_as : (f g : Call) (d : Document) (n m : Node) (t : Option Tree) → g ≡ f → n ≡ m → t ≡ answer f d n → t ≡ answer g d m
 answer_as f g d n m t e k h = h ∙ ap (answer f d) k ∙ sym (ap (λ x. answer x d m) e)
 
-pub answer_kept : (p : KeptPart) (f : Call) (d : Document) (n : Node) (t : Option Tree) → p ≡ answered f → n ≡ root_node d.root → t ≡ answer f d n → keeping.value t ≡ given_by p d
+pub answer_kept : (p : ConstantPart) (f : Call) (d : Document) (n : Node) (t : Option Tree) → p ≡ answered f → n ≡ root_node d.root → t ≡ answer f d n → keeping.value t ≡ given_by p d
 answer_kept p f d n t e k h = ap keeping.value (h ∙ ap (answer f d) k) ∙ sym (ap (λ x. given_by x d) e)
 
 pub comparison_as : (q r : Comparison) (d : Document) (n m : Node) (b : Bool) → r ≡ q → n ≡ m → b ≡ comparison_holds q d n → b ≡ comparison_holds r d m
 comparison_as q r d n m b e k h = h ∙ ap (comparison_holds q d) k ∙ sym (ap (λ x. comparison_holds x d m) e)
 
-pub comparison_kept : (p : KeptPart) (q : Comparison) (d : Document) (n : Node) (b : Bool) → p ≡ compared q → n ≡ root_node d.root → b ≡ comparison_holds q d n → keeping.value (Some (truth b)) ≡ given_by p d
+pub comparison_kept : (p : ConstantPart) (q : Comparison) (d : Document) (n : Node) (b : Bool) → p ≡ compared q → n ≡ root_node d.root → b ≡ comparison_holds q d n → keeping.value (Some (truth b)) ≡ given_by p d
 comparison_kept p q d n b e k h = ap (λ x. keeping.value (Some (truth x))) (h ∙ ap (comparison_holds q d) k) ∙ sym (ap (λ x. given_by x d) e)

@@ -9,7 +9,7 @@ use Rattle.jsonpath_base.specs.Tree.{Tree}
 use Rattle.jsonpath_rust.specs.documents.Document.{Document}
 use Rattle.jsonpath_rust.specs.documents.Node.{Node, below, element_nodes, member_nodes, children_at, subtree, subtree_at}
 use Rattle.jsonpath_rust.specs.documents.Meaning.{picks, all_pick}
-use Rattle.jsonpath_rust.specs.selection.inner.PlanViews.{Kept, selector_view, selectors_meant}
+use Rattle.jsonpath_rust.specs.selection.inner.PlanViews.{Constants, selector_view, selectors_meant}
 use Rattle.jsonpath_rust.specs.selection.inner.Sinks.{Seen, give, Took}
 use Rattle.jsonpath_rust.proofs.laws.selection.Work.{work}
 use Rattle.jsonpath_rust.proofs.laws.selection.Sinks.{give-append, give-full}
@@ -55,7 +55,7 @@ flat_map-filter f (x ∷ xs) = ap (λ ys. filter f (x ∷ []) ++ ys) (flat_map-f
     split false = refl
 
 -- the loops of a walk: over selectors, elements, members and places
-pub selector_turns : (kept : Kept) (d : Document) (n : Node) (rest : Node → List Node) → Turns (λ k ss. flat_map rest (all_pick (selectors_meant kept ss) d n)) (λ k s. flat_map rest (picks (selector_view kept s) d n))
+pub selector_turns : (kept : Constants) (d : Document) (n : Node) (rest : Node → List Node) → Turns (λ k ss. flat_map rest (all_pick (selectors_meant kept ss) d n)) (λ k s. flat_map rest (picks (selector_view kept s) d n))
 selector_turns kept d n rest = record { none = λ k. refl; more = λ k s ss. flat_map-append rest (picks (selector_view kept s) d n) (all_pick (selectors_meant kept ss) d n) }
 
 pub element_turns : {A : Type 0} (tree : A → Tree) (l : Location) (rest act : Node → List Node) → Turns (λ k xs. flat_map rest (flat_map act (element_nodes l k (map tree xs)))) (λ k x. flat_map rest (act (below l (index k) (tree x))))

@@ -9,7 +9,7 @@ use Rattle.jsonpath_rust.specs.documents.Node.{root_node}
 use Rattle.jsonpath_rust.specs.documents.Patterns.{AsksPattern, segments_patterns, call_patterns, comparison_patterns}
 use Rattle.jsonpath_rust.specs.documents.inner.Operands.{operand_tree}
 use Rattle.jsonpath_rust.specs.documents.inner.Whole.{document_at}
-use Rattle.jsonpath_rust.specs.selection.inner.PlanViews.{Kept, KeptPart, kept_view, part_at}
+use Rattle.jsonpath_rust.specs.selection.inner.PlanViews.{Constants, ConstantPart, kept_view, part_at}
 use Rattle.jsonpath_rust.specs.selection.inner.PlanViews as plan
 use Rattle.jsonpath_rust.specs.selection.inner.Sinks.{Seen, any, seen, start, give}
 use Rattle.jsonpath_rust.specs.declared.documents.queryable.Queryable.{Ghosts}
@@ -24,10 +24,10 @@ use Rattle.jsonpath_rust.specs.declared.selection.cache.Gathered.TheVariants as 
 abbrev pub document : {A : Type 0} {R : Ghosts A} {D : debug.Ghosts A} → Task A R D → Document
 document task = document_at task.root
 
-abbrev pub kept_of : {A : Type 0} {R : Ghosts A} {D : debug.Ghosts A} → Task A R D → Kept
-kept_of task = kept_view task.plan.now.kept.items
+abbrev pub kept_of : {A : Type 0} {R : Ghosts A} {D : debug.Ghosts A} → Task A R D → Constants
+kept_of task = kept_view task.plan.now.constants.items
 
--- what an entry gave: what was wanted of nodes; or a value, if there is one; or nothing, for a pattern is too large
+-- what a constant gave: what was wanted of nodes; or a value, if there is one; or nothing, for a pattern is too large
 pub data Gave : Type 0 where
   nodes : Seen → Gave
   value : Option Tree → Gave
@@ -39,26 +39,26 @@ gave (given.Value o) = value (operand_tree o)
 gave given.Refused = refused
 
 -- the value of a part of the query without `@`, where it has one
-abbrev pub value_by : KeptPart → Document → Option Tree
+abbrev pub value_by : ConstantPart → Document → Option Tree
 value_by (plan.nodes w q) doc = None
 value_by (plan.value ss) doc = value_at ss doc.root
 value_by (plan.answered c) doc = answer c doc (root_node doc.root)
 value_by (plan.compared c) doc = Some (truth (comparison_holds c doc (root_node doc.root)))
 
 -- what a part of the query without `@` gives
-abbrev pub given_by : KeptPart → Document → Gave
+abbrev pub given_by : ConstantPart → Document → Gave
 given_by (plan.nodes w q) doc = nodes (give (start w) (nodelist q doc))
 given_by p doc = value (value_by p doc)
 
 -- the patterns that stand in a part of the query without `@`
-abbrev pub part_patterns : KeptPart → List (Bool × Argument)
+abbrev pub part_patterns : ConstantPart → List (Bool × Argument)
 part_patterns (plan.nodes w q) = segments_patterns q
 part_patterns (plan.value ss) = []
 part_patterns (plan.answered c) = call_patterns c
 part_patterns (plan.compared c) = comparison_patterns c
 
 -- what is kept is what the part gives; where it is refused, the part asks a pattern
-abbrev pub IsGiven : Gave → KeptPart → Document → Type 0
+abbrev pub IsGiven : Gave → ConstantPart → Document → Type 0
 IsGiven (nodes s) p doc = nodes s ≡ given_by p doc
 IsGiven (value t) p doc = value t ≡ given_by p doc
 IsGiven refused p doc = AsksPattern (part_patterns p) doc
@@ -78,8 +78,8 @@ nodes_or_none _ = any false
 abbrev pub AreEmpty : {A : Type 0} {R : Ghosts A} {D : debug.Ghosts A} → List (Option (Given A R D)) → Type 0
 AreEmpty slots = All (λ o. o ≡ None) slots
 
--- there is a slot for each entry, and what is kept is right
-pub record Keeps {A : Type 0} {R : Ghosts A} {D : debug.Ghosts A} (kept : Kept) (doc : Document) (cache : Cache A R D) : Type 0 where
+-- there is a slot for each constant, and what is kept is right
+pub record Keeps {A : Type 0} {R : Ghosts A} {D : debug.Ghosts A} (kept : Constants) (doc : Document) (cache : Cache A R D) : Type 0 where
   pub room : length (slots_of cache) ≡ length kept
   pub right : (n : ℕ) (s : Gave) → slot_at (slots_of cache) n ≡ Some s → IsGiven s (part_at kept n) doc
 
@@ -90,4 +90,4 @@ IsReady task cache = Keeps (kept_of task) (document task) cache
 -- what the nodes of a query gave
 abbrev pub gathered : {A : Type 0} {R : Ghosts A} {D : debug.Ghosts A} → Cache A R D → Gathered A R D → Seen
 gathered cache (gathers.Own s) = seen s
-gathered cache (gathers.Kept n) = nodes_or_none (slot_at (slots_of cache) n)
+gathered cache (gathers.Constant n) = nodes_or_none (slot_at (slots_of cache) n)

@@ -1,56 +1,53 @@
 -- How a plan is made, for the contracts of its maker alone: the definitions here are no part of what a query means.
 use Rattle.std.specs.Prelude.{◌≡◌, ℕ, ◌<◌, List, [], ◌∷◌, ◌++◌, map, length, IsTrue}
 use Rattle.jsonpath_parser.specs.tree.Syntax.{Comparison, atom, comparison}
-use Rattle.jsonpath_rust.specs.selection.inner.PlanViews.{Kept, KeptPart, compared, kept_view, part_at, part_is_rooted, rooted_view, AreRooted, filter_view}
-use Rattle.jsonpath_rust.specs.declared.selection.plan.Entry.{Entry}
+use Rattle.jsonpath_rust.specs.selection.inner.PlanViews.{Constants, ConstantPart, compared, kept_view, part_at, part_is_rooted, constant_view, AreRooted, filter_view}
 use Rattle.jsonpath_rust.specs.declared.selection.plan.Filter.{Filter}
-use Rattle.jsonpath_rust.specs.declared.selection.plan.Rooted.{Rooted}
-use Rattle.jsonpath_rust.specs.declared.selection.plan.keeping.Nesting.{Nesting}
+use Rattle.jsonpath_rust.specs.declared.selection.plan.Constant.{Constant}
 use Rattle.jsonpath_rust.specs.declared.selection.plan.make.Maker.{Maker}
 
 -- what is kept so far
-abbrev pub kept_in : Maker → Kept
-kept_in m = kept_view m.kept.items
+abbrev pub kept_in : Maker → Constants
+kept_in m = kept_view m.constants.items
 
 -- the same is kept, and more behind it
-pub record Extends (old new : Kept) : Type 0 where
-  pub more : Kept
+pub record Extends (old new : Constants) : Type 0 where
+  pub more : Constants
   pub is : new ≡ old ++ more
 
--- what these entries stand for where this is kept
-abbrev pub parts_where : Kept → List Entry → Kept
-parts_where kept es = map (λ e. rooted_view kept e.part) es
+-- what these constants stand for where this is kept
+abbrev pub parts_where : Constants → List Constant → Constants
+parts_where kept es = map (constant_view kept) es
 
--- Each entry stands for the same, whatever is kept behind all of them, and has no `@`.
+-- Each constant stands for the same, whatever is kept behind all of them, and has no `@`.
 pub record IsRight (m : Maker) : Type 0 where
-  pub settled : (kept : Kept) → Extends (kept_in m) kept → parts_where kept m.kept.items ≡ kept_in m
+  pub settled : (kept : Constants) → Extends (kept_in m) kept → parts_where kept m.constants.items ≡ kept_in m
   pub rooted : AreRooted (kept_in m)
 
 -- The part that was made stands for this, where what is kept now is kept, whatever is kept behind it.
-pub record Made {A : Type 0} (old new : Maker) (part : Kept → A) (a : A) : Type 0 where
+pub record Made {A : Type 0} (old new : Maker) (part : Constants → A) (a : A) : Type 0 where
   pub grows : Extends (kept_in old) (kept_in new)
-  pub says : IsRight old → (kept : Kept) → Extends (kept_in new) kept → part kept ≡ a
+  pub says : IsRight old → (kept : Constants) → Extends (kept_in new) kept → part kept ≡ a
   pub right : IsRight old → IsRight new
 
 -- nothing was kept between the two
 pub record IsBeside (old new : Maker) : Type 0 where
-  pub entries : new.kept.items ≡ old.kept.items
+  pub constants : new.constants.items ≡ old.constants.items
 
--- one entry more is kept, of this part, and has this number
-pub record IsKept (old new : Maker) (part : Rooted) (n : ℕ) : Type 0 where
-  pub number : n ≡ length old.kept.items
-  pub nesting : Nesting
-  pub entries : new.kept.items ≡ old.kept.items ++ record { part = part; nesting = nesting } ∷ []
+-- this constant is kept too, and has this number
+pub record IsKept (old new : Maker) (part : Constant) (n : ℕ) : Type 0 where
+  pub number : n ≡ length old.constants.items
+  pub constants : new.constants.items ≡ old.constants.items ++ part ∷ []
 
--- the number of an entry that stands for what the part stands for, whatever is kept
-pub record IsNumberOf (es : List Entry) (part : Rooted) (n : ℕ) : Type 0 where
+-- the number of a constant that stands for what this one stands for, whatever is kept
+pub record IsNumberOf (es : List Constant) (part : Constant) (n : ℕ) : Type 0 where
   pub within : n < length es
-  pub is : (kept : Kept) → part_at (parts_where kept es) n ≡ rooted_view kept part
+  pub is : (kept : Constants) → part_at (parts_where kept es) n ≡ constant_view kept part
 
 -- What the part that was made stands for, its number stands for too, where it has no `@`.
-pub record IsNumbered (old new : Maker) (part : Rooted) (n : ℕ) : Type 0 where
-  pub made : {first : Maker} {p : KeptPart} → Made first old (λ kept. rooted_view kept part) p → (IsRight first → IsTrue (part_is_rooted p)) → Made first new (λ kept. part_at kept n) p
+pub record IsNumbered (old new : Maker) (part : Constant) (n : ℕ) : Type 0 where
+  pub made : {first : Maker} {p : ConstantPart} → Made first old (λ kept. constant_view kept part) p → (IsRight first → IsTrue (part_is_rooted p)) → Made first new (λ kept. part_at kept n) p
 
 -- what the comparison that was made stands for, the filter stands for too
-pub record IsCompared (old new : Maker) (part : Rooted) (f : Filter) : Type 0 where
-  pub made : {first : Maker} {c : Comparison} → Made first old (λ kept. rooted_view kept part) (compared c) → Made first new (λ kept. filter_view kept f) (atom (comparison c))
+pub record IsCompared (old new : Maker) (part : Constant) (f : Filter) : Type 0 where
+  pub made : {first : Maker} {c : Comparison} → Made first old (λ kept. constant_view kept part) (compared c) → Made first new (λ kept. filter_view kept f) (atom (comparison c))

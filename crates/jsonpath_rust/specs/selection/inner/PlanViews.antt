@@ -5,9 +5,8 @@ use Rattle.std.specs.List.{list_all}
 use mathlib.Core.List.{is_set}
 use Rattle.jsonpath_parser.specs.tree.Syntax as tree
 use Rattle.jsonpath_parser.specs.tree.View.{literal_view, step_view, operator_view, segments_of, selectors_of, filters_of, arguments_of}
-use Rattle.jsonpath_rust.specs.declared.selection.plan.Entry.{Entry}
-use Rattle.jsonpath_rust.specs.declared.selection.plan.Rooted.{Rooted}
-use Rattle.jsonpath_rust.specs.declared.selection.plan.Rooted.TheVariants as rooted
+use Rattle.jsonpath_rust.specs.declared.selection.plan.Constant.{Constant}
+use Rattle.jsonpath_rust.specs.declared.selection.plan.Constant.TheVariants as constant
 use Rattle.jsonpath_rust.specs.declared.selection.plan.Argument.{Argument, Argument-F, fold-Argument}
 use Rattle.jsonpath_rust.specs.selection.inner.Rooted.{Call-set, Comparison-set, call_is_rooted, comparison_is_rooted, Query-set}
 use Rattle.jsonpath_rust.specs.declared.selection.plan.Call.{Call, Call-F, fold-Call}
@@ -29,66 +28,66 @@ is_same_wanted _ _ = false
 
 -- a part of the query without `@`: what is wanted of the nodes of a query from the root, the value of one of names and indexes alone,
 -- what a call answers, or whether a comparison holds
-pub data KeptPart : Type 0 where
-  nodes : Wanted → tree.Query → KeptPart
-  value : List tree.SingularStep → KeptPart
-  answered : tree.Call → KeptPart
-  compared : tree.Comparison → KeptPart
-  deriving IsSet as KeptPart_set
+pub data ConstantPart : Type 0 where
+  nodes : Wanted → tree.Query → ConstantPart
+  value : List tree.SingularStep → ConstantPart
+  answered : tree.Call → ConstantPart
+  compared : tree.Comparison → ConstantPart
+  deriving IsSet as ConstantPart_set
 
 -- what is kept, by number
-abbrev pub Kept : Type 0
-Kept = List KeptPart
+abbrev pub Constants : Type 0
+Constants = List ConstantPart
 
 ruleset sets = (Coded-set, codes)
 
 -- what is kept is data: there is one proof that two of it are the same
-pub Kept-set : IsSet Kept
-Kept-set = is_set (KeptPart_set (hlevel sets) Query-set (hlevel sets) Call-set Comparison-set)
+pub Constants-set : IsSet Constants
+Constants-set = is_set (ConstantPart_set (hlevel sets) Query-set (hlevel sets) Call-set Comparison-set)
 
 -- it has no `@`
-abbrev pub part_is_rooted : KeptPart → Bool
+abbrev pub part_is_rooted : ConstantPart → Bool
 part_is_rooted (nodes v q) = true
 part_is_rooted (value ss) = true
 part_is_rooted (answered c) = call_is_rooted c
 part_is_rooted (compared c) = comparison_is_rooted c
 
-abbrev pub AreRooted : Kept → Type 0
+abbrev pub AreRooted : Constants → Type 0
 AreRooted kept = IsTrue (list_all part_is_rooted kept)
 
-abbrev pub part_at : Kept → ℕ → KeptPart
+abbrev pub part_at : Constants → ℕ → ConstantPart
 part_at kept n = get_or kept n (value [])
 
 -- the query that is kept for this; `$` where there is none
-abbrev pub query_in : Wanted → KeptPart → tree.Query
+abbrev pub query_in : Wanted → ConstantPart → tree.Query
 query_in w (nodes v q) = if is_same_wanted w v then q else tree.no_segments
 query_in w _ = tree.no_segments
 
-abbrev pub query_at : Kept → Wanted → ℕ → tree.Query
+abbrev pub query_at : Constants → Wanted → ℕ → tree.Query
 query_at kept w n = query_in w (part_at kept n)
 
 -- the steps from the root that are kept; none where there are none
-abbrev pub steps_in : KeptPart → List tree.SingularStep
+abbrev pub steps_in : ConstantPart → List tree.SingularStep
 steps_in (value ss) = ss
 steps_in _ = []
 
-abbrev pub steps_at : Kept → ℕ → List tree.SingularStep
+abbrev pub steps_at : Constants → ℕ → List tree.SingularStep
 steps_at kept n = steps_in (part_at kept n)
 
 -- the call that is kept; one that answers nothing where there is none
-abbrev pub call_in : KeptPart → tree.Call
+abbrev pub call_in : ConstantPart → tree.Call
 call_in (answered c) = c
 call_in _ = tree.length_call (tree.literal_argument tree.null)
 
-abbrev pub call_at : Kept → ℕ → tree.Call
+abbrev pub call_at : Constants → ℕ → tree.Call
 call_at kept n = call_in (part_at kept n)
 
 -- the comparison that is kept; one that does not hold where there is none
-abbrev pub comparison_in : KeptPart → tree.Comparison
+abbrev pub comparison_in : ConstantPart → tree.Comparison
 comparison_in (compared c) = c
 comparison_in _ = tree.compare tree.less (tree.literal tree.null) (tree.literal tree.null)
 
-abbrev pub comparison_at : Kept → ℕ → tree.Comparison
+abbrev pub comparison_at : Constants → ℕ → tree.Comparison
 comparison_at kept n = comparison_in (part_at kept n)
 
 -- a child segment of this one name or index (RFC 9535, 2.3.5.1)
@@ -119,23 +118,23 @@ call_step (Call-F.Count a) = tree.count_call (a Count)
 call_step (Call-F.Search a b) = tree.search_call (a Only) (b Only)
 call_step (Call-F.Match a b) = tree.match_call (a Only) (b Only)
 
-abbrev pub called_step : Kept → Layer Called-F → tree.Call
+abbrev pub called_step : Constants → Layer Called-F → tree.Call
 called_step kept (Called-F.Here c) = c.value
-called_step kept (Called-F.«Called::Kept» n) = call_at kept n
+called_step kept (Called-F.«Called::Constant» n) = call_at kept n
 
-abbrev pub filter_step : Kept → Layer Filter-F → tree.Filter
+abbrev pub filter_step : Constants → Layer Filter-F → tree.Filter
 filter_step kept (Filter-F.Or v) = tree.or (filters_of v.items)
 filter_step kept (Filter-F.And v) = tree.and (filters_of v.items)
 filter_step kept (Filter-F.Group f not) = tree.atom (tree.group not f.value)
 filter_step kept (Filter-F.Exists ns not) = tree.atom (tree.test not (ns Any))
 filter_step kept (Filter-F.«Filter::Call» c not) = tree.atom (tree.test not (tree.call c))
 filter_step kept (Filter-F.Comparison op a b) = tree.atom (tree.comparison (tree.compare (operator_view op) a b))
-filter_step kept (Filter-F.«Filter::Kept» n) = tree.atom (tree.comparison (comparison_at kept n))
+filter_step kept (Filter-F.«Filter::Constant» n) = tree.atom (tree.comparison (comparison_at kept n))
 
-abbrev pub nodes_step : Kept → Layer Nodes-F → Wanted → tree.Test
+abbrev pub nodes_step : Constants → Layer Nodes-F → Wanted → tree.Test
 nodes_step kept (Nodes-F.«Nodes::Lookup» v) w = tree.relative (steps_query (map step_view v.items))
 nodes_step kept (Nodes-F.Walk v) w = tree.relative (segments_of v.items)
-nodes_step kept (Nodes-F.«Nodes::Kept» n) w = tree.absolute (query_at kept w n)
+nodes_step kept (Nodes-F.«Nodes::Constant» n) w = tree.absolute (query_at kept w n)
 
 abbrev pub segment_step : Layer Segment-F → tree.Segment
 segment_step (Segment-F.Descendant s) = tree.descendant s.value
@@ -149,76 +148,76 @@ selector_step (Selector-F.Index i) = tree.index i
 selector_step (Selector-F.Slice start end step) = tree.slice start end step
 selector_step (Selector-F.«Selector::Filter» f) = tree.filter f
 
-abbrev pub side_step : Kept → Layer Side-F → tree.Comparable
+abbrev pub side_step : Constants → Layer Side-F → tree.Comparable
 side_step kept (Side-F.«Side::Literal» l) = tree.literal (literal_view l)
 side_step kept (Side-F.«Side::Lookup» v) = tree.singular (tree.current (map step_view v.items))
-side_step kept (Side-F.«Side::Kept» n) = tree.singular (tree.root (steps_at kept n))
+side_step kept (Side-F.«Side::Constant» n) = tree.singular (tree.root (steps_at kept n))
 side_step kept (Side-F.«Side::Call» c) = tree.function c
 
 -- The folds. The steps stand in the order of the types, by alphabet.
 
-abbrev pub argument_view : Kept → Argument → Wanted → tree.Argument
+abbrev pub argument_view : Constants → Argument → Wanted → tree.Argument
 argument_view kept = fold-Argument (Wanted → tree.Argument) tree.Call tree.Call tree.Filter (Wanted → tree.Test) tree.Segment tree.Selector tree.Comparable argument_step call_step (called_step kept) (filter_step kept) (nodes_step kept) segment_step selector_step (side_step kept)
 
-abbrev pub call_view : Kept → Call → tree.Call
+abbrev pub call_view : Constants → Call → tree.Call
 call_view kept = fold-Call (Wanted → tree.Argument) tree.Call tree.Call tree.Filter (Wanted → tree.Test) tree.Segment tree.Selector tree.Comparable argument_step call_step (called_step kept) (filter_step kept) (nodes_step kept) segment_step selector_step (side_step kept)
 
-abbrev pub called_view : Kept → Called → tree.Call
+abbrev pub called_view : Constants → Called → tree.Call
 called_view kept = fold-Called (Wanted → tree.Argument) tree.Call tree.Call tree.Filter (Wanted → tree.Test) tree.Segment tree.Selector tree.Comparable argument_step call_step (called_step kept) (filter_step kept) (nodes_step kept) segment_step selector_step (side_step kept)
 
-abbrev pub filter_view : Kept → Filter → tree.Filter
+abbrev pub filter_view : Constants → Filter → tree.Filter
 filter_view kept = fold-Filter (Wanted → tree.Argument) tree.Call tree.Call tree.Filter (Wanted → tree.Test) tree.Segment tree.Selector tree.Comparable argument_step call_step (called_step kept) (filter_step kept) (nodes_step kept) segment_step selector_step (side_step kept)
 
-abbrev pub nodes_view : Kept → Nodes → Wanted → tree.Test
+abbrev pub nodes_view : Constants → Nodes → Wanted → tree.Test
 nodes_view kept = fold-Nodes (Wanted → tree.Argument) tree.Call tree.Call tree.Filter (Wanted → tree.Test) tree.Segment tree.Selector tree.Comparable argument_step call_step (called_step kept) (filter_step kept) (nodes_step kept) segment_step selector_step (side_step kept)
 
-abbrev pub segment_view : Kept → Segment → tree.Segment
+abbrev pub segment_view : Constants → Segment → tree.Segment
 segment_view kept = fold-Segment (Wanted → tree.Argument) tree.Call tree.Call tree.Filter (Wanted → tree.Test) tree.Segment tree.Selector tree.Comparable argument_step call_step (called_step kept) (filter_step kept) (nodes_step kept) segment_step selector_step (side_step kept)
 
-abbrev pub selector_view : Kept → Selector → tree.Selector
+abbrev pub selector_view : Constants → Selector → tree.Selector
 selector_view kept = fold-Selector (Wanted → tree.Argument) tree.Call tree.Call tree.Filter (Wanted → tree.Test) tree.Segment tree.Selector tree.Comparable argument_step call_step (called_step kept) (filter_step kept) (nodes_step kept) segment_step selector_step (side_step kept)
 
-abbrev pub side_view : Kept → Side → tree.Comparable
+abbrev pub side_view : Constants → Side → tree.Comparable
 side_view kept = fold-Side (Wanted → tree.Argument) tree.Call tree.Call tree.Filter (Wanted → tree.Test) tree.Segment tree.Selector tree.Comparable argument_step call_step (called_step kept) (filter_step kept) (nodes_step kept) segment_step selector_step (side_step kept)
 
 -- lists of parts, one behind the other
-abbrev pub segments_meant : Kept → List Segment → tree.Segments
+abbrev pub segments_meant : Constants → List Segment → tree.Segments
 segments_meant kept gs = segments_of (map (segment_view kept) gs)
 
-abbrev pub selectors_meant : Kept → List Selector → tree.Selectors
+abbrev pub selectors_meant : Constants → List Selector → tree.Selectors
 selectors_meant kept ss = selectors_of (map (selector_view kept) ss)
 
-abbrev pub filters_meant : Kept → List Filter → tree.Filters
+abbrev pub filters_meant : Constants → List Filter → tree.Filters
 filters_meant kept fs = filters_of (map (filter_view kept) fs)
 
 -- the arguments of a custom function
-abbrev pub arguments_meant : Kept → List Argument → tree.Arguments
+abbrev pub arguments_meant : Constants → List Argument → tree.Arguments
 arguments_meant kept args = arguments_of (map (λ a. argument_view kept a Values) args)
 
--- each entry stands for a part where those before it are kept
-abbrev pub rooted_view : Kept → Rooted → KeptPart
-rooted_view kept (rooted.Nodes gs w) = nodes w (segments_meant kept gs.items)
-rooted_view kept (rooted.Value ss) = value (map step_view ss.items)
-rooted_view kept (rooted.Answer c) = answered (call_view kept c)
-rooted_view kept (rooted.Comparison op a b) = compared (tree.compare (operator_view op) (side_view kept a) (side_view kept b))
+-- each stands for a part where those before it are kept
+abbrev pub constant_view : Constants → Constant → ConstantPart
+constant_view kept (constant.Nodes gs w n) = nodes w (segments_meant kept gs.items)
+constant_view kept (constant.Value ss) = value (map step_view ss.items)
+constant_view kept (constant.Answer c) = answered (call_view kept c)
+constant_view kept (constant.Comparison op a b) = compared (tree.compare (operator_view op) (side_view kept a) (side_view kept b))
 
-abbrev pub kept_from : Kept → List Entry → Kept
+abbrev pub kept_from : Constants → List Constant → Constants
 kept_from kept [] = kept
-kept_from kept (e ∷ es) = kept_from (kept ++ rooted_view kept e.part ∷ []) es
+kept_from kept (e ∷ es) = kept_from (kept ++ constant_view kept e ∷ []) es
 
-abbrev pub kept_view : List Entry → Kept
+abbrev pub kept_view : List Constant → Constants
 kept_view es = kept_from [] es
 
 -- each stands for the same part where all are kept
-abbrev pub IsSettled : List Entry → Type 0
-IsSettled es = map (λ e. rooted_view (kept_view es) e.part) es ≡ kept_view es
+abbrev pub IsSettled : List Constant → Type 0
+IsSettled es = map (constant_view (kept_view es)) es ≡ kept_view es
 
-pub IsSettled-prop : (es : List Entry) → IsProp (IsSettled es)
-IsSettled-prop es = Kept-set (map (λ e. rooted_view (kept_view es) e.part) es) (kept_view es)
+pub IsSettled-prop : (es : List Constant) → IsProp (IsSettled es)
+IsSettled-prop es = Constants-set (map (constant_view (kept_view es)) es) (kept_view es)
 
--- no entry has an `@`
-abbrev pub IsRooted : List Entry → Type 0
+-- none has an `@`
+abbrev pub IsRooted : List Constant → Type 0
 IsRooted es = AreRooted (kept_view es)
 
-pub IsRooted-prop : (es : List Entry) → IsProp (IsRooted es)
+pub IsRooted-prop : (es : List Constant) → IsProp (IsRooted es)
 IsRooted-prop es = Coded-set coded_bool (list_all part_is_rooted (kept_view es)) true

@@ -6,7 +6,7 @@ use Rattle.jsonpath_rust.specs.selection.inner.Rooted.{Query-set}
 use Rattle.jsonpath_rust.specs.declared.selection.plan.Plan.{Plan}
 
 abbrev pub plan_view : Plan → Query
-plan_view p = segments_meant (kept_view p.kept.items) p.segments.items
+plan_view p = segments_meant (kept_view p.constants.items) p.segments.items
 
 abbrev pub IsPlanOf : Query → Plan → Type 0
 IsPlanOf q p = plan_view p ≡ q

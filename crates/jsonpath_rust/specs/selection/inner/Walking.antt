@@ -9,7 +9,7 @@ use Rattle.jsonpath_rust.specs.documents.Node.{Node, subtree}
 use Rattle.jsonpath_rust.specs.documents.Document.{Document}
 use Rattle.jsonpath_rust.specs.documents.Meaning.{replaced, holds}
 use Rattle.jsonpath_rust.specs.documents.Patterns.{segment_patterns, filter_patterns}
-use Rattle.jsonpath_rust.specs.selection.inner.PlanViews.{Kept, segment_view, filter_view}
+use Rattle.jsonpath_rust.specs.selection.inner.PlanViews.{Constants, segment_view, filter_view}
 use Rattle.jsonpath_rust.specs.documents.inner.Whole.{tree_of}
 use Rattle.jsonpath_base.specs.declared.step.StepRef.{StepRef}
 use Rattle.jsonpath_rust.specs.declared.documents.queryable.Queryable.{Ghosts}
@@ -31,13 +31,13 @@ through no_segments d n = n ∷ []
 through (segment g gs) d n = flat_map (through gs d) (replaced g d n)
 
 -- the nodes that an action makes of one node
-abbrev pub acted : Kept → Action → Document → Node → List Node
+abbrev pub acted : Constants → Action → Document → Node → List Node
 acted kept All d n = n ∷ []
 acted kept (If f) d n = filter (holds (filter_view kept f.now) d) (n ∷ [])
 acted kept (Below g) d n = flat_map (replaced (segment_view kept g.now) d) (subtree n)
 
 -- the patterns that stand in an action
-abbrev pub action_patterns : Kept → Action → List (Bool × Argument)
+abbrev pub action_patterns : Constants → Action → List (Bool × Argument)
 action_patterns kept All = []
 action_patterns kept (If f) = filter_patterns (filter_view kept f.now)
 action_patterns kept (Below g) = segment_patterns (segment_view kept g.now)

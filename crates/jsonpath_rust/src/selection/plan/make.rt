@@ -13,7 +13,7 @@ use super::absolute::is_rooted_call;
 use super::patterns::Numbers;
 use super::steps::{steps_again, steps_of};
 use super::{
-    Argument, Call, Called, Entry, Filter, Nesting, Nodes, Plan, Rooted, Segment, Selector, Side,
+    Argument, Call, Called, Constant, Filter, Nesting, Nodes, Plan, Segment, Selector, Side,
 };
 use crate::selection::sink::Wanted;
 use jsonpath_base::Extent;
@@ -30,7 +30,7 @@ pub fn plan_of(alloc: Global, query: &JpQuery) -> Parsed<Plan>
 {
     let mut maker = Maker {
         alloc,
-        kept: Vec::new(alloc),
+        constants: Vec::new(alloc),
         nesting: Nesting::NONE,
         patterns: Numbers::new(alloc),
     };
@@ -38,7 +38,7 @@ pub fn plan_of(alloc: Global, query: &JpQuery) -> Parsed<Plan>
     let pattern_count = maker.patterns.count;
     Ok(Plan {
         segments,
-        kept: maker.kept,
+        constants: maker.constants,
         nesting: maker.nesting.whole,
         pattern_count,
     })
@@ -48,9 +48,9 @@ pub fn plan_of(alloc: Global, query: &JpQuery) -> Parsed<Plan>
 #[derive(Drop)]
 pub struct Maker<'q> {
     pub alloc: Global,
-    /// The entries that are made.
-    pub kept: Vec<Entry>,
-    /// The greatest nesting of the entries that were met since the one at hand began.
+    /// The constants that have a number.
+    pub constants: Vec<Constant>,
+    /// The greatest nesting of the constants that were met since the one at hand began.
     pub nesting: Nesting,
     /// The patterns that have a number.
     pub patterns: Numbers<'q>,
@@ -172,7 +172,7 @@ impl<'q> Maker<'q> {
                 Ok(Filter::Exists { nodes, not })
             }
             tree::Test::AbsQuery(query) => {
-                let nodes = Nodes::Kept(self.absolute(query, Wanted::Any)?);
+                let nodes = Nodes::Constant(self.absolute(query, Wanted::Any)?);
                 Ok(Filter::Exists { nodes, not })
             }
             tree::Test::Function(function) => {
@@ -223,8 +223,8 @@ impl<'q> Maker<'q> {
         match query {
             SingularQuery::Current(steps) => Ok(Side::Lookup(steps_again(self.alloc, steps)?)),
             SingularQuery::Root(steps) => {
-                let part = Rooted::Value(steps_again(self.alloc, steps)?);
-                Ok(Side::Kept(self.number(part, Nesting::NONE)?))
+                let steps = steps_again(self.alloc, steps)?;
+                Ok(Side::Constant(self.number(Constant::Value(steps))?))
             }
         }
     }
@@ -242,7 +242,7 @@ impl<'q> Maker<'q> {
         }
     }
 
-    /// The number of the entry of a query from the root.
+    /// The number of a query from the root.
     #[cycle(make)]
     fn absolute(&mut self, query: &'q JpQuery, wanted: Wanted) -> Parsed<usize>
         ensures made { IfOk result (λ n. Made self.old self.new (λ kept. plan.query_at kept wanted n)
@@ -251,10 +251,15 @@ impl<'q> Maker<'q> {
     {
         let around = self.begin();
         let segments = self.segments(&query.segments)?;
-        self.number_query(Rooted::Nodes(segments, wanted), around)
+        let nesting = self.end_query(around);
+        self.number(Constant::Nodes {
+            segments,
+            wanted,
+            nesting,
+        })
     }
 
-    /// A call: the number of its entry, where it has no `@`.
+    /// A call: the number of the constant, where it has no `@`.
     #[cycle(make)]
     fn called(&mut self, call: &'q tree::TestFunction) -> Parsed<Called>
         ensures made { IfOk result (λ c. Made self.old self.new (λ kept. plan.called_view kept c) (tree.call_view call.now)) }
@@ -262,10 +267,10 @@ impl<'q> Maker<'q> {
     {
         let around = self.begin();
         let made = self.call(call)?;
-        let nesting = self.end(around);
+        self.end(around);
         if is_rooted_call(&made) {
-            let number = self.number(Rooted::Answer(made), nesting)?;
-            return Ok(Called::Kept(number));
+            let number = self.number(Constant::Answer(made))?;
+            return Ok(Called::Constant(number));
         }
         Ok(Called::Here(Box::new(self.alloc, made)?))
     }
@@ -347,7 +352,7 @@ impl<'q> Maker<'q> {
             tree::Test::RelQuery(segments) => Ok(Argument::Nodes(self.relative(segments)?)),
             tree::Test::AbsQuery(query) => {
                 let number = self.absolute(query, wanted)?;
-                Ok(Argument::Nodes(Nodes::Kept(number)))
+                Ok(Argument::Nodes(Nodes::Constant(number)))
             }
             tree::Test::Function(function) => Ok(Argument::Call(self.called(function)?)),
         }

@@ -5,4 +5,4 @@ use Rattle.jsonpath_rust.proofs.laws.selection.PlanEquations.{argument_view-Node
 use Rattle.jsonpath_rust.proofs.selection.plan.absolute.is_rooted.Goals as goal
 
 pub returns-in-Nodes : goal.returns-in-Nodes
-returns-in-Nodes c = λ h kept w r. ap (λ x. argument_is_rooted (argument_view kept x w)) c.in-Nodes.is ∙ ap argument_is_rooted (argument_view-Nodes kept _ w) ∙ c.are_kept_nodes.ensures h kept w
+returns-in-Nodes c = λ h kept w r. ap (λ x. argument_is_rooted (argument_view kept x w)) c.in-Nodes.is ∙ ap argument_is_rooted (argument_view-Nodes kept _ w) ∙ c.are_constant_nodes.ensures h kept w

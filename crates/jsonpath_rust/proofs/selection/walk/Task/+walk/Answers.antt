@@ -15,7 +15,7 @@ use Rattle.jsonpath_rust.specs.declared.selection.plan.Filter.{Filter}
 use Rattle.jsonpath_rust.specs.declared.selection.plan.Segment.{Segment}
 use Rattle.jsonpath_rust.specs.declared.selection.plan.Selector.{Selector}
 use Rattle.jsonpath_rust.specs.declared.selection.sink.Wanted.TheVariants.{Any, Count, Only, Values}
-use Rattle.jsonpath_rust.proofs.laws.selection.PlanEquations.{called, segment_view-Descendant, segment_view-Selector, segment_view-Selectors, selector_view-Name, selector_view-Wildcard, selector_view-Index, selector_view-Slice, selector_view-Filter, filter_view-Or, filter_view-And, filter_view-Group, filter_view-Exists, filter_view-Call, filter_view-Comparison, filter_view-Kept, called_view-Here, called_view-Kept, nodes_view-Lookup, nodes_view-Walk, nodes_view-Kept, side_view-Literal, side_view-Lookup, side_view-Kept, side_view-Call, argument_view-Literal, argument_view-Pattern, argument_view-Nodes, argument_view-Call, argument_view-Filter, call_view-Length, call_view-Value, call_view-Count, call_view-Search, call_view-Match}
+use Rattle.jsonpath_rust.proofs.laws.selection.PlanEquations.{called, segment_view-Descendant, segment_view-Selector, segment_view-Selectors, selector_view-Name, selector_view-Wildcard, selector_view-Index, selector_view-Slice, selector_view-Filter, filter_view-Or, filter_view-And, filter_view-Group, filter_view-Exists, filter_view-Call, filter_view-Comparison, filter_view-Constant, called_view-Here, called_view-Constant, nodes_view-Lookup, nodes_view-Walk, nodes_view-Constant, side_view-Literal, side_view-Lookup, side_view-Constant, side_view-Call, argument_view-Literal, argument_view-Pattern, argument_view-Nodes, argument_view-Call, argument_view-Filter, call_view-Length, call_view-Value, call_view-Count, call_view-Search, call_view-Match}
 use Rattle.jsonpath_base.specs.Tree.{get, truth, text}
 use Rattle.jsonpath_base.specs.Slice.{slice_of}
 use Rattle.jsonpath_rust.specs.documents.Node.{below, children, root_node, subtree}
@@ -738,10 +738,10 @@ filter_holds-comparison_holds-requires g t c κs within =
     let e = ap (filter_view kept) c.in-Comparison.is ∙ filter_view-Comparison kept _ _ _ in
     (down _ _ _ _ _ _ c.decreases (omega (arith, ap filter_weight e)) (omega (arith, c.requires.within)), (within, c.requires))
 
-pub filter_holds-kept_comparison-requires : goal.filter_holds-kept_comparison-requires
-filter_holds-kept_comparison-requires g t c κs within =
+pub filter_holds-constant_comparison-requires : goal.filter_holds-constant_comparison-requires
+filter_holds-constant_comparison-requires g t c κs within =
     let kept = kept_of c.args.self.now in
-    let e = ap (filter_view kept) c.in-Kept.is ∙ filter_view-Kept kept c.in-Kept.number in
+    let e = ap (filter_view kept) c.in-Constant.is ∙ filter_view-Constant kept c.in-Constant.number in
     (down _ _ _ _ _ _ c.decreases (omega (arith, ap filter_weight e)) (omega arith), (within, c.requires.ready))
 
 pub filter_holds-returns-in-Or-clause-holds : goal.filter_holds-returns-in-Or-clause-holds
@@ -793,13 +793,13 @@ filter_holds-returns-in-Comparison-clause-holds g t c =
     let e = ap (filter_view kept) c.in-Comparison.is ∙ filter_view-Comparison kept _ _ _ in
     ok_as _ _ _ (sym (ap (λ f. holds f d n) e)) c.comparison_holds.ensures.holds
 
-pub filter_holds-returns-in-Kept-clause-holds : goal.filter_holds-returns-in-Kept-clause-holds
-filter_holds-returns-in-Kept-clause-holds g t c =
+pub filter_holds-returns-in-Constant-clause-holds : goal.filter_holds-returns-in-Constant-clause-holds
+filter_holds-returns-in-Constant-clause-holds g t c =
     let kept = kept_of c.args.self.now in
     let d = document c.args.self.now in
     let n = node_of c.args.trail.now.way.steps.items c.args.at in
-    let e = ap (filter_view kept) c.in-Kept.is ∙ filter_view-Kept kept c.in-Kept.number in
-    ok_as _ _ _ (sym (ap (λ f. holds f d n) e)) (c.kept_comparison.ensures.holds n)
+    let e = ap (filter_view kept) c.in-Constant.is ∙ filter_view-Constant kept c.in-Constant.number in
+    ok_as _ _ _ (sym (ap (λ f. holds f d n) e)) (c.constant_comparison.ensures.holds n)
 
 pub exists-nodes-requires : goal.exists-nodes-requires
 exists-nodes-requires g t c κs within = (down_tree _ _ _ _ _ c.decreases (omega arith), (within, c.requires))
@@ -854,8 +854,8 @@ side-called-requires g t c κs within =
     let e = ap (side_view kept) c.in-Call.is ∙ side_view-Call kept c.in-Call.call in
     (down _ _ _ _ _ _ c.decreases (omega (arith, ap comparable_weight e)) (omega arith), (within, c.requires))
 
-pub side-kept_value-requires : goal.side-kept_value-requires
-side-kept_value-requires g t c = c.requires.ready
+pub side-constant_value-requires : goal.side-constant_value-requires
+side-constant_value-requires g t c = c.requires.ready
 
 pub side-returns-in-Literal-clause-value : goal.side-returns-in-Literal-clause-value
 side-returns-in-Literal-clause-value g t c =
@@ -873,16 +873,16 @@ side-returns-in-Lookup-clause-value g t c =
     let e = ap (side_view kept) c.in-Lookup.is ∙ side_view-Lookup kept c.in-Lookup.steps in
     c.lent.ensures ∙ c.value_at.ensures ∙ ap (λ (ss : List SingularQuerySegment). value_at (map step_view ss) n.tree) c.deref.ensures.value ∙ sym (ap (λ x. value_of x d n) e)
 
-pub side-returns-in_ok-kept_value-in-Kept-clause-value : goal.side-returns-in_ok-kept_value-in-Kept-clause-value
-side-returns-in_ok-kept_value-in-Kept-clause-value g t c =
+pub side-returns-in_ok-constant_value-in-Constant-clause-value : goal.side-returns-in_ok-constant_value-in-Constant-clause-value
+side-returns-in_ok-constant_value-in-Constant-clause-value g t c =
     let kept = kept_of c.args.self.now in
     let d = document c.args.self.now in
     let n = node_of c.args.trail.now.way.steps.items c.args.at in
-    let e = ap (side_view kept) c.in-Kept.is ∙ side_view-Kept kept c.in-Kept.number in
-    c.in_ok-kept_value-in-Kept.ensures.value ∙ sym (ap (λ x. value_of x d n) e)
+    let e = ap (side_view kept) c.in-Constant.is ∙ side_view-Constant kept c.in-Constant.number in
+    c.in_ok-constant_value-in-Constant.ensures.value ∙ sym (ap (λ x. value_of x d n) e)
 
-pub side-returns-in_ok-kept_value-in-Kept-clause-comes : goal.side-returns-in_ok-kept_value-in-Kept-clause-comes
-side-returns-in_ok-kept_value-in-Kept-clause-comes g t c = record { back = record { same = refl; ready = c.in_ok-kept_value-in-Kept.ensures.ready }; ready = tt; halts = tt }
+pub side-returns-in_ok-constant_value-in-Constant-clause-comes : goal.side-returns-in_ok-constant_value-in-Constant-clause-comes
+side-returns-in_ok-constant_value-in-Constant-clause-comes g t c = record { back = record { same = refl; ready = c.in_ok-constant_value-in-Constant.ensures.ready }; ready = tt; halts = tt }
 
 pub side-returns-in-Call-clause-value : goal.side-returns-in-Call-clause-value
 side-returns-in-Call-clause-value g t c =
@@ -1083,10 +1083,10 @@ nodes-gather-requires g t c κs within =
     let e = ap (λ ns. nodes_view kept ns c.args.wanted) c.in-Walk.is ∙ nodes_view-Walk kept c.in-Walk.segments c.args.wanted in
     (down _ _ _ _ _ _ c.decreases (omega (arith, ap test_weight e, ap (λ (xs : List Segment). segments_weight (segments_meant kept xs)) c.deref-in-Walk.ensures.value)) (omega (arith, c.requires.within)), (within, c.requires))
 
-pub nodes-kept_nodes-requires : goal.nodes-kept_nodes-requires
-nodes-kept_nodes-requires g t c κs within =
+pub nodes-constant_nodes-requires : goal.nodes-constant_nodes-requires
+nodes-constant_nodes-requires g t c κs within =
     let kept = kept_of c.args.self.now in
-    let e = ap (λ ns. nodes_view kept ns c.args.wanted) c.in-Kept.is ∙ nodes_view-Kept kept c.in-Kept.number c.args.wanted in
+    let e = ap (λ ns. nodes_view kept ns c.args.wanted) c.in-Constant.is ∙ nodes_view-Constant kept c.in-Constant.number c.args.wanted in
     (down _ _ _ _ _ _ c.decreases (omega (arith, ap test_weight e)) (omega (arith, c.requires.within)), (within, c.requires.ready))
 
 pub nodes-returns-in_ok-looked_up-in-Lookup-clause-held : goal.nodes-returns-in_ok-looked_up-in-Lookup-clause-held
@@ -1107,44 +1107,44 @@ nodes-returns-in_ok-gather-in-Walk-clause-held g t c =
     let ns = ap (λ (gs : List Segment). through (segments_meant kept gs) d n) c.deref-in-Walk.ensures.value ∙ through-applied (segments_meant kept c.in-Walk.segments.items) d n in
     ap nodes (c.in_ok-gather-in-Walk.ensures.given ∙ ap (give (start c.args.wanted)) ns) ∙ sym (ap (λ q. holding c.args.wanted (tested q d n)) e)
 
-pub nodes-returns-in-Kept-clause-held : goal.nodes-returns-in-Kept-clause-held
-nodes-returns-in-Kept-clause-held g t c =
+pub nodes-returns-in-Constant-clause-held : goal.nodes-returns-in-Constant-clause-held
+nodes-returns-in-Constant-clause-held g t c =
     let kept = kept_of c.args.self.now in
     let d = document c.args.self.now in
     let n = node_of c.args.trail.now.way.steps.items c.args.at in
-    let e = ap (λ ns. nodes_view kept ns c.args.wanted) c.in-Kept.is ∙ nodes_view-Kept kept c.in-Kept.number c.args.wanted in
-    IfOk-weaker c.kept_nodes.result _ _ (λ g h. ap nodes h ∙ sym (ap (λ q. holding c.args.wanted (tested q d n)) e)) c.kept_nodes.ensures.given
+    let e = ap (λ ns. nodes_view kept ns c.args.wanted) c.in-Constant.is ∙ nodes_view-Constant kept c.in-Constant.number c.args.wanted in
+    IfOk-weaker c.constant_nodes.result _ _ (λ g h. ap nodes h ∙ sym (ap (λ q. holding c.args.wanted (tested q d n)) e)) c.constant_nodes.ensures.given
 
-pub kept_nodes-gather-requires : goal.kept_nodes-gather-requires
-kept_nodes-gather-requires g t c κs within =
+pub constant_nodes-gather-requires : goal.constant_nodes-gather-requires
+constant_nodes-gather-requires g t c κs within =
     let kept = kept_of c.args.self.now in
     let e = kept_query kept c.args.number c.args.wanted _ c.in-Some.ensures.part in
     let root = at_root (ap (λ w. w.steps.items) c.replace-here.ensures.after ∙ c.new-root.ensures) c.requires in
     (down _ _ _ _ _ _ c.decreases (omega (arith, ap segments_weight e)) (omega arith), (within, root))
 
-pub kept_nodes-keep-requires : goal.kept_nodes-keep-requires
-kept_nodes-keep-requires g t c = subst (λ k. c.args.number < k) (sym c.in-Ok.ensures.comes.back.ready.room) c.in-Some.ensures.within
+pub constant_nodes-keep-requires : goal.constant_nodes-keep-requires
+constant_nodes-keep-requires g t c = subst (λ k. c.args.number < k) (sym c.in-Ok.ensures.comes.back.ready.room) c.in-Some.ensures.within
 
-pub kept_nodes-keep_halt-requires : goal.kept_nodes-keep_halt-requires
-kept_nodes-keep_halt-requires g t c = subst (λ k. c.args.number < k) (sym c.in-Err.ensures.comes.ready.room) c.in-Some.ensures.within
+pub constant_nodes-keep_halt-requires : goal.constant_nodes-keep_halt-requires
+constant_nodes-keep_halt-requires g t c = subst (λ k. c.args.number < k) (sym c.in-Err.ensures.comes.ready.room) c.in-Some.ensures.within
 
-pub kept_nodes-returns-in_default-clause-given : goal.kept_nodes-returns-in_default-clause-given
-kept_nodes-returns-in_default-clause-given g t c =
+pub constant_nodes-returns-in_default-clause-given : goal.constant_nodes-returns-in_default-clause-given
+constant_nodes-returns-in_default-clause-given g t c =
     let d = document c.args.self.now in
     c.in_ok-of_one.ensures.given ∙ sym (ap (λ q. give (start c.args.wanted) (nodelist q d)) c.in_default.ensures.none)
 
-pub kept_nodes-returns-then-branch-clause-given : goal.kept_nodes-returns-then-branch-clause-given
-kept_nodes-returns-then-branch-clause-given g t c =
+pub constant_nodes-returns-then-branch-clause-given : goal.constant_nodes-returns-then-branch-clause-given
+constant_nodes-returns-then-branch-clause-given g t c =
     let kept = kept_of c.args.self.now in
     let d = document c.args.self.now in
     let q = c.in-Some.ensures.part in
     c.in_ok-has_nodes.ensures.nodes kept d c.args.wanted _ c.requires q c.if-branch.true ∙ ap (λ x. give (start c.args.wanted) (nodelist x d)) (sym (kept_query kept c.args.number c.args.wanted _ q))
 
-pub kept_nodes-returns-then-branch-clause-comes : goal.kept_nodes-returns-then-branch-clause-comes
-kept_nodes-returns-then-branch-clause-comes g t c = record { back = stays c.requires; ready = tt; halts = tt }
+pub constant_nodes-returns-then-branch-clause-comes : goal.constant_nodes-returns-then-branch-clause-comes
+constant_nodes-returns-then-branch-clause-comes g t c = record { back = stays c.requires; ready = tt; halts = tt }
 
-pub kept_nodes-returns-in-Ok-clause-given : goal.kept_nodes-returns-in-Ok-clause-given
-kept_nodes-returns-in-Ok-clause-given g t c =
+pub constant_nodes-returns-in-Ok-clause-given : goal.constant_nodes-returns-in-Ok-clause-given
+constant_nodes-returns-in-Ok-clause-given g t c =
     let kept = kept_of c.args.self.now in
     let d = document c.args.self.now in
     let gs = segments_meant kept c.in-Some.segments.now in
@@ -1152,8 +1152,8 @@ kept_nodes-returns-in-Ok-clause-given g t c =
     let all = ap at (ap (λ w. w.steps.items) c.replace-here.ensures.after ∙ c.new-root.ensures) ∙ nodelist-through gs d ∙ ap (λ q. nodelist q d) (sym (kept_query kept c.args.number c.args.wanted _ c.in-Some.ensures.part)) in
     ap nodes_or_none c.keep.ensures.value ∙ c.in-Ok.ensures.given ∙ ap (give (start c.args.wanted)) all
 
-pub kept_nodes-returns-in-Ok-clause-comes : goal.kept_nodes-returns-in-Ok-clause-comes
-kept_nodes-returns-in-Ok-clause-comes g t c =
+pub constant_nodes-returns-in-Ok-clause-comes : goal.constant_nodes-returns-in-Ok-clause-comes
+constant_nodes-returns-in-Ok-clause-comes g t c =
     let kept = kept_of c.args.self.now in
     let d = document c.args.self.now in
     let gs = segments_meant kept c.in-Some.segments.now in
@@ -1162,8 +1162,8 @@ kept_nodes-returns-in-Ok-clause-comes g t c =
     let given = ap keeping.nodes (c.in-Ok.ensures.given ∙ ap (give (start c.args.wanted)) all) ∙ sym (ap (λ p. given_by p d) c.in-Some.ensures.part) in
     record { back = record { same = ap (λ w. w.steps.items) c.replace-here.ensures.value; ready = c.keep.ensures.right kept d given c.in-Ok.ensures.comes.back.ready }; ready = tt; halts = tt }
 
-pub kept_nodes-returns-clause-comes : goal.kept_nodes-returns-clause-comes
-kept_nodes-returns-clause-comes g t c =
+pub constant_nodes-returns-clause-comes : goal.constant_nodes-returns-clause-comes
+constant_nodes-returns-clause-comes g t c =
     let kept = kept_of c.args.self.now in
     let d = document c.args.self.now in
     let comes = c.in-Err.ensures.comes in
@@ -1182,10 +1182,10 @@ called-answer-requires g t c κs within =
     let e = ap (called_view kept) c.in-Here.is ∙ called_view-Here kept c.in-Here.call ∙ ap (call_view kept) (sym c.deref.ensures) in
     (down_same _ _ _ _ _ _ c.decreases (sym (ap call_weight e)) (omega (arith, c.requires.within)), (within, c.requires))
 
-pub called-kept_answer-requires : goal.called-kept_answer-requires
-called-kept_answer-requires g t c κs within =
+pub called-constant_answer-requires : goal.called-constant_answer-requires
+called-constant_answer-requires g t c κs within =
     let kept = kept_of c.args.self.now in
-    let e = ap (called_view kept) c.in-Kept.is ∙ called_view-Kept kept c.in-Kept.number in
+    let e = ap (called_view kept) c.in-Constant.is ∙ called_view-Constant kept c.in-Constant.number in
     (down_same _ _ _ _ _ _ c.decreases (sym (ap call_weight e)) (omega arith), (within, c.requires.ready))
 
 pub called-returns-in-Here-clause-value : goal.called-returns-in-Here-clause-value
@@ -1196,78 +1196,78 @@ called-returns-in-Here-clause-value g t c =
     let e = ap (called_view kept) c.in-Here.is ∙ called_view-Here kept c.in-Here.call ∙ ap (call_view kept) (sym c.deref.ensures) in
     ok_through _ (operand_tree) _ _ (sym (ap (λ f. answer f d n) e)) c.answer.ensures.value
 
-pub called-returns-in-Kept-clause-value : goal.called-returns-in-Kept-clause-value
-called-returns-in-Kept-clause-value g t c =
+pub called-returns-in-Constant-clause-value : goal.called-returns-in-Constant-clause-value
+called-returns-in-Constant-clause-value g t c =
     let kept = kept_of c.args.self.now in
     let d = document c.args.self.now in
     let n = node_of c.args.trail.now.way.steps.items c.args.at in
-    let e = ap (called_view kept) c.in-Kept.is ∙ called_view-Kept kept c.in-Kept.number in
-    ok_through _ (operand_tree) _ _ (sym (ap (λ f. answer f d n) e)) (c.kept_answer.ensures.value n)
+    let e = ap (called_view kept) c.in-Constant.is ∙ called_view-Constant kept c.in-Constant.number in
+    ok_through _ (operand_tree) _ _ (sym (ap (λ f. answer f d n) e)) (c.constant_answer.ensures.value n)
 
-pub kept_answer-answer-requires : goal.kept_answer-answer-requires
-kept_answer-answer-requires g t c κs within =
+pub constant_answer-answer-requires : goal.constant_answer-answer-requires
+constant_answer-answer-requires g t c κs within =
     let e = ap call_in c.in-Some.ensures.part in
     let root = at_root (ap (λ w. w.steps.items) c.replace-here.ensures.after ∙ c.new-root.ensures) c.requires in
     (down_same _ _ _ _ _ _ c.decreases (sym (ap call_weight e)) (omega arith), (within, root))
 
-pub kept_answer-keep-requires : goal.kept_answer-keep-requires
-kept_answer-keep-requires g t c = subst (λ k. c.args.number < k) (sym c.in_ok-given.ensures.comes.back.ready.room) c.in-Some.ensures.within
+pub constant_answer-keep-requires : goal.constant_answer-keep-requires
+constant_answer-keep-requires g t c = subst (λ k. c.args.number < k) (sym c.in_ok-given.ensures.comes.back.ready.room) c.in-Some.ensures.within
 
-pub kept_answer-returns-in_default-clause-value : goal.kept_answer-returns-in_default-clause-value
-kept_answer-returns-in_default-clause-value g t c = λ n.
+pub constant_answer-returns-in_default-clause-value : goal.constant_answer-returns-in_default-clause-value
+constant_answer-returns-in_default-clause-value g t c = λ n.
     let d = document c.args.self.now in
     sym (ap (λ f. answer f d n) c.in_default.ensures.none)
 
-pub kept_answer-returns-in-Some-2-clause-value : goal.kept_answer-returns-in-Some-2-clause-value
-kept_answer-returns-in-Some-2-clause-value g t c = λ n.
+pub constant_answer-returns-in-Some-2-clause-value : goal.constant_answer-returns-in-Some-2-clause-value
+constant_answer-returns-in-Some-2-clause-value g t c = λ n.
     let kept = kept_of c.args.self.now in
     let d = document c.args.self.now in
     of_some (λ v. operand_tree v ≡ value_by (plan.part_at kept c.args.number) d) _ _ c.in-Some-2.is c.in_ok-value.ensures.value ∙ ap (λ p. value_by p d) c.in-Some.ensures.part ∙ sym (ap (λ p. answer (call_in p) d (root_node d.root)) c.in-Some.ensures.part) ∙ kept_call_same kept c.args.number d (root_node d.root) n c.args.self.now.plan.now.rooted
 
-pub kept_answer-returns-clause-value : goal.kept_answer-returns-clause-value
-kept_answer-returns-clause-value g t c = λ n.
+pub constant_answer-returns-clause-value : goal.constant_answer-returns-clause-value
+constant_answer-returns-clause-value g t c = λ n.
     let kept = kept_of c.args.self.now in
     let d = document c.args.self.now in
     let top = ap (λ (q : List StepRef). node_of q c.args.self.now.root) (ap (λ w. w.steps.items) c.replace-here.ensures.after ∙ c.new-root.ensures) in
     c.in_ok-first.ensures.value ∙ answer_as _ _ d _ (root_node d.root) _ (ap call_in c.in-Some.ensures.part) top c.in_ok-given.ensures.value ∙ kept_call_same kept c.args.number d (root_node d.root) n c.args.self.now.plan.now.rooted
 
-pub kept_answer-returns-clause-comes : goal.kept_answer-returns-clause-comes
-kept_answer-returns-clause-comes g t c =
+pub constant_answer-returns-clause-comes : goal.constant_answer-returns-clause-comes
+constant_answer-returns-clause-comes g t c =
     let kept = kept_of c.args.self.now in
     let d = document c.args.self.now in
     let top = ap (λ (q : List StepRef). node_of q c.args.self.now.root) (ap (λ w. w.steps.items) c.replace-here.ensures.after ∙ c.new-root.ensures) in
     let given = answer_kept _ _ d _ _ c.in-Some.ensures.part top c.in_ok-given.ensures.value in
     record { back = record { same = ap (λ w. w.steps.items) c.replace-here.ensures.value; ready = c.keep.ensures.right kept d given c.in_ok-given.ensures.comes.back.ready }; ready = tt; halts = tt }
 
-pub kept_comparison-comparison_holds-requires : goal.kept_comparison-comparison_holds-requires
-kept_comparison-comparison_holds-requires g t c κs within =
+pub constant_comparison-comparison_holds-requires : goal.constant_comparison-comparison_holds-requires
+constant_comparison-comparison_holds-requires g t c κs within =
     let e = ap comparison_in c.in-Some.ensures.part in
     let root = at_root (ap (λ w. w.steps.items) c.replace-here.ensures.after ∙ c.new-root.ensures) c.requires in
     (down_same _ _ _ _ _ _ c.decreases (sym (ap comparison_weight e)) (omega arith), (within, root))
 
-pub kept_comparison-keep-requires : goal.kept_comparison-keep-requires
-kept_comparison-keep-requires g t c = subst (λ k. c.args.number < k) (sym c.in_ok-held.ensures.comes.back.ready.room) c.in-Some.ensures.within
+pub constant_comparison-keep-requires : goal.constant_comparison-keep-requires
+constant_comparison-keep-requires g t c = subst (λ k. c.args.number < k) (sym c.in_ok-held.ensures.comes.back.ready.room) c.in-Some.ensures.within
 
-pub kept_comparison-returns-in_default-clause-holds : goal.kept_comparison-returns-in_default-clause-holds
-kept_comparison-returns-in_default-clause-holds g t c = λ n.
+pub constant_comparison-returns-in_default-clause-holds : goal.constant_comparison-returns-in_default-clause-holds
+constant_comparison-returns-in_default-clause-holds g t c = λ n.
     let d = document c.args.self.now in
     sym (ap (λ q. comparison_holds q d n) c.in_default.ensures.none)
 
-pub kept_comparison-returns-in-Some-2-clause-holds : goal.kept_comparison-returns-in-Some-2-clause-holds
-kept_comparison-returns-in-Some-2-clause-holds g t c = λ n.
+pub constant_comparison-returns-in-Some-2-clause-holds : goal.constant_comparison-returns-in-Some-2-clause-holds
+constant_comparison-returns-in-Some-2-clause-holds g t c = λ n.
     let kept = kept_of c.args.self.now in
     let d = document c.args.self.now in
     c.is_true.ensures ∙ ap is_true (of_some (λ v. operand_tree v ≡ value_by (plan.part_at kept c.args.number) d) _ _ c.in-Some-2.is c.in_ok-value.ensures.value ∙ ap (λ p. value_by p d) c.in-Some.ensures.part) ∙ sym (ap (λ p. comparison_holds (comparison_in p) d (root_node d.root)) c.in-Some.ensures.part) ∙ kept_comparison_same kept c.args.number d (root_node d.root) n c.args.self.now.plan.now.rooted
 
-pub kept_comparison-returns-clause-holds : goal.kept_comparison-returns-clause-holds
-kept_comparison-returns-clause-holds g t c = λ n.
+pub constant_comparison-returns-clause-holds : goal.constant_comparison-returns-clause-holds
+constant_comparison-returns-clause-holds g t c = λ n.
     let kept = kept_of c.args.self.now in
     let d = document c.args.self.now in
     let top = ap (λ (q : List StepRef). node_of q c.args.self.now.root) (ap (λ w. w.steps.items) c.replace-here.ensures.after ∙ c.new-root.ensures) in
     comparison_as _ _ d _ (root_node d.root) _ (ap comparison_in c.in-Some.ensures.part) top c.in_ok-held.ensures.holds ∙ kept_comparison_same kept c.args.number d (root_node d.root) n c.args.self.now.plan.now.rooted
 
-pub kept_comparison-returns-clause-comes : goal.kept_comparison-returns-clause-comes
-kept_comparison-returns-clause-comes g t c =
+pub constant_comparison-returns-clause-comes : goal.constant_comparison-returns-clause-comes
+constant_comparison-returns-clause-comes g t c =
     let kept = kept_of c.args.self.now in
     let d = document c.args.self.now in
     let top = ap (λ (q : List StepRef). node_of q c.args.self.now.root) (ap (λ w. w.steps.items) c.replace-here.ensures.after ∙ c.new-root.ensures) in

@@ -63,11 +63,11 @@ decreases-answer g l = work (call_weight (call_view (kept_of l.self.now) l.call.
 abbrev pub decreases-called : goal.decreases-called
 decreases-called g l = work (call_weight (called_view (kept_of l.self.now) l.call.now)) (size (tree_of l.self.now.root)) (5 * size (tree_of l.self.now.root) + 4)
 
-abbrev pub decreases-kept_answer : goal.decreases-kept_answer
-decreases-kept_answer g l = work (call_weight (call_at (kept_of l.self.now) l.number)) (size (tree_of l.self.now.root)) (5 * size (tree_of l.self.now.root) + 3)
+abbrev pub decreases-constant_answer : goal.decreases-constant_answer
+decreases-constant_answer g l = work (call_weight (call_at (kept_of l.self.now) l.number)) (size (tree_of l.self.now.root)) (5 * size (tree_of l.self.now.root) + 3)
 
-abbrev pub decreases-kept_comparison : goal.decreases-kept_comparison
-decreases-kept_comparison g l = work (comparison_weight (comparison_at (kept_of l.self.now) l.number)) (size (tree_of l.self.now.root)) (5 * size (tree_of l.self.now.root) + 3)
+abbrev pub decreases-constant_comparison : goal.decreases-constant_comparison
+decreases-constant_comparison g l = work (comparison_weight (comparison_at (kept_of l.self.now) l.number)) (size (tree_of l.self.now.root)) (5 * size (tree_of l.self.now.root) + 3)
 
 abbrev pub decreases-match_or_search : goal.decreases-match_or_search
 decreases-match_or_search g l = work (argument_weight (argument_view (kept_of l.self.now) l.args.0.now Only) + argument_weight (argument_view (kept_of l.self.now) l.args.1.now Only) + 1) (size (tree_of l.self.now.root)) (5 * size (tree_of l.at))
@@ -96,8 +96,8 @@ decreases-side g l = work (comparable_weight (side_view (kept_of l.self.now) l.s
 abbrev pub decreases-nodes : goal.decreases-nodes
 decreases-nodes g l = work (test_weight (nodes_view (kept_of l.self.now) l.nodes.now l.wanted)) (size (tree_of l.self.now.root)) (5 * size (tree_of l.at))
 
-abbrev pub decreases-kept_nodes : goal.decreases-kept_nodes
-decreases-kept_nodes g l = work (segments_weight (query_at (kept_of l.self.now) l.wanted l.number) + 3) (size (tree_of l.self.now.root)) (5 * size (tree_of l.self.now.root))
+abbrev pub decreases-constant_nodes : goal.decreases-constant_nodes
+decreases-constant_nodes g l = work (segments_weight (query_at (kept_of l.self.now) l.wanted l.number) + 3) (size (tree_of l.self.now.root)) (5 * size (tree_of l.self.now.root))
 
 -- what was given, with what is left, is what all of them give
 abbrev pub invariant-pick_each-loop-selector : goal.invariant-pick_each-loop-selector

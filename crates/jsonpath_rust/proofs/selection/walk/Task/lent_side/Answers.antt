@@ -5,7 +5,7 @@ use Rattle.jsonpath_parser.specs.declared.tree.model.SingularQuerySegment.{Singu
 use Rattle.jsonpath_rust.specs.documents.Meaning.{value_at, value_of}
 use Rattle.jsonpath_rust.specs.selection.inner.Keeping.{document, kept_of, value_by}
 use Rattle.jsonpath_rust.specs.selection.inner.PlanViews.{side_view, steps_in}
-use Rattle.jsonpath_rust.proofs.laws.selection.PlanEquations.{side_view-Literal, side_view-Lookup, side_view-Kept, side_view-Call}
+use Rattle.jsonpath_rust.proofs.laws.selection.PlanEquations.{side_view-Literal, side_view-Lookup, side_view-Constant, side_view-Call}
 use Rattle.jsonpath_rust.specs.documents.inner.Whole.{tree_of}
 use Rattle.jsonpath_rust.proofs.selection.walk.Task.lent_side.Goals as goal
 
@@ -27,7 +27,7 @@ pub returns-in-Some : goal.returns-in-Some
 returns-in-Some g c = λ n e.
     let kept = kept_of c.args.self.now in
     let d = document c.args.self.now in
-    let is = ap (side_view kept) c.in-Kept.is ∙ side_view-Kept kept c.in-Kept.number in
+    let is = ap (side_view kept) c.in-Constant.is ∙ side_view-Constant kept c.in-Constant.number in
     IfSome_then c.lent_value.result c.lent_value.ensures (λ s h. h ∙ ap (λ p. value_by p d) c.in-Some.ensures.part ∙ sym (ap (λ p. value_at (steps_in p) d.root) c.in-Some.ensures.part) ∙ sym (ap (λ x. value_of x d n) is))
 
 pub returns-in-Call : goal.returns-in-Call

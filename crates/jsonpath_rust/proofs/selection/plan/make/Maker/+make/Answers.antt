@@ -128,7 +128,7 @@ test-returns-in_ok-nodes-in-RelQuery-clause-made t c =
 
 pub test-returns-in_ok-absolute-in-AbsQuery-clause-made : goal.test-returns-in_ok-absolute-in-AbsQuery-clause-made
 test-returns-in_ok-absolute-in-AbsQuery-clause-made t c =
-    made_as (λ q. syntax.atom (syntax.Atom.test c.args.not (syntax.absolute q))) _ _ (λ kept. plan.filter_view-Exists kept _ _ ∙ ap (λ x. syntax.atom (syntax.Atom.test c.args.not x)) (plan.nodes_view-Kept kept _ Any)) (ap (λ x. syntax.atom (syntax.Atom.test c.args.not x)) (ap tree.test_view c.in-AbsQuery.is ∙ source.test_view-AbsQuery c.in-AbsQuery.query)) c.in_ok-absolute-in-AbsQuery.ensures.made
+    made_as (λ q. syntax.atom (syntax.Atom.test c.args.not (syntax.absolute q))) _ _ (λ kept. plan.filter_view-Exists kept _ _ ∙ ap (λ x. syntax.atom (syntax.Atom.test c.args.not x)) (plan.nodes_view-Constant kept _ Any)) (ap (λ x. syntax.atom (syntax.Atom.test c.args.not x)) (ap tree.test_view c.in-AbsQuery.is ∙ source.test_view-AbsQuery c.in-AbsQuery.query)) c.in_ok-absolute-in-AbsQuery.ensures.made
 
 pub test-returns-in_ok-call-in-Function-clause-made : goal.test-returns-in_ok-call-in-Function-clause-made
 test-returns-in_ok-call-in-Function-clause-made t c =
@@ -157,8 +157,8 @@ relative-returns-in_ok-segments-in-None-clause-made t c = λ w.
 pub absolute-returns-clause-made : goal.absolute-returns-clause-made
 absolute-returns-clause-made t c =
     let of_query : tree.query_view c.args.query.now ≡ tree.segments_of (map tree.segment_view c.deref.result.now) = source.query_view-segments c.args.query.now ∙ ap (λ xs. tree.segments_of (map tree.segment_view xs)) (sym c.deref.ensures.value) in
-    let part = made_after c.begin-around.ensures (made_as (λ gs. nodes c.args.wanted (tree.segments_of gs)) _ _ (λ kept. refl) (ap (nodes c.args.wanted) of_query) c.in_ok-segments.ensures.made) in
-    IfOk-weaker c.number_query.result _ _ (λ n k. made_as (query_in c.args.wanted) _ _ (λ kept. refl) (sym (query_in-nodes c.args.wanted _)) (k.made part (λ r. refl))) c.number_query.ensures.numbered
+    let part = made_before c.end_query-nesting.ensures (made_after c.begin-around.ensures (made_as (λ gs. nodes c.args.wanted (tree.segments_of gs)) _ _ (λ kept. refl) (ap (nodes c.args.wanted) of_query) c.in_ok-segments.ensures.made)) in
+    IfOk-weaker c.number.result _ _ (λ n k. made_as (query_in c.args.wanted) _ _ (λ kept. refl) (sym (query_in-nodes c.args.wanted _)) (k.made part (λ r. refl))) c.number.ensures.numbered
 
 pub call-returns-in_ok-argument-in-Length-clause-made : goal.call-returns-in_ok-argument-in-Length-clause-made
 call-returns-in_ok-argument-in-Length-clause-made t c =
@@ -202,7 +202,7 @@ test_argument-returns-in_ok-relative-in-RelQuery-clause-made t c =
 
 pub test_argument-returns-in_ok-number-in-AbsQuery-clause-made : goal.test_argument-returns-in_ok-number-in-AbsQuery-clause-made
 test_argument-returns-in_ok-number-in-AbsQuery-clause-made t c =
-    made_as (λ q. syntax.test_argument (syntax.absolute q)) _ _ (λ kept. plan.argument_view-Nodes kept _ c.args.wanted ∙ ap syntax.test_argument (plan.nodes_view-Kept kept _ c.args.wanted)) (ap syntax.test_argument (ap tree.test_view c.in-AbsQuery.is ∙ source.test_view-AbsQuery c.in-AbsQuery.query)) c.in_ok-number-in-AbsQuery.ensures.made
+    made_as (λ q. syntax.test_argument (syntax.absolute q)) _ _ (λ kept. plan.argument_view-Nodes kept _ c.args.wanted ∙ ap syntax.test_argument (plan.nodes_view-Constant kept _ c.args.wanted)) (ap syntax.test_argument (ap tree.test_view c.in-AbsQuery.is ∙ source.test_view-AbsQuery c.in-AbsQuery.query)) c.in_ok-number-in-AbsQuery.ensures.made
 
 pub test_argument-returns-in_ok-called-in-Function-clause-made : goal.test_argument-returns-in_ok-called-in-Function-clause-made
 test_argument-returns-in_ok-called-in-Function-clause-made t c =
@@ -229,10 +229,10 @@ comparison-returns-clause-made t c =
 
 pub called-returns-then-is_rooted_call-clause-made : goal.called-returns-then-is_rooted_call-clause-made
 called-returns-then-is_rooted_call-clause-made t c =
-    let made = made_before c.end-nesting.ensures (made_after c.begin-around.ensures c.in_ok-made.ensures.made) in
+    let made = made_before c.end.ensures (made_after c.begin-around.ensures c.in_ok-made.ensures.made) in
     let part = made_as answered _ _ (λ kept. refl) refl made in
-    made_as call_in _ _ (λ kept. plan.called_view-Kept kept _) refl (c.in_ok-number.ensures.numbered.made part (source_rooted call_is_rooted made (λ kept r. c.is_rooted_call.ensures c.if-is_rooted_call.true kept r)))
+    made_as call_in _ _ (λ kept. plan.called_view-Constant kept _) refl (c.in_ok-number.ensures.numbered.made part (source_rooted call_is_rooted made (λ kept r. c.is_rooted_call.ensures c.if-is_rooted_call.true kept r)))
 
 pub called-returns-clause-made : goal.called-returns-clause-made
 called-returns-clause-made t c =
-    made_before c.end-nesting.ensures (made_after c.begin-around.ensures (made_as (λ x. x) _ _ (λ kept. plan.called_view-Here kept _ ∙ ap (call_view kept) (search rules)) refl c.in_ok-made.ensures.made))
+    made_before c.end.ensures (made_after c.begin-around.ensures (made_as (λ x. x) _ _ (λ kept. plan.called_view-Here kept _ ∙ ap (call_view kept) (search rules)) refl c.in_ok-made.ensures.made))

@@ -1,20 +1,20 @@
-//! Parts of the query without `@`: each has a number. Equal ones have one, and what stands in them has its number already, so each
-//! is compared by itself.
+//! The numbers of constants. Equal ones have one, and what stands in them has its number already, so each is compared by
+//! itself.
 ghost use Rattle.std.specs.Prelude.{◌≡◌, IfOk, IfSome};
 ghost use Rattle.jsonpath_rust.specs.documents.inner.Refusing.{MemoryAlone};
 ghost use Rattle.jsonpath_rust.specs.selection.inner.PlanMaking.{IsBeside, IsCompared, IsNumbered, IsNumberOf};
-ghost use Rattle.jsonpath_rust.specs.declared.selection.plan.Rooted.TheVariants.{Comparison};
+ghost use Rattle.jsonpath_rust.specs.declared.selection.plan.Constant.TheVariants.{Comparison};
 
 use super::absolute::are_rooted_sides;
 use super::make::Maker;
-use super::{Entry, Filter, Rooted, Side};
+use super::{Constant, Filter, Side};
 use jsonpath_parser::errors::Parsed;
 use jsonpath_parser::model::Operator;
 use std::mem;
 
-/// How many queries from the root may be on their way at once when an entry is first asked: it, where it is one, and those
+/// How many queries from the root may be on their way at once when a constant is first asked: it, where it is one, and those
 /// that stand in it, one in the other. 0 where it is a value.
-#[derive(Clone, Copy)]
+#[derive(Clone, Copy, PartialEq)]
 pub struct Nesting {
     /// Where those are worked out before the walk that are early. 0 where it is one of them.
     pub run: usize,
@@ -37,7 +37,7 @@ impl Nesting {
         }
     }
 
-    /// That of a query from the root, where this is the greatest of the entries that stand in it.
+    /// That of a query from the root, where this is the greatest of the constants that stand in it.
     fn around(self) -> Nesting {
         Nesting {
             run: if self.run < MOST_AT_ONCE - 1 {
@@ -64,40 +64,37 @@ impl<'q> Maker<'q> {
         mem::replace(&mut self.nesting, Nesting::NONE)
     }
 
-    /// Ends the part. The result is the greatest nesting that was met in it.
-    pub fn end(&mut self, around: Nesting) -> Nesting
+    /// Ends a part that is no query.
+    pub fn end(&mut self, around: Nesting)
         ensures { IsBeside self.old self.new }
     {
-        let inner = self.nesting;
-        self.nesting = around.max(inner);
-        inner
+        self.nesting = around.max(self.nesting);
     }
 
-    /// The number of a query from the root that was begun.
-    pub fn number_query(&mut self, part: Rooted, around: Nesting) -> Parsed<usize>
-        ensures numbered { IfOk result (IsNumbered self.old self.new part) }
-        ensures memory { MemoryAlone result }
+    /// Ends a query from the root. The result is its nesting.
+    pub fn end_query(&mut self, around: Nesting) -> Nesting
+        ensures { IsBeside self.old self.new }
     {
         let nesting = self.nesting.around();
         self.nesting = around.max(nesting);
-        self.number(part, nesting)
+        nesting
     }
 
-    /// The number of a part: that of an equal one, or of one entry more.
-    pub fn number(&mut self, part: Rooted, nesting: Nesting) -> Parsed<usize>
-        ensures numbered { IfOk result (IsNumbered self.old self.new part) }
+    /// The number of a constant: that of an equal one, or of one more.
+    pub fn number(&mut self, constant: Constant) -> Parsed<usize>
+        ensures numbered { IfOk result (IsNumbered self.old self.new constant) }
         ensures memory { MemoryAlone result }
     {
-        if let Some(number) = near_entry(&self.kept, &part) {
-            drop(part);
+        if let Some(number) = near_constant(&self.constants, &constant) {
+            drop(constant);
             return Ok(number);
         }
-        let number = self.kept.len();
-        self.kept.push(Entry { part, nesting })?;
+        let number = self.constants.len();
+        self.constants.push(constant)?;
         Ok(number)
     }
 
-    /// A comparison that was begun: the number of its entry, where it has no `@`.
+    /// A comparison that was begun: the number of the constant, where it has no `@`.
     pub fn compare(
         &mut self,
         operator: Operator,
@@ -107,28 +104,28 @@ impl<'q> Maker<'q> {
         ensures made { IfOk result (IsCompared self.old self.new (Comparison operator sides.0 sides.1)) }
         ensures memory { MemoryAlone result }
     {
-        let nesting = self.end(around);
+        self.end(around);
         let (left, right) = sides;
         if are_rooted_sides(&left, &right) {
-            let number = self.number(Rooted::Comparison(operator, left, right), nesting)?;
-            return Ok(Filter::Kept(number));
+            let number = self.number(Constant::Comparison(operator, left, right))?;
+            return Ok(Filter::Constant(number));
         }
         Ok(Filter::Comparison(operator, left, right))
     }
 }
 
-/// How many entries are near.
+/// How many constants are near.
 const NEAR: usize = 8;
 
-/// The number of an equal part among the last ones. They alone are looked at, so a query costs a few comparisons, however many
-/// there are.
-#[tactic(auto, using(crate::proofs::laws::selection::PlanEquality::part_same))]
-fn near_entry(entries: &Vec<Entry>, part: &Rooted) -> Option<usize>
-    ensures { IfSome result (IsNumberOf entries.now.items part.now) }
+/// The number of an equal constant among the last ones. They alone are looked at, so a query costs a few comparisons, however
+/// many there are.
+#[tactic(auto, using(crate::proofs::laws::selection::PlanEquality::constant_same))]
+fn near_constant(constants: &Vec<Constant>, constant: &Constant) -> Option<usize>
+    ensures { IfSome result (IsNumberOf constants.now.items constant.now) }
 {
-    let count = entries.len();
+    let count = constants.len();
     for number in count.saturating_sub(NEAR)..count {
-        if entries[number].part == *part {
+        if constants[number] == *constant {
             return Some(number);
         }
     }

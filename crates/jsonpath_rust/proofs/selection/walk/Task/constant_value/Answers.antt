@@ -1,7 +1,7 @@
 use Rattle.std.proofs.Common.{refl, ◌∙◌}
 use Rattle.jsonpath_rust.specs.selection.inner.Keeping.{document, kept_of}
 use Rattle.jsonpath_rust.proofs.laws.selection.Kept.{gives_value}
-use Rattle.jsonpath_rust.proofs.selection.walk.Task.kept_value.Goals as goal
+use Rattle.jsonpath_rust.proofs.selection.walk.Task.constant_value.Goals as goal
 
 pub returns-clause-ready : goal.returns-clause-ready
 returns-clause-ready g c =

@@ -1,4 +1,4 @@
-//! Values of the root that are kept: each is worked out when it is first asked.
+//! Constants: each is worked out when it is first asked, and then kept.
 ghost use Rattle.std.specs.Prelude.{◌≡◌, IfOk, IfErr, IfSome};
 ghost use Rattle.jsonpath_rust.specs.documents.Meaning.{answer, comparison_holds, value_at};
 ghost use Rattle.jsonpath_rust.specs.documents.Node.{Node};
@@ -41,7 +41,7 @@ fn again<'a, 's, T: Queryable>(
 }
 
 impl<'a: 's, 's, T: Queryable> Task<'a, 's, T> {
-    /// The value that is kept under this number, if it is worked out.
+    /// The value of the constant of this number, if it is worked out.
     fn kept(&self, number: usize, cache: &Cache<'a, 's, T>) -> Walked<Option<Operand<'a, 's, T>>>
         requires { IsReady self.now cache.now }
         ensures value { IfOk result (λ o. IfSome o (λ v. operand_tree v ≡ value_by (part_at (kept_of self.now) number) (document self.now))) }
@@ -53,8 +53,8 @@ impl<'a: 's, 's, T: Queryable> Task<'a, 's, T> {
         }
     }
 
-    /// The value that the steps lead to that are kept under this number.
-    pub fn kept_value(
+    /// The value that the steps lead to that have this number.
+    pub fn constant_value(
         &self,
         number: usize,
         cache: &mut Cache<'a, 's, T>,
@@ -64,7 +64,7 @@ impl<'a: 's, 's, T: Queryable> Task<'a, 's, T> {
         ensures ready { IsReady self.now cache.new }
         ensures memory { IfErr result (λ h. h ≡ Memory) }
     {
-        let Some(steps) = self.plan.kept_steps(number) else {
+        let Some(steps) = self.plan.constant_steps(number) else {
             return Ok(Operand::Lent(self.root));
         };
         if let Some(value) = self.kept(number, cache)? {
@@ -89,13 +89,13 @@ impl<'a: 's, 's, T: Queryable> Task<'a, 's, T> {
     {
         match call {
             Called::Here(call) => self.answer(call, at, trail),
-            Called::Kept(number) => self.kept_answer(*number, trail),
+            Called::Constant(number) => self.constant_answer(*number, trail),
         }
     }
 
-    /// What the call returns that is kept under this number.
+    /// What the call returns that has this number.
     #[cycle(walk)]
-    fn kept_answer(
+    fn constant_answer(
         &self,
         number: usize,
         trail: &mut Trail<'a, 's, '_, T>,
@@ -104,7 +104,7 @@ impl<'a: 's, 's, T: Queryable> Task<'a, 's, T> {
         ensures value { (n : Node) → IfOk result (λ o. operand_tree o ≡ answer (call_at (kept_of self.now) number) (document self.now) n) }
         ensures comes { Comes self.now trail.old trail.new (call_patterns (call_at (kept_of self.now) number)) result }
     {
-        let Some(call) = self.plan.kept_call(number) else {
+        let Some(call) = self.plan.constant_call(number) else {
             return Ok(Operand::Absent);
         };
         if let Some(value) = self.kept(number, &trail.cache)? {
@@ -119,14 +119,18 @@ impl<'a: 's, 's, T: Queryable> Task<'a, 's, T> {
         Ok(first)
     }
 
-    /// Whether the comparison holds that is kept under this number.
+    /// Whether the comparison holds that has this number.
     #[cycle(walk)]
-    pub fn kept_comparison(&self, number: usize, trail: &mut Trail<'a, 's, '_, T>) -> Walked<bool>
+    pub fn constant_comparison(
+        &self,
+        number: usize,
+        trail: &mut Trail<'a, 's, '_, T>,
+    ) -> Walked<bool>
         requires { IsReady self.now trail.old.cache }
         ensures holds { (n : Node) → IfOk result (λ b. b ≡ comparison_holds (comparison_at (kept_of self.now) number) (document self.now) n) }
         ensures comes { Comes self.now trail.old trail.new (comparison_patterns (comparison_at (kept_of self.now) number)) result }
     {
-        let Some((operator, left, right)) = self.plan.kept_comparison(number) else {
+        let Some((operator, left, right)) = self.plan.constant_comparison(number) else {
             return Ok(false);
         };
         if let Some(value) = self.kept(number, &trail.cache)? {
