@@ -2,7 +2,7 @@
 //! `documents`.
 //!
 //! A query is compiled to a plan (`plan`), once. The walk (`walk`, `children`) goes by the plan; inside filters (`filter`,
-//! `function`, `subquery`) it looks up names and indexes (`singular`, `sides`, `lookup`, `direct`), walks from the node at hand, or takes
+//! `function`, `subquery`) it looks up names and indexes (`singular`, `sides`, `counting`, `direct`), walks from the node at hand, or takes
 //! what is kept of the root (`cache`, `constants`, `early`) and of patterns (`engine` of `jsonpath_base`). The nodes go to a sink
 //! (`sink`) with the way that leads to them (`Way` there).
 mod action;
@@ -12,12 +12,12 @@ mod cache;
 mod children;
 mod constants;
 mod cost;
+mod counting;
 mod direct;
 mod early;
 mod filter;
 mod function;
 mod give;
-mod lookup;
 mod nodelist;
 mod onward;
 mod plan;

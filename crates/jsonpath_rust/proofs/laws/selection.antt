@@ -2,12 +2,12 @@ pub mod Answers
 pub mod Arguing
 pub mod Constants
 pub mod CostLaws
+pub mod Counting
 pub mod DirectLaws
 pub mod HaltingLaws
 pub mod Kept
 pub mod Leading
 pub mod Leaves
-pub mod LookupLaws
 pub mod NodelistLaws
 pub mod Passing
 pub mod PlanEquality

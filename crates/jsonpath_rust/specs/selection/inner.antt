@@ -4,7 +4,6 @@ pub mod AtHand
 pub mod Costs
 pub mod Halting
 pub mod Keeping
-pub mod Lookup
 pub mod Passing
 pub mod PlanMaking
 pub mod PlanViews

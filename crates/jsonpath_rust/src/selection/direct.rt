@@ -1,6 +1,7 @@
 //! Functions of what is looked up (RFC 9535, 2.4): they are worked out from borrowed values, and nothing is made for them.
-ghost use Rattle.std.specs.Prelude.{◌≡◌, Some, length, IfSome};
-ghost use Rattle.jsonpath_parser.specs.tree.Syntax.{test_argument};
+ghost use Rattle.std.specs.Prelude.{◌≡◌, Some, map, IfSome};
+ghost use Rattle.jsonpath_parser.specs.tree.Syntax.{relative, test_argument};
+ghost use Rattle.jsonpath_parser.specs.tree.View.{step_view};
 ghost use Rattle.jsonpath_rust.specs.documents.Document.{Document};
 ghost use Rattle.jsonpath_rust.specs.documents.Functions as functions;
 ghost use Rattle.jsonpath_rust.specs.documents.Functions.{as_nodes, as_truth, as_value, only_value};
@@ -8,19 +9,18 @@ ghost use Rattle.jsonpath_rust.specs.documents.Meaning.{answer, tested};
 ghost use Rattle.jsonpath_rust.specs.documents.Node.{Node};
 ghost use Rattle.jsonpath_rust.specs.documents.inner.Operands.{side_tree};
 ghost use Rattle.jsonpath_rust.specs.documents.inner.Whole.{tree_of};
-ghost use Rattle.jsonpath_rust.specs.selection.inner.PlanViews.{Constants, argument_view, call_view, nodes_view, segments_meant};
-ghost use Rattle.jsonpath_rust.specs.selection.inner.Walking.{through};
+ghost use Rattle.jsonpath_rust.specs.selection.inner.PlanViews.{Constants, argument_view, call_view, children_query, nodes_view};
 ghost use Rattle.jsonpath_rust.specs.declared.selection.sink.Wanted.{Wanted};
-ghost use Rattle.jsonpath_rust.specs.declared.selection.sink.Wanted.TheVariants.{Any, Count, Only};
+ghost use Rattle.jsonpath_rust.specs.declared.selection.sink.Wanted.TheVariants.{Any, Only};
 
 use crate::documents::comparison::Side;
 use crate::documents::queryable::Queryable;
 use crate::documents::value::count_scalar;
 use crate::documents::whole::WholeRef;
-use crate::selection::lookup::{Followed, follow};
-use crate::selection::plan::{Argument, Call, Nodes, Segment};
+use crate::selection::plan::{Argument, Call, Nodes};
 use crate::selection::singular::value_at;
 use jsonpath_base::text_length;
+use jsonpath_parser::model::SingularQuerySegment;
 
 /// What a function of nodes that are looked up returns; None where that takes a walk, or memory.
 #[inline(always)]
@@ -33,7 +33,7 @@ pub fn direct_answer<'k, 's, T: Queryable>(
     match call {
         Call::Length(arg) => direct_length(nodes_of(arg)?, at),
         Call::Value(arg) => direct_value(nodes_of(arg)?, at),
-        Call::Count(arg) => direct_count(nodes_of(arg)?, at),
+        Call::CountChildren(steps) => count_elements(steps, at),
         _ => None,
     }
 }
@@ -91,17 +91,20 @@ fn direct_value<'k, 's, T: Queryable>(nodes: &Nodes, at: WholeRef<'k, T>) -> Opt
     }
 }
 
-/// How many nodes are looked up (2.4.5).
+/// How many children the value has that is looked up, where it is a list, or there is none (2.4.5).
 #[inline(always)]
-fn direct_count<'k, 's, T: Queryable>(nodes: &Nodes, at: WholeRef<'k, T>) -> Option<Side<'k, 's, T>>
-    ensures { (kept : Constants) (d : Document) (n : Node) → n.tree ≡ tree_of at.entry → IfSome result (λ s. side_tree s ≡ functions.count_of (as_nodes (tested (nodes_view kept nodes.now Count) d n))) }
+fn count_elements<'k, 's, T: Queryable>(
+    steps: &[SingularQuerySegment],
+    at: WholeRef<'k, T>,
+) -> Option<Side<'k, 's, T>>
+    ensures { (d : Document) (n : Node) → n.tree ≡ tree_of at.entry → IfSome result (λ s. side_tree s ≡ functions.count_of (as_nodes (tested (relative (children_query (map step_view steps.now))) d n))) }
 {
-    match nodes {
-        Nodes::Walk(segments) => match followed_count(segments, at) {
-            Some(count) => Some(Side::Plain(count_scalar(count))),
+    match value_at(steps, at) {
+        Some(parent) => match parent.elements() {
+            Some(items) => Some(Side::Plain(count_scalar(items.len()))),
             None => None,
         },
-        _ => None,
+        None => Some(Side::Plain(count_scalar(0))),
     }
 }
 
@@ -112,25 +115,6 @@ pub fn is_there<T: Queryable>(nodes: &Nodes, at: WholeRef<'_, T>) -> Option<bool
 {
     match nodes {
         Nodes::Lookup(steps) => Some(value_at(steps, at).is_some()),
-        Nodes::Walk(segments) => match followed_count(segments, at) {
-            Some(count) => Some(count > 0),
-            None => None,
-        },
-        Nodes::Constant(_number) => None,
-    }
-}
-
-/// How many nodes the segments lead to, where that takes neither a walk nor memory.
-pub fn followed_count<T: Queryable>(segments: &[Segment], at: WholeRef<'_, T>) -> Option<usize>
-    ensures { (kept : Constants) (d : Document) (n : Node) → n.tree ≡ tree_of at.entry → IfSome result (λ k. k ≡ length (through (segments_meant kept segments.now) d n)) }
-{
-    match follow(segments, at) {
-        Followed::To(_value) => Some(1),
-        Followed::Nowhere => Some(0),
-        Followed::Children(parent) => match parent.elements() {
-            Some(items) => Some(items.len()),
-            None => None,
-        },
-        Followed::Open => None,
+        _ => None,
     }
 }

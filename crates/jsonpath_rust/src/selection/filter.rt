@@ -43,6 +43,10 @@ impl<'a: 's, 's, T: Queryable> Task<'a, 's, T> {
             Filter::And(parts) => self.each_holds(parts, at, trail),
             Filter::Group { expr, not } => Ok(self.filter_holds(expr, at, trail)? != *not),
             Filter::Exists { nodes, not } => Ok(self.exists(nodes, at, trail)? != *not),
+            Filter::HasChild { steps, not } => {
+                let count = self.count_children(steps, at, &mut trail.budget)?;
+                Ok((count > 0) != *not)
+            }
             Filter::Call { call, not } => Ok(self.called(call, at, trail)?.is_true() != *not),
             Filter::Comparison(operator, left, right) => {
                 self.comparison_holds(*operator, (left, right), at, trail)

@@ -17,7 +17,7 @@ ghost use Rattle.jsonpath_rust.specs.declared.selection.sink.Wanted.TheVariants.
 use crate::documents::args::Args;
 use crate::documents::halt::Walked;
 use crate::documents::queryable::Queryable;
-use crate::documents::value::{Operand, Scalar, scalar_of};
+use crate::documents::value::{Operand, Scalar, count_scalar, scalar_of};
 use crate::documents::whole::{Whole, WholeRef};
 use crate::selection::argument::Argument;
 use crate::selection::plan;
@@ -61,6 +61,10 @@ impl<'a: 's, 's, T: Queryable> Task<'a, 's, T> {
                     self.argument(arg, Wanted::Count, at, trail)?
                         .count(&trail.cache),
                 )
+            }
+            Call::CountChildren(steps) => {
+                let count = self.count_children(steps, at, &mut trail.budget)?;
+                Ok(Operand::Plain(count_scalar(count)))
             }
             Call::Search(text, pattern) => {
                 self.match_or_search((text, pattern), Extent::Substring, at, trail)

@@ -87,11 +87,25 @@ pub enum Filter {
     /// Every part holds.
     And(Vec<Filter>),
     /// The filter holds, turned round where `not`.
-    Group { expr: Box<Filter>, not: bool },
+    Group {
+        expr: Box<Filter>,
+        not: bool,
+    },
     /// There is a node, turned round where `not`.
-    Exists { nodes: Nodes, not: bool },
+    Exists {
+        nodes: Nodes,
+        not: bool,
+    },
+    /// The value that these steps lead to from the current node has a child, turned round where `not`.
+    HasChild {
+        steps: Vec<SingularQuerySegment>,
+        not: bool,
+    },
     /// The call returns true, turned round where `not`.
-    Call { call: Called, not: bool },
+    Call {
+        call: Called,
+        not: bool,
+    },
     /// The sides compare so.
     Comparison(Operator, Side, Side),
     /// The comparison that is the constant of this number holds.
@@ -146,6 +160,8 @@ pub enum Call {
     Value(Argument),
     /// `count`
     Count(Argument),
+    /// `count` of all children of the value that these steps lead to from the current node.
+    CountChildren(Vec<SingularQuerySegment>),
     /// `search`
     Search(Argument, Argument),
     /// `match`

@@ -15,7 +15,6 @@ use crate::documents::halt::Walked;
 use crate::documents::queryable::Queryable;
 use crate::documents::whole::WholeRef;
 use crate::selection::cache::{Gathered, Given};
-use crate::selection::lookup::short_cut_within;
 use crate::selection::plan::{Nodes, Segment};
 use crate::selection::singular::looked_up;
 use crate::selection::sink::{Sink, Wanted};
@@ -60,9 +59,6 @@ impl<'a: 's, 's, T: Queryable> Task<'a, 's, T> {
         ensures given { IfOk result (λ s. seen s ≡ give (start wanted) (here self.now trail.old at.entry (through (segments_meant (kept_of self.now) segments.now)))) }
         ensures comes { Comes self.now trail.old trail.new (segments_patterns (segments_meant (kept_of self.now) segments.now)) result }
     {
-        if let Some(sink) = short_cut_within(self.alloc, segments, wanted, at, self.limit)? {
-            return Ok(sink);
-        }
         let mut sink = Sink::start(self.alloc, wanted);
         let _goes_on = self.walk(segments, at, trail, &mut sink)?;
         Ok(sink)

@@ -1,6 +1,6 @@
 -- What is worked out of a look-up is what the meaning makes of its nodes.
 use Rattle.std.proofs.Common.{◌≡◌, ℕ, List, [], ◌∷◌, map, length, nat_lt, refl, sym, ◌∙◌, ap, arith, Vec, Global, Option, Some, None, option_to_list}
-use Rattle.jsonpath_parser.specs.tree.Syntax.{SingularStep, relative}
+use Rattle.jsonpath_parser.specs.tree.Syntax.{SingularStep, relative, Query}
 use Rattle.jsonpath_parser.specs.tree.View.{step_view}
 use Rattle.jsonpath_parser.specs.declared.tree.model.SingularQuerySegment.{SingularQuerySegment}
 use Rattle.jsonpath_base.specs.Tree.{Tree}
@@ -8,16 +8,14 @@ use Rattle.jsonpath_rust.specs.documents.Document.{Document}
 use Rattle.jsonpath_rust.specs.documents.Functions.{as_nodes, as_truth, as_value, count_of, count_value, only_value}
 use Rattle.jsonpath_rust.specs.documents.Meaning.{tested, value_at}
 use Rattle.jsonpath_rust.specs.documents.Node.{Node, has_node}
-use Rattle.jsonpath_rust.specs.selection.inner.Lookup.{trees_of}
-use Rattle.jsonpath_rust.specs.selection.inner.PlanViews.{Constants, nodes_view, segments_meant, steps_query}
+use Rattle.jsonpath_rust.specs.selection.inner.PlanViews.{Constants, nodes_view, steps_query}
 use Rattle.jsonpath_rust.specs.selection.inner.Walking.{through}
 use Rattle.jsonpath_rust.specs.declared.selection.plan.Nodes
 use Rattle.jsonpath_rust.specs.declared.selection.plan.Nodes.{Nodes}
-use Rattle.jsonpath_rust.specs.declared.selection.plan.Segment.{Segment}
 use Rattle.jsonpath_rust.specs.declared.selection.sink.Wanted.{Wanted}
 use Rattle.jsonpath_rust.proofs.laws.selection.NodelistLaws.{through-applied}
-use Rattle.jsonpath_rust.proofs.laws.selection.PlanEquations.{nodes_view-Lookup, nodes_view-Walk}
-use Rattle.jsonpath_rust.proofs.laws.selection.StepLaws.{steps_there}
+use Rattle.jsonpath_rust.proofs.laws.selection.PlanEquations.{nodes_view-Lookup}
+use Rattle.jsonpath_rust.proofs.laws.selection.StepLaws.{steps_there, trees_of}
 
 -- ---- the value of the only node
 
@@ -42,14 +40,8 @@ lookup_only kept ns steps w d n t i e = ap (λ x. only_value (as_nodes (tested (
 
 -- ---- how many there are
 
-pub one_there : (ns : List Node) (t : Tree) → trees_of ns ≡ t ∷ [] → 1 ≡ length ns
-one_there [] t e = absurd cc
-one_there (n ∷ []) t e = refl
-one_there (n ∷ m ∷ ns) t e = absurd cc
-
-pub walk_count : (kept : Constants) (ns : Nodes) (gs : Vec Segment Global) (w : Wanted) (d : Document) (n : Node) (k : ℕ) → ns ≡ Nodes.Walk gs → k ≡ length (through (segments_meant kept gs.items) d n) → Some (count_value k) ≡ count_of (as_nodes (tested (nodes_view kept ns w) d n))
-walk_count kept ns gs w d n k i h =
-    ap (λ j. Some (count_value j)) (h ∙ ap (λ xs. length xs) (through-applied (segments_meant kept gs.items) d n)) ∙ sym (ap (λ q. count_of (as_nodes (tested q d n))) (ap (λ x. nodes_view kept x w) i ∙ nodes_view-Walk kept gs w))
+pub query_count : (q : Query) (d : Document) (n : Node) (k : ℕ) → k ≡ length (through q d n) → Some (count_value k) ≡ count_of (as_nodes (tested (relative q) d n))
+query_count q d n k h = ap (λ j. Some (count_value j)) (h ∙ ap (λ xs. length xs) (through-applied q d n))
 
 -- ---- whether there is one
 
@@ -57,5 +49,5 @@ some_of : (k : ℕ) (ns : List Node) → k ≡ length ns → nat_lt 0 k ≡ has_
 some_of k [] e = ap (λ j. nat_lt 0 j) e
 some_of k (n ∷ ns) e = grind (arith, e)
 
-pub walk_there : (kept : Constants) (ns : Nodes) (gs : Vec Segment Global) (w : Wanted) (d : Document) (n : Node) (k : ℕ) → ns ≡ Nodes.Walk gs → k ≡ length (through (segments_meant kept gs.items) d n) → nat_lt 0 k ≡ as_truth (tested (nodes_view kept ns w) d n)
-walk_there kept ns gs w d n k i h = some_of k (through (segments_meant kept gs.items) d n) h ∙ ap has_node (through-applied (segments_meant kept gs.items) d n) ∙ sym (ap (λ q. as_truth (tested q d n)) (ap (λ x. nodes_view kept x w) i ∙ nodes_view-Walk kept gs w))
+pub query_there : (q : Query) (d : Document) (n : Node) (k : ℕ) → k ≡ length (through q d n) → nat_lt 0 k ≡ as_truth (tested (relative q) d n)
+query_there q d n k h = some_of k (through q d n) h ∙ ap has_node (through-applied q d n)

@@ -9,7 +9,7 @@ use Rattle.jsonpath_parser.proofs.Deciding.{string_same}
 use Rattle.jsonpath_parser.proofs.laws.tree.TreeEquality.{literal_same, steps_same, operator_same}
 use Rattle.jsonpath_parser.specs.tree.Syntax as tree
 use Rattle.jsonpath_parser.specs.tree.View.{segments_of, selectors_of, filters_of, arguments_of}
-use Rattle.jsonpath_rust.specs.selection.inner.PlanViews.{Constants, nodes, value, answered, compared, constant_view, query_at, steps_query, steps_at, call_at, comparison_at, segments_meant, argument_view, call_view, called_view, filter_view, nodes_view, segment_view, selector_view, side_view}
+use Rattle.jsonpath_rust.specs.selection.inner.PlanViews.{Constants, nodes, value, answered, compared, constant_view, query_at, steps_query, children_query, steps_at, call_at, comparison_at, segments_meant, argument_view, call_view, called_view, filter_view, nodes_view, segment_view, selector_view, side_view}
 use Rattle.jsonpath_rust.specs.declared.selection.plan.Filter.{the_lemmas}
 use Rattle.jsonpath_rust.specs.declared.selection.plan.Constant.{Constant}
 use Rattle.jsonpath_rust.specs.declared.selection.plan.Constant.TheVariants as constant
@@ -106,6 +106,7 @@ mutual
   call_same kept (Call.Length a) (Call.Length b) = under tree.length_call (argument_same kept a b wanted.Only) (call_laws.is (Call.Length a) (Call.Length b) ∙ search layers) (search layers) (search layers)
   call_same kept (Call.Value a) (Call.Value b) = under tree.value_call (argument_same kept a b wanted.Only) (call_laws.is (Call.Value a) (Call.Value b) ∙ search layers) (search layers) (search layers)
   call_same kept (Call.Count a) (Call.Count b) = under tree.count_call (argument_same kept a b wanted.Count) (call_laws.is (Call.Count a) (Call.Count b) ∙ search layers) (search layers) (search layers)
+  call_same kept (Call.CountChildren v) (Call.CountChildren u) = under (λ ss. tree.count_call (tree.test_argument (tree.relative (children_query ss)))) (steps_same v.items u.items).0 (call_laws.is (Call.CountChildren v) (Call.CountChildren u) ∙ search layers) (search layers) (search layers)
   call_same kept (Call.Search a c) (Call.Search b d) = under_two tree.search_call (argument_same kept a b wanted.Only) (argument_same kept c d wanted.Only) (call_laws.is (Call.Search a c) (Call.Search b d) ∙ search layers) (search layers) (search layers)
   call_same kept (Call.Match a c) (Call.Match b d) = under_two tree.match_call (argument_same kept a b wanted.Only) (argument_same kept c d wanted.Only) (call_laws.is (Call.Match a c) (Call.Match b d) ∙ search layers) (search layers) (search layers)
   call_same kept x y = differ (call_laws.is x y ∙ search layers)
@@ -120,6 +121,7 @@ mutual
   filter_same kept (Filter.And' sa v) (Filter.And' sb u) = under tree.and (filters_same kept v u) (filter_laws.is (Filter.And' sa v) (Filter.And' sb u) ∙ search layers) (search layers) (search layers)
   filter_same kept (Filter.Group' pa a s) (Filter.Group' pb b t) = under_two (λ f n. tree.atom (tree.group n f)) (filter_same kept a b) (bool_same s t) (filter_laws.is (Filter.Group' pa a s) (Filter.Group' pb b t) ∙ search layers) (search layers) (search layers)
   filter_same kept (Filter.Exists a s) (Filter.Exists b t) = under_two (λ q n. tree.atom (tree.Atom.test n q)) (nodes_same kept a b wanted.Any) (bool_same s t) (filter_laws.is (Filter.Exists a s) (Filter.Exists b t) ∙ search layers) (search layers) (search layers)
+  filter_same kept (Filter.HasChild v s) (Filter.HasChild u t) = under_two (λ ss n. tree.atom (tree.Atom.test n (tree.relative (children_query ss)))) (steps_same v.items u.items).0 (bool_same s t) (filter_laws.is (Filter.HasChild v s) (Filter.HasChild u t) ∙ search layers) (search layers) (search layers)
   filter_same kept (Filter.Call a s) (Filter.Call b t) = under_two (λ c n. tree.atom (tree.Atom.test n (tree.call c))) (called_same kept a b) (bool_same s t) (filter_laws.is (Filter.Call a s) (Filter.Call b t) ∙ search layers) (search layers) (search layers)
   filter_same kept (Filter.Comparison o a c) (Filter.Comparison p b d) = under_two (λ op (q : tree.Comparable × tree.Comparable). tree.atom (tree.comparison (tree.compare op q.0 q.1))) (operator_same o p).0 (under_two (λ (s t : tree.Comparable). (s, t)) (side_same kept a b) (side_same kept c d) refl refl refl) (filter_laws.is (Filter.Comparison o a c) (Filter.Comparison p b d) ∙ search layers) (search layers) (search layers)
   filter_same kept (Filter.Constant n) (Filter.Constant m) = under (λ k. tree.atom (tree.comparison (comparison_at kept k))) (Decides-eqb n m).0 (filter_laws.is (Filter.Constant n) (Filter.Constant m) ∙ search layers) (search layers) (search layers)

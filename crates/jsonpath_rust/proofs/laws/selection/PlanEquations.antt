@@ -6,7 +6,7 @@ use Rattle.jsonpath_parser.specs.tree.View.{literal_view, step_view, operator_vi
 use Rattle.jsonpath_parser.specs.declared.tree.model.Literal.{Literal}
 use Rattle.jsonpath_parser.specs.declared.tree.model.SingularQuerySegment.{SingularQuerySegment}
 use Rattle.jsonpath_parser.specs.declared.tree.model.operator.Operator.{Operator}
-use Rattle.jsonpath_rust.specs.selection.inner.PlanViews.{Constants, query_at, steps_query, steps_at, call_at, comparison_at, segments_meant, arguments_meant, argument_view, call_view, called_view, filter_view, nodes_view, segment_view, selector_view, side_view}
+use Rattle.jsonpath_rust.specs.selection.inner.PlanViews.{Constants, query_at, steps_query, children_query, steps_at, call_at, comparison_at, segments_meant, arguments_meant, argument_view, call_view, called_view, filter_view, nodes_view, segment_view, selector_view, side_view}
 use Rattle.jsonpath_rust.specs.declared.selection.plan.Argument
 use Rattle.jsonpath_rust.specs.declared.selection.plan.Argument.{Argument}
 use Rattle.jsonpath_rust.specs.declared.selection.plan.Call
@@ -56,6 +56,9 @@ call_view-Value kept x = search (rules, the_lemmas)
 pub call_view-Count : (kept : Constants) (x : Argument) → call_view kept (Call.Count x) ≡ tree.count_call (argument_view kept x Count)
 call_view-Count kept x = search (rules, the_lemmas)
 
+pub call_view-CountChildren : (kept : Constants) (v : Vec SingularQuerySegment Global) → call_view kept (Call.CountChildren v) ≡ tree.count_call (tree.test_argument (tree.relative (children_query (map step_view v.items))))
+call_view-CountChildren kept v = search (rules, the_lemmas)
+
 pub call_view-Search : (kept : Constants) (x y : Argument) → call_view kept (Call.Search x y) ≡ tree.search_call (argument_view kept x Only) (argument_view kept y Only)
 call_view-Search kept x y = search (rules, the_lemmas)
 
@@ -79,6 +82,9 @@ filter_view-Group kept f b = search (rules, the_lemmas)
 
 pub filter_view-Exists : (kept : Constants) (ns : Nodes) (b : Bool) → filter_view kept (Filter.Exists ns b) ≡ tree.atom (tree.Atom.test b (nodes_view kept ns Any))
 filter_view-Exists kept ns b = search (rules, the_lemmas)
+
+pub filter_view-HasChild : (kept : Constants) (v : Vec SingularQuerySegment Global) (b : Bool) → filter_view kept (Filter.HasChild v b) ≡ tree.atom (tree.Atom.test b (tree.relative (children_query (map step_view v.items))))
+filter_view-HasChild kept v b = search (rules, the_lemmas)
 
 pub filter_view-Call : (kept : Constants) (c : Called) (b : Bool) → filter_view kept (Filter.Call c b) ≡ tree.atom (tree.Atom.test b (tree.call (called_view kept c)))
 filter_view-Call kept c b = search (rules, the_lemmas)

@@ -29,29 +29,29 @@ made_none m part a s = record { grows = extends_none (kept_in m); says = λ r ke
 -- nothing is kept between the two
 right_beside : (old new : Maker) → IsBeside old new → IsRight old → IsRight new
 right_beside old new b r =
-    let e : kept_in new ≡ kept_in old = ap kept_view b.constants in
+    let e : kept_in new ≡ kept_in old = ap kept_view b.same in
     record {
-      settled = λ kept x. ap (parts_where kept) b.constants ∙ r.settled kept (subst (λ k. Extends k kept) e x) ∙ sym e;
+      settled = λ kept x. ap (parts_where kept) b.same ∙ r.settled kept (subst (λ k. Extends k kept) e x) ∙ sym e;
       rooted = ap (list_all part_is_rooted) e ∙ r.rooted;
     }
 
 pub made_beside : {A : Type 0} (old new : Maker) (part : Constants → A) (a : A) → IsBeside old new → ((kept : Constants) → part kept ≡ a) → Made old new part a
 made_beside old new part a b s = record {
-  grows = subst (Extends (kept_in old)) (sym (ap kept_view b.constants)) (extends_none (kept_in old));
+  grows = subst (Extends (kept_in old)) (sym (ap kept_view b.same)) (extends_none (kept_in old));
   says = λ r kept h. s kept;
   right = right_beside old new b;
 }
 
 pub made_after : {A : Type 0} {old mid new : Maker} {part : Constants → A} {a : A} → IsBeside old mid → Made mid new part a → Made old new part a
 made_after {old = old} {mid = mid} {new = new} b m = record {
-  grows = subst (λ k. Extends k (kept_in new)) (ap kept_view b.constants) m.grows;
+  grows = subst (λ k. Extends k (kept_in new)) (ap kept_view b.same) m.grows;
   says = λ r. m.says (right_beside old mid b r);
   right = λ r. m.right (right_beside old mid b r);
 }
 
 pub made_before : {A : Type 0} {old mid new : Maker} {part : Constants → A} {a : A} → IsBeside mid new → Made old mid part a → Made old new part a
 made_before {old = old} {mid = mid} {new = new} b m =
-    let e : kept_in new ≡ kept_in mid = ap kept_view b.constants in
+    let e : kept_in new ≡ kept_in mid = ap kept_view b.same in
     record {
       grows = subst (Extends (kept_in old)) (sym e) m.grows;
       says = λ r kept x. m.says r kept (subst (λ k. Extends k kept) e x);

@@ -8,14 +8,16 @@ use Rattle.jsonpath_base.specs.Places.{child}
 use Rattle.jsonpath_rust.specs.documents.Document.{Document}
 use Rattle.jsonpath_rust.specs.documents.Functions.{as_truth}
 use Rattle.jsonpath_rust.specs.documents.Meaning.{value_at, element_of, tested}
-use Rattle.jsonpath_rust.specs.documents.Node.{Node, below, has_node}
-use Rattle.jsonpath_rust.specs.selection.inner.Lookup.{trees_of}
+use Rattle.jsonpath_rust.specs.documents.Node.{Node, root_node, below, has_node}
 use Rattle.jsonpath_rust.specs.selection.inner.PlanViews.{steps_query}
-use Rattle.jsonpath_rust.specs.selection.inner.Sinks.{Seen, add, start, give}
+use Rattle.jsonpath_rust.specs.selection.inner.Sinks.{Seen, nothing, values, add, start, give}
 use Rattle.jsonpath_rust.specs.selection.inner.Walking.{through}
 use Rattle.jsonpath_rust.specs.declared.selection.sink.Wanted.{Wanted}
-use Rattle.jsonpath_rust.proofs.laws.selection.LookupLaws.{gives_one}
+use Rattle.jsonpath_rust.specs.declared.selection.sink.Wanted.TheVariants as wanted
 use Rattle.jsonpath_rust.proofs.laws.selection.NodelistLaws.{through-applied}
+
+abbrev pub trees_of : List Node → List Tree
+trees_of ns = map (λ n. n.tree) ns
 
 -- to a child, if there is one, and on
 on_child : (f : Node → List Node) (V : Tree → Option Tree) (make : Tree → Node) (o : Option Tree) → ((u : Tree) → trees_of (f (make u)) ≡ option_to_list (V u)) → trees_of (flat_map f (map make (option_to_list o))) ≡ option_to_list (option_and_then V o)
@@ -52,6 +54,20 @@ is_there f o ss d n e = some_node f o (through (steps_query ss) d n) (steps_ther
 nodes_none : (ns : List Node) → trees_of ns ≡ [] → ns ≡ []
 nodes_none [] e = refl
 nodes_none (n ∷ ns) e = absurd cc
+
+-- inside a filter no location is kept
+add_there : (w : Wanted) (n : Node) (t : Tree) → n.tree ≡ t → add (start w) (root_node t) ≡ add (start w) n
+add_there wanted.Any n t e = refl
+add_there wanted.Count n t e = refl
+add_there wanted.Only n t e = ap (λ u. add nothing (root_node u)) (sym e)
+add_there wanted.Values n t e = ap (λ u. add (values []) (root_node u)) (sym e)
+
+gives_one : (w : Wanted) (s : Seen) (ns : List Node) (t : Tree) → s ≡ add (start w) (root_node t) → trees_of ns ≡ t ∷ [] → s ≡ give (start w) ns
+gives_one w s [] t h e = absurd cc
+gives_one w s (n ∷ []) t h e =
+    let same : n.tree ≡ t = cc in
+    h ∙ add_there w n t same
+gives_one w s (n ∷ m ∷ ns) t h e = absurd cc
 
 pub gives_found : (w : Wanted) (s : Seen) (ss : List SingularStep) (d : Document) (n : Node) (t : Tree) → s ≡ add (start w) (record { location = []; tree = t }) → Some t ≡ value_at ss n.tree → s ≡ give (start w) (through (steps_query ss) d n)
 gives_found w s ss d n t e h = gives_one w s (through (steps_query ss) d n) t e (steps_there ss d n ∙ ap option_to_list (sym h))

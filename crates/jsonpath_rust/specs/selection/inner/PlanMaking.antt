@@ -32,7 +32,7 @@ pub record Made {A : Type 0} (old new : Maker) (part : Constants → A) (a : A) 
 
 -- nothing was kept between the two
 pub record IsBeside (old new : Maker) : Type 0 where
-  pub constants : new.constants.items ≡ old.constants.items
+  pub same : new.constants.items ≡ old.constants.items
 
 -- this constant is kept too, and has this number
 pub record IsKept (old new : Maker) (part : Constant) (n : ℕ) : Type 0 where

@@ -98,6 +98,10 @@ step_segment (tree.index_step i) = tree.one (tree.index i)
 abbrev pub steps_query : List tree.SingularStep → tree.Query
 steps_query ss = segments_of (map step_segment ss)
 
+-- all children of what these steps lead to
+abbrev pub children_query : List tree.SingularStep → tree.Query
+children_query ss = segments_of (map step_segment ss ++ tree.one tree.wildcard ∷ [])
+
 -- One layer of each type, with its parts seen already. Arguments and nodes are seen for what is wanted of them.
 
 abbrev pub Layer : (Type 0 → Type 0 → Type 0 → Type 0 → Type 0 → Type 0 → Type 0 → Type 0 → Type 0) → Type 0
@@ -115,6 +119,7 @@ call_step (Call-F.Custom s v) = tree.custom_call (string_bytes s) (arguments_of 
 call_step (Call-F.Length a) = tree.length_call (a Only)
 call_step (Call-F.Value a) = tree.value_call (a Only)
 call_step (Call-F.Count a) = tree.count_call (a Count)
+call_step (Call-F.CountChildren v) = tree.count_call (tree.test_argument (tree.relative (children_query (map step_view v.items))))
 call_step (Call-F.Search a b) = tree.search_call (a Only) (b Only)
 call_step (Call-F.Match a b) = tree.match_call (a Only) (b Only)
 
@@ -127,6 +132,7 @@ filter_step kept (Filter-F.Or v) = tree.or (filters_of v.items)
 filter_step kept (Filter-F.And v) = tree.and (filters_of v.items)
 filter_step kept (Filter-F.Group f not) = tree.atom (tree.group not f.value)
 filter_step kept (Filter-F.Exists ns not) = tree.atom (tree.test not (ns Any))
+filter_step kept (Filter-F.HasChild v not) = tree.atom (tree.test not (tree.relative (children_query (map step_view v.items))))
 filter_step kept (Filter-F.«Filter::Call» c not) = tree.atom (tree.test not (tree.call c))
 filter_step kept (Filter-F.Comparison op a b) = tree.atom (tree.comparison (tree.compare (operator_view op) a b))
 filter_step kept (Filter-F.«Filter::Constant» n) = tree.atom (tree.comparison (comparison_at kept n))

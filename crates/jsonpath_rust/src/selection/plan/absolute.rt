@@ -16,6 +16,7 @@ pub fn is_rooted_call(call: &Call) -> bool
         Call::Length(arg) => is_rooted(arg),
         Call::Value(arg) => is_rooted(arg),
         Call::Count(arg) => is_rooted(arg),
+        Call::CountChildren(_steps) => false,
         Call::Search(text, pattern) => are_both_rooted(text, pattern),
         Call::Match(text, pattern) => are_both_rooted(text, pattern),
     }
@@ -82,6 +83,7 @@ fn is_rooted_filter(filter: &Filter) -> bool
         Filter::And(parts) => are_rooted_filters(parts),
         Filter::Group { expr, .. } => is_rooted_filter(expr),
         Filter::Exists { nodes, .. } => are_constant_nodes(nodes),
+        Filter::HasChild { .. } => false,
         Filter::Call { call, .. } => is_constant_call(call),
         Filter::Comparison(_operator, _left, _right) => false,
         Filter::Constant(_number) => true,

@@ -11,7 +11,7 @@ ghost use Rattle.jsonpath_rust.specs.declared.selection.sink.Wanted.TheVariants.
 
 use super::absolute::is_rooted_call;
 use super::patterns::Numbers;
-use super::steps::{steps_again, steps_of};
+use super::steps::{steps_again, steps_of, steps_to_children, steps_to_counted};
 use super::{
     Argument, Call, Called, Constant, Filter, Nesting, Nodes, Plan, Segment, Selector, Side,
 };
@@ -168,6 +168,9 @@ impl<'q> Maker<'q> {
     {
         match test {
             tree::Test::RelQuery(segments) => {
+                if let Some(steps) = steps_to_children(self.alloc, segments)? {
+                    return Ok(Filter::HasChild { steps, not });
+                }
                 let nodes = self.relative(segments)?;
                 Ok(Filter::Exists { nodes, not })
             }
@@ -287,7 +290,7 @@ impl<'q> Maker<'q> {
             }
             tree::TestFunction::Length(arg) => Ok(Call::Length(self.argument(arg, Wanted::Only)?)),
             tree::TestFunction::Value(arg) => Ok(Call::Value(self.argument(arg, Wanted::Only)?)),
-            tree::TestFunction::Count(arg) => Ok(Call::Count(self.argument(arg, Wanted::Count)?)),
+            tree::TestFunction::Count(arg) => self.count(arg),
             tree::TestFunction::Search(text, pattern) => {
                 let text = self.argument(text, Wanted::Only)?;
                 let pattern = self.pattern(pattern, Extent::Substring)?;
@@ -299,6 +302,19 @@ impl<'q> Maker<'q> {
                 Ok(Call::Match(text, pattern))
             }
         }
+    }
+
+    /// A call of `count`.
+    #[cycle(make)]
+    fn count(&mut self, argument: &'q tree::FnArg) -> Parsed<Call>
+        ensures made { IfOk result (λ c. Made self.old self.new (λ kept. plan.call_view kept c)
+            (syntax.count_call (tree.argument_view argument.now))) }
+        ensures memory { MemoryAlone result }
+    {
+        if let Some(steps) = steps_to_counted(self.alloc, argument)? {
+            return Ok(Call::CountChildren(steps));
+        }
+        Ok(Call::Count(self.argument(argument, Wanted::Count)?))
     }
 
     /// The arguments of a custom function.

@@ -1,6 +1,7 @@
 //! Segments of one name or one index each, and steps.
-ghost use Rattle.std.specs.Prelude.{◌≡◌, IfOk, IfSome, map};
-ghost use Rattle.jsonpath_parser.specs.tree.View.{segment_view, step_view};
+ghost use Rattle.std.specs.Prelude.{◌≡◌, IfOk, IfSome, IsTrue, map};
+ghost use Rattle.jsonpath_parser.specs.tree.Syntax.{one, relative, test_argument, wildcard};
+ghost use Rattle.jsonpath_parser.specs.tree.View.{argument_view, segment_view, segments_of, step_view};
 ghost use Rattle.jsonpath_rust.specs.documents.inner.Refusing.{MemoryAlone};
 ghost use Rattle.jsonpath_rust.specs.selection.inner.PlanViews as plan;
 
@@ -28,6 +29,50 @@ pub fn steps_of(
         }
     }
     Ok(Some(steps))
+}
+
+/// The steps before `[*]`, where these segments are names and indexes and then `[*]`.
+pub fn steps_to_children(
+    alloc: Global,
+    segments: &[tree::Segment],
+) -> Parsed<Option<Vec<SingularQuerySegment>>>
+    ensures same { IfOk result (λ o. IfSome o (λ v. plan.children_query (map step_view v.items) ≡ segments_of (map segment_view segments.now))) }
+    ensures memory { MemoryAlone result }
+{
+    let Some((last, before)) = segments.split_last() else {
+        return Ok(None);
+    };
+    if is_wildcard(last) {
+        return steps_of(alloc, before);
+    }
+    Ok(None)
+}
+
+/// Whether a segment is `[*]`.
+fn is_wildcard(segment: &tree::Segment) -> bool
+    ensures { IsTrue result → segment_view segment.now ≡ one wildcard }
+{
+    match segment {
+        tree::Segment::Selector(tree::Selector::Wildcard) => true,
+        _ => false,
+    }
+}
+
+/// The same of an argument, where it is a query from the current node.
+pub fn steps_to_counted(
+    alloc: Global,
+    argument: &tree::FnArg,
+) -> Parsed<Option<Vec<SingularQuerySegment>>>
+    ensures same { IfOk result (λ o. IfSome o (λ v. test_argument (relative (plan.children_query (map step_view v.items))) ≡ argument_view argument.now)) }
+    ensures memory { MemoryAlone result }
+{
+    match argument {
+        tree::FnArg::Test(test) => match &**test {
+            tree::Test::RelQuery(segments) => steps_to_children(alloc, segments),
+            _ => Ok(None),
+        },
+        _ => Ok(None),
+    }
 }
 
 /// Whether each segment is one name or one index.

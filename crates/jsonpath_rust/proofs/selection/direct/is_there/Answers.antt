@@ -1,14 +1,10 @@
-use Rattle.std.proofs.Common.{List, length, map, ap, sym, ◌≡◌, ◌∙◌}
+use Rattle.std.proofs.Common.{List, map, ap, sym, ◌∙◌}
 use Rattle.jsonpath_parser.specs.tree.View.{step_view}
 use Rattle.jsonpath_parser.specs.declared.tree.model.SingularQuerySegment.{SingularQuerySegment}
 use Rattle.jsonpath_rust.specs.documents.Functions.{as_truth}
 use Rattle.jsonpath_rust.specs.documents.Meaning.{tested, value_at}
-use Rattle.jsonpath_rust.specs.selection.inner.PlanViews.{nodes_view, segments_meant}
-use Rattle.jsonpath_rust.specs.selection.inner.Walking.{through}
-use Rattle.jsonpath_rust.specs.declared.selection.plan.Segment.{Segment}
+use Rattle.jsonpath_rust.specs.selection.inner.PlanViews.{nodes_view}
 use Rattle.jsonpath_rust.specs.declared.selection.sink.Wanted.TheVariants.{Any}
-use Rattle.jsonpath_rust.proofs.laws.selection.DirectLaws.{walk_there}
-use Rattle.jsonpath_rust.proofs.laws.selection.Kept.{of_some}
 use Rattle.jsonpath_rust.proofs.laws.selection.PlanEquations.{nodes_view-Lookup}
 use Rattle.jsonpath_rust.proofs.laws.selection.StepLaws.{is_there}
 use Rattle.jsonpath_rust.specs.documents.inner.Whole.{tree_of}
@@ -19,8 +15,3 @@ returns-in-Lookup g c = λ kept d n e.
     let view = ap (λ ns. nodes_view kept ns Any) c.in-Lookup.is ∙ nodes_view-Lookup kept c.in-Lookup.steps Any in
     let there = c.value_at.ensures ∙ ap (λ (ss : List SingularQuerySegment). value_at (map step_view ss) (tree_of c.args.at)) c.deref.ensures.value ∙ ap (value_at (map step_view c.in-Lookup.steps.items)) (sym e) in
     c.is_some.ensures ∙ is_there tree_of c.value_at.result (map step_view c.in-Lookup.steps.items) d n there ∙ sym (ap (λ q. as_truth (tested q d n)) view)
-
-pub returns-in-Some : goal.returns-in-Some
-returns-in-Some g c = λ kept d n e.
-    let counted = of_some (λ k. k ≡ length (through (segments_meant kept c.deref-in-Walk.result.now) d n)) _ _ c.in-Some.is (c.followed_count.ensures kept d n e) in
-    walk_there kept _ _ Any d n c.in-Some.count c.in-Walk.is (counted ∙ ap (λ (gs : List Segment). length (through (segments_meant kept gs) d n)) c.deref-in-Walk.ensures.value)

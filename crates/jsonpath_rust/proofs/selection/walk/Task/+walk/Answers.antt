@@ -6,16 +6,17 @@ use Rattle.std.proofs.lemmas.Result.{IfOk-weaker}
 use Rattle.std.proofs.lemmas.List.Elements.{All-head, All-tail}
 use Rattle.std.specs.List.{flat_map}
 use Rattle.jsonpath_parser.specs.Location.{name, index}
+use Rattle.jsonpath_parser.specs.tree.Syntax.{relative}
 use Rattle.jsonpath_parser.specs.tree.View.{operator_view, step_view}
 use Rattle.jsonpath_parser.specs.declared.tree.model.SingularQuerySegment.{SingularQuerySegment}
-use Rattle.jsonpath_rust.specs.selection.inner.PlanViews.{query_at, segments_meant, segment_view, selectors_meant, selector_view, filters_meant, filter_view, nodes_view, side_view, call_view, called_view, call_in, comparison_in, arguments_meant, argument_view, steps_query}
+use Rattle.jsonpath_rust.specs.selection.inner.PlanViews.{query_at, segments_meant, segment_view, selectors_meant, selector_view, filters_meant, filter_view, nodes_view, side_view, call_view, called_view, call_in, comparison_in, arguments_meant, argument_view, steps_query, children_query}
 use Rattle.jsonpath_rust.specs.selection.inner.PlanViews as plan
 use Rattle.jsonpath_rust.specs.declared.selection.plan.Argument.{Argument}
 use Rattle.jsonpath_rust.specs.declared.selection.plan.Filter.{Filter}
 use Rattle.jsonpath_rust.specs.declared.selection.plan.Segment.{Segment}
 use Rattle.jsonpath_rust.specs.declared.selection.plan.Selector.{Selector}
 use Rattle.jsonpath_rust.specs.declared.selection.sink.Wanted.TheVariants.{Any, Count, Only, Values}
-use Rattle.jsonpath_rust.proofs.laws.selection.PlanEquations.{called, segment_view-Descendant, segment_view-Selector, segment_view-Selectors, selector_view-Name, selector_view-Wildcard, selector_view-Index, selector_view-Slice, selector_view-Filter, filter_view-Or, filter_view-And, filter_view-Group, filter_view-Exists, filter_view-Call, filter_view-Comparison, filter_view-Constant, called_view-Here, called_view-Constant, nodes_view-Lookup, nodes_view-Walk, nodes_view-Constant, side_view-Literal, side_view-Lookup, side_view-Constant, side_view-Call, argument_view-Literal, argument_view-Pattern, argument_view-Nodes, argument_view-Call, argument_view-Filter, call_view-Length, call_view-Value, call_view-Count, call_view-Search, call_view-Match}
+use Rattle.jsonpath_rust.proofs.laws.selection.PlanEquations.{called, segment_view-Descendant, segment_view-Selector, segment_view-Selectors, selector_view-Name, selector_view-Wildcard, selector_view-Index, selector_view-Slice, selector_view-Filter, filter_view-Or, filter_view-And, filter_view-Group, filter_view-Exists, filter_view-HasChild, filter_view-Call, filter_view-Comparison, filter_view-Constant, called_view-Here, called_view-Constant, nodes_view-Lookup, nodes_view-Walk, nodes_view-Constant, side_view-Literal, side_view-Lookup, side_view-Constant, side_view-Call, argument_view-Literal, argument_view-Pattern, argument_view-Nodes, argument_view-Call, argument_view-Filter, call_view-Length, call_view-Value, call_view-Count, call_view-CountChildren, call_view-Search, call_view-Match}
 use Rattle.jsonpath_base.specs.Tree.{get, truth, text}
 use Rattle.jsonpath_base.specs.Slice.{slice_of}
 use Rattle.jsonpath_rust.specs.documents.Node.{below, children, root_node, subtree}
@@ -39,11 +40,12 @@ use Rattle.jsonpath_rust.proofs.laws.documents.Parts.{part_of, kept_true, kept_f
 use Rattle.jsonpath_rust.proofs.laws.selection.Kept.{kept_query, of_some}
 use Rattle.jsonpath_rust.proofs.laws.selection.RootedLaws.{answer_as, answer_kept, comparison_as, comparison_kept, kept_call_same, kept_comparison_same}
 use Rattle.jsonpath_rust.specs.documents.Comparing.{compares}
-use Rattle.jsonpath_rust.specs.documents.Functions.{length_of, as_value, as_trees, as_truth, is_matched, is_true}
+use Rattle.jsonpath_rust.specs.documents.Functions.{length_of, count_of, as_nodes, as_value, as_trees, as_truth, is_matched, is_true}
 use Rattle.jsonpath_base.specs.Pattern.{is_entire}
 use Rattle.jsonpath_rust.specs.documents.inner.Operands.{operand_tree, side_tree, arg_trees}
 use Rattle.jsonpath_rust.specs.documents.Args.{arg_value}
 use Rattle.jsonpath_rust.specs.documents.inner.Whole.{tree_of}
+use Rattle.jsonpath_rust.proofs.laws.selection.DirectLaws.{query_count, query_there}
 use Rattle.jsonpath_rust.proofs.laws.selection.NodelistLaws.{through-applied, nodelist-through}
 use Rattle.jsonpath_base.specs.declared.step.StepRef.{StepRef}
 use Rattle.jsonpath_rust.specs.selection.inner.Arguing.{value, nodes, holding, value_held, only_held, count_held, trees_held, truth_held}
@@ -687,14 +689,6 @@ custom-returns-clause-value g t c =
 pub gather-walk-requires : goal.gather-walk-requires
 gather-walk-requires g t c κs within = (down _ _ _ _ _ _ c.decreases (omega arith) (omega (arith, c.requires.within)), (within, c.requires))
 
-pub gather-returns-in-Some-clause-given : goal.gather-returns-in-Some-clause-given
-gather-returns-in-Some-clause-given g t c =
-    let kept = kept_of c.args.self.now in
-    let d = document c.args.self.now in
-    let n = node_of c.args.trail.now.way.steps.items c.args.at in
-    let found = rw c.in-Some.is at (c.in_ok-sink.ensures.given kept) in
-    found.given d n refl
-
 pub gather-returns-clause-given : goal.gather-returns-clause-given
 gather-returns-clause-given g t c =
     let kept = kept_of c.args.self.now in
@@ -775,6 +769,16 @@ filter_holds-returns-in_ok-exists-in-Exists-clause-holds g t c =
     let n = node_of c.args.trail.now.way.steps.items c.args.at in
     let e = ap (filter_view kept) c.in-Exists.is ∙ filter_view-Exists kept c.in-Exists.nodes c.in-Exists.not in
     differs _ _ ∙ ap (negated c.in-Exists.not) c.in_ok-exists-in-Exists.ensures.holds ∙ sym (ap (λ f. holds f d n) e)
+
+pub filter_holds-returns-in_ok-count-in-HasChild-clause-holds : goal.filter_holds-returns-in_ok-count-in-HasChild-clause-holds
+filter_holds-returns-in_ok-count-in-HasChild-clause-holds g t c =
+    let kept = kept_of c.args.self.now in
+    let d = document c.args.self.now in
+    let n = node_of c.args.trail.now.way.steps.items c.args.at in
+    let e = ap (filter_view kept) c.in-HasChild.is ∙ filter_view-HasChild kept c.in-HasChild.steps c.in-HasChild.not in
+    let steps = ap (λ (ss : List SingularQuerySegment). children_query (map step_view ss)) c.deref-in-HasChild.ensures.value in
+    let held = query_there _ d n _ (c.in_ok-count-in-HasChild.ensures.count d n refl) ∙ ap (λ q. as_truth (tested (relative q) d n)) steps in
+    differs _ _ ∙ ap (negated c.in-HasChild.not) held ∙ sym (ap (λ f. holds f d n) e)
 
 pub filter_holds-returns-in_ok-called-in-Call-clause-holds : goal.filter_holds-returns-in_ok-called-in-Call-clause-holds
 filter_holds-returns-in_ok-called-in-Call-clause-holds g t c =
@@ -960,6 +964,15 @@ answer-returns-in_ok-argument-in-Count-clause-value g t c =
     let n = node_of c.args.trail.now.way.steps.items c.args.at in
     let e = ap (call_view kept) c.in-Count.is ∙ call_view-Count kept c.in-Count.arg in
     c.count.ensures ∙ ap count_held c.in_ok-argument-in-Count.ensures.held ∙ as_count_held (argued (argument_view kept c.in-Count.arg Count) d n) ∙ sym (ap (λ f. answer f d n) e)
+
+pub answer-returns-in_ok-count-in-CountChildren-clause-value : goal.answer-returns-in_ok-count-in-CountChildren-clause-value
+answer-returns-in_ok-count-in-CountChildren-clause-value g t c =
+    let kept = kept_of c.args.self.now in
+    let d = document c.args.self.now in
+    let n = node_of c.args.trail.now.way.steps.items c.args.at in
+    let e = ap (call_view kept) c.in-CountChildren.is ∙ call_view-CountChildren kept c.in-CountChildren.steps in
+    let steps = ap (λ (ss : List SingularQuerySegment). children_query (map step_view ss)) c.deref-in-CountChildren.ensures.value in
+    c.count_scalar.ensures ∙ query_count _ d n _ (c.in_ok-count-in-CountChildren.ensures.count d n refl) ∙ ap (λ q. count_of (as_nodes (tested (relative q) d n))) steps ∙ sym (ap (λ f. answer f d n) e)
 
 pub answer-returns-in-Search-clause-value : goal.answer-returns-in-Search-clause-value
 answer-returns-in-Search-clause-value g t c =

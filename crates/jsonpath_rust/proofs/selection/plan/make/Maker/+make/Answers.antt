@@ -124,7 +124,7 @@ atom-returns-in-Comparison-clause-made t c =
 
 pub test-returns-in_ok-nodes-in-RelQuery-clause-made : goal.test-returns-in_ok-nodes-in-RelQuery-clause-made
 test-returns-in_ok-nodes-in-RelQuery-clause-made t c =
-    made_as (λ x. syntax.atom (syntax.Atom.test c.args.not x)) _ _ (λ kept. plan.filter_view-Exists kept _ _) (ap (λ x. syntax.atom (syntax.Atom.test c.args.not x)) (ap tree.test_view c.in-RelQuery.is ∙ source.test_view-RelQuery c.in-RelQuery.segments ∙ ap (λ xs. syntax.relative (tree.segments_of (map tree.segment_view xs))) (sym c.deref.ensures.value))) (c.in_ok-nodes-in-RelQuery.ensures.made Any)
+    made_as (λ x. syntax.atom (syntax.Atom.test c.args.not x)) _ _ (λ kept. plan.filter_view-Exists kept _ _) (ap (λ x. syntax.atom (syntax.Atom.test c.args.not x)) (ap tree.test_view c.in-RelQuery.is ∙ source.test_view-RelQuery c.in-RelQuery.segments ∙ ap (λ xs. syntax.relative (tree.segments_of (map tree.segment_view xs))) (sym c.deref-in-RelQuery.ensures.value))) (c.in_ok-nodes-in-RelQuery.ensures.made Any)
 
 pub test-returns-in_ok-absolute-in-AbsQuery-clause-made : goal.test-returns-in_ok-absolute-in-AbsQuery-clause-made
 test-returns-in_ok-absolute-in-AbsQuery-clause-made t c =
@@ -168,9 +168,13 @@ pub call-returns-in_ok-argument-in-Value-clause-made : goal.call-returns-in_ok-a
 call-returns-in_ok-argument-in-Value-clause-made t c =
     made_as syntax.value_call _ _ (λ kept. plan.call_view-Value kept _) (ap tree.call_view c.in-Value.is ∙ source.call_view-Value c.in-Value.arg) c.in_ok-argument-in-Value.ensures.made
 
-pub call-returns-in_ok-argument-in-Count-clause-made : goal.call-returns-in_ok-argument-in-Count-clause-made
-call-returns-in_ok-argument-in-Count-clause-made t c =
-    made_as syntax.count_call _ _ (λ kept. plan.call_view-Count kept _) (ap tree.call_view c.in-Count.is ∙ source.call_view-Count c.in-Count.arg) c.in_ok-argument-in-Count.ensures.made
+pub call-returns-in-Count-clause-made : goal.call-returns-in-Count-clause-made
+call-returns-in-Count-clause-made t c =
+    rw (ap tree.call_view c.in-Count.is ∙ source.call_view-Count c.in-Count.arg) c.count.ensures.made
+
+pub count-returns-clause-made : goal.count-returns-clause-made
+count-returns-clause-made t c =
+    made_as syntax.count_call _ _ (λ kept. plan.call_view-Count kept _) refl c.in_ok-argument.ensures.made
 
 pub call-returns-in_ok-pattern-in-Search-clause-made : goal.call-returns-in_ok-pattern-in-Search-clause-made
 call-returns-in_ok-pattern-in-Search-clause-made t c =

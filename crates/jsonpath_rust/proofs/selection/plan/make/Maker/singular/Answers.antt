@@ -12,4 +12,4 @@ returns-in_ok-steps_again-in-Current-clause-made c =
 
 pub returns-in_ok-number-in-Root-clause-made : goal.returns-in_ok-number-in-Root-clause-made
 returns-in_ok-number-in-Root-clause-made c =
-    made_as (λ p. syntax.singular (syntax.root (steps_in p))) _ _ (λ kept. plan.side_view-Constant kept _) (ap (λ q. syntax.singular (tree.singular_view q)) c.in-Root.is) (c.in_ok-number-in-Root.ensures.numbered.made (made_none _ _ _ (λ kept. ap value (c.in_ok-steps_again-in-Root.ensures.same ∙ ap (map tree.step_view) c.deref-in-Root.ensures.value))) (λ r. refl))
+    made_as (λ p. syntax.singular (syntax.root (steps_in p))) _ _ (λ kept. plan.side_view-Constant kept _) (ap (λ q. syntax.singular (tree.singular_view q)) c.in-Root.is) (c.in_ok-number-in-Root.ensures.numbered.made (made_none _ _ _ (λ kept. ap value (c.in_ok-steps-in-Root.ensures.same ∙ ap (map tree.step_view) c.deref-in-Root.ensures.value))) (λ r. refl))

@@ -1,0 +1,54 @@
+//! Children that are counted, and not walked.
+ghost use Rattle.std.specs.Prelude.{◌≡◌, [], length, map, IfOk, IfErr};
+ghost use Rattle.jsonpath_parser.specs.tree.View.{step_view};
+ghost use Rattle.jsonpath_rust.specs.documents.Document.{Document};
+ghost use Rattle.jsonpath_rust.specs.documents.Node.{Node, children, root_node};
+ghost use Rattle.jsonpath_rust.specs.documents.inner.Whole.{tree_of};
+ghost use Rattle.jsonpath_rust.specs.selection.inner.Halting.{IsHalt};
+ghost use Rattle.jsonpath_rust.specs.selection.inner.Keeping.{document};
+ghost use Rattle.jsonpath_rust.specs.selection.inner.PlanViews.{children_query};
+ghost use Rattle.jsonpath_rust.specs.selection.inner.Walking.{through};
+
+use crate::documents::halt::Walked;
+use crate::documents::queryable::Queryable;
+use crate::documents::whole::WholeRef;
+use crate::selection::budget::Budget;
+use crate::selection::singular::value_at;
+use crate::selection::walk::Task;
+use jsonpath_parser::model::SingularQuerySegment;
+
+impl<'a: 's, 's, T: Queryable> Task<'a, 's, T> {
+    /// How many children the value has that these steps lead to; none where there is no such value. A member of an object costs
+    /// a unit, for its type may have to list them.
+    pub fn count_children(
+        &self,
+        steps: &[SingularQuerySegment],
+        at: WholeRef<'a, T>,
+        budget: &mut Budget,
+    ) -> Walked<usize>
+        ensures count { (d : Document) (n : Node) → n.tree ≡ tree_of at.entry → IfOk result (λ k. k ≡ length (through (children_query (map step_view steps.now)) d n)) }
+        ensures halts { IfErr result (IsHalt self.now.limit [] (document self.now)) }
+    {
+        match value_at(steps, at) {
+            Some(parent) => self.child_count(parent, budget),
+            None => Ok(0),
+        }
+    }
+
+    /// How many children a value has.
+    fn child_count(&self, parent: WholeRef<'a, T>, budget: &mut Budget) -> Walked<usize>
+        ensures count { IfOk result (λ k. k ≡ length (children (root_node (tree_of parent.entry)))) }
+        ensures halts { IfErr result (IsHalt self.now.limit [] (document self.now)) }
+    {
+        if let Some(items) = parent.elements() {
+            return Ok(items.len());
+        }
+        match parent.member_count(self.alloc)? {
+            Some(count) => {
+                budget.spend(self.limit, count)?;
+                Ok(count)
+            }
+            None => Ok(0),
+        }
+    }
+}
