@@ -1,4 +1,5 @@
 pub mod StepLemmas
+pub mod StepEquality
 pub mod Views
 pub mod WholeParts
 pub mod PatternReading

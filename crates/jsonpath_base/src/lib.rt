@@ -7,6 +7,7 @@ pub mod engine;
 mod equality;
 pub mod laws;
 mod lending;
+mod location;
 mod marks;
 mod ordering;
 mod pattern;
@@ -21,6 +22,7 @@ mod way;
 
 pub use equality::same;
 pub use lending::at_mut;
+pub use location::{begins, path_of};
 pub use pattern::{Extent, Finder, Pattern, found};
 pub use place::{at, put_at};
 pub use removal::{OrderedRemoval, Removal, remove_all};

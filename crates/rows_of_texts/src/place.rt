@@ -79,7 +79,8 @@ fn places_of(memory: &Memory, locations: &Value) -> Option<Vec<Vec<Step>>> {
     Some(places)
 }
 
-fn steps_of(memory: &Memory, location: &Value) -> Option<Vec<Step>> {
+/// The steps of a list of names and indexes.
+pub fn steps_of(memory: &Memory, location: &Value) -> Option<Vec<Step>> {
     let mut steps = Vec::new(memory.alloc);
     for step in list(location)? {
         memory.ok(steps.push(step_of(memory, step)?))?;
@@ -87,7 +88,8 @@ fn steps_of(memory: &Memory, location: &Value) -> Option<Vec<Step>> {
     Some(steps)
 }
 
-fn step_of(memory: &Memory, step: &Value) -> Option<Step> {
+/// The step of a name or an index.
+pub fn step_of(memory: &Memory, step: &Value) -> Option<Step> {
     match step {
         Value::String(name) => Some(Step::Name(memory.ok(name.clone())?)),
         _ => Some(Step::Index(size(step)?)),
