@@ -12,6 +12,9 @@ pub mod TextOrder
 pub mod Placing
 pub mod PutLaws
 pub mod Putting
+pub mod AddedChildren
+pub mod AddedBelow
+pub mod AddedLaws
 pub mod PutWhole
 pub mod Marking
 pub mod Counting

@@ -2,6 +2,7 @@ pub mod Tree
 pub mod Places
 pub mod Steps
 pub mod Put
+pub mod Added
 pub mod Lending
 pub mod Without
 pub mod RemovalViews

@@ -5,3 +5,4 @@ pub mod Marks
 pub mod Thinning
 pub mod Lent
 pub mod Way
+pub mod Adding

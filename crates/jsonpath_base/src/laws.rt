@@ -1,5 +1,6 @@
-//! Laws of what is written and of what is the same. Each function states one or two and does nothing.
+//! Laws of what is written and added and of what is the same. Each function states laws and does nothing.
 ghost use Rattle.jsonpath_parser.specs.Equality.{IsEqualityOf};
+ghost use Rattle.jsonpath_base.specs.Added.{AddedIndexMovesLater, AddedIsThere, AddedLeavesTheRest, AddedNameLeavesSiblings};
 ghost use Rattle.jsonpath_base.specs.Put.{PutIsSeenAbove, PutIsThere, PutLeavesTheRest};
 ghost use Rattle.jsonpath_base.specs.Same.{SameIsAnEquivalence};
 ghost use Rattle.jsonpath_base.specs.Steps.{owned_step};
@@ -15,6 +16,19 @@ pub fn put_is_there()
 /// A write changes no value but those inside its location and those above it.
 pub fn put_leaves_the_rest()
     ensures { PutLeavesTheRest }
+{}
+
+/// What was added is there, with all its parts.
+pub fn added_is_there()
+    ensures { AddedIsThere }
+{}
+
+/// A member that was added leaves all its siblings; an element leaves those before it, and moves those behind it by one. What
+/// lies neither inside nor above the object or the list is as it was.
+pub fn added_leaves_the_rest()
+    ensures names { AddedNameLeavesSiblings }
+    ensures elements { AddedIndexMovesLater }
+    ensures rest { AddedLeavesTheRest }
 {}
 
 /// On trees with distinct names, such as those of whole values, being the same is an equivalence.

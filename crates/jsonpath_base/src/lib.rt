@@ -3,6 +3,7 @@
 //! locations.
 #![tactic(auto)]
 
+mod adding;
 pub mod engine;
 mod equality;
 pub mod laws;
@@ -20,11 +21,12 @@ mod text;
 mod value;
 mod way;
 
+pub use adding::add_at;
 pub use equality::same;
 pub use lending::at_mut;
 pub use location::{begins, path_of};
 pub use pattern::{Extent, Finder, Pattern, found};
-pub use place::{at, put_at};
+pub use place::{at, put_at, take_at};
 pub use removal::{OrderedRemoval, Removal, remove_all};
 pub use set_functions::set_function;
 pub use slice::{SlicePlaces, picked, slice_places};

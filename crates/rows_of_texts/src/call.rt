@@ -29,7 +29,9 @@ fn answers(memory: &Memory, name: &str, arguments: &[Value], answer: &Value) -> 
         "picked" => slice::are_picked(memory, arguments, answer),
         "slice_places" => slice::are_places(arguments, answer),
         "try_clone" | "begins" | "path_of" => location::answers(memory, name, arguments, answer),
-        "at" | "put_at" | "remove_all" => place::answers(memory, name, arguments, answer),
+        "at" | "put_at" | "take_at" | "add_at" | "remove_all" => {
+            place::answers(memory, name, arguments, answer)
+        }
         "found" => pattern::is_found(memory, arguments, answer),
         "found_each" => pattern::are_found_each(memory, arguments, answer),
         "pattern" => pattern::is_found_by_pattern(memory, arguments, answer),
