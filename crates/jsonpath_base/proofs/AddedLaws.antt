@@ -1,13 +1,13 @@
 -- What is there after a value was added.
-use Rattle.std.proofs.Common.{◌≡◌, ℕ, zero, suc, ◌<◌, ◌≤◌, List, [], ◌∷◌, ◌++◌, ◌⊎◌, inl, inr, length, nat_le, nat_lt, Bool, true, false, true≢false, IsTrue, if◌then◌else◌, cond, Ordering, Less, Equal, Greater, nat_cmp, is_eq, Option, Some, None, option_map, option_and_then, unwrap_or, refl, sym, ap, ◌∙◌, arith}
+use Rattle.std.proofs.Common.{◌≡◌, ℕ, zero, suc, ◌<◌, ◌≤◌, List, [], ◌∷◌, ◌++◌, inl, inr, length, nat_lt, Bool, true, false, true≢false, if◌then◌else◌, cond, Ordering, Less, Equal, Greater, nat_cmp, is_eq, Option, Some, None, option_map, option_and_then, unwrap_or, refl, sym, ap, ◌∙◌, arith}
 use Rattle.std.proofs.lemmas.Bool.Decides.{nat_tests}
 use Rattle.std.proofs.lemmas.Map.Text.{is_eq-slice_cmp}
 use Rattle.std.proofs.lemmas.Slice.Eq.{bytes_eq-Decides}
 use Rattle.std.specs.Cmp.Lexicographic.{slice_cmp}
 use Rattle.std.specs.Ordering.{match_ordering}
 use Rattle.std.specs.Str.{bytes_eq}
-use Rattle.jsonpath_parser.specs.Location.{Step, name, index, Location, Begins}
-use Rattle.jsonpath_base.specs.Added.{with_new_element, with_new_member, with_new, takes, takes_at, added, AddedIsThere, AddedNameLeavesSiblings, AddedIndexMovesLater, AddedLeavesTheRest}
+use Rattle.jsonpath_parser.specs.Location.{Step, name, index, Location}
+use Rattle.jsonpath_base.specs.Added.{with_new_element, with_new_member, with_new, takes, added, AddedIsThere, AddedNameLeavesSiblings, AddedIndexMovesLater, AddedLeavesTheRest}
 use Rattle.jsonpath_base.specs.Places.{child, item_at, at}
 use Rattle.jsonpath_base.specs.Put.{with_child}
 use Rattle.jsonpath_base.specs.Tree.{Tree, null, truth, number, text, list, object, Trees, no_trees, tree, Members, no_members, member, find, pairs, elements}
@@ -110,7 +110,7 @@ inside (r ∷ l) m s u t = ap (option_and_then (at (l ++ m))) (child_same r (add
     below None more = refl
     below (Some c) more = more c
 
-at_both : (l m : Location) (t : Tree) → at (l ++ m) t ≡ option_and_then (at m) (at l t)
+pub at_both : (l m : Location) (t : Tree) → at (l ++ m) t ≡ option_and_then (at m) (at l t)
 at_both [] m t = refl
 at_both (r ∷ l) m t = below (child r t) (at_both l m)
   where

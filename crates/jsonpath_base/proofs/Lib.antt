@@ -15,6 +15,9 @@ pub mod Putting
 pub mod AddedChildren
 pub mod AddedBelow
 pub mod AddedLaws
+pub mod PointerTexts
+pub mod PointerWays
+pub mod PointerLaws
 pub mod PutWhole
 pub mod Marking
 pub mod Counting

@@ -1,5 +1,5 @@
 -- `==` of steps is equality of what they stand for, and so are the beginnings of lists of steps.
-use Rattle.std.proofs.Common.{◌≡◌, ◌∷◌, ◌++◌, ◌↔◌, List, [], IsTrue, refl}
+use Rattle.std.proofs.Common.{◌≡◌, ◌∷◌, ◌↔◌, List, [], IsTrue, refl}
 use Rattle.std.proofs.lemmas.Bool.Decides.{Decides-and, Decides-eqb}
 use Rattle.std.specs.Bool.{Decides}
 use Rattle.std.specs.List.{starts_with}

@@ -6,3 +6,4 @@ pub mod Thinning
 pub mod Lent
 pub mod Way
 pub mod Adding
+pub mod Pointing

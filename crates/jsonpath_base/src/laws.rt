@@ -1,6 +1,7 @@
 //! Laws of what is written and added and of what is the same. Each function states laws and does nothing.
 ghost use Rattle.jsonpath_parser.specs.Equality.{IsEqualityOf};
 ghost use Rattle.jsonpath_base.specs.Added.{AddedIndexMovesLater, AddedIsThere, AddedLeavesTheRest, AddedNameLeavesSiblings};
+ghost use Rattle.jsonpath_base.specs.Pointer.{PointerFindsItsPlace};
 ghost use Rattle.jsonpath_base.specs.Put.{PutIsSeenAbove, PutIsThere, PutLeavesTheRest};
 ghost use Rattle.jsonpath_base.specs.Same.{SameIsAnEquivalence};
 ghost use Rattle.jsonpath_base.specs.Steps.{owned_step};
@@ -39,4 +40,9 @@ pub fn same_is_an_equivalence()
 /// `==` of steps is equality of what they stand for: names by their bytes, indexes by their numbers, and no name is an index.
 pub fn equal_steps_are_one_step()
     ensures { IsEqualityOf owned_step step.eq-value.it }
+{}
+
+/// Asked the JSON Pointer of a location where something is, `Value::pointer` of `serde_json` finds that.
+pub fn pointer_finds_its_place()
+    ensures { PointerFindsItsPlace }
 {}

@@ -28,7 +28,9 @@ fn answers(memory: &Memory, name: &str, arguments: &[Value], answer: &Value) -> 
         "add_name" | "add_index" => step::answers(memory, name, arguments, answer),
         "picked" => slice::are_picked(memory, arguments, answer),
         "slice_places" => slice::are_places(arguments, answer),
-        "try_clone" | "begins" | "path_of" => location::answers(memory, name, arguments, answer),
+        "try_clone" | "begins" | "path_of" | "pointer_of" | "location_by_pointer" => {
+            location::answers(memory, name, arguments, answer)
+        }
         "at" | "put_at" | "take_at" | "add_at" | "remove_all" => {
             place::answers(memory, name, arguments, answer)
         }
