@@ -1,4 +1,5 @@
 pub mod StepLemmas
+pub mod StepEquality
 pub mod Views
 pub mod WholeParts
 pub mod PatternReading
@@ -11,6 +12,12 @@ pub mod TextOrder
 pub mod Placing
 pub mod PutLaws
 pub mod Putting
+pub mod AddedChildren
+pub mod AddedBelow
+pub mod AddedLaws
+pub mod PointerTexts
+pub mod PointerWays
+pub mod PointerLaws
 pub mod PutWhole
 pub mod Marking
 pub mod Counting

@@ -75,11 +75,11 @@ child_written (name k) r f (text k') = inr refl
 
 -- ---- the law
 
-behind_same : {A B : Type 0} (f : A → A) (g : A → Option B) → ((x : A) → g (f x) ≡ g x) → (o : Option A) → option_and_then g (option_map f o) ≡ option_and_then g o
+pub behind_same : {A B : Type 0} (f : A → A) (g : A → Option B) → ((x : A) → g (f x) ≡ g x) → (o : Option A) → option_and_then g (option_map f o) ≡ option_and_then g o
 behind_same f g h None = refl
 behind_same f g h (Some x) = h x
 
-longer : (s r : Step) (l m : Location) → s ≡ r → Begins l m → Begins (s ∷ l) (r ∷ m)
+pub longer : (s r : Step) (l m : Location) → s ≡ r → Begins l m → Begins (s ∷ l) (r ∷ m)
 longer s r l m e (rest, is) = (rest, ap (λ z. z ∷ m) (sym e) ∙ ap (λ z. s ∷ z) is)
 
 pub put_leaves_the_rest : PutLeavesTheRest

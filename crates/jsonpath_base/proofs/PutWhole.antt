@@ -14,7 +14,7 @@ use Rattle.jsonpath_base.proofs.Views.{names, data_whole, items_are_whole, membe
 
 -- ---- the list, the object that a value is
 
-list_data : (d : Data) (ds : json.Items) → Some ds ≡ json_find.as_array d → d ≡ json.array ds
+pub list_data : (d : Data) (ds : json.Items) → Some ds ≡ json_find.as_array d → d ≡ json.array ds
 list_data json.null ds e = absurd cc
 list_data (json.boolean b) ds e = absurd cc
 list_data (json.number n) ds e = absurd cc
@@ -22,7 +22,7 @@ list_data (json.string s) ds e = absurd cc
 list_data (json.array es) ds e = let same : ds ≡ es = cc in ap json.array (sym same)
 list_data (json.object ms) ds e = absurd cc
 
-object_data : (d : Data) (ms : json.Members) → Some ms ≡ json_find.as_object d → d ≡ json.object ms
+pub object_data : (d : Data) (ms : json.Members) → Some ms ≡ json_find.as_object d → d ≡ json.object ms
 object_data json.null ms e = absurd cc
 object_data (json.boolean b) ms e = absurd cc
 object_data (json.number n) ms e = absurd cc
@@ -32,7 +32,7 @@ object_data (json.object os) ms e = let same : ms ≡ os = cc in ap json.object 
 
 -- ---- elements
 
-item_and_more : (d : Data) (ds : json.Items) → data_whole d ≡ true → items_are_whole ds ≡ true → items_are_whole (json.item d ds) ≡ true
+pub item_and_more : (d : Data) (ds : json.Items) → data_whole d ≡ true → items_are_whole ds ≡ true → items_are_whole (json.item d ds) ≡ true
 item_and_more d ds h k =
     let first = and_parts (has_whole_numbers d) (has_distinct_names (tree_of d)) h in let more = and_parts (items_whole ds) (trees_distinct (trees_of ds)) k in
     and_from (items_whole (json.item d ds)) _ (and_from (has_whole_numbers d) (items_whole ds) first.0 more.0) (and_from (has_distinct_names (tree_of d)) (trees_distinct (trees_of ds)) first.1 more.1)
@@ -46,7 +46,7 @@ items_put (v ∷ vs) (suc i) x w within read put h =
 
 -- ---- members
 
-member_and_more : (k : List ℕ) (d : Data) (ms : json.Members) → data_whole d ≡ true → members_are_whole ms ≡ true → members_are_whole (json.member k d ms) ≡ true
+pub member_and_more : (k : List ℕ) (d : Data) (ms : json.Members) → data_whole d ≡ true → members_are_whole ms ≡ true → members_are_whole (json.member k d ms) ≡ true
 member_and_more k d ms h more_whole =
     let first = and_parts (has_whole_numbers d) (has_distinct_names (tree_of d)) h in let more = and_parts (members_whole ms) (members_distinct (members_of ms)) more_whole in
     and_from (members_whole (json.member k d ms)) _ (and_from (has_whole_numbers d) (members_whole ms) first.0 more.0) (and_from (has_distinct_names (tree_of d)) (members_distinct (members_of ms)) first.1 more.1)

@@ -18,7 +18,7 @@ use Rattle.jsonpath_base.specs.Values.{value_tree, tree_of, tree_of_number, tree
 
 -- ---- by kind
 
-array_tree : (d : Data) (ds : json.Items) → Some ds ≡ json_find.as_array d → tree_of d ≡ list (trees_of ds)
+pub array_tree : (d : Data) (ds : json.Items) → Some ds ≡ json_find.as_array d → tree_of d ≡ list (trees_of ds)
 array_tree json.null ds e = absurd cc
 array_tree (json.boolean b) ds e = absurd cc
 array_tree (json.number n) ds e = absurd cc
@@ -26,7 +26,7 @@ array_tree (json.string s) ds e = absurd cc
 array_tree (json.array es) ds e = let same : ds ≡ es = cc in ap (λ z. list (trees_of z)) (sym same)
 array_tree (json.object ms) ds e = absurd cc
 
-object_tree : (d : Data) (ms : json.Members) → Some ms ≡ json_find.as_object d → tree_of d ≡ object (members_of ms)
+pub object_tree : (d : Data) (ms : json.Members) → Some ms ≡ json_find.as_object d → tree_of d ≡ object (members_of ms)
 object_tree json.null ms e = absurd cc
 object_tree (json.boolean b) ms e = absurd cc
 object_tree (json.number n) ms e = absurd cc
@@ -41,7 +41,7 @@ number_child (index i) f None = (refl, refl)
 number_child (index i) f (Some n) = (refl, refl)
 
 -- what is no list has no element
-no_list : (i : ℕ) (f : Tree → Tree) (d : Data) → None ≡ json_find.as_array d → (tree_of d ≡ with_child (index i) f (tree_of d)) × (child (index i) (tree_of d) ≡ None)
+pub no_list : (i : ℕ) (f : Tree → Tree) (d : Data) → None ≡ json_find.as_array d → (tree_of d ≡ with_child (index i) f (tree_of d)) × (child (index i) (tree_of d) ≡ None)
 no_list i f json.null e = (refl, refl)
 no_list i f (json.boolean b) e = (refl, refl)
 no_list i f (json.number n) e = number_child (index i) f (json_find.as_i64 n)
@@ -49,7 +49,7 @@ no_list i f (json.string s) e = (refl, refl)
 no_list i f (json.array ds) e = absurd cc
 no_list i f (json.object ms) e = (refl, refl)
 
-no_object : (k : List ℕ) (f : Tree → Tree) (d : Data) → None ≡ json_find.as_object d → (tree_of d ≡ with_child (name k) f (tree_of d)) × (child (name k) (tree_of d) ≡ None)
+pub no_object : (k : List ℕ) (f : Tree → Tree) (d : Data) → None ≡ json_find.as_object d → (tree_of d ≡ with_child (name k) f (tree_of d)) × (child (name k) (tree_of d) ≡ None)
 no_object k f json.null e = (refl, refl)
 no_object k f (json.boolean b) e = (refl, refl)
 no_object k f (json.number n) e = number_child (name k) f (json_find.as_i64 n)
@@ -122,46 +122,58 @@ at_child : (s : Step) (l : Location) (t : Tree) (o : Option Tree) → child s t 
 at_child s l t None e = rw e
 at_child s l t (Some u) e = rw e
 
+pub nothing_there : (o : Option Tree) → is_some o ≡ false → None ≡ o
+nothing_there None e = refl
+nothing_there (Some t) e = absurd cc
+
+pub set_element : (value : Value) (v n : Vec Value Global) (i : ℕ) (f : Tree → Tree) (x w : Value) → Some (items_view v.items) ≡ json_find.as_array (view value) → i < length v.items → x ≡ get_or v.items i x
+    → n.items ≡ set v.items i w → value_tree w ≡ f (value_tree x) → value_tree (Array n) ≡ with_child (index i) f (value_tree value)
+set_element value v n i f x w held within read written made =
+    ap tree_of (view-Array n) ∙ ap (λ ys. list (trees_of (items_view ys))) written ∙ ap list (element_set v.items i x w f within read made).0 ∙ ap (with_child (index i) f) (sym (array_tree (view value) (items_view v.items) held))
+
 pub put_element : (value : Value) (v n : Vec Value Global) (i : ℕ) (l : Location) (x w : Value) (u : Tree) → Some (items_view v.items) ≡ json_find.as_array (view value) → i < length v.items → x ≡ get_or v.items i x
     → n.items ≡ set v.items i w → value_tree w ≡ put l u (value_tree x) → value_tree (Array n) ≡ put (index i ∷ l) u (value_tree value)
-put_element value v n i l x w u held within read written made =
-    ap tree_of (view-Array n) ∙ ap (λ ys. list (trees_of (items_view ys))) written ∙ ap list (element_set v.items i x w (put l u) within read made).0 ∙ ap (with_child (index i) (put l u)) (sym (array_tree (view value) (items_view v.items) held))
+put_element value v n i l x w u = set_element value v n i (put l u) x w
 
 pub child_element : (value : Value) (v : Vec Value Global) (i : ℕ) (x : Value) → Some (items_view v.items) ≡ json_find.as_array (view value) → i < length v.items → x ≡ get_or v.items i x
     → child (index i) (value_tree value) ≡ Some (value_tree x)
 child_element value v i x held within read = ap (child (index i)) (array_tree (view value) (items_view v.items) held) ∙ (element_set v.items i x x (λ t. t) within read refl).1
 
-pub found_element : (value : Value) (v : Vec Value Global) (i : ℕ) (l : Location) (x : Value) → Some (items_view v.items) ≡ json_find.as_array (view value) → i < length v.items → x ≡ get_or v.items i x
-    → is_some (at (index i ∷ l) (value_tree value)) ≡ is_some (at l (value_tree x))
-found_element value v i l x held within read = at_child (index i) l (value_tree value) (Some (value_tree x)) (child_element value v i x held within read)
+pub past_child : (value : Value) (v : Vec Value Global) (i : ℕ) (f : Tree → Tree) → Some (items_view v.items) ≡ json_find.as_array (view value) → length v.items ≤ i
+    → (value_tree (Array v) ≡ with_child (index i) f (value_tree value)) × (child (index i) (value_tree value) ≡ None)
+past_child value v i f held past =
+    let is = array_tree (view value) (items_view v.items) held in let none = element_past v.items i f past in
+    (ap tree_of (view-Array v) ∙ ap list none.0 ∙ ap (with_child (index i) f) (sym is), ap (child (index i)) is ∙ none.1)
 
 pub past_element : (value : Value) (v : Vec Value Global) (i : ℕ) (l : Location) (u : Tree) → Some (items_view v.items) ≡ json_find.as_array (view value) → length v.items ≤ i
     → (value_tree (Array v) ≡ put (index i ∷ l) u (value_tree value)) × (is_some (at (index i ∷ l) (value_tree value)) ≡ false)
-past_element value v i l u held past =
-    let is = array_tree (view value) (items_view v.items) held in let none = element_past v.items i (put l u) past in
-    (ap tree_of (view-Array v) ∙ ap list none.0 ∙ ap (with_child (index i) (put l u)) (sym is), at_child (index i) l (value_tree value) None (ap (child (index i)) is ∙ none.1))
+past_element value v i l u held past = let none = past_child value v i (put l u) held past in (none.0, at_child (index i) l (value_tree value) None none.1)
 
 pub no_elements : (value : Value) (i : ℕ) (l : Location) (u : Tree) → None ≡ json_find.as_array (view value) → (value_tree value ≡ put (index i ∷ l) u (value_tree value)) × (is_some (at (index i ∷ l) (value_tree value)) ≡ false)
 no_elements value i l u none = let no = no_list i (put l u) (view value) none in (no.0, at_child (index i) l (value_tree value) None no.1)
 
+pub set_member : (value : Value) (m n : BTreeMap (String Global) Value) (k : List ℕ) (f : Tree → Tree) (x w : Value) → Some (members_view m.entries) ≡ json_find.as_object (view value) → lookup (is_entry k) m.entries ≡ Some x
+    → n.entries ≡ set_value (is_entry k) m.entries w → value_tree w ≡ f (value_tree x) → value_tree (Object n) ≡ with_child (name k) f (value_tree value)
+set_member value m n k f x w held found written made =
+    ap tree_of (view-Object n) ∙ ap (λ ys. object (members_of (members_view ys))) written ∙ ap object (member_set k m.entries x w f found made).0 ∙ ap (with_child (name k) f) (sym (object_tree (view value) (members_view m.entries) held))
+
 pub put_member : (value : Value) (m n : BTreeMap (String Global) Value) (k : List ℕ) (l : Location) (x w : Value) (u : Tree) → Some (members_view m.entries) ≡ json_find.as_object (view value) → lookup (is_entry k) m.entries ≡ Some x
     → n.entries ≡ set_value (is_entry k) m.entries w → value_tree w ≡ put l u (value_tree x) → value_tree (Object n) ≡ put (name k ∷ l) u (value_tree value)
-put_member value m n k l x w u held found written made =
-    ap tree_of (view-Object n) ∙ ap (λ ys. object (members_of (members_view ys))) written ∙ ap object (member_set k m.entries x w (put l u) found made).0 ∙ ap (with_child (name k) (put l u)) (sym (object_tree (view value) (members_view m.entries) held))
+put_member value m n k l x w u = set_member value m n k (put l u) x w
 
 pub child_member : (value : Value) (m : BTreeMap (String Global) Value) (k : List ℕ) (x : Value) → Some (members_view m.entries) ≡ json_find.as_object (view value) → lookup (is_entry k) m.entries ≡ Some x
     → child (name k) (value_tree value) ≡ Some (value_tree x)
 child_member value m k x held found = ap (child (name k)) (object_tree (view value) (members_view m.entries) held) ∙ (member_set k m.entries x x (λ t. t) found refl).1
 
-pub found_member : (value : Value) (m : BTreeMap (String Global) Value) (k : List ℕ) (l : Location) (x : Value) → Some (members_view m.entries) ≡ json_find.as_object (view value) → lookup (is_entry k) m.entries ≡ Some x
-    → is_some (at (name k ∷ l) (value_tree value)) ≡ is_some (at l (value_tree x))
-found_member value m k l x held found = at_child (name k) l (value_tree value) (Some (value_tree x)) (child_member value m k x held found)
+pub absent_child : (value : Value) (m n : BTreeMap (String Global) Value) (k : List ℕ) (f : Tree → Tree) → Some (members_view m.entries) ≡ json_find.as_object (view value) → lookup (is_entry k) m.entries ≡ None → n ≡ m
+    → (value_tree (Object n) ≡ with_child (name k) f (value_tree value)) × (child (name k) (value_tree value) ≡ None)
+absent_child value m n k f held none same =
+    let is = object_tree (view value) (members_view m.entries) held in let no = member_absent k m.entries f none in
+    (ap (λ (y : BTreeMap (String Global) Value). value_tree (Object y)) same ∙ ap tree_of (view-Object m) ∙ ap object no.0 ∙ ap (with_child (name k) f) (sym is), ap (child (name k)) is ∙ no.1)
 
 pub absent_member : (value : Value) (m n : BTreeMap (String Global) Value) (k : List ℕ) (l : Location) (u : Tree) → Some (members_view m.entries) ≡ json_find.as_object (view value) → lookup (is_entry k) m.entries ≡ None → n ≡ m
     → (value_tree (Object n) ≡ put (name k ∷ l) u (value_tree value)) × (is_some (at (name k ∷ l) (value_tree value)) ≡ false)
-absent_member value m n k l u held none same =
-    let is = object_tree (view value) (members_view m.entries) held in let no = member_absent k m.entries (put l u) none in
-    (ap (λ (y : BTreeMap (String Global) Value). value_tree (Object y)) same ∙ ap tree_of (view-Object m) ∙ ap object no.0 ∙ ap (with_child (name k) (put l u)) (sym is), at_child (name k) l (value_tree value) None (ap (child (name k)) is ∙ no.1))
+absent_member value m n k l u held none same = let no = absent_child value m n k (put l u) held none same in (no.0, at_child (name k) l (value_tree value) None no.1)
 
 pub no_members : (value : Value) (k : List ℕ) (l : Location) (u : Tree) → None ≡ json_find.as_object (view value) → (value_tree value ≡ put (name k ∷ l) u (value_tree value)) × (is_some (at (name k ∷ l) (value_tree value)) ≡ false)
 no_members value k l u none = let no = no_object k (put l u) (view value) none in (no.0, at_child (name k) l (value_tree value) None no.1)

@@ -2,6 +2,8 @@ pub mod Tree
 pub mod Places
 pub mod Steps
 pub mod Put
+pub mod Added
+pub mod Pointer
 pub mod Lending
 pub mod Without
 pub mod RemovalViews

@@ -5,3 +5,5 @@ pub mod Marks
 pub mod Thinning
 pub mod Lent
 pub mod Way
+pub mod Adding
+pub mod Pointing

@@ -1,6 +1,11 @@
-//! Laws of what is written and of what is the same. Each function states one or two and does nothing.
+//! Laws of what is written and added and of what is the same. Each function states laws and does nothing.
+ghost use Rattle.jsonpath_parser.specs.Equality.{IsEqualityOf};
+ghost use Rattle.jsonpath_base.specs.Added.{AddedIndexMovesLater, AddedIsThere, AddedLeavesTheRest, AddedNameLeavesSiblings};
+ghost use Rattle.jsonpath_base.specs.Pointer.{PointerFindsItsPlace};
 ghost use Rattle.jsonpath_base.specs.Put.{PutIsSeenAbove, PutIsThere, PutLeavesTheRest};
 ghost use Rattle.jsonpath_base.specs.Same.{SameIsAnEquivalence};
+ghost use Rattle.jsonpath_base.specs.Steps.{owned_step};
+ghost use Rattle.jsonpath_base.specs.contracts.step.StepPartialEq.TheImpl as step;
 
 /// Where something was, what was written stands there, with all its parts; above the location stands what was there, with the
 /// same write in it.
@@ -14,7 +19,30 @@ pub fn put_leaves_the_rest()
     ensures { PutLeavesTheRest }
 {}
 
+/// What was added is there, with all its parts.
+pub fn added_is_there()
+    ensures { AddedIsThere }
+{}
+
+/// A member that was added leaves all its siblings; an element leaves those before it, and moves those behind it by one. What
+/// lies neither inside nor above the object or the list is as it was.
+pub fn added_leaves_the_rest()
+    ensures names { AddedNameLeavesSiblings }
+    ensures elements { AddedIndexMovesLater }
+    ensures rest { AddedLeavesTheRest }
+{}
+
 /// On trees with distinct names, such as those of whole values, being the same is an equivalence.
 pub fn same_is_an_equivalence()
     ensures { SameIsAnEquivalence }
+{}
+
+/// `==` of steps is equality of what they stand for: names by their bytes, indexes by their numbers, and no name is an index.
+pub fn equal_steps_are_one_step()
+    ensures { IsEqualityOf owned_step step.eq-value.it }
+{}
+
+/// Asked the JSON Pointer of a location where something is, `Value::pointer` of `serde_json` finds that.
+pub fn pointer_finds_its_place()
+    ensures { PointerFindsItsPlace }
 {}

@@ -3,14 +3,17 @@
 //! locations.
 #![tactic(auto)]
 
+mod adding;
 pub mod engine;
 mod equality;
 pub mod laws;
 mod lending;
+mod location;
 mod marks;
 mod ordering;
 mod pattern;
 mod place;
+mod pointer;
 mod removal;
 mod set_functions;
 mod slice;
@@ -19,10 +22,13 @@ mod text;
 mod value;
 mod way;
 
+pub use adding::add_at;
 pub use equality::same;
 pub use lending::at_mut;
+pub use location::{begins, path_of};
 pub use pattern::{Extent, Finder, Pattern, found};
-pub use place::{at, put_at};
+pub use place::{at, put_at, take_at};
+pub use pointer::{location_by_pointer, pointer_of};
 pub use removal::{OrderedRemoval, Removal, remove_all};
 pub use set_functions::set_function;
 pub use slice::{SlicePlaces, picked, slice_places};

@@ -1,9 +1,12 @@
 //! The value at a location, to be read and to be written.
 ghost use Rattle.std.specs.Prelude.{◌≡◌, IfSome, IsTrue, option_map, is_some};
+ghost use Rattle.serde_json.specs.View.{view};
 ghost use Rattle.jsonpath_base.specs.Places as places;
 ghost use Rattle.jsonpath_base.specs.Put.{put};
 ghost use Rattle.jsonpath_base.specs.Steps.{location_view, owned_step};
+ghost use Rattle.jsonpath_base.specs.Tree.{null};
 ghost use Rattle.jsonpath_base.specs.Values.{value_tree, value_is_whole};
+ghost use Rattle.jsonpath_base.specs.inner.Pointing.{data_child};
 
 use crate::step::Step;
 use serde_json::Value;
@@ -26,7 +29,8 @@ pub fn at<'v>(value: &'v Value, steps: &[Step]) -> Option<&'v Value>
 }
 
 /// The child that a step leads to, or None.
-fn child<'v>(value: &'v Value, step: &Step) -> Option<&'v Value>
+pub fn child<'v>(value: &'v Value, step: &Step) -> Option<&'v Value>
+    ensures data { option_map (λ v. view v.now) result ≡ data_child (owned_step step.now) (view value.now) }
     ensures value { option_map (λ v. value_tree v.now) result ≡ places.child (owned_step step.now) (value_tree value.now) }
     ensures whole { IsTrue (value_is_whole value.now) → IfSome result (λ v. IsTrue (value_is_whole v.now)) }
 {
@@ -38,33 +42,51 @@ fn child<'v>(value: &'v Value, step: &Step) -> Option<&'v Value>
 
 /// Puts a value at the location of these steps, in the place of the one there, and returns true; where nothing is there,
 /// it returns false and changes nothing, and the new value is dropped. It takes no memory, and time as `at`.
-#[cycle(put_at)]
 pub fn put_at(value: &mut Value, steps: &[Step], new: Value) -> bool
     ensures value { value_tree value.new ≡ put (location_view steps.now) (value_tree new) (value_tree value.old) }
     ensures found { result ≡ is_some (places.at (location_view steps.now) (value_tree value.old)) }
     ensures whole { IsTrue (value_is_whole value.old) → IsTrue (value_is_whole new) → IsTrue (value_is_whole value.new) }
 {
+    exchange(value, steps, new).is_some()
+}
+
+/// Takes the value at the location of these steps, and leaves null there; None where nothing is there, and then nothing
+/// changes. It takes no memory, and time as `at`.
+pub fn take_at(value: &mut Value, place: &[Step]) -> Option<Value>
+    ensures taken { option_map value_tree result ≡ places.at (location_view place.now) (value_tree value.old) }
+    ensures left { value_tree value.new ≡ put (location_view place.now) null (value_tree value.old) }
+    ensures whole { IsTrue (value_is_whole value.old) → IsTrue (value_is_whole value.new) }
+    ensures taken_whole { IsTrue (value_is_whole value.old) → IfSome result (λ v. IsTrue (value_is_whole v)) }
+{
+    exchange(value, place, Value::Null)
+}
+
+/// Puts a value at the location of these steps, and returns the one that stood there; None where nothing is there.
+#[cycle(exchange)]
+fn exchange(value: &mut Value, steps: &[Step], new: Value) -> Option<Value>
+    ensures value { value_tree value.new ≡ put (location_view steps.now) (value_tree new) (value_tree value.old) }
+    ensures taken { option_map value_tree result ≡ places.at (location_view steps.now) (value_tree value.old) }
+    ensures whole { IsTrue (value_is_whole value.old) → IsTrue (value_is_whole new) → IsTrue (value_is_whole value.new) }
+    ensures taken_whole { IsTrue (value_is_whole value.old) → IfSome result (λ v. IsTrue (value_is_whole v)) }
+{
     let (step, rest) = match steps.split_first() {
         Some((step, rest)) => (step, rest),
-        None => {
-            drop(mem::replace(value, new));
-            return true;
-        }
+        None => return Some(mem::replace(value, new)),
     };
     match step {
         Step::Index(index) => match value.as_array_mut() {
             Some(items) => match items.get_mut(*index) {
-                Some(item) => put_at(item, rest, new),
-                None => false,
+                Some(item) => exchange(item, rest, new),
+                None => None,
             },
-            None => false,
+            None => None,
         },
         Step::Name(name) => match value.as_object_mut() {
             Some(members) => match members.get_mut(name.as_str()) {
-                Some(member) => put_at(member, rest, new),
-                None => false,
+                Some(member) => exchange(member, rest, new),
+                None => None,
             },
-            None => false,
+            None => None,
         },
     }
 }

@@ -1,5 +1,5 @@
 //! Rows on the functions of `jsonpath_base`.
-use crate::{pattern, place, slice, step, values};
+use crate::{location, pattern, place, slice, step, values};
 use rows_common::Memory;
 use rows_common::members::{has_only, list_at, string_at};
 use serde_json::Value;
@@ -28,7 +28,12 @@ fn answers(memory: &Memory, name: &str, arguments: &[Value], answer: &Value) -> 
         "add_name" | "add_index" => step::answers(memory, name, arguments, answer),
         "picked" => slice::are_picked(memory, arguments, answer),
         "slice_places" => slice::are_places(arguments, answer),
-        "at" | "put_at" | "remove_all" => place::answers(memory, name, arguments, answer),
+        "try_clone" | "begins" | "path_of" | "pointer_of" | "location_by_pointer" => {
+            location::answers(memory, name, arguments, answer)
+        }
+        "at" | "put_at" | "take_at" | "add_at" | "remove_all" => {
+            place::answers(memory, name, arguments, answer)
+        }
         "found" => pattern::is_found(memory, arguments, answer),
         "found_each" => pattern::are_found_each(memory, arguments, answer),
         "pattern" => pattern::is_found_by_pattern(memory, arguments, answer),

@@ -5,6 +5,7 @@
 mod built;
 mod call;
 mod error;
+mod location;
 mod maker;
 mod parse;
 mod pattern;

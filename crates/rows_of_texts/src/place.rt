@@ -1,19 +1,27 @@
-//! Rows on places in values: `at`, `put_at`, `remove_all`.
+//! Rows on places in values: `at`, `put_at`, `take_at`, `add_at`, `remove_all`.
 ghost use Rattle.std.specs.Prelude.{IsTrue};
 ghost use Rattle.jsonpath_base.specs.Same.{same};
 ghost use Rattle.jsonpath_base.specs.Values.{value_tree};
 
-use jsonpath_base::{Step, at, put_at, remove_all, same, whole};
+use jsonpath_base::{Step, add_at, at, put_at, remove_all, same, take_at, whole};
 use rows_common::Memory;
 use rows_common::members::{list, size};
 use serde_json::Value;
 
 /// Whether the call of that name answers so. A location is a list of names and indexes. What `at` answers is a list of the
-/// value, empty for None; with what `put_at` and `remove_all` answer stands what they leave.
+/// value, empty for None, and so is what `take_at` answers; with what all but `at` answer stands what they leave.
 pub fn answers(memory: &Memory, name: &str, arguments: &[Value], answer: &Value) -> bool {
     let held = match (name, arguments) {
         ("at", [value, location]) => is_at(memory, value, location, answer),
         ("put_at", [value, location, new]) => is_put(memory, value, location, new, answer),
+        ("take_at", [value, location]) => is_taken(memory, value, location, answer),
+        ("add_at", [value, parent, step, new]) => is_added(
+            memory,
+            value,
+            (parent, step),
+            new,
+            answer,
+        ),
         ("remove_all", [value, locations]) => are_removed(memory, value, locations, answer),
         _ => None,
     };
@@ -50,6 +58,45 @@ fn is_put(
     Some(held)
 }
 
+/// Whether `take_at` answers so and leaves that.
+fn is_taken(memory: &Memory, value: &Value, location: &Value, answer: &Value) -> Option<bool> {
+    let [wanted, left] = list(answer)? else {
+        return None;
+    };
+    let steps = steps_of(memory, location)?;
+    let mut value = memory.ok(value.clone())?;
+    let held = match (take_at(&mut value, steps.as_slice()), list(wanted)?) {
+        (Some(taken), [wanted]) => are_same(&taken, wanted) && are_same(&value, left),
+        (None, []) => are_same(&value, left),
+        _ => false,
+    };
+    drop(value);
+    Some(held)
+}
+
+/// Whether `add_at` answers so, of a location and a step, and leaves that.
+fn is_added(
+    memory: &Memory,
+    value: &Value,
+    place: (&Value, &Value),
+    new: &Value,
+    answer: &Value,
+) -> Option<bool> {
+    let [found, left] = list(answer)? else {
+        return None;
+    };
+    let found = found.as_bool()?;
+    let parent = steps_of(memory, place.0)?;
+    let step = step_of(memory, place.1)?;
+    let new = memory.ok(new.clone())?;
+    let mut kept = memory.ok(value.clone())?;
+    let added = memory.ok(add_at(memory.alloc, &mut kept, parent.as_slice(), step, new));
+    memory.note_kept(are_same(&kept, value));
+    let held = added == Some(found) && are_same(&kept, left);
+    drop(kept);
+    Some(held)
+}
+
 /// Whether `remove_all` answers so and leaves that.
 fn are_removed(memory: &Memory, value: &Value, locations: &Value, answer: &Value) -> Option<bool> {
     let [count, left] = list(answer)? else {
@@ -79,7 +126,8 @@ fn places_of(memory: &Memory, locations: &Value) -> Option<Vec<Vec<Step>>> {
     Some(places)
 }
 
-fn steps_of(memory: &Memory, location: &Value) -> Option<Vec<Step>> {
+/// The steps of a list of names and indexes.
+pub fn steps_of(memory: &Memory, location: &Value) -> Option<Vec<Step>> {
     let mut steps = Vec::new(memory.alloc);
     for step in list(location)? {
         memory.ok(steps.push(step_of(memory, step)?))?;
@@ -87,7 +135,8 @@ fn steps_of(memory: &Memory, location: &Value) -> Option<Vec<Step>> {
     Some(steps)
 }
 
-fn step_of(memory: &Memory, step: &Value) -> Option<Step> {
+/// The step of a name or an index.
+pub fn step_of(memory: &Memory, step: &Value) -> Option<Step> {
     match step {
         Value::String(name) => Some(Step::Name(memory.ok(name.clone())?)),
         _ => Some(Step::Index(size(step)?)),

@@ -1,0 +1,194 @@
+//! Locations as JSON Pointers (RFC 6901).
+ghost use Rattle.std.specs.Prelude.{◌≡◌, ◌≤◌, ◌∷◌, ◌++◌, IfErr, IfOk, IfSome, MatchOption, None, OnOk, flat_map, length, option_and_then, string_bytes};
+ghost use Rattle.serde_json.specs.Find.{pointer as points_to, step as one_step, index_of, unescape};
+ghost use Rattle.serde_json.specs.View.{view};
+ghost use Rattle.jsonpath_parser.specs.Normal.{index_digits};
+ghost use Rattle.jsonpath_base.specs.Pointer.{MeansStep, PointsTo, escaped, pointer, token};
+ghost use Rattle.jsonpath_base.specs.Steps.{location_view, owned_step};
+ghost use Rattle.jsonpath_base.specs.inner.Pointing.{GoesDown, data_child, tilde_escaped};
+
+use crate::place::child;
+use crate::step::Step;
+use fast_float::Numeral;
+use itoa::Buffer;
+use jsonpath_parser::errors::{JsonPathError, Parsed};
+use serde_json::Value;
+use std::alloc::{AllocError, Global};
+
+/// The JSON Pointer of the location of these steps (RFC 6901): for each step `/` and the name, `~` and `/` in it written as
+/// `~0` and `~1`, or the digits of the index. It does not tell a name of digits from an index: the document does. Time linear
+/// in the steps and in the names that they hold.
+///
+/// # Errors
+///
+/// `OutOfMemory` where memory ran out.
+pub fn pointer_of(alloc: Global, steps: &[Step]) -> Parsed<String>
+    ensures value { IfOk result (λ text. string_bytes text ≡ pointer (location_view steps.now)) }
+    ensures memory { IfErr result (λ e. e ≡ JsonPathError.OutOfMemory) }
+{
+    let mut text = String::new(alloc);
+    for step in steps {
+        push_step(&mut text, step)?;
+    }
+    Ok(text)
+}
+
+/// Appends a step.
+fn push_step(text: &mut String, step: &Step) -> Result<(), AllocError>
+    ensures { OnOk result (string_bytes text.new ≡ string_bytes text.old ++ (47 ∷ token (owned_step step.now))) }
+{
+    text.push('/')?;
+    match step {
+        Step::Name(name) => push_name(text, name.as_str()),
+        Step::Index(index) => push_index(text, *index),
+    }
+}
+
+/// Appends the digits of an index.
+fn push_index(text: &mut String, index: usize) -> Result<(), AllocError>
+    ensures { OnOk result (string_bytes text.new ≡ string_bytes text.old ++ index_digits index) }
+{
+    let mut digits = Buffer::new();
+    text.push_str(digits.format(index))?;
+    Ok(())
+}
+
+/// Appends the characters of a name, each `~` and each `/` escaped.
+fn push_name(text: &mut String, name: &str) -> Result<(), AllocError>
+    ensures { OnOk result (string_bytes text.new ≡ string_bytes text.old ++ flat_map escaped name.now) }
+{
+    let mut rest = name;
+    while let Some((part, more)) = rest.split_once('/') {
+        push_part(text, part)?;
+        text.push_str("~1")?;
+        rest = more;
+    }
+    push_part(text, rest)?;
+    Ok(())
+}
+
+/// Appends characters, each `~` escaped.
+fn push_part(text: &mut String, part: &str) -> Result<(), AllocError>
+    ensures { OnOk result (string_bytes text.new ≡ string_bytes text.old ++ flat_map tilde_escaped part.now) }
+{
+    let mut rest = part;
+    while let Some((plain, more)) = rest.split_once('~') {
+        text.push_str(plain)?;
+        text.push_str("~0")?;
+        rest = more;
+    }
+    text.push_str(rest)?;
+    Ok(())
+}
+
+/// The location in this document that a JSON Pointer means (RFC 6901, 4): in an object a part of the text is a name, in a list an
+/// index, digits without a leading zero; what `~` stands before, if it is neither `0` nor `1`, stands as it is written. None where
+/// the text is no pointer, or leads to nothing, as `-` does in a list. Time as `at`, and linear in the text.
+///
+/// # Errors
+///
+/// `OutOfMemory` where memory ran out.
+pub fn location_by_pointer(alloc: Global, value: &Value, text: &str) -> Parsed<Option<Vec<Step>>>
+    ensures place { IfOk result (λ o. MatchOption o (points_to text.now (view value.now) ≡ None) (λ l. PointsTo text.now value.now (location_view l.items))) }
+    ensures memory { IfErr result (λ e. e ≡ JsonPathError.OutOfMemory) }
+{
+    let mut steps = Vec::new(alloc);
+    if text.is_empty() {
+        return Ok(Some(steps));
+    }
+    let Some(mut rest) = text.strip_prefix('/') else {
+        return Ok(None);
+    };
+    let mut target = value;
+    while let Some((part, more)) = rest.split_once('/') {
+        let Some(below) = go_down(alloc, &mut steps, target, part)? else {
+            return Ok(None);
+        };
+        target = below;
+        rest = more;
+    }
+    match go_down(alloc, &mut steps, target, rest)? {
+        Some(_) => Ok(Some(steps)),
+        None => Ok(None),
+    }
+}
+
+/// The child that a part of a pointer means, its step behind the others; or None.
+fn go_down<'v>(
+    alloc: Global,
+    steps: &mut Vec<Step>,
+    target: &'v Value,
+    part: &str,
+) -> Parsed<Option<&'v Value>>
+    ensures down { IfOk result (λ o. MatchOption o (one_step part.now (view target.now) ≡ None) (λ v. GoesDown part.now target.now steps.old.items steps.new.items v.now)) }
+    ensures memory { IfErr result (λ e. e ≡ JsonPathError.OutOfMemory) }
+{
+    let Some(step) = step_by(alloc, target, part)? else {
+        return Ok(None);
+    };
+    let Some(below) = child(target, &step) else {
+        return Ok(None);
+    };
+    steps.push(step)?;
+    Ok(Some(below))
+}
+
+/// The step that a part of a pointer means in a value, or None.
+fn step_by(alloc: Global, target: &Value, part: &str) -> Parsed<Option<Step>>
+    ensures step { IfOk result (λ o. one_step part.now (view target.now) ≡ option_and_then (λ s. data_child (owned_step s) (view target.now)) o) }
+    ensures means { IfOk result (λ o. IfSome o (λ s. MeansStep part.now (owned_step s))) }
+    ensures memory { IfErr result (λ e. e ≡ JsonPathError.OutOfMemory) }
+{
+    match target {
+        Value::Object(_) => Ok(Some(Step::Name(unescaped(alloc, part)?))),
+        Value::Array(_) => match index_by(part) {
+            Some(index) => Ok(Some(Step::Index(index))),
+            None => Ok(None),
+        },
+        _ => Ok(None),
+    }
+}
+
+/// The index whose digits these are, or None.
+fn index_by(part: &str) -> Option<usize>
+    ensures { result ≡ index_of part.now }
+{
+    let bytes = part.as_bytes();
+    let numeral = Numeral::scan(bytes);
+    let index = numeral.to_u64()?;
+    if numeral.len() == bytes.len() && (bytes.len() == 1 || bytes[0] != b'0') {
+        Some(index as usize)
+    } else {
+        None
+    }
+}
+
+/// A part of a pointer with `~1` in it as `/`, and `~0` as `~`.
+fn unescaped(alloc: Global, part: &str) -> Result<String, AllocError>
+    ensures { IfOk result (λ name. string_bytes name ≡ unescape part.now) }
+{
+    let mut name = String::with_capacity(alloc, part.len())?;
+    let mut rest = part;
+    while let Some((plain, behind)) = rest.split_once('~') {
+        let (mark, more) = mark_at(behind);
+        name.push_str(plain)?;
+        name.push_str(mark)?;
+        rest = more;
+    }
+    name.push_str(rest)?;
+    Ok(name)
+}
+
+/// What a `~` before these characters stands for, and what follows.
+fn mark_at(behind: &str) -> (&'static str, &str)
+    ensures value { unescape (126 ∷ behind.now) ≡ result.0.now ++ unescape result.1.now }
+    ensures shorter { length result.1.now ≤ length behind.now }
+{
+    if let Some(more) = behind.strip_prefix('1') {
+        ("/", more)
+    } else if let Some(more) = behind.strip_prefix('0') {
+        ("~", more)
+    } else {
+        ("~", behind)
+    }
+}
