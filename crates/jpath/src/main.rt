@@ -1,5 +1,6 @@
 //! The program `jpath`: it runs a JSONPath query on the JSON on standard input, and prints what the query selects, or what is left
-//! when that is deleted. `words` reads the command line, `run` does the work, `output` prints, and `fault` has how a run ends.
+//! when that is deleted. `words` reads the command line, `run` does the work, `output` prints, `value` has the text of a value, and
+//! `fault` how a run ends.
 #![tactic(auto)]
 
 mod fault;
@@ -7,6 +8,7 @@ mod output;
 mod run;
 #[cfg(test)]
 mod tests;
+mod value;
 mod words;
 
 use crate::fault::Fault;

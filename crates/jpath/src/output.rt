@@ -1,6 +1,5 @@
 //! The text of what a query selects, and of what a deletion leaves.
 ghost use Rattle.std.specs.Prelude.{◌≡◌, ◌++◌, map, codes, decimal, All, IsTrue, IfOk, IfErr, OnOk, string_bytes};
-ghost use Rattle.std.specs.Fmt.{signed_decimal};
 ghost use Rattle.std.specs.List.{flat_map};
 ghost use Rattle.jsonpath_parser.specs.tree.View.{query_view};
 ghost use Rattle.jsonpath_base.specs.SetFunctions.{set_function};
@@ -13,6 +12,7 @@ ghost use Rattle.jpath.specs.Output.{line, listed, deletion_text};
 ghost use Rattle.jpath.specs.Refused.{IsNoAnswer};
 
 use crate::fault::Fault;
+use crate::value::push_value;
 use crate::words::{Command, Listing};
 use jsonpath_parser::model::JpQuery;
 use jsonpath_rust::query::{QueryRef, delete_selected, selected_nodes, selected_values};
@@ -136,27 +136,6 @@ fn push_node(
         Listing::Paths => text.push_str(node.path.as_str())?,
     }
     text.push('\n')
-}
-
-/// Appends a value as compact JSON. A number, which most values are, takes no text of its own.
-fn push_value(alloc: Global, text: &mut String, value: &Value) -> Result<(), AllocError>
-    requires { IsTrue (value_is_whole value.now) }
-    ensures { OnOk result (string_bytes text.new ≡ string_bytes text.old ++ json_text (value_tree value.now)) }
-{
-    match value.as_i64() {
-        Some(number) => push_number(text, number),
-        None => {
-            let json = value.to_string(alloc)?;
-            text.push_str(json.as_str())
-        }
-    }
-}
-
-/// Appends a number in decimal.
-fn push_number(text: &mut String, number: i64) -> Result<(), AllocError>
-    ensures { OnOk result (string_bytes text.new ≡ string_bytes text.old ++ signed_decimal number) }
-{
-    write!(text, "{number}").map_err(|_| AllocError)
 }
 
 /// Appends a count in decimal.

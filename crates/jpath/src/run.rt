@@ -13,6 +13,7 @@ use jsonpath_parser::{let_go, parse_json_path_within};
 use serde_json::Value;
 use std::alloc::{AllocError, Global};
 use std::io::{Read, Write};
+use std::mem;
 
 /// Asks the query of these words, those behind the program's name, of the JSON that the reader gives to its end,
 /// and writes what it selects, or what is left of it when that is deleted.
@@ -57,6 +58,8 @@ pub fn run<R: Read, W: Write>(
     };
     let printed = printed(alloc, request.command, &query, &mut document);
     let_go(query);
+    // The process ends after a run, and its memory goes with it: no value is freed by itself.
+    mem::forget(document);
     let output = printed?;
     write_out(writer, output.as_bytes())
 }
@@ -108,10 +111,7 @@ fn document_of(alloc: Global, bytes: &[u8]) -> Result<Value, Fault>
     ensures whole { IfOk result (λ v. IsTrue (value_is_whole v)) }
     ensures fault { IfErr result (IsNoDocument (Some bytes.now)) }
 {
-    let Ok(text) = str::from_utf8(bytes) else {
-        return Err(Fault::NotJson);
-    };
-    let value = match Value::from_str(alloc, text) {
+    let value = match Value::from_slice(alloc, bytes) {
         Ok(value) => value,
         Err(e) => return Err(if e.is_memory() {
             Fault::Memory
