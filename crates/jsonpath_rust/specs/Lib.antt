@@ -43,6 +43,8 @@ pub use Rattle.jsonpath_parser.specs.Unambiguous
 pub use Rattle.jsonpath_base.specs.Tree
 pub use Rattle.jsonpath_base.specs.Places
 pub use Rattle.jsonpath_base.specs.Put
+pub use Rattle.jsonpath_base.specs.Added
+pub use Rattle.jsonpath_base.specs.Pointer
 pub use Rattle.jsonpath_base.specs.Without
 pub use Rattle.jsonpath_base.specs.Pattern
 pub use Rattle.jsonpath_base.specs.PatternViews

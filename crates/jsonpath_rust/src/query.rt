@@ -29,8 +29,14 @@ use crate::selection::selected_paths;
 pub use crate::selection::{Prepared, Runner, selected_locations, selected_nodes, selected_values};
 pub use crate::states::{Query, apply, selector, state};
 use crate::states::{processed_nodes, processed_values};
-pub use jsonpath_base::laws::{put_is_there, put_leaves_the_rest, same_is_an_equivalence};
-pub use jsonpath_base::{Step, at, at_mut, put_at, remove_all};
+pub use jsonpath_base::laws::{
+    added_is_there, added_leaves_the_rest, equal_steps_are_one_step, pointer_finds_its_place,
+    put_is_there, put_leaves_the_rest, same_is_an_equivalence,
+};
+pub use jsonpath_base::{
+    Step, add_at, at, at_mut, begins, location_by_pointer, path_of, pointer_of, put_at, remove_all,
+    take_at,
+};
 use jsonpath_parser::model::JpQuery;
 use jsonpath_parser::{
     MAX_NESTING_DEPTH, is_typed, let_go, parse_json_path, parse_json_path_within,
