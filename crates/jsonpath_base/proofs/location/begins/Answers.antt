@@ -1,4 +1,3 @@
-use Rattle.std.proofs.Common.{◌↔◌}
 use Rattle.jsonpath_base.proofs.StepEquality.{begins_same}
 use Rattle.jsonpath_base.proofs.location.begins.Goals as goal
 
