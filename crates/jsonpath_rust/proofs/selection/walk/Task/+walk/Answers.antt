@@ -972,7 +972,7 @@ answer-returns-in_ok-count-in-CountChildren-clause-value g t c =
     let n = node_of c.args.trail.now.way.steps.items c.args.at in
     let e = ap (call_view kept) c.in-CountChildren.is ∙ call_view-CountChildren kept c.in-CountChildren.steps in
     let steps = ap (λ (ss : List SingularQuerySegment). children_query (map step_view ss)) c.deref-in-CountChildren.ensures.value in
-    c.count_scalar.ensures ∙ query_count _ d n _ (c.in_ok-count-in-CountChildren.ensures.count d n refl) ∙ ap (λ q. count_of (as_nodes (tested (relative q) d n))) steps ∙ sym (ap (λ f. answer f d n) e)
+    ap Some c.count_scalar.ensures ∙ query_count _ d n _ (c.in_ok-count-in-CountChildren.ensures.count d n refl) ∙ ap (λ q. count_of (as_nodes (tested (relative q) d n))) steps ∙ sym (ap (λ f. answer f d n) e)
 
 pub answer-returns-in-Search-clause-value : goal.answer-returns-in-Search-clause-value
 answer-returns-in-Search-clause-value g t c =
