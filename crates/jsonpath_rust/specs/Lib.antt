@@ -14,6 +14,7 @@ pub use Rattle.jsonpath_rust.specs.documents.Args
 pub use Rattle.jsonpath_rust.specs.documents.Patterns
 pub use Rattle.jsonpath_rust.specs.documents.Referring
 pub use Rattle.jsonpath_rust.specs.documents.Lending
+pub use Rattle.jsonpath_rust.specs.documents.Locating
 pub use Rattle.jsonpath_rust.specs.selection.Prepared
 pub use Rattle.jsonpath_rust.specs.states.State
 pub use Rattle.jsonpath_rust.specs.states.Process
