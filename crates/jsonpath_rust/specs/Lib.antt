@@ -3,6 +3,7 @@ pub mod documents
 pub mod selection
 pub mod states
 pub mod Deleting
+pub mod First
 pub mod Reading
 pub mod Defaults
 pub use Rattle.jsonpath_rust.specs.documents.Document

@@ -18,6 +18,7 @@ ghost use Rattle.jsonpath_rust.specs.documents.Answer.{IsNodeAt, IsPathAt, IsVal
 ghost use Rattle.jsonpath_rust.specs.states.Processed.{processed};
 
 mod deletion;
+mod first;
 mod location;
 pub mod queryable;
 
@@ -28,6 +29,7 @@ pub use crate::documents::{
 pub use crate::query::deletion::{
     delete_selected, delete_within, nothing_selected_deletes_nothing,
 };
+pub use crate::query::first::js_path_first;
 pub use crate::query::location::{
     location_by_path, location_of, normalized_path_derives_its_steps, selected_is_there,
     steps_select_their_location,
