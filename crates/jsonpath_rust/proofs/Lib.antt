@@ -1,3 +1,4 @@
 pub mod laws
 pub mod Deleting
+pub mod First
 pub mod NormalPaths

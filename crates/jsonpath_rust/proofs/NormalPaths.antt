@@ -1,14 +1,15 @@
 -- A Normalized Path selects the node at its location.
-use Rattle.std.proofs.Common.{◌≡◌, ℕ, List, [], ◌∷◌, map, Option, Some, None, option_to_list, Result, Ok, Err, IfOk, IfErr, IfSome, MatchResult, refl, sym, ap, ◌∙◌, subst}
+use Rattle.std.proofs.Common.{◌≡◌, ℕ, List, [], ◌∷◌, map, Option, Some, None, option_to_list, Result, Ok, Err, IfOk, IfErr, IfSome, MatchResult, option_map, refl, sym, ap, ◌∙◌, subst}
 use Rattle.std.specs.List.{AllZip}
 use Rattle.jsonpath_parser.specs.Location.{name, index, Location}
-use Rattle.jsonpath_parser.specs.Normal.{IsNormal}
+use Rattle.jsonpath_parser.specs.Normal.{IsNormal, normal}
 use Rattle.jsonpath_parser.specs.tree.Steps.{steps_query}
 use Rattle.jsonpath_parser.specs.tree.Syntax.{Query}
 use Rattle.jsonpath_parser.specs.declared.errors.JsonPathError.{JsonPathError}
 use Rattle.jsonpath_parser.specs.declared.errors.JsonPathError.TheVariants.{OutOfMemory}
 use Rattle.jsonpath_base.specs.Places.{at}
 use Rattle.jsonpath_base.specs.Tree.{Tree}
+use Rattle.jsonpath_rust.specs.First.{IsFirst}
 use Rattle.jsonpath_rust.specs.documents.Answer.{IsNodeAt, node_there}
 use Rattle.jsonpath_rust.specs.documents.Document.{Document}
 use Rattle.jsonpath_rust.specs.documents.Meaning.{selected}
@@ -50,3 +51,29 @@ pub normal_limited : {X : Type 0} (show : X → List (List ℕ × Tree)) (l : Lo
 normal_limited show l doc q path (Ok None) is same nodes refused = tt
 normal_limited show l doc q path (Ok (Some v)) is same nodes refused = only_node l doc q path (show v) is same nodes
 normal_limited show l doc q path (Err e) is same nodes refused = stop_is_memory q doc e (ap segments_patterns same ∙ steps_patterns l) refused
+
+-- the first node of such a query is the one there
+only_first : (l : Location) (doc : Document) (q : Query) (path : List ℕ) (answer : Option (List ℕ × Tree)) → IsNormal l path → q ≡ steps_query l → IsFirst q doc answer → answer ≡ option_map (λ t. (path, t)) (at l doc.root)
+only_first l doc q path answer is same first =
+    by_value (at l doc.root) refl answer first
+  where
+    selects : (o : Option Tree) → at l doc.root ≡ o → selected q doc ≡ map (λ t. l) (option_to_list o)
+    selects o e = ap (λ v. selected v doc) same ∙ selected-steps l doc ∙ ap (λ u. map (λ t. l) (option_to_list u)) e
+
+    by_value : (o : Option Tree) → at l doc.root ≡ o → (answer : Option (List ℕ × Tree)) → IsFirst q doc answer → answer ≡ option_map (λ t. (path, t)) o
+    by_value None e None h = refl
+    by_value None e (Some a) h = absurd (cc (sym h.some.selects ∙ selects None e))
+    by_value (Some t) e None h = absurd (cc (sym h.none ∙ selects (Some t) e))
+    by_value (Some t) e (Some a) h =
+        let one = sym h.some.selects ∙ selects (Some t) e in
+        let here : h.some.location ≡ l = cc in
+        let text_is : a.0 ≡ path = h.some.node.0.0 ∙ ap normal here ∙ sym is in
+        let there = sym h.some.node.1 ∙ ap (λ m. at m doc.root) here ∙ e in
+        let tree_is : a.1 ≡ t = cc in
+        ap (λ p. Some (p, a.1)) text_is ∙ ap (λ u. Some (path, u)) tree_is
+
+-- the same, of a call that asks for it
+pub normal_first : {X : Type 0} (show : X → List ℕ × Tree) (l : Location) (doc : Document) (q : Query) (path : List ℕ) (r : Result (Option X) JsonPathError) → IsNormal l path → q ≡ steps_query l
+    → IfOk r (λ o. IsFirst q doc (option_map show o)) → IfErr r (IsStop q doc) → MatchResult r (λ o. option_map show o ≡ option_map (λ t. (path, t)) (at l doc.root)) (λ e. e ≡ OutOfMemory)
+normal_first show l doc q path (Ok o) is same h refused = only_first l doc q path (option_map show o) is same h
+normal_first show l doc q path (Err e) is same h refused = stop_is_memory q doc e (ap segments_patterns same ∙ steps_patterns l) refused

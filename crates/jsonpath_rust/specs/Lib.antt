@@ -3,6 +3,8 @@ pub mod documents
 pub mod selection
 pub mod states
 pub mod Deleting
+pub mod First
+pub mod Reading
 pub mod Defaults
 pub use Rattle.jsonpath_rust.specs.documents.Document
 pub use Rattle.jsonpath_rust.specs.documents.Node
@@ -14,6 +16,7 @@ pub use Rattle.jsonpath_rust.specs.documents.Args
 pub use Rattle.jsonpath_rust.specs.documents.Patterns
 pub use Rattle.jsonpath_rust.specs.documents.Referring
 pub use Rattle.jsonpath_rust.specs.documents.Lending
+pub use Rattle.jsonpath_rust.specs.documents.Locating
 pub use Rattle.jsonpath_rust.specs.selection.Prepared
 pub use Rattle.jsonpath_rust.specs.states.State
 pub use Rattle.jsonpath_rust.specs.states.Process

@@ -8,4 +8,5 @@ pub mod Args
 pub mod Patterns
 pub mod Referring
 pub mod Lending
+pub mod Locating
 pub mod inner

@@ -15,7 +15,7 @@ pub mod value;
 pub mod whole;
 
 pub use crate::documents::node::{QueryPath, QueryRef};
-pub use crate::documents::reference::replace_by_path;
+pub use crate::documents::reference::{referred_location, replace_by_path};
 pub use crate::documents::refusal::not_a_reference;
 use jsonpath_parser::errors::JsonPathError;
 

@@ -1,7 +1,8 @@
 //! JSONPath (RFC 9535) over documents of any type.
 //!
 //! `documents` has what a document is, and what a query means of it. Two evaluators work that out: `selection` walks to the
-//! nodes of a query, and `states` evaluates each part of a query by itself. `query` and `json_path` have the calls.
+//! nodes of a query, and `states` evaluates each part of a query by itself. `query` and `json_path` have the calls, and `whole` those of
+//! a document that was checked once.
 #![tactic(auto)]
 
 mod documents;
@@ -9,7 +10,14 @@ mod json_path;
 pub mod query;
 mod selection;
 mod states;
+mod whole;
 
+pub use crate::documents::whole::{Whole, WholeRef};
 pub use crate::json_path::JsonPath;
+pub use crate::query::queryable::{Deletable, Queryable};
+pub use crate::query::{Prepared, Runner, Step};
+pub use crate::whole::ReadError;
 pub use jsonpath_build as build;
 pub use jsonpath_parser as parser;
+pub use jsonpath_parser::errors::JsonPathError;
+pub use jsonpath_parser::model::JpQuery;

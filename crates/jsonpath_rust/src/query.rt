@@ -18,15 +18,25 @@ ghost use Rattle.jsonpath_rust.specs.documents.Answer.{IsNodeAt, IsPathAt, IsVal
 ghost use Rattle.jsonpath_rust.specs.states.Processed.{processed};
 
 mod deletion;
+mod first;
+mod location;
 pub mod queryable;
 
 use crate::documents::queryable::Queryable;
-pub use crate::documents::{Queried, QueryPath, QueryRef, not_a_reference, replace_by_path};
+pub use crate::documents::{
+    Queried, QueryPath, QueryRef, not_a_reference, referred_location, replace_by_path,
+};
 pub use crate::query::deletion::{
     delete_selected, delete_within, nothing_selected_deletes_nothing,
 };
-use crate::selection::selected_paths;
-pub use crate::selection::{Prepared, Runner, selected_locations, selected_nodes, selected_values};
+pub use crate::query::first::js_path_first;
+pub use crate::query::location::{
+    location_by_path, location_of, normalized_path_derives_its_steps, selected_is_there,
+    steps_select_their_location,
+};
+pub use crate::selection::{
+    Prepared, Runner, selected_locations, selected_nodes, selected_paths, selected_values,
+};
 pub use crate::states::{Query, apply, selector, state};
 use crate::states::{processed_nodes, processed_values};
 pub use jsonpath_base::laws::{

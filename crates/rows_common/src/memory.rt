@@ -2,6 +2,7 @@
 ghost use Rattle.std.specs.Prelude.{◌≡◌, true, IsTrue};
 ghost use Rattle.std.specs.Result.{result_ok};
 
+use jsonpath_rust::ReadError;
 use jsonpath_rust::parser::errors::JsonPathError;
 use std::alloc::{AllocError, AllocFailed, Global};
 use std::cell::Cell;
@@ -34,6 +35,12 @@ impl Refusal for JsonPathError {
 impl Refusal for serde_json::Error {
     fn is_for_memory(&self) -> bool {
         self.is_memory()
+    }
+}
+
+impl Refusal for ReadError {
+    fn is_for_memory(&self) -> bool {
+        matches!(self, ReadError::Memory)
     }
 }
 

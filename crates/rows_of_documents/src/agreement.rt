@@ -5,12 +5,13 @@ ghost use Rattle.jsonpath_rust.specs.documents.Answer.{shown, paths_of};
 
 use crate::doc::document::are_equal;
 use crate::doc::processed::is_by_process;
+use crate::whole::is_by_whole;
 use jsonpath_parser::{let_go, parse_json_path_within};
 use jsonpath_rust::JsonPath;
 use jsonpath_rust::query::queryable::Queryable;
 use jsonpath_rust::query::{
-    Queried, QueryPath, QueryRef, js_path, js_path_path, js_path_process, js_path_process_vals,
-    js_path_vals,
+    Queried, QueryPath, QueryRef, js_path, js_path_first, js_path_path, js_path_process,
+    js_path_process_vals, js_path_vals, selected_paths,
 };
 use rows_common::Memory;
 use serde_json::Value;
@@ -68,6 +69,17 @@ pub fn are_paths<T: Queryable>(
     nodes.len() == paths.len()
 }
 
+/// Whether this is the first of the nodes, or None where there is none.
+pub fn is_first<T: Queryable>(nodes: &[QueryRef<'_, T>], first: Option<&QueryRef<'_, T>>) -> bool {
+    match (nodes.first(), first) {
+        (Some(node), Some(first)) => {
+            node.path.as_str() == first.path.as_str() && are_equal(node.val, first.val)
+        }
+        (None, None) => true,
+        _ => false,
+    }
+}
+
 /// Whether the calls that take a text, at the default depth, answer these nodes.
 pub fn is_by_text<T: Queryable>(
     memory: &Memory,
@@ -80,6 +92,10 @@ pub fn is_by_text<T: Queryable>(
     are_same(memory, nodes, js_path(memory.alloc, query, document))
         && are_values(memory, nodes, js_path_vals(memory.alloc, query, document))
         && are_paths(memory, nodes, js_path_path(memory.alloc, query, document))
+        && match memory.ok(js_path_first(memory.alloc, query, document)) {
+            Some(first) => is_first(nodes, first.as_ref()),
+            None => false,
+        }
 }
 
 /// Whether the calls that take a tree answer these nodes.
@@ -103,6 +119,10 @@ pub fn is_by_tree<T: Queryable>(
         memory,
         nodes,
         js_path_process_vals(memory.alloc, &tree, document),
+    ) && are_paths(
+        memory,
+        nodes,
+        selected_paths(memory.alloc, &tree, document),
     ) && (makes_too_many(query)
         || memory.holds(is_by_process(memory.alloc, &tree, document, nodes)));
     let_go(tree);
@@ -168,7 +188,7 @@ pub fn is_by_methods(memory: &Memory, query: &str, document: &Value) -> bool
             let same = are_same(memory, &nodes, Ok(others));
             let with_paths = are_paths(memory, &nodes, Ok(paths));
             let with_values = are_values(memory, &nodes, Ok(values));
-            same && with_paths && with_values
+            same && with_paths && with_values && is_by_whole(memory, query, document, &nodes)
         }
         None => false,
     }

@@ -4,6 +4,7 @@ ghost use Rattle.jsonpath_base.specs.Values.{value_is_whole};
 
 use crate::doc::Doc;
 use crate::doc::document::{Document, are_equal};
+use crate::whole::are_deleted_of_whole;
 use jsonpath_rust::query::queryable::{Deletable, Queryable};
 use jsonpath_rust::query::{Queried, QueryPath, QueryRef, delete_within, js_path_path};
 use rows_common::Memory;
@@ -44,7 +45,13 @@ fn leaves(memory: &Memory, row: &Value, query: &str, document: &Value) -> bool {
         return false;
     };
     let deleted = deleted(memory, document, &mut left, query, depth);
-    let held = deleted.is_some() && deleted == size(count) && are_equal(&left, wanted);
+    let held = deleted.is_some()
+        && deleted == size(count)
+        && are_equal(&left, wanted)
+        && match depth {
+            Depth::Default => are_deleted_of_whole(memory, query, document, deleted, wanted),
+            Depth::Limit(_) => true,
+        };
     drop(left);
     held
 }

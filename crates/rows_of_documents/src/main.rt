@@ -6,6 +6,7 @@ mod agreement;
 mod custom;
 mod deletion;
 mod doc;
+mod location;
 mod node;
 mod nodes;
 mod query;
@@ -16,6 +17,7 @@ mod row;
 mod runs;
 mod states;
 mod suite;
+mod whole;
 
 use rows_common::members::{list_at, string_at};
 use rows_common::{Memory, ask_rows};

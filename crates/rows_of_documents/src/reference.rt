@@ -1,6 +1,7 @@
 //! Rows on reading and writing by a path: `reference` with `values`; `replace` with `new`, `replaced` and `left`.
 use crate::doc::Doc;
 use crate::doc::document::{Document, are_equal};
+use crate::whole::{is_put_in_whole, refers_in_whole};
 use jsonpath_rust::query::queryable::Queryable;
 use jsonpath_rust::query::{QueryRef, replace_by_path};
 use rows_common::Memory;
@@ -33,6 +34,7 @@ fn refers(memory: &Memory, row: &Value, path: &str, document: &Value) -> bool {
         return false;
     };
     is_value_there(memory, path, document, wanted)
+        && refers_in_whole(memory, path, document, wanted)
         && is_lent_there(memory, path, document, wanted)
         && doc_refers_to_nothing(memory, path, document)
 }
@@ -73,12 +75,12 @@ fn doc_refers_to_nothing(memory: &Memory, path: &str, document: &Value) -> bool 
 
 /// What a row puts at a path of a document, and what it wants of that.
 #[derive(Clone, Copy)]
-struct Writing<'r> {
-    path: &'r str,
-    document: &'r Value,
-    new: &'r Value,
-    replaced: &'r Value,
-    left: &'r Value,
+pub struct Writing<'r> {
+    pub path: &'r str,
+    pub document: &'r Value,
+    pub new: &'r Value,
+    pub replaced: &'r Value,
+    pub left: &'r Value,
 }
 
 fn replaces(memory: &Memory, row: &Value, path: &str, document: &Value) -> bool {
@@ -91,7 +93,9 @@ fn replaces(memory: &Memory, row: &Value, path: &str, document: &Value) -> bool 
                 replaced,
                 left,
             };
-            is_replaced(memory, writing) && is_written(memory, writing)
+            is_replaced(memory, writing)
+                && is_written(memory, writing)
+                && is_put_in_whole(memory, writing)
         }
         _ => false,
     }

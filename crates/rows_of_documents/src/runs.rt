@@ -2,7 +2,7 @@
 ghost use Rattle.std.specs.Prelude.{IsTrue};
 ghost use Rattle.jsonpath_base.specs.Values.{value_is_whole};
 
-use crate::agreement::{are_paths, are_same, are_values};
+use crate::agreement::{are_paths, are_same, are_values, is_first};
 use crate::doc::document::are_equal;
 use jsonpath_parser::{parse_json_path, parse_json_path_within};
 use jsonpath_rust::query::queryable::Queryable;
@@ -52,17 +52,6 @@ fn runs<T: Queryable>(
             Some(there) => there != nodes.is_empty(),
             None => false,
         }
-}
-
-/// Whether this is the first of the nodes, or None where there is none.
-fn is_first<T: Queryable>(nodes: &[QueryRef<'_, T>], first: Option<&QueryRef<'_, T>>) -> bool {
-    match (nodes.first(), first) {
-        (Some(node), Some(first)) => {
-            node.path.as_str() == first.path.as_str() && are_equal(node.val, first.val)
-        }
-        (None, None) => true,
-        _ => false,
-    }
 }
 
 /// Whether so many units of work are just enough for the query of a row on its document.

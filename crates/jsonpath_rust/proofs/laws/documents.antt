@@ -1,6 +1,7 @@
 pub mod Arguments
 pub mod Following
 pub mod LendingLaws
+pub mod Locating
 pub mod Made
 pub mod MemberCounts
 pub mod NodesAt

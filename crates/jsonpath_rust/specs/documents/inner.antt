@@ -1,5 +1,6 @@
 -- What the crate's own contracts and proofs say. Nothing here is part of what a query means.
 pub mod Following
+pub mod Locating
 pub mod Operands
 pub mod Parts
 pub mod Refusing

@@ -12,7 +12,7 @@ ghost use Rattle.jsonpath_rust.specs.documents.Referring.{IsReference, IsReferre
 ghost use Rattle.jsonpath_rust.specs.documents.inner.Sought.{LendsThere, answer_of, place_in};
 
 use crate::documents::Queried;
-use crate::documents::reference::steps_of;
+use crate::documents::reference::referred_location;
 use jsonpath_base::{Step, at_mut};
 use serde_json::Value;
 use std::alloc::Global;
@@ -46,7 +46,7 @@ fn seek(alloc: Global, value: &Value, path: &str) -> Sought
     ensures memory { IfErr result.steps (λ e. e ≡ OutOfMemory) }
 {
     Sought {
-        steps: steps_of(alloc, value, path),
+        steps: referred_location(alloc, value, path),
     }
 }
 

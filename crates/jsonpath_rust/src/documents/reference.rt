@@ -54,7 +54,7 @@ pub fn replace_by_path(alloc: Global, value: &mut Value, path: &str, new: Value)
     ensures kept { OnErr result (value.new ≡ value.old) }
     ensures memory { IfErr result (λ e. e ≡ OutOfMemory) }
 {
-    match steps_of(alloc, value, path)? {
+    match referred_location(alloc, value, path)? {
         Some(steps) => Ok(put_at(value, &steps, new)),
         None => Ok(false),
     }
@@ -72,10 +72,16 @@ pub fn referred<'v>(alloc: Global, value: &'v Value, path: &str) -> Queried<Opti
     }
 }
 
-/// The steps to that value.
-pub fn steps_of(alloc: Global, value: &Value, path: &str) -> Queried<Option<Vec<Step>>>
+/// The location of that value: the steps to it from the root, an index below 0 counted from the end of its list. It refuses by
+/// `OutOfMemory` alone.
+///
+/// The time is linear in the length of the path, with a search by name in each object on the way.
+pub fn referred_location(alloc: Global, value: &Value, path: &str) -> Queried<Option<Vec<Step>>>
     ensures means { IfOk result (λ o. IsReference path.now (document_of value_tree set_function value.now) (option_map (λ v. location_view v.items) o)) }
     ensures there { IfOk result (λ o. IfSome o (λ v. IsSome (places.at (location_view v.items) (value_tree value.now)))) }
+
+    // The Normalized Path of a location means that location, wherever something is there.
+    ensures normal { (l : Location) → IsNormal l path.now → HasIndexesInRange l → IfOk result (λ o. option_map (λ v. location_view v.items) o ≡ option_map (λ t. l) (places.at l (value_tree value.now))) }
     ensures memory { IfErr result (λ e. e ≡ OutOfMemory) }
 {
     match referent_of(alloc, value, path)? {

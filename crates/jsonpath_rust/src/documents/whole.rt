@@ -9,13 +9,13 @@ mod reading;
 /// A value that is whole.
 #[derive(Drop)]
 pub struct Whole<T: Queryable> {
-    pub value: T,
+    pub(crate) value: T,
     ghost whole: { IsTrue (T.is_whole value) },
 }
 
 /// A value that is whole, borrowed: as large as the reference that it is.
 pub struct WholeRef<'a, T: Queryable> {
-    pub value: &'a T,
+    pub(crate) value: &'a T,
     ghost whole: { IsTrue (T.is_whole value.now) },
 }
 

@@ -20,14 +20,14 @@ use std::alloc::Global;
 impl<T: Queryable> Whole<T> {
     /// The value, borrowed.
     #[inline(always)]
-    pub fn lent(&self) -> WholeRef<'_, T>
+    pub(crate) fn lent(&self) -> WholeRef<'_, T>
         ensures { tree_of result ≡ own_tree self.now }
     {
         WholeRef { value: &self.value }
     }
 
     /// A value of the same tree. It refuses by `OutOfMemory` alone.
-    pub fn try_clone(&self, alloc: Global) -> Queried<Self>
+    pub(crate) fn try_clone(&self, alloc: Global) -> Queried<Self>
         ensures value { IfOk result (λ v. own_tree v ≡ own_tree self.now) }
         ensures memory { MemoryAlone result }
     {
@@ -39,7 +39,7 @@ impl<T: Queryable> Whole<T> {
 impl<'a, T: Queryable> WholeRef<'a, T> {
     /// The member of that name.
     #[inline(always)]
-    pub fn member(self, name: &str) -> Option<Self>
+    pub(crate) fn member(self, name: &str) -> Option<Self>
         ensures { option_map tree_of result ≡ get name.now (tree_of self.entry) }
     {
         match self.value.get(name) {
@@ -50,7 +50,7 @@ impl<'a, T: Queryable> WholeRef<'a, T> {
 
     /// The element that an index means in a list, with its position, counted from 0 (RFC 9535, 2.3.3).
     #[inline(always)]
-    pub fn element(self, index: i64) -> Option<(usize, Self)>
+    pub(crate) fn element(self, index: i64) -> Option<(usize, Self)>
         ensures value { (l : Location) → map (λ p. below l (location.index p.0) (tree_of p.1)) (option_to_list result)
             ≡ indexed index (record { location = l; tree = tree_of self.entry }) }
         ensures smaller { IfSome result (λ p. size (tree_of p.1) < size (tree_of self.entry)) }
@@ -63,7 +63,7 @@ impl<'a, T: Queryable> WholeRef<'a, T> {
 
     /// The elements of a list.
     #[inline(always)]
-    pub fn elements(self) -> Option<&'a Vec<T>>
+    pub(crate) fn elements(self) -> Option<&'a Vec<T>>
         ensures value { option_map (λ v. map T.tree v.now.items) result ≡ as_list (tree_of self.entry) }
         ensures whole { IfSome result (λ v. All (λ x. IsTrue (T.is_whole x)) v.now.items) }
     {
@@ -72,7 +72,7 @@ impl<'a, T: Queryable> WholeRef<'a, T> {
 
     /// The members of an object, in walk order. It refuses by `OutOfMemory` alone.
     #[inline(always)]
-    pub fn members(self, alloc: Global) -> Queried<Option<Vec<(&'a str, &'a T)>>>
+    pub(crate) fn members(self, alloc: Global) -> Queried<Option<Vec<(&'a str, &'a T)>>>
         ensures value { IfOk result (λ o. option_map (λ v. map (λ m. (m.0.now, T.tree m.1.now)) v.items) o ≡ as_members (tree_of self.entry)) }
         ensures whole { IfOk result (λ o. IfSome o (λ v. All (λ m. IsTrue (T.is_whole m.1.now)) v.items)) }
         ensures memory { MemoryAlone result }
@@ -82,7 +82,7 @@ impl<'a, T: Queryable> WholeRef<'a, T> {
 
     /// How many members an object has. It refuses by `OutOfMemory` alone.
     #[inline(always)]
-    pub fn member_count(self, alloc: Global) -> Queried<Option<usize>>
+    pub(crate) fn member_count(self, alloc: Global) -> Queried<Option<usize>>
         ensures value { IfOk result (λ o. o ≡ option_map (λ ms. length ms) (as_members (tree_of self.entry))) }
         ensures memory { MemoryAlone result }
     {
@@ -91,7 +91,7 @@ impl<'a, T: Queryable> WholeRef<'a, T> {
 
     /// The text.
     #[inline(always)]
-    pub fn as_str(self) -> Option<&'a str>
+    pub(crate) fn as_str(self) -> Option<&'a str>
         ensures { option_map (λ s. s.now) result ≡ as_text (tree_of self.entry) }
     {
         self.value.as_str()
@@ -99,7 +99,7 @@ impl<'a, T: Queryable> WholeRef<'a, T> {
 
     /// The number.
     #[inline(always)]
-    pub fn as_i64(self) -> Option<i64>
+    pub(crate) fn as_i64(self) -> Option<i64>
         ensures { result ≡ as_int (tree_of self.entry) }
     {
         self.value.as_i64()
@@ -107,7 +107,7 @@ impl<'a, T: Queryable> WholeRef<'a, T> {
 
     /// The truth.
     #[inline(always)]
-    pub fn as_bool(self) -> Option<bool>
+    pub(crate) fn as_bool(self) -> Option<bool>
         ensures { result ≡ as_bool (tree_of self.entry) }
     {
         self.value.as_bool()
@@ -115,7 +115,7 @@ impl<'a, T: Queryable> WholeRef<'a, T> {
 
     /// Whether it is surely a value without children.
     #[inline(always)]
-    pub fn is_leaf(self) -> bool
+    pub(crate) fn is_leaf(self) -> bool
         ensures list { IsTrue result → None ≡ as_list (tree_of self.entry) }
         ensures object { IsTrue result → None ≡ as_members (tree_of self.entry) }
     {
@@ -124,7 +124,7 @@ impl<'a, T: Queryable> WholeRef<'a, T> {
 
     /// Whether two values are the same (RFC 9535, 2.3.5.2.2).
     #[inline(always)]
-    pub fn equal(self, other: WholeRef<'_, T>) -> bool
+    pub(crate) fn equal(self, other: WholeRef<'_, T>) -> bool
         ensures { result ≡ same (tree_of self.entry) (tree_of other.entry) }
     {
         self.value.equal(other.value)

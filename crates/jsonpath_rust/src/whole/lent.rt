@@ -1,0 +1,27 @@
+//! Documents that were checked once, borrowed.
+ghost use Rattle.std.specs.Prelude.{◌≡◌, IsTrue, IsFalse, IfSome, IfNone};
+
+use crate::documents::queryable::Queryable;
+use crate::documents::whole::WholeRef;
+
+impl<'a, T: Queryable> WholeRef<'a, T> {
+    /// The value, if it is whole; else None. The check visits the whole value.
+    pub fn new(value: &'a T) -> Option<Self>
+        ensures same { IfSome result (λ w. w.value.now ≡ value.now) }
+        ensures not_whole { IfNone result (IsFalse (T.is_whole value.now)) }
+    {
+        if value.is_whole() {
+            Some(WholeRef { value })
+        } else {
+            None
+        }
+    }
+
+    /// The value.
+    pub fn get(self) -> &'a T
+        ensures same { result.now ≡ self.entry.value.now }
+        ensures whole { IsTrue (T.is_whole result.now) }
+    {
+        self.value
+    }
+}

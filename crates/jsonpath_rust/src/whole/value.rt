@@ -1,0 +1,99 @@
+//! What is asked of a whole `Value` alone, and changed in it.
+ghost use Rattle.std.specs.Prelude.{◌≡◌, map, IsTrue, IfOk, IfErr, IfSome, OnOk, OnErr, MatchResult, option_map, is_some};
+ghost use Rattle.jsonpath_parser.specs.Derives.{Derives};
+ghost use Rattle.jsonpath_parser.specs.Location.{Location};
+ghost use Rattle.jsonpath_parser.specs.Normal.{IsNormal};
+ghost use Rattle.jsonpath_parser.specs.tree.Steps.{HasIndexesInRange};
+ghost use Rattle.jsonpath_parser.specs.tree.Syntax.{Query};
+ghost use Rattle.jsonpath_parser.specs.tree.View.{query_view};
+ghost use Rattle.jsonpath_parser.specs.declared.errors.JsonPathError.TheVariants.{OutOfMemory};
+ghost use Rattle.jsonpath_base.specs.Places as places;
+ghost use Rattle.jsonpath_base.specs.Put.{put};
+ghost use Rattle.jsonpath_base.specs.SetFunctions.{set_function};
+ghost use Rattle.jsonpath_base.specs.Steps.{location_view};
+ghost use Rattle.jsonpath_base.specs.Values.{value_tree, value_is_whole};
+ghost use Rattle.jsonpath_base.specs.Without.{without, is_among, distinct_count};
+ghost use Rattle.jsonpath_rust.specs.Deleting.{IsDeletion, Deletes};
+ghost use Rattle.jsonpath_rust.specs.documents.Document.{document_of};
+ghost use Rattle.jsonpath_rust.specs.documents.Meaning.{selected};
+ghost use Rattle.jsonpath_rust.specs.documents.Patterns.{IsStop, IsQueryRefusal};
+ghost use Rattle.jsonpath_rust.specs.documents.Referring.{IsReferred, IsReplaced, IsPut};
+
+use crate::documents::Queried;
+use crate::documents::queryable::Queryable;
+use crate::documents::whole::Whole;
+use crate::query::{delete_selected, delete_within, replace_by_path};
+use jsonpath_base::{Step, put_at, remove_all};
+use jsonpath_parser::MAX_NESTING_DEPTH;
+use jsonpath_parser::model::JpQuery;
+use serde_json::Value;
+use std::alloc::Global;
+
+impl Whole<Value> {
+    /// The value at the one location that a path of names and indexes means, as [`Queryable::reference`]. It refuses by `OutOfMemory`
+    /// alone.
+    pub fn reference(&self, alloc: Global, path: &str) -> Queried<Option<&Value>>
+        ensures value { IfOk result (λ o. IsReferred path.now (document_of value_tree set_function self.now.value) (option_map (λ v. value_tree v.now) o)) }
+
+        // The Normalized Path of a location gives what stands there.
+        ensures normal { (l : Location) → IsNormal l path.now → HasIndexesInRange l → IfOk result (λ o. option_map (λ v. value_tree v.now) o ≡ places.at l (value_tree self.now.value)) }
+        ensures whole { IfOk result (λ o. IfSome o (λ v. IsTrue (value_is_whole v.now))) }
+        ensures memory { IfErr result (λ e. e ≡ OutOfMemory) }
+    {
+        self.value.reference(alloc, path)
+    }
+
+    /// Puts a value at the one location that a path of names and indexes means, as [`replace_by_path`].
+    pub fn replace_by_path(&mut self, alloc: Global, path: &str, new: Whole<Value>) -> Queried<bool>
+        ensures replaced { IfOk result (λ found. IsReplaced path.now (document_of value_tree set_function self.old.value) (value_tree new.value) found (value_tree self.new.value)) }
+
+        // The Normalized Path of a location means that location, wherever something is there.
+        ensures normal { (l : Location) → IsNormal l path.now → HasIndexesInRange l → IfOk result (λ found. IsPut l (value_tree self.old.value) (value_tree new.value) found (value_tree self.new.value)) }
+        ensures kept { OnErr result (self.new.value ≡ self.old.value) }
+        ensures memory { IfErr result (λ e. e ≡ OutOfMemory) }
+    {
+        replace_by_path(alloc, &mut self.value, path, new.value)
+    }
+
+    /// Puts a value at the location of these steps, as [`put_at`].
+    pub fn put_at(&mut self, steps: &[Step], new: Whole<Value>) -> bool
+        ensures value { value_tree self.new.value ≡ put (location_view steps.now) (value_tree new.value) (value_tree self.old.value) }
+        ensures found { result ≡ is_some (places.at (location_view steps.now) (value_tree self.old.value)) }
+    {
+        put_at(&mut self.value, steps, new.value)
+    }
+
+    /// Removes all locations that a query text selects, at once, as [`delete_within`] at a depth of 128.
+    pub fn delete_by_path(&mut self, alloc: Global, path: &str) -> Queried<usize>
+        ensures deleted { IfOk result (Deletes MAX_NESTING_DEPTH path.now (document_of value_tree set_function self.old.value) (value_tree self.new.value)) }
+
+        // Whatever query the text derives, what it selects is removed, unless memory ran out or a pattern was refused.
+        ensures only { (q : Query) → Derives MAX_NESTING_DEPTH path.now q → MatchResult result
+            (IsDeletion q (document_of value_tree set_function self.old.value) (value_tree self.new.value))
+            (IsStop q (document_of value_tree set_function self.old.value)) }
+        ensures kept { OnErr result (self.new.value ≡ self.old.value) }
+        ensures refused { IfErr result (IsQueryRefusal MAX_NESTING_DEPTH path.now (document_of value_tree set_function self.old.value)) }
+    {
+        delete_within(alloc, &mut self.value, path, MAX_NESTING_DEPTH)
+    }
+
+    /// Removes all locations that a query selects, as [`delete_selected`].
+    pub fn delete_selected(&mut self, alloc: Global, query: &JpQuery) -> Queried<usize>
+        ensures removed { OnOk result (value_tree self.new.value ≡ without (is_among (selected (query_view query.now) (document_of value_tree set_function self.old.value))) (value_tree self.old.value)) }
+        ensures count { IfOk result (λ n. n ≡ distinct_count (selected (query_view query.now) (document_of value_tree set_function self.old.value))) }
+        ensures kept { OnErr result (self.new.value ≡ self.old.value) }
+        ensures refused { IfErr result (IsStop (query_view query.now) (document_of value_tree set_function self.old.value)) }
+    {
+        delete_selected(alloc, &mut self.value, query)
+    }
+
+    /// Removes all these locations, at once, as [`remove_all`].
+    pub fn remove_all(&mut self, alloc: Global, places: &[Vec<Step>]) -> Queried<usize>
+        ensures removed { OnOk result (value_tree self.new.value ≡ without (is_among (map (λ p. location_view p.items) places.now)) (value_tree self.old.value)) }
+        ensures count { IfOk result (λ n. n ≡ distinct_count (map (λ p. location_view p.items) places.now)) }
+        ensures kept { OnErr result (self.new.value ≡ self.old.value) }
+        ensures memory { IfErr result (λ e. e ≡ OutOfMemory) }
+    {
+        remove_all(alloc, &mut self.value, places)
+    }
+}
