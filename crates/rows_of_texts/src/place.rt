@@ -15,13 +15,7 @@ pub fn answers(memory: &Memory, name: &str, arguments: &[Value], answer: &Value)
         ("at", [value, location]) => is_at(memory, value, location, answer),
         ("put_at", [value, location, new]) => is_put(memory, value, location, new, answer),
         ("take_at", [value, location]) => is_taken(memory, value, location, answer),
-        ("add_at", [value, parent, step, new]) => is_added(
-            memory,
-            value,
-            (parent, step),
-            new,
-            answer,
-        ),
+        ("add_at", [value, location, new]) => is_added(memory, value, location, new, answer),
         ("remove_all", [value, locations]) => are_removed(memory, value, locations, answer),
         _ => None,
     };
@@ -74,11 +68,11 @@ fn is_taken(memory: &Memory, value: &Value, location: &Value, answer: &Value) ->
     Some(held)
 }
 
-/// Whether `add_at` answers so, of a location and a step, and leaves that.
+/// Whether `add_at` answers so, of a location and its last step, and leaves that.
 fn is_added(
     memory: &Memory,
     value: &Value,
-    place: (&Value, &Value),
+    location: &Value,
     new: &Value,
     answer: &Value,
 ) -> Option<bool> {
@@ -86,8 +80,8 @@ fn is_added(
         return None;
     };
     let found = found.as_bool()?;
-    let parent = steps_of(memory, place.0)?;
-    let step = step_of(memory, place.1)?;
+    let mut parent = steps_of(memory, location)?;
+    let step = parent.pop()?;
     let new = memory.ok(new.clone())?;
     let mut kept = memory.ok(value.clone())?;
     let added = memory.ok(add_at(memory.alloc, &mut kept, parent.as_slice(), step, new));
