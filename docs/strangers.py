@@ -6,7 +6,7 @@
 
 Each row of the first table is a query with its document, in several sizes: the least of three runs of `jpath values`, in
 processor seconds, a slash between the sizes. Its like, which looks at the current node where the query looks at the
-root, comes behind. The second table has the least stack of `jpath nodes`, in KB, to within 64. The third has, for several
+root, comes behind. So do runs of `jpath delete`, with a short name in the like. The second table has the least stack of `jpath nodes`, in KB, to within 64. The third has, for several
 sizes of query or document, the least units that are enough for `js_path_limited`, and nanoseconds a unit: the least of three
 runs with one unit less, and less the time of a run with none.
 """
@@ -112,6 +112,12 @@ def nest_of_lists(size):
     return json.loads("[" * size + "]" * size)
 
 
+def below_a_name(letters):
+    """A function of a count: so many numbers below one name, which has so many letters for each of them."""
+
+    return lambda size: ("$.*[*]", {"a" * (1 + letters * size): numbers(size)})
+
+
 def with_query(row, query):
     """The same document under another query."""
     return lambda size: (query, row(size)[1])
@@ -148,14 +154,18 @@ ROWS = [
     ("a guard", guarded, with_query(guarded, "$.none[?count($..*..*..*..*..*[?$[?@.x]])>9]"), [30, 60, 90]),
     ("699 tests of a list", members, with_query(members, f"$.l[?{ored(f'@==-{i}' for i in range(1, 700))}]"), [2000, 4000, 8000]),
 ]
+# The same of deletions.
+DELETIONS = [
+    ("numbers below a long name", below_a_name(10), below_a_name(0), [16000, 32000, 64000, 128000]),
+]
 
 
-def seconds(program, query, text):
+def seconds(program, command, query, text):
     """The least processor time of three runs."""
     least = None
     for _ in range(3):
         before = resource.getrusage(resource.RUSAGE_CHILDREN)
-        subprocess.run([program, "values", query], input=text, stdout=subprocess.DEVNULL, check=True)
+        subprocess.run([program, command, query], input=text, stdout=subprocess.DEVNULL, check=True)
         after = resource.getrusage(resource.RUSAGE_CHILDREN)
         spent = after.ru_utime - before.ru_utime + after.ru_stime - before.ru_stime
         least = spent if least is None else min(least, spent)
@@ -163,15 +173,16 @@ def seconds(program, query, text):
 
 
 def times(program):
-    for name, row, like, sizes in ROWS:
-        columns = []
-        for made in (row, like):
-            if made is None:
-                columns.append("")
-                continue
-            asked = [made(size) for size in sizes]
-            columns.append("/".join(f"{seconds(program, query, json.dumps(document).encode()):.3f}" for query, document in asked))
-        print(f"| {name}, {'/'.join(map(str, sizes))} | {columns[0]} | {columns[1]} |", flush=True)
+    for command, rows in (("values", ROWS), ("delete", DELETIONS)):
+        for name, row, like, sizes in rows:
+            columns = []
+            for made in (row, like):
+                if made is None:
+                    columns.append("")
+                    continue
+                asked = [made(size) for size in sizes]
+                columns.append("/".join(f"{seconds(program, command, query, json.dumps(document).encode()):.3f}" for query, document in asked))
+            print(f"| {name}, {'/'.join(map(str, sizes))} | {columns[0]} | {columns[1]} |", flush=True)
 
 
 def around(levels):

@@ -28,5 +28,6 @@ pub mod WithoutLaws
 pub mod Loans
 pub mod LoanTies
 pub mod LoanWords
+pub mod LastMarks
 pub mod LoanOut
 pub mod WayLaws

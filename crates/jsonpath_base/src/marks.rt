@@ -1,9 +1,8 @@
 //! Sets of locations, in the order in which these were added.
-ghost use Rattle.std.specs.Prelude.{◌≡◌, ℕ, ◌-◌, OnOk, ◌∷◌, [], length, slice_index_or, IsTrue, String, string_bytes};
+ghost use Rattle.std.specs.Prelude.{◌≡◌, ℕ, ◌-◌, OnOk, ◌∷◌, [], length, take, slice_index_or, IsTrue, String, string_bytes};
 ghost use Rattle.jsonpath_parser.specs.Location as location;
 ghost use Rattle.jsonpath_base.specs.Steps.{lent_location};
-ghost use Rattle.jsonpath_base.specs.Without.{HasAlso};
-ghost use Rattle.jsonpath_base.specs.inner.Marks.{to_member, listed, marked, marked_in, marks_count};
+ghost use Rattle.jsonpath_base.specs.inner.Marks.{to_member, listed, marks_count, EndsWith, LevelEnds, Adds, AddsIn};
 ghost use Rattle.jsonpath_base.specs.declared.marks.Marks.{Marks};
 ghost use Rattle.std.specs.Global.{Global};
 
@@ -33,22 +32,35 @@ impl Marks {
     }
 }
 
-/// Adds a location to the set: at each level in the last entry, where that has its step, and else in a new one.
+/// Adds a location to the set: at each level in the last entry, where that has its step, and else in a new one. The last
+/// entries are taken to have so many of its first steps, which are not compared.
 #[cycle(mark)]
-pub fn mark(alloc: Global, marks: &mut Marks, steps: &[StepRef<'_>]) -> Result<(), AllocError>
-    ensures { OnOk result (HasAlso (marked marks.old) (lent_location steps.now) (marked marks.new)) }
+pub fn mark(
+    alloc: Global,
+    marks: &mut Marks,
+    steps: &[StepRef<'_>],
+    settled: usize,
+) -> Result<(), AllocError>
+    ensures { OnOk result (EndsWith (take settled (lent_location steps.now)) marks.old → Adds marks.old (lent_location steps.now) marks.new) }
 {
     match steps.split_first() {
         None => {
             marks.here = true;
             Ok(())
         }
-        Some((StepRef::Name(name), rest)) => mark_member(alloc, &mut marks.names, *name, rest),
+        Some((StepRef::Name(name), rest)) => mark_member(
+            alloc,
+            &mut marks.names,
+            *name,
+            rest,
+            settled,
+        ),
         Some((StepRef::Index(index), rest)) => mark_element(
             alloc,
             &mut marks.indexes,
             *index,
             rest,
+            settled,
         ),
     }
 }
@@ -60,17 +72,19 @@ fn mark_member(
     below: &mut Vec<(String, Marks)>,
     name: &str,
     rest: &[StepRef<'_>],
+    settled: usize,
 ) -> Result<(), AllocError>
-    ensures { OnOk result (HasAlso (marked_in to_member below.old.items) (location.name name.now ∷ lent_location rest.now) (marked_in to_member below.new.items)) }
+    ensures { OnOk result (LevelEnds to_member (take settled (location.name name.now ∷ lent_location rest.now)) below.old.items
+        → AddsIn to_member below.old.items (location.name name.now ∷ lent_location rest.now) below.new.items) }
 {
-    if ends_with_name(below, name) {
+    if ends_with_name(below, name, settled) {
         if let Some(last) = below.last_mut() {
-            return mark(alloc, &mut last.1, rest);
+            return mark(alloc, &mut last.1, rest, settled.saturating_sub(1));
         }
     }
     let key = String::from_str(alloc, name)?;
     let mut marks = Marks::new(alloc);
-    mark(alloc, &mut marks, rest)?;
+    mark(alloc, &mut marks, rest, 0)?;
     make_room(below)?;
     below.push((key, marks))?;
     Ok(())
@@ -83,16 +97,18 @@ fn mark_element(
     below: &mut Vec<(usize, Marks)>,
     index: usize,
     rest: &[StepRef<'_>],
+    settled: usize,
 ) -> Result<(), AllocError>
-    ensures { OnOk result (HasAlso (marked_in location.index below.old.items) (location.index index ∷ lent_location rest.now) (marked_in location.index below.new.items)) }
+    ensures { OnOk result (LevelEnds location.index (take settled (location.index index ∷ lent_location rest.now)) below.old.items
+        → AddsIn location.index below.old.items (location.index index ∷ lent_location rest.now) below.new.items) }
 {
-    if ends_with_index(below, index) {
+    if ends_with_index(below, index, settled) {
         if let Some(last) = below.last_mut() {
-            return mark(alloc, &mut last.1, rest);
+            return mark(alloc, &mut last.1, rest, settled.saturating_sub(1));
         }
     }
     let mut marks = Marks::new(alloc);
-    mark(alloc, &mut marks, rest)?;
+    mark(alloc, &mut marks, rest, 0)?;
     make_room(below)?;
     below.push((index, marks))?;
     Ok(())
@@ -108,20 +124,28 @@ fn make_room<K>(below: &mut Vec<(K, Marks)>) -> Result<(), AllocError>
     Ok(())
 }
 
-/// Whether the last entry is of this name.
-fn ends_with_name(below: &[(String, Marks)], name: &str) -> bool
-    ensures { (e : String Global × Marks) → IsTrue result → string_bytes (slice_index_or below.now (length below.now - 1) e).0 ≡ name.now }
+/// Whether the last entry is of this name. A settled step is not compared.
+#[inline(always)]
+fn ends_with_name(below: &[(String, Marks)], name: &str, settled: usize) -> bool
+    ensures { (e : String Global × Marks) → IsTrue result → settled ≡ 0 → string_bytes (slice_index_or below.now (length below.now - 1) e).0 ≡ name.now }
 {
+    if settled > 0 {
+        return true;
+    }
     match below.last() {
         Some(last) => last.0.as_str() == name,
         None => false,
     }
 }
 
-/// Whether the last entry is of this index.
-fn ends_with_index(below: &[(usize, Marks)], index: usize) -> bool
-    ensures { (e : ℕ × Marks) → IsTrue result → (slice_index_or below.now (length below.now - 1) e).0 ≡ index }
+/// Whether the last entry is of this index. A settled step is not compared.
+#[inline(always)]
+fn ends_with_index(below: &[(usize, Marks)], index: usize, settled: usize) -> bool
+    ensures { (e : ℕ × Marks) → IsTrue result → settled ≡ 0 → (slice_index_or below.now (length below.now - 1) e).0 ≡ index }
 {
+    if settled > 0 {
+        return true;
+    }
     match below.last() {
         Some(last) => last.0 == index,
         None => false,

@@ -26,7 +26,7 @@ pub struct Removal {
 }
 
 impl Removal {
-    ghost use Rattle.jsonpath_base.specs.RemovalViews.{removal_set, removal_count, ordered_set, ordered_count};
+    ghost use Rattle.jsonpath_base.specs.RemovalViews.{removal_set, removal_count, ordered_set, ordered_count, LastBegins};
 
     /// Of no location.
     pub fn new(alloc: Global) -> Self
@@ -38,14 +38,18 @@ impl Removal {
         }
     }
 
-    /// Adds the location of these steps. It refuses by `OutOfMemory` alone. Time linear in the steps and in the names that they
-    /// hold.
-    pub fn add(&mut self, alloc: Global, steps: &[StepRef<'_>]) -> Parsed<()>
-        ensures added { OnOk result (HasAlso (removal_set self.old) (lent_location steps.now) (removal_set self.new)) }
-        ensures count { OnOk result (removal_count self.new ≡ counted_with (lent_location steps.now) (removal_set self.old) (removal_count self.old)) }
+    /// Adds the location of these steps, of which so many are the first ones of the location that was added last: these are
+    /// neither compared nor held again. It refuses by `OutOfMemory` alone. Time linear in the number of the steps, and in the
+    /// names of the others.
+    pub fn add(&mut self, alloc: Global, steps: &[StepRef<'_>], settled: usize) -> Parsed<()>
+        ensures added { OnOk result (LastBegins self.old (take settled (lent_location steps.now))
+            → HasAlso (removal_set self.old) (lent_location steps.now) (removal_set self.new)) }
+        ensures count { OnOk result (LastBegins self.old (take settled (lent_location steps.now))
+            → removal_count self.new ≡ counted_with (lent_location steps.now) (removal_set self.old) (removal_count self.old)) }
+        ensures last { OnOk result (LastBegins self.old (take settled (lent_location steps.now)) → LastBegins self.new (lent_location steps.now)) }
         ensures memory { IfErr result (λ e. e ≡ JsonPathError.OutOfMemory) }
     {
-        Ok(mark(alloc, &mut self.marks, steps)?)
+        Ok(mark(alloc, &mut self.marks, steps, settled)?)
     }
 
     /// The same locations, in order and counted. It refuses by `OutOfMemory` alone. Time linear in the steps that are held
@@ -109,7 +113,7 @@ pub fn remove_all(alloc: Global, value: &mut Value, places: &[Vec<Step>]) -> Par
     let mut removal = Removal::new(alloc);
     for place in places {
         let steps = lent_steps(alloc, place)?;
-        removal.add(alloc, &steps)?;
+        removal.add(alloc, &steps, 0)?;
     }
     let removal = removal.ordered(alloc)?;
     removal.remove_from(value);

@@ -1,5 +1,5 @@
 //! The way from the root to the value at hand, and what is spelled of its Normalized Path (RFC 9535, 2.7).
-ghost use Rattle.std.specs.Prelude.{◌≡◌, List, [], ◌∷◌, ◌++◌, length, IfOk, OnOk, OnErr, string_bytes};
+ghost use Rattle.std.specs.Prelude.{◌≡◌, ◌≤◌, List, [], ◌∷◌, ◌++◌, length, IfOk, OnOk, OnErr, string_bytes};
 ghost use Rattle.jsonpath_parser.specs.Normal.{normal, step_text};
 ghost use Rattle.jsonpath_base.specs.Steps.{location_view, lent_step, lent_location};
 ghost use Rattle.jsonpath_base.specs.inner.Way.{spelled, IsSpelled};
@@ -8,8 +8,8 @@ ghost use Rattle.jsonpath_base.specs.declared.step.StepRef.{StepRef};
 use crate::step::{Step, StepRef, add_index, add_name};
 use std::alloc::{AllocError, Global};
 
-/// The steps from the root to the value at hand. A step is spelled when a node at its end or below is returned, and then
-/// no more while it stands here.
+/// The steps from the root to the value at hand. A step is settled when a node at its end or below is returned or marked, and
+/// then no more while it stands here: its text is held, or it is held among marks.
 #[derive(Drop)]
 pub struct Way<'s> {
     pub steps: Vec<StepRef<'s>>,
@@ -17,7 +17,11 @@ pub struct Way<'s> {
     text: String,
     /// Where in the text each of them begins.
     starts: Vec<usize>,
+    /// How many first steps are settled. No more are spelled.
+    pub settled: usize,
     ghost spelled: { IsSpelled steps.items starts.items (string_bytes text) },
+    ghost spells: { length starts.items ≤ settled },
+    ghost within: { settled ≤ length steps.items },
 }
 
 impl<'s> Way<'s> {
@@ -29,6 +33,7 @@ impl<'s> Way<'s> {
             steps: Vec::new(alloc),
             text: String::new(alloc),
             starts: Vec::new(alloc),
+            settled: 0,
         }
     }
 
@@ -36,6 +41,7 @@ impl<'s> Way<'s> {
     #[inline(always)]
     pub fn push(&mut self, step: StepRef<'s>) -> Result<(), AllocError>
         ensures steps { OnOk result (self.new.steps.items ≡ self.old.steps.items ++ step.entry ∷ []) }
+        ensures settled { self.new.settled ≡ self.old.settled }
     {
         Ok(self.steps.push(step)?)
     }
@@ -43,21 +49,49 @@ impl<'s> Way<'s> {
     /// A step back.
     #[inline(always)]
     pub fn pop(&mut self)
-        ensures { (steps : List StepRef) (step : StepRef) → self.old.steps.items ≡ steps ++ step ∷ [] → self.new.steps.items ≡ steps }
+        ensures steps { (steps : List StepRef) (step : StepRef) → self.old.steps.items ≡ steps ++ step ∷ [] → self.new.steps.items ≡ steps }
+        ensures settled { self.new.settled ≤ self.old.settled }
     {
         let _ = self.steps.pop();
-        if self.steps.len() < self.starts.len() {
-            if let Some(start) = self.starts.pop() {
-                self.text.truncate(start);
+        let left = self.steps.len();
+        if left < self.settled {
+            self.settled = left;
+            if left < self.starts.len() {
+                if let Some(start) = self.starts.pop() {
+                    self.text.truncate(start);
+                }
             }
         }
     }
 
-    /// The Normalized Path.
+    /// Settles all steps.
+    #[inline(always)]
+    pub fn settle(&mut self)
+        ensures steps { self.new.steps.items ≡ self.old.steps.items }
+        ensures settled { self.new.settled ≡ length self.new.steps.items }
+    {
+        self.settled = self.steps.len();
+    }
+
+    /// Leaves no more than so many first steps settled. Where more are, what is spelled is let go.
+    #[inline(always)]
+    pub fn unsettle(&mut self, count: usize)
+        ensures steps { self.new.steps.items ≡ self.old.steps.items }
+        ensures settled { self.new.settled ≤ count }
+    {
+        if count < self.settled {
+            self.settled = count;
+            self.starts.clear();
+            self.text.clear();
+        }
+    }
+
+    /// The Normalized Path. All steps are settled.
     pub fn path(&mut self, alloc: Global) -> Result<String, AllocError>
         ensures value { IfOk result (λ path. string_bytes path ≡ normal (lent_location self.old.steps.items)) }
         ensures same { self.new.steps.items ≡ self.old.steps.items }
     {
+        self.settle();
         spell(alloc, &self.steps, &mut self.text, &mut self.starts)?;
         let mut path = String::with_capacity(alloc, self.text.len().saturating_add(1))?;
         path.push('$')?;

@@ -6,9 +6,10 @@ use Rattle.std.specs.Map.{lookup}
 use Rattle.std.specs.Ordering.{nat_cmp, is_lt, is_eq}
 use Rattle.std.specs.declared.cmp.Ordering.{Ordering}
 use Rattle.jsonpath_parser.specs.Location.{Step, name, index, Location}
-use Rattle.jsonpath_base.specs.Without.{is_same_step, is_among, also, counted_with}
+use Rattle.jsonpath_base.specs.Without.{is_same_step, is_among, also, counted_with, HasAlso}
 use Rattle.jsonpath_base.specs.declared.marks.Marks.{Marks, fold-Marks}
 use Rattle.jsonpath_base.specs.declared.marks.Marks.TheOpen.{Marks-F}
+use Rattle.jsonpath_base.specs.declared.marks.Marks.TheViews.{out-Marks}
 
 -- the step to the member of this name
 abbrev pub to_member : String Global → Step
@@ -39,6 +40,38 @@ listed_in to (e ∷ es) = map (λ l. to e.0 ∷ l) (listed e.1) ++ listed_in to 
 
 abbrev pub marked_in : {K : Type 0} → (K → Step) → List (K × Marks) → Location → Bool
 marked_in to es = is_among (listed_in to es)
+
+-- ---- the location that was added last
+
+-- The last entry is of this step, and what is below it is so.
+pub record EndsIn {K : Type 0} (to : K → Step) (s : Step) (IsSo : Marks → Type 0) (es : List (K × Marks)) : Type 0 where
+  pub front : List (K × Marks)
+  pub key : K
+  pub below : Marks
+  pub all : es ≡ front ++ (key, below) ∷ []
+  pub step : to key ≡ s
+  pub further : IsSo below
+
+-- at each level the last entry is of the step of this location, as far as that goes
+abbrev pub EndsWith : Location → Marks → Type 0
+EndsWith [] m = Unit {0}
+EndsWith (name k ∷ l) m = EndsIn to_member (name k) (EndsWith l) (out-Marks m).names.items
+EndsWith (index i ∷ l) m = EndsIn index (index i) (EndsWith l) (out-Marks m).indexes.items
+
+-- the same from the entries of one level on
+abbrev pub LevelEnds : {K : Type 0} → (K → Step) → Location → List (K × Marks) → Type 0
+LevelEnds to [] es = Unit {0}
+LevelEnds to (s ∷ l) es = EndsIn to s (EndsWith l) es
+
+-- The marks have this location too, and it is the last one.
+pub record Adds (old : Marks) (at : Location) (new : Marks) : Type 0 where
+  pub also : HasAlso (marked old) at (marked new)
+  pub ends : EndsWith at new
+
+-- The same of the entries of one level.
+pub record AddsIn {K : Type 0} (to : K → Step) (old : List (K × Marks)) (at : Location) (new : List (K × Marks)) : Type 0 where
+  pub also : HasAlso (marked_in to old) at (marked_in to new)
+  pub ends : LevelEnds to at new
 
 -- ---- marks in order
 

@@ -1,3 +1,4 @@
+pub mod Along
 pub mod Answers
 pub mod Arguing
 pub mod Constants

@@ -6,7 +6,7 @@ ghost use Rattle.jsonpath_rust.specs.documents.Meaning.{replaced};
 ghost use Rattle.jsonpath_rust.specs.documents.Patterns.{segment_patterns};
 ghost use Rattle.jsonpath_rust.specs.documents.inner.Whole.{tree_of};
 ghost use Rattle.jsonpath_rust.specs.selection.inner.PlanViews.{segment_view};
-ghost use Rattle.jsonpath_rust.specs.selection.inner.Sinks.{Takes};
+ghost use Rattle.jsonpath_rust.specs.selection.inner.Sinks.{TakesAlong};
 ghost use Rattle.jsonpath_rust.specs.selection.inner.Keeping.{document, kept_of};
 ghost use Rattle.jsonpath_rust.specs.selection.inner.Standing.{Stands, Comes, AreMembers};
 ghost use Rattle.jsonpath_base.specs.Steps.{lent_step, lent_location};
@@ -49,7 +49,7 @@ impl<'a: 's, 's, T: Queryable> Task<'a, 's, T> {
         sink: &mut Sink<'a, T>,
     ) -> Walked<bool>
         requires { StandsAt self.now at trail.old }
-        ensures gave { Takes sink.old sink.new
+        ensures gave { TakesAlong (sink.old, trail.old.way) (sink.new, trail.new.way)
             (onward_from self.now onward.entry (flat_map (acted (kept_of self.now) onward.entry.next (document self.now)) (children (node_at trail.old at.entry)))) result }
         ensures comes { Comes self.now trail.old trail.new
             (action_patterns (kept_of self.now) onward.entry.next ++ rest_patterns self.now onward.entry) result }
@@ -85,7 +85,7 @@ impl<'a: 's, 's, T: Queryable> Task<'a, 's, T> {
     ) -> Walked<bool>
         requires stands { StandsAt self.now members.now.of trail.old }
         requires listed { AreMembers members.now }
-        ensures gave { Takes sink.old sink.new
+        ensures gave { TakesAlong (sink.old, trail.old.way) (sink.new, trail.new.way)
             (onward_from self.now onward.entry (flat_map (acted (kept_of self.now) onward.entry.next (document self.now)) (children (node_at trail.old members.now.of)))) result }
         ensures comes { Comes self.now trail.old trail.new
             (action_patterns (kept_of self.now) onward.entry.next ++ rest_patterns self.now onward.entry) result }
@@ -113,7 +113,7 @@ impl<'a: 's, 's, T: Queryable> Task<'a, 's, T> {
         sink: &mut Sink<'a, T>,
     ) -> Walked<bool>
         requires { Stands self.now child.value (trail.old.way.steps.items ++ child.step ∷ []) trail.old.cache }
-        ensures gave { Takes sink.old sink.new
+        ensures gave { TakesAlong (sink.old, trail.old.way) (sink.new, trail.new.way)
             (onward_from self.now onward.entry (acted (kept_of self.now) onward.entry.next (document self.now) (below (lent_location trail.old.way.steps.items) (lent_step child.entry.step) (tree_of child.entry.value)))) result }
         ensures comes { Comes self.now trail.old trail.new
             (action_patterns (kept_of self.now) onward.entry.next ++ rest_patterns self.now onward.entry) result }
@@ -138,7 +138,7 @@ impl<'a: 's, 's, T: Queryable> Task<'a, 's, T> {
         sink: &mut Sink<'a, T>,
     ) -> Walked<bool>
         requires { StandsAt self.now at trail.old }
-        ensures gave { Takes sink.old sink.new
+        ensures gave { TakesAlong (sink.old, trail.old.way) (sink.new, trail.new.way)
             (onward_from self.now onward.entry (here self.now trail.old at.entry (acted (kept_of self.now) onward.entry.next))) result }
         ensures comes { Comes self.now trail.old trail.new
             (action_patterns (kept_of self.now) onward.entry.next ++ rest_patterns self.now onward.entry) result }
@@ -147,7 +147,10 @@ impl<'a: 's, 's, T: Queryable> Task<'a, 's, T> {
         match onward.next {
             Action::All => self.walk(rest, at, trail, sink),
             Action::If(filter) => {
-                if self.filter_holds(filter, at, trail)? {
+                let settled = trail.way.settled;
+                let holds = self.filter_holds(filter, at, trail)?;
+                trail.way.unsettle(settled);
+                if holds {
                     self.walk(rest, at, trail, sink)
                 } else {
                     Ok(true)
@@ -168,7 +171,7 @@ impl<'a: 's, 's, T: Queryable> Task<'a, 's, T> {
         sink: &mut Sink<'a, T>,
     ) -> Walked<bool>
         requires { StandsAt self.now at trail.old }
-        ensures gave { Takes sink.old sink.new
+        ensures gave { TakesAlong (sink.old, trail.old.way) (sink.new, trail.new.way)
             (onward_from self.now onward.entry (flat_map (replaced (segment_view (kept_of self.now) onward.entry.next.now) (document self.now)) (subtree (node_at trail.old at.entry)))) result }
         ensures comes { Comes self.now trail.old trail.new
             (segment_patterns (segment_view (kept_of self.now) onward.entry.next.now) ++ rest_patterns self.now onward.entry) result }

@@ -7,7 +7,7 @@ ghost use Rattle.jsonpath_rust.specs.documents.Answer.{shown, paths_of};
 ghost use Rattle.jsonpath_rust.specs.documents.Functions.{greatest_count};
 ghost use Rattle.jsonpath_rust.specs.documents.Node.{Node, root_node};
 ghost use Rattle.jsonpath_rust.specs.documents.inner.Whole.{tree_of};
-ghost use Rattle.jsonpath_rust.specs.selection.inner.Sinks.{Took, seen, seen_only, seen_first, start, add, any_in, count_in, only_in, first_in, nodes_in, values_in, paths_in, locations_in, removal_in};
+ghost use Rattle.jsonpath_rust.specs.selection.inner.Sinks.{Took, TakesAlong, seen, seen_only, seen_first, start, add, any_in, count_in, only_in, first_in, nodes_in, values_in, paths_in, locations_in, removal_in};
 ghost use Rattle.jsonpath_rust.specs.selection.inner.Walking.{node_of};
 
 use crate::documents::halt::Walked;
@@ -98,7 +98,7 @@ impl<'a, T: Queryable> Sink<'a, T> {
     /// Takes the value that this way leads to. The result says whether the walk goes on.
     #[inline(always)]
     pub fn take(&mut self, alloc: Global, value: WholeRef<'a, T>, way: &mut Way<'_>) -> Walked<bool>
-        ensures gave { IfOk result (λ b. Took (seen self.old) (node_of way.old.steps.items value.entry ∷ []) (seen self.new) b) }
+        ensures gave { TakesAlong (self.old, way.old) (self.new, way.new) (node_of way.old.steps.items value.entry ∷ []) result }
         ensures same { way.new.steps.items ≡ way.old.steps.items }
         ensures memory { IfErr result (λ h. h ≡ Memory) }
     {
@@ -123,7 +123,8 @@ impl<'a, T: Queryable> Sink<'a, T> {
                 Ok(true)
             }
             Sink::Removal(removal) => {
-                removal.add(alloc, &way.steps)?;
+                removal.add(alloc, &way.steps, way.settled)?;
+                way.settle();
                 Ok(true)
             }
             Sink::Any(any) => {

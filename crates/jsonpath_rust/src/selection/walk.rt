@@ -7,7 +7,7 @@ ghost use Rattle.std.specs.Prelude.{◌++◌};
 ghost use Rattle.jsonpath_rust.specs.documents.Meaning.{picks, all_pick, replaced, sliced};
 ghost use Rattle.jsonpath_rust.specs.documents.Patterns.{segments_patterns, segment_patterns, selectors_patterns, selector_patterns};
 ghost use Rattle.jsonpath_rust.specs.selection.inner.PlanViews.{segments_meant, segment_view, selectors_meant, selector_view};
-ghost use Rattle.jsonpath_rust.specs.selection.inner.Sinks.{Takes};
+ghost use Rattle.jsonpath_rust.specs.selection.inner.Sinks.{TakesAlong};
 ghost use Rattle.jsonpath_rust.specs.selection.inner.Keeping.{document, kept_of};
 ghost use Rattle.jsonpath_rust.specs.selection.inner.Standing.{Comes};
 ghost use Rattle.jsonpath_rust.specs.selection.inner.Walking.{through};
@@ -51,7 +51,7 @@ impl<'a: 's, 's, T: Queryable> Task<'a, 's, T> {
         sink: &mut Sink<'a, T>,
     ) -> Walked<bool>
         requires { StandsAt self.now at trail.old }
-        ensures gave { Takes sink.old sink.new
+        ensures gave { TakesAlong (sink.old, trail.old.way) (sink.new, trail.new.way)
             (here self.now trail.old at.entry (through (segments_meant (kept_of self.now) segments.now))) result }
         ensures comes { Comes self.now trail.old trail.new (segments_patterns (segments_meant (kept_of self.now) segments.now)) result }
     {
@@ -74,7 +74,7 @@ impl<'a: 's, 's, T: Queryable> Task<'a, 's, T> {
         sink: &mut Sink<'a, T>,
     ) -> Walked<bool>
         requires { StandsAt self.now at trail.old }
-        ensures gave { Takes sink.old sink.new
+        ensures gave { TakesAlong (sink.old, trail.old.way) (sink.new, trail.new.way)
             (onward_from self.now onward.entry (here self.now trail.old at.entry (replaced (segment_view (kept_of self.now) onward.entry.next.now)))) result }
         ensures comes { Comes self.now trail.old trail.new
             (segment_patterns (segment_view (kept_of self.now) onward.entry.next.now) ++ rest_patterns self.now onward.entry) result }
@@ -103,7 +103,7 @@ impl<'a: 's, 's, T: Queryable> Task<'a, 's, T> {
         sink: &mut Sink<'a, T>,
     ) -> Walked<bool>
         requires { StandsAt self.now at trail.old }
-        ensures gave { Takes sink.old sink.new
+        ensures gave { TakesAlong (sink.old, trail.old.way) (sink.new, trail.new.way)
             (onward_from self.now onward.entry (here self.now trail.old at.entry (all_pick (selectors_meant (kept_of self.now) onward.entry.next.now)))) result }
         ensures comes { Comes self.now trail.old trail.new
             (selectors_patterns (selectors_meant (kept_of self.now) onward.entry.next.now) ++ rest_patterns self.now onward.entry) result }
@@ -132,7 +132,7 @@ impl<'a: 's, 's, T: Queryable> Task<'a, 's, T> {
         sink: &mut Sink<'a, T>,
     ) -> Walked<bool>
         requires { StandsAt self.now at trail.old }
-        ensures gave { Takes sink.old sink.new
+        ensures gave { TakesAlong (sink.old, trail.old.way) (sink.new, trail.new.way)
             (onward_from self.now onward.entry (here self.now trail.old at.entry (picks (selector_view (kept_of self.now) onward.entry.next.now)))) result }
         ensures comes { Comes self.now trail.old trail.new
             (selector_patterns (selector_view (kept_of self.now) onward.entry.next.now) ++ rest_patterns self.now onward.entry) result }
@@ -179,7 +179,7 @@ impl<'a: 's, 's, T: Queryable> Task<'a, 's, T> {
         sink: &mut Sink<'a, T>,
     ) -> Walked<bool>
         requires { StandsAt self.now at trail.old }
-        ensures gave { Takes sink.old sink.new
+        ensures gave { TakesAlong (sink.old, trail.old.way) (sink.new, trail.new.way)
             (onward_from self.now onward.entry (sliced onward.entry.next.0 onward.entry.next.1 onward.entry.next.2 (node_at trail.old at.entry))) result }
         ensures comes { Comes self.now trail.old trail.new (rest_patterns self.now onward.entry) result }
     {

@@ -49,6 +49,10 @@ comes_as {task = task} result k f = record { back = k.back; ready = k.ready; hal
 pub comes_on : {A B : Type 0} {R : Ghosts A} {D : debug.Ghosts A} {task : Task A R D} {old mid new : Trail A R D} {xs ys : List (Bool × Argument)} (result : Result B Halt) → Returns task old mid → Comes task mid new xs result → (AsksPattern xs (document task) → AsksPattern ys (document task)) → Comes task old new ys result
 comes_on {task = task} {new = new} result r k f = record { back = on_ok new result r k.back; ready = k.ready; halts = halts_as task.limit result k.halts f }
 
+-- a call that ends it, from where another one stood
+pub comes_after : {A B : Type 0} {R : Ghosts A} {D : debug.Ghosts A} {task : Task A R D} {old mid new : Trail A R D} {xs ys : List (Bool × Argument)} (result : Result B Halt) → Comes task mid new xs result → mid.way.steps.items ≡ old.way.steps.items → IsReady task mid.cache → (AsksPattern xs (document task) → AsksPattern ys (document task)) → Comes task old new ys result
+comes_after result k e h f = comes_on result (record { same = e; ready = h }) k f
+
 -- an error that a `?` passes on
 pub comes_err : {A C : Type 0} {R : Ghosts A} {D : debug.Ghosts A} {task : Task A R D} {old new : Trail A R D} {ys : List (Bool × Argument)} (result : Result C Halt) (Q : Halt → Type 0) → IsErrAnd result Q → IsReady task new.cache → ((y : Halt) → Q y → IsHalt task.limit ys (document task) y) → Comes task old new ys result
 comes_err (Ok v) Q is r f = absurd is

@@ -1,13 +1,14 @@
 -- What a walk gives to a sink, for the contracts of the walk alone: the definitions here are no part of what a query means.
-use Rattle.std.specs.Prelude.{◌≡◌, ℕ, suc, min, List, [], ◌∷◌, ◌++◌, map, Bool, true, false, Option, Some, None, is_some, option_map, Result, IfOk, string_bytes}
+use Rattle.std.specs.Prelude.{◌≡◌, ℕ, suc, min, List, [], ◌∷◌, ◌++◌, map, take, Bool, true, false, Option, Some, None, is_some, option_map, Result, IfOk, string_bytes}
 use Rattle.std.specs.declared.fmt.Debug as debug
 use Rattle.jsonpath_parser.specs.Location.{Location}
 use Rattle.jsonpath_parser.specs.Normal.{normal}
-use Rattle.jsonpath_base.specs.Steps.{location_view}
+use Rattle.jsonpath_base.specs.Steps.{location_view, lent_location}
 use Rattle.jsonpath_base.specs.Tree.{Tree}
-use Rattle.jsonpath_base.specs.RemovalViews.{removal_set, removal_count}
+use Rattle.jsonpath_base.specs.RemovalViews.{removal_set, removal_count, LastBegins}
 use Rattle.jsonpath_base.specs.Without.{is_among, distinct_count, also, counted_with}
 use Rattle.jsonpath_base.specs.declared.removal.Removal.{Removal}
+use Rattle.jsonpath_base.specs.declared.way.Way.{Way}
 use Rattle.jsonpath_rust.specs.documents.Node.{Node}
 use Rattle.jsonpath_rust.specs.documents.Answer.{shown, paths_of}
 use Rattle.jsonpath_rust.specs.documents.Functions.{greatest_count}
@@ -143,6 +144,22 @@ pub record Took (s : Seen) (ns : List Node) (s' : Seen) (goes_on : Bool) : Type 
 -- the sink was given these nodes, and the result says whether to go on
 abbrev pub Takes : {A E : Type 0} {R : Ghosts A} {D : debug.Ghosts A} → Sink A R D → Sink A R D → List Node → Result Bool E → Type 0
 Takes old new ns result = IfOk result (λ b. Took (seen old) ns (seen new) b)
+
+-- ---- a sink beside the way
+
+-- where it marks, the steps that are settled are the first of the location that it marked last
+abbrev pub IsTied : {A : Type 0} {R : Ghosts A} {D : debug.Ghosts A} → Sink A R D → Way → Type 0
+IsTied (sink.Removal r) way = LastBegins r.value (take way.settled (lent_location way.steps.items))
+IsTied _ way = Unit {0}
+
+-- Where that is so, it was given these nodes, and it is so again.
+pub record TookAlong {A : Type 0} {R : Ghosts A} {D : debug.Ghosts A} (s : Sink A R D × Way) (ns : List Node) (s' : Sink A R D × Way) (goes_on : Bool) : Type 0 where
+  pub took : IsTied s.0 s.1 → Took (seen s.0) ns (seen s'.0) goes_on
+  pub tied : IsTied s.0 s.1 → IsTied s'.0 s'.1
+
+-- the same, and the result says whether to go on
+abbrev pub TakesAlong : {A E : Type 0} {R : Ghosts A} {D : debug.Ghosts A} → Sink A R D × Way → Sink A R D × Way → List Node → Result Bool E → Type 0
+TakesAlong old new ns result = IfOk result (λ b. TookAlong old ns new b)
 
 -- The removal is of these locations.
 pub record IsRemovalOf (r : Removal) (ls : List Location) : Type 0 where

@@ -4,6 +4,7 @@ use Rattle.jsonpath_rust.specs.documents.inner.Whole.{document_at}
 use Rattle.jsonpath_rust.specs.selection.inner.PlanViews.{kept_view, segments_meant}
 use Rattle.jsonpath_rust.specs.selection.inner.Walking.{through, node_of}
 use Rattle.jsonpath_base.specs.declared.step.StepRef.{StepRef}
+use Rattle.jsonpath_rust.proofs.laws.selection.Along.{takes, tied_at_root}
 use Rattle.jsonpath_rust.proofs.laws.selection.Constants.{as_many}
 use Rattle.jsonpath_rust.proofs.laws.selection.HaltingLaws.{halts_none}
 use Rattle.jsonpath_rust.proofs.laws.selection.Sinks.{result_as}
@@ -22,7 +23,8 @@ returns-clause-gave g c =
     let d = document_at c.args.root in
     let kept = kept_view c.args.plan.now.constants.items in
     let at = λ (q : List StepRef) (gs : List Segment). through (segments_meant kept gs) d (node_of q c.args.root) in
-    result_as _ _ _ _ _ (ap (λ q. at q c.deref.result.now) c.in_ok-work_out_early.ensures.way ∙ ap (at []) c.deref.ensures.value ∙ nodelist-through (segments_meant kept c.args.plan.now.segments.items) d) c.walk.ensures.gave
+    let begins = tied_at_root c.args.sink.now _ c.in_ok-work_out_early.ensures.way in
+    result_as _ _ _ _ _ (ap (λ q. at q c.deref.result.now) c.in_ok-work_out_early.ensures.way ∙ ap (at []) c.deref.ensures.value ∙ nodelist-through (segments_meant kept c.args.plan.now.segments.items) d) (takes _ _ _ _ begins c.walk.ensures.gave)
 
 pub returns-in_err-work_out_early-clause-refused : goal.returns-in_err-work_out_early-clause-refused
 returns-in_err-work_out_early-clause-refused g c = halts_none _ _ _ c.from_residual-in_err-work_out_early.ensures.1 c.in_err-work_out_early.ensures.halts

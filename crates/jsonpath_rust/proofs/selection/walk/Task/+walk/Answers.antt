@@ -19,6 +19,7 @@ use Rattle.jsonpath_rust.specs.declared.selection.sink.Wanted.TheVariants.{Any, 
 use Rattle.jsonpath_rust.proofs.laws.selection.PlanEquations.{called, segment_view-Descendant, segment_view-Selector, segment_view-Selectors, selector_view-Name, selector_view-Wildcard, selector_view-Index, selector_view-Slice, selector_view-Filter, filter_view-Or, filter_view-And, filter_view-Group, filter_view-Exists, filter_view-HasChild, filter_view-Call, filter_view-Comparison, filter_view-Constant, called_view-Here, called_view-Constant, nodes_view-Lookup, nodes_view-Walk, nodes_view-Constant, side_view-Literal, side_view-Lookup, side_view-Constant, side_view-Call, argument_view-Literal, argument_view-Pattern, argument_view-Nodes, argument_view-Call, argument_view-Filter, call_view-Length, call_view-Value, call_view-Count, call_view-CountChildren, call_view-Search, call_view-Match}
 use Rattle.jsonpath_base.specs.Tree.{get, truth, text}
 use Rattle.jsonpath_base.specs.Slice.{slice_of}
+use Rattle.jsonpath_base.specs.SliceSteps.{places_left}
 use Rattle.jsonpath_rust.specs.documents.Node.{below, children, root_node, subtree}
 use Rattle.jsonpath_rust.specs.documents.Meaning.{picks, all_pick, replaced, indexed, element, holds, some_holds, each_holds, value_of, value_at, answer, comparison_holds, negated, nodelist, all_trees, argued, tested}
 use Rattle.jsonpath_rust.specs.selection.inner.Passing.{action_weight}
@@ -26,12 +27,12 @@ use Rattle.jsonpath_rust.specs.documents.inner.Weight.{segment_weight, selectors
 use Rattle.jsonpath_rust.specs.documents.Patterns.{segments_patterns, selectors_patterns, selector_patterns, filter_patterns, filters_patterns, comparable_patterns, call_patterns, argument_patterns, arguments_patterns}
 use Rattle.jsonpath_base.specs.Steps.{lent_step, lent_location}
 use Rattle.jsonpath_rust.specs.selection.inner.Walking.{action_patterns, through, node_of, acted}
-use Rattle.jsonpath_rust.specs.selection.inner.Sinks.{seen, give, start}
+use Rattle.jsonpath_rust.specs.selection.inner.Sinks.{give, start}
 use Rattle.jsonpath_rust.specs.selection.inner.Keeping.{document, given_by, kept_of, nodes_or_none, part_patterns, value_by}
 use Rattle.jsonpath_rust.specs.selection.inner.Keeping as keeping
 use Rattle.jsonpath_base.specs.declared.step.StepRef.TheVariants.{Name, Index}
-use Rattle.jsonpath_rust.proofs.laws.selection.Sinks.{took_none, took_as, took_stop, result_as, result_then, true_false}
-use Rattle.jsonpath_rust.proofs.laws.selection.Walks.{down, down_tree, down_same, turn_next, turn_stop, turn_end, selector_turns, element_turns, member_turns, place_next, place_stop, below_more, flat_map-alone, flat_map-filter}
+use Rattle.jsonpath_rust.proofs.laws.selection.Along.{along_none, along_idle, along_as, along_between, along_stop, takes_as, takes_then, takes_from, goes_off, goes_on, goes_no_more, goes_to_the_end, goes_on_to_place, goes_to_no_place, goes_past_places, tied_inside, tied_further, tied_back, tied_still, children-list, children-members}
+use Rattle.jsonpath_rust.proofs.laws.selection.Walks.{down, down_tree, down_same, selector_turns, element_turns, member_turns, below_more, flat_map-alone, flat_map-filter}
 use Rattle.jsonpath_rust.proofs.laws.selection.Leading.{leads_below, leads_indexed}
 use Rattle.jsonpath_rust.proofs.laws.documents.NodesAt.{member_there}
 use Rattle.jsonpath_rust.proofs.laws.selection.HaltingLaws.{asked_as, asked_left, asked_right, asked_rest, asked_at, asked_at_or, pattern_asked}
@@ -51,7 +52,7 @@ use Rattle.jsonpath_base.specs.declared.step.StepRef.{StepRef}
 use Rattle.jsonpath_rust.specs.selection.inner.Arguing.{value, nodes, holding, value_held, only_held, count_held, trees_held, truth_held}
 use Rattle.jsonpath_rust.proofs.laws.selection.Arguing.{as_value_held, as_only_held, as_count_held, as_trees_held, as_truth_held}
 use Rattle.jsonpath_rust.specs.selection.inner.Halting.{IsHalt}
-use Rattle.jsonpath_rust.proofs.laws.selection.Standing.{still, stands_as, stays, at_root, on, comes_as, comes_on, comes_err, comes_halt, comes_so}
+use Rattle.jsonpath_rust.proofs.laws.selection.Standing.{still, stands_as, stays, at_root, on, comes_as, comes_on, comes_after, comes_err, comes_halt, comes_so}
 use Rattle.jsonpath_rust.proofs.selection.walk.Task.+walk.Goals as goal
 
 pub act-walk-requires : goal.act-walk-requires
@@ -66,11 +67,11 @@ act-filter_holds-requires g t c κs within =
     let e = ap (action_weight kept) c.in-If.is in
     (down _ _ _ _ _ _ c.decreases (omega (arith, e)) (omega (arith, c.requires.within)), (within, c.requires))
 
-pub act-walk-requires-then-branch : goal.act-walk-requires-then-branch
-act-walk-requires-then-branch g t c κs within =
+pub act-walk-requires-then-holds : goal.act-walk-requires-then-holds
+act-walk-requires-then-holds g t c κs within =
     let kept = kept_of c.args.self.now in
     let e = ap (action_weight kept) c.in-If.is in
-    (down _ _ _ _ _ _ c.decreases (omega (arith, e)) (omega (arith, c.requires.within)), (within, still c.requires c.in_ok-filter_holds-in-If.ensures.comes.back))
+    (down _ _ _ _ _ _ c.decreases (omega (arith, e)) (omega (arith, c.requires.within)), (within, stands_as c.unsettle.ensures.steps (still c.requires c.in_ok-holds-in-If.ensures.comes.back)))
 
 pub act-descend-requires : goal.act-descend-requires
 act-descend-requires g t c κs within =
@@ -84,25 +85,29 @@ act-returns-in-All-clause-gave g t c =
     let d = document c.args.self.now in
     let n = node_of c.args.trail.now.way.steps.items c.args.at in
     let rest = through (segments_meant kept c.args.onward.rest.now) d in
-    result_as _ _ _ _ _ (sym (append-nil (rest n)) ∙ ap (λ a. flat_map rest (acted kept a d n)) (sym c.in-All.is)) c.walk.ensures.gave
+    takes_as _ _ _ _ _ (sym (append-nil (rest n)) ∙ ap (λ a. flat_map rest (acted kept a d n)) (sym c.in-All.is)) c.walk.ensures.gave
 
-pub act-returns-then-branch-clause-gave : goal.act-returns-then-branch-clause-gave
-act-returns-then-branch-clause-gave g t c =
+pub act-returns-then-holds-clause-gave : goal.act-returns-then-holds-clause-gave
+act-returns-then-holds-clause-gave g t c =
     let kept = kept_of c.args.self.now in
     let d = document c.args.self.now in
     let n = node_of c.args.trail.now.way.steps.items c.args.at in
     let rest = through (segments_meant kept c.args.onward.rest.now) d in
-    let h = c.in_ok-filter_holds-in-If.ensures in
-    result_as _ _ _ _ _ (ap (λ q. rest (node_of q c.args.at)) h.comes.back.same ∙ kept_true rest (holds (filter_view kept c.in-If.filter.now) d) n (sym h.holds ∙ c.if-branch.true) ∙ ap (λ a. flat_map rest (acted kept a d n)) (sym c.in-If.is)) c.walk-then-branch.ensures.gave
+    let h = c.in_ok-holds-in-If.ensures in
+    let same = c.unsettle.ensures.steps ∙ h.comes.back.same in
+    takes_from _ _ _ _ _ _
+    (takes_as _ _ _ _ _ (ap (λ q. rest (node_of q c.args.at)) same ∙ kept_true rest (holds (filter_view kept c.in-If.filter.now) d) n (sym h.holds ∙ c.if-holds.true) ∙ ap (λ a. flat_map rest (acted kept a d n)) (sym c.in-If.is)) c.walk-then-holds.ensures.gave)
+    (tied_still _ _ c.unsettle.new.self same c.unsettle.ensures.settled)
 
-pub act-returns-else-branch-clause-gave : goal.act-returns-else-branch-clause-gave
-act-returns-else-branch-clause-gave g t c =
+pub act-returns-else-holds-clause-gave : goal.act-returns-else-holds-clause-gave
+act-returns-else-holds-clause-gave g t c =
     let kept = kept_of c.args.self.now in
     let d = document c.args.self.now in
     let n = node_of c.args.trail.now.way.steps.items c.args.at in
     let rest = through (segments_meant kept c.args.onward.rest.now) d in
-    let h = c.in_ok-filter_holds-in-If.ensures in
-    took_none _ _ (ap (λ a. flat_map rest (acted kept a d n)) c.in-If.is ∙ kept_false rest (holds (filter_view kept c.in-If.filter.now) d) n (sym h.holds ∙ c.if-branch.false))
+    let h = c.in_ok-holds-in-If.ensures in
+    let same = c.unsettle.ensures.steps ∙ h.comes.back.same in
+    along_idle _ _ _ _ (ap (λ a. flat_map rest (acted kept a d n)) c.in-If.is ∙ kept_false rest (holds (filter_view kept c.in-If.filter.now) d) n (sym h.holds ∙ c.if-holds.false)) (tied_still _ _ c.unsettle.new.self same c.unsettle.ensures.settled)
 
 pub act-returns-in-Below-clause-gave : goal.act-returns-in-Below-clause-gave
 act-returns-in-Below-clause-gave g t c =
@@ -110,7 +115,7 @@ act-returns-in-Below-clause-gave g t c =
     let d = document c.args.self.now in
     let n = node_of c.args.trail.now.way.steps.items c.args.at in
     let rest = through (segments_meant kept c.args.onward.rest.now) d in
-    result_as _ _ _ _ _ (ap (λ a. flat_map rest (acted kept a d n)) (sym c.in-Below.is)) c.descend.ensures.gave
+    takes_as _ _ _ _ _ (ap (λ a. flat_map rest (acted kept a d n)) (sym c.in-Below.is)) c.descend.ensures.gave
 
 pub descend-each_member-requires : goal.descend-each_member-requires
 descend-each_member-requires g t c κs within =
@@ -159,7 +164,7 @@ descend-returns-in-Some-2-clause-gave g t c =
     let further = flat_map rest (flat_map (λ m. flat_map h (subtree m)) (children n)) in
     let same = ap (λ q. here ++ flat_map rest (flat_map (λ m. flat_map h (subtree m)) (children (node_of q c.args.at)))) c.in_ok-each_member.ensures.comes.back.same in
     let makes = ap (λ ns. flat_map rest ns ++ further) ((c.in-Some.ensures kept).makes d n) in
-    result_then _ _ _ _ _ _ _ _ (same ∙ makes ∙ below_more rest h n.location n.tree) c.in_ok-each_member.ensures.gave c.each_member-in-Some-2.ensures.gave
+    takes_then _ _ _ _ _ _ _ _ (same ∙ makes ∙ below_more rest h n.location n.tree) c.in_ok-each_member.ensures.gave c.each_member-in-Some-2.ensures.gave
 
 pub descend-pass-requires : goal.descend-pass-requires
 descend-pass-requires g t c κs within =
@@ -177,7 +182,7 @@ descend-returns-clause-gave g t c =
     let h = replaced (segment_view kept c.args.onward.next.now) d in
     let here = flat_map rest (h n) in
     let same = ap (λ q. here ++ flat_map rest (flat_map (λ m. flat_map h (subtree m)) (children (node_of q c.args.at)))) c.in_ok-pass.ensures.comes.back.same in
-    result_then _ _ _ _ _ _ _ _ (same ∙ below_more rest h n.location n.tree) c.in_ok-pass.ensures.gave c.each_child.ensures.gave
+    takes_then _ _ _ _ _ _ _ _ (same ∙ below_more rest h n.location n.tree) c.in_ok-pass.ensures.gave c.each_child.ensures.gave
 
 pub descend-returns-then-not-branch-clause-gave : goal.descend-returns-then-not-branch-clause-gave
 descend-returns-then-not-branch-clause-gave g t c =
@@ -188,7 +193,7 @@ descend-returns-then-not-branch-clause-gave g t c =
     let h = replaced (segment_view kept c.args.onward.next.now) d in
     let further = flat_map rest (flat_map (λ m. flat_map h (subtree m)) (children n)) in
     let makes = ap (λ ns. flat_map rest ns ++ further) ((c.in-Some.ensures kept).makes d n) in
-    took_stop _ _ _ _ _ _ _ (makes ∙ below_more rest h n.location n.tree) c.in_ok-each_member.ensures.gave c.if-not-branch.true
+    along_stop _ _ _ _ _ _ _ (makes ∙ below_more rest h n.location n.tree) c.in_ok-each_member.ensures.gave c.if-not-branch.true
 
 pub descend-returns-then-not-branch-2-clause-gave : goal.descend-returns-then-not-branch-2-clause-gave
 descend-returns-then-not-branch-2-clause-gave g t c =
@@ -197,14 +202,14 @@ descend-returns-then-not-branch-2-clause-gave g t c =
     let n = node_of c.args.trail.now.way.steps.items c.args.at in
     let rest = through (segments_meant kept c.args.onward.rest.now) d in
     let h = replaced (segment_view kept c.args.onward.next.now) d in
-    took_stop _ _ _ _ _ _ _ (below_more rest h n.location n.tree) c.in_ok-pass.ensures.gave c.if-not-branch-2.true
+    along_stop _ _ _ _ _ _ _ (below_more rest h n.location n.tree) c.in_ok-pass.ensures.gave c.if-not-branch-2.true
 
 pub at_child-returns-then-is_idle-clause-gave : goal.at_child-returns-then-is_idle-clause-gave
 at_child-returns-then-is_idle-clause-gave g t c =
     let kept = kept_of c.args.self.now in
     let d = document c.args.self.now in
     let rest = through (segments_meant kept c.args.onward.rest.now) d in
-    took_none _ _ (ap (flat_map rest) (c.is_idle.ensures c.if-is_idle.true kept d _))
+    along_none _ _ (ap (flat_map rest) (c.is_idle.ensures c.if-is_idle.true kept d _))
 
 pub at_child-act-requires : goal.at_child-act-requires
 at_child-act-requires g t c κs within = (down_tree _ _ _ _ _ c.decreases (omega arith), (within, stands_as c.in_ok-push.ensures.steps c.requires))
@@ -216,7 +221,11 @@ at_child-returns-clause-gave g t c =
     let d = document c.args.self.now in
     let rest = through (segments_meant kept c.args.onward.rest.now) d in
     let x = tree_of c.args.child.value in
-    took_as _ _ _ _ _ (ap (λ q. flat_map rest (acted kept c.args.onward.next d (node_of q c.args.child.value))) c.in_ok-push.ensures.steps ∙ ap (λ l. flat_map rest (acted kept c.args.onward.next d (record { location = l; tree = x }))) (map-append lent_step c.args.trail.now.way.steps.items (c.args.child.step ∷ []))) c.in_ok-goes_on.ensures.gave
+    let went = c.in_ok-goes_on.ensures.comes.back.same ∙ c.in_ok-push.ensures.steps in
+    let popped = c.pop.ensures.steps _ _ went in
+    along_between
+    (along_as _ _ _ _ _ (ap (λ q. flat_map rest (acted kept c.args.onward.next d (node_of q c.args.child.value))) c.in_ok-push.ensures.steps ∙ ap (λ l. flat_map rest (acted kept c.args.onward.next d (record { location = l; tree = x }))) (map-append lent_step c.args.trail.now.way.steps.items (c.args.child.step ∷ []))) c.in_ok-goes_on.ensures.gave)
+    (tied_further _ _ c.push.new.self _ c.in_ok-push.ensures.steps c.in_ok-push.ensures.settled) (tied_back _ _ c.pop.new.self _ (went ∙ ap (λ q. q ++ c.args.child.step ∷ []) (sym popped)) c.pop.ensures.settled)
 
 pub each_child-at_child-requires : goal.each_child-at_child-requires
 each_child-at_child-requires g t c κs within =
@@ -249,8 +258,19 @@ each_child-returns-then-not-branch-clause-gave g t c =
     let rest = through (segments_meant kept c.args.onward.rest.now) d in
     let act = acted kept c.args.onward.next d in
     let inv = c.loop-i.invariant in
-    let k = took_as _ _ _ _ _ (ap (λ q. flat_map rest (act (below (lent_location q) (index c.loop-i.i) (tree c.value-item.result)))) inv.returns.same) c.in_ok-at_child.ensures.gave in
-    record { given = turn_stop _ _ (element_turns tree n.location rest act) c.deref-value-items.result.now c.loop-i.i c.value-item.result _ _ _ _ c.loop-i-test.true c.value-item.is k c.if-not-branch.true inv.given; stopped = λ _. k.stopped c.if-not-branch.true }
+    let k = along_as _ _ _ _ _ (ap (λ q. flat_map rest (act (below (lent_location q) (index c.loop-i.i) (tree c.value-item.result)))) inv.returns.same) c.in_ok-at_child.ensures.gave in
+    goes_no_more _ _ (element_turns tree n.location rest act) c.deref-value-items.result.now c.loop-i.i c.value-item.result _ _ _ _ _ _ c.loop-i-test.true c.value-item.is k c.if-not-branch.true inv.given
+
+pub each_child-loop-i-init : goal.each_child-loop-i-init
+each_child-loop-i-init g t c =
+    let kept = kept_of c.args.self.now in
+    let tree = g.T.Queryable.tree in
+    let d = document c.args.self.now in
+    let n = node_of c.args.trail.now.way.steps.items c.args.at in
+    let rest = through (segments_meant kept c.args.onward.rest.now) d in
+    let act = acted kept c.args.onward.next d in
+    let some = ap (λ xs. Some (map tree xs)) c.deref-value-items.ensures.value ∙ c.in-Some.ensures.value in
+    record { returns = record { same = refl; ready = c.requires.ready }; given = goes_off _ _ _ (ap (λ ns. flat_map rest (flat_map act ns)) (children-list tree n.location n.tree c.deref-value-items.result.now some)) }
 
 pub each_child-loop-i-preserved : goal.each_child-loop-i-preserved
 each_child-loop-i-preserved g t c =
@@ -261,8 +281,8 @@ each_child-loop-i-preserved g t c =
     let rest = through (segments_meant kept c.args.onward.rest.now) d in
     let act = acted kept c.args.onward.next d in
     let inv = c.loop-i.invariant in
-    let k = took_as _ _ _ _ _ (ap (λ q. flat_map rest (act (below (lent_location q) (index c.loop-i.i) (tree c.value-item.result)))) inv.returns.same) c.in_ok-at_child.ensures.gave in
-    record { returns = on inv.returns c.in_ok-at_child.ensures.comes.back; given = turn_next _ _ (element_turns tree n.location rest act) c.deref-value-items.result.now c.loop-i.i c.value-item.result _ _ _ _ c.loop-i-test.true c.value-item.is k inv.given }
+    let k = along_as _ _ _ _ _ (ap (λ q. flat_map rest (act (below (lent_location q) (index c.loop-i.i) (tree c.value-item.result)))) inv.returns.same) c.in_ok-at_child.ensures.gave in
+    record { returns = on inv.returns c.in_ok-at_child.ensures.comes.back; given = goes_on _ _ (element_turns tree n.location rest act) c.deref-value-items.result.now c.loop-i.i c.value-item.result _ _ _ _ _ c.loop-i-test.true c.value-item.is k inv.given }
 
 pub each_child-each_member-requires : goal.each_child-each_member-requires
 each_child-each_member-requires g t c κs within =
@@ -290,8 +310,18 @@ each_member-returns-then-not-branch-clause-gave g t c =
     let rest = through (segments_meant kept c.args.onward.rest.now) d in
     let act = acted kept c.args.onward.next d in
     let inv = c.loop-member.invariant in
-    let k = took_as _ _ _ _ _ (ap (λ q. flat_map rest (act (below (lent_location q) (name c.member-item.result.0.now) (tree c.member-item.result.1.now)))) inv.returns.same) c.in_ok-at_child.ensures.gave in
-    record { given = turn_stop _ _ (member_turns (λ m. (m.0.now, tree m.1.now)) n.location rest act) c.args.members.now.list.now c.loop-member.member-index c.member-item.result _ _ _ _ c.loop-member-test.true c.member-item.is k c.if-not-branch.true inv.given; stopped = λ _. k.stopped c.if-not-branch.true }
+    let k = along_as _ _ _ _ _ (ap (λ q. flat_map rest (act (below (lent_location q) (name c.member-item.result.0.now) (tree c.member-item.result.1.now)))) inv.returns.same) c.in_ok-at_child.ensures.gave in
+    goes_no_more _ _ (member_turns (λ m. (m.0.now, tree m.1.now)) n.location rest act) c.args.members.now.list.now c.loop-member.member-index c.member-item.result _ _ _ _ _ _ c.loop-member-test.true c.member-item.is k c.if-not-branch.true inv.given
+
+pub each_member-loop-member-init : goal.each_member-loop-member-init
+each_member-loop-member-init g t c =
+    let kept = kept_of c.args.self.now in
+    let tree = g.T.Queryable.tree in
+    let d = document c.args.self.now in
+    let n = node_of c.args.trail.now.way.steps.items c.args.members.now.of in
+    let rest = through (segments_meant kept c.args.onward.rest.now) d in
+    let act = acted kept c.args.onward.next d in
+    record { returns = record { same = refl; ready = c.requires.stands.ready }; given = goes_off _ _ _ (ap (λ ns. flat_map rest (flat_map act ns)) (children-members (λ m. (m.0.now, tree m.1.now)) n.location n.tree c.args.members.now.list.now c.requires.listed.list)) }
 
 pub each_member-loop-member-preserved : goal.each_member-loop-member-preserved
 each_member-loop-member-preserved g t c =
@@ -302,8 +332,8 @@ each_member-loop-member-preserved g t c =
     let rest = through (segments_meant kept c.args.onward.rest.now) d in
     let act = acted kept c.args.onward.next d in
     let inv = c.loop-member.invariant in
-    let k = took_as _ _ _ _ _ (ap (λ q. flat_map rest (act (below (lent_location q) (name c.member-item.result.0.now) (tree c.member-item.result.1.now)))) inv.returns.same) c.in_ok-at_child.ensures.gave in
-    record { returns = on inv.returns c.in_ok-at_child.ensures.comes.back; given = turn_next _ _ (member_turns (λ m. (m.0.now, tree m.1.now)) n.location rest act) c.args.members.now.list.now c.loop-member.member-index c.member-item.result _ _ _ _ c.loop-member-test.true c.member-item.is k inv.given }
+    let k = along_as _ _ _ _ _ (ap (λ q. flat_map rest (act (below (lent_location q) (name c.member-item.result.0.now) (tree c.member-item.result.1.now)))) inv.returns.same) c.in_ok-at_child.ensures.gave in
+    record { returns = on inv.returns c.in_ok-at_child.ensures.comes.back; given = goes_on _ _ (member_turns (λ m. (m.0.now, tree m.1.now)) n.location rest act) c.args.members.now.list.now c.loop-member.member-index c.member-item.result _ _ _ _ _ c.loop-member-test.true c.member-item.is k inv.given }
 
 pub pass-pick-requires : goal.pass-pick-requires
 pass-pick-requires g t c κs within =
@@ -330,7 +360,7 @@ pass-returns-in-Selector-clause-gave g t c =
     let n = node_of c.args.trail.now.way.steps.items c.args.at in
     let rest = through (segments_meant kept c.args.onward.rest.now) d in
     let e = ap (segment_view kept) c.in-Selector.is ∙ segment_view-Selector kept c.in-Selector.next in
-    result_as _ _ _ _ _ (ap (flat_map rest) (sym (ap (λ s. replaced s d n) e))) c.pick.ensures.gave
+    takes_as _ _ _ _ _ (ap (flat_map rest) (sym (ap (λ s. replaced s d n) e))) c.pick.ensures.gave
 
 pub pass-returns-in-Selectors-clause-gave : goal.pass-returns-in-Selectors-clause-gave
 pass-returns-in-Selectors-clause-gave g t c =
@@ -339,7 +369,7 @@ pass-returns-in-Selectors-clause-gave g t c =
     let n = node_of c.args.trail.now.way.steps.items c.args.at in
     let rest = through (segments_meant kept c.args.onward.rest.now) d in
     let e = ap (segment_view kept) c.in-Selectors.is ∙ segment_view-Selectors kept c.in-Selectors.selectors in
-    result_as _ _ _ _ _ (ap (flat_map rest) (ap (λ (ss : List Selector). all_pick (selectors_meant kept ss) d n) c.as_slice-next.ensures.value ∙ sym (ap (λ s. replaced s d n) e))) c.pick_each.ensures.gave
+    takes_as _ _ _ _ _ (ap (flat_map rest) (ap (λ (ss : List Selector). all_pick (selectors_meant kept ss) d n) c.as_slice-next.ensures.value ∙ sym (ap (λ s. replaced s d n) e))) c.pick_each.ensures.gave
 
 pub pass-returns-in-Descendant-clause-gave : goal.pass-returns-in-Descendant-clause-gave
 pass-returns-in-Descendant-clause-gave g t c =
@@ -348,7 +378,7 @@ pass-returns-in-Descendant-clause-gave g t c =
     let n = node_of c.args.trail.now.way.steps.items c.args.at in
     let rest = through (segments_meant kept c.args.onward.rest.now) d in
     let e = ap (segment_view kept) c.in-Descendant.is ∙ segment_view-Descendant kept c.in-Descendant.inner in
-    result_as _ _ _ _ _ (ap (flat_map rest) (ap (λ (s : Segment). flat_map (replaced (segment_view kept s) d) (subtree n)) c.deref.ensures ∙ sym (ap (λ s. replaced s d n) e))) c.act.ensures.gave
+    takes_as _ _ _ _ _ (ap (flat_map rest) (ap (λ (s : Segment). flat_map (replaced (segment_view kept s) d) (subtree n)) c.deref.ensures ∙ sym (ap (λ s. replaced s d n) e))) c.act.ensures.gave
 
 pub pick-at_child-requires : goal.pick-at_child-requires
 pick-at_child-requires g t c κs within =
@@ -394,7 +424,7 @@ pick-returns-in-Some-clause-gave g t c =
     let k = string_bytes c.in-Name.name in
     let x = tree_of c.in-Some.value in
     let h = c.in-Some.ensures ∙ ap (λ q. get q n.tree) c.deref.ensures in
-    result_as _ _ _ _ _ (ap (flat_map rest) (ap (λ q. below n.location (name q) x ∷ []) c.deref-in-Some.ensures ∙ named_some n.location k n.tree x h ∙ sym (ap (λ s. picks s d n) e))) c.at_child.ensures.gave
+    takes_as _ _ _ _ _ (ap (flat_map rest) (ap (λ q. below n.location (name q) x ∷ []) c.deref-in-Some.ensures ∙ named_some n.location k n.tree x h ∙ sym (ap (λ s. picks s d n) e))) c.at_child.ensures.gave
 
 pub pick-returns-in-None-clause-gave : goal.pick-returns-in-None-clause-gave
 pick-returns-in-None-clause-gave g t c =
@@ -404,7 +434,7 @@ pick-returns-in-None-clause-gave g t c =
     let rest = through (segments_meant kept c.args.onward.rest.now) d in
     let e = ap (selector_view kept) c.in-Name.is ∙ selector_view-Name kept c.in-Name.name in
     let h = c.in-None.ensures ∙ ap (λ q. get q n.tree) c.deref.ensures in
-    took_none _ _ (ap (flat_map rest) (ap (λ s. picks s d n) e ∙ named_none n.location (string_bytes c.in-Name.name) n.tree h))
+    along_none _ _ (ap (flat_map rest) (ap (λ s. picks s d n) e ∙ named_none n.location (string_bytes c.in-Name.name) n.tree h))
 
 pub pick-returns-in-Wildcard-clause-gave : goal.pick-returns-in-Wildcard-clause-gave
 pick-returns-in-Wildcard-clause-gave g t c =
@@ -413,7 +443,7 @@ pick-returns-in-Wildcard-clause-gave g t c =
     let n = node_of c.args.trail.now.way.steps.items c.args.at in
     let rest = through (segments_meant kept c.args.onward.rest.now) d in
     let e = ap (selector_view kept) c.in-Wildcard.is ∙ selector_view-Wildcard kept in
-    result_as _ _ _ _ _ (ap (flat_map rest) (flat_map-alone (children n) ∙ sym (ap (λ s. picks s d n) e))) c.each_child.ensures.gave
+    takes_as _ _ _ _ _ (ap (flat_map rest) (flat_map-alone (children n) ∙ sym (ap (λ s. picks s d n) e))) c.each_child.ensures.gave
 
 pub pick-returns-in-Some-element-clause-gave : goal.pick-returns-in-Some-element-clause-gave
 pick-returns-in-Some-element-clause-gave g t c =
@@ -424,7 +454,7 @@ pick-returns-in-Some-element-clause-gave g t c =
     let e = ap (selector_view kept) c.in-Index.is ∙ selector_view-Index kept c.in-Index.index in
     let fits : SFits w64 c.in-Index.index = search rules in
     let z = to_z-of_z w64 c.in-Index.index fits in
-    result_as _ _ _ _ _ (ap (flat_map rest) (c.in-Some-element.ensures.value n.location ∙ ap (λ i. indexed i n) z ∙ sym (ap (λ s. picks s d n) e))) c.at_child-in-Some-element.ensures.gave
+    takes_as _ _ _ _ _ (ap (flat_map rest) (c.in-Some-element.ensures.value n.location ∙ ap (λ i. indexed i n) z ∙ sym (ap (λ s. picks s d n) e))) c.at_child-in-Some-element.ensures.gave
 
 pub pick-returns-in-None-element-clause-gave : goal.pick-returns-in-None-element-clause-gave
 pick-returns-in-None-element-clause-gave g t c =
@@ -435,7 +465,7 @@ pick-returns-in-None-element-clause-gave g t c =
     let e = ap (selector_view kept) c.in-Index.is ∙ selector_view-Index kept c.in-Index.index in
     let fits : SFits w64 c.in-Index.index = search rules in
     let z = to_z-of_z w64 c.in-Index.index fits in
-    took_none _ _ (ap (flat_map rest) (ap (λ s. picks s d n) e ∙ sym (c.in-None-element.ensures.value n.location ∙ ap (λ i. indexed i n) z)))
+    along_none _ _ (ap (flat_map rest) (ap (λ s. picks s d n) e ∙ sym (c.in-None-element.ensures.value n.location ∙ ap (λ i. indexed i n) z)))
 
 pub pick-returns-in-Slice-clause-gave : goal.pick-returns-in-Slice-clause-gave
 pick-returns-in-Slice-clause-gave g t c =
@@ -444,7 +474,7 @@ pick-returns-in-Slice-clause-gave g t c =
     let n = node_of c.args.trail.now.way.steps.items c.args.at in
     let rest = through (segments_meant kept c.args.onward.rest.now) d in
     let e = ap (selector_view kept) c.in-Slice.is ∙ selector_view-Slice kept c.in-Slice.start c.in-Slice.end c.in-Slice.step in
-    result_as _ _ _ _ _ (ap (flat_map rest) (sym (ap (λ s. picks s d n) e))) c.pick_slice.ensures.gave
+    takes_as _ _ _ _ _ (ap (flat_map rest) (sym (ap (λ s. picks s d n) e))) c.pick_slice.ensures.gave
 
 pub pick-returns-in-Filter-clause-gave : goal.pick-returns-in-Filter-clause-gave
 pick-returns-in-Filter-clause-gave g t c =
@@ -453,7 +483,7 @@ pick-returns-in-Filter-clause-gave g t c =
     let n = node_of c.args.trail.now.way.steps.items c.args.at in
     let rest = through (segments_meant kept c.args.onward.rest.now) d in
     let e = ap (selector_view kept) c.in-Filter.is ∙ selector_view-Filter kept c.in-Filter.filter in
-    result_as _ _ _ _ _ (ap (flat_map rest) (flat_map-filter (holds (filter_view kept c.in-Filter.filter) d) (children n) ∙ sym (ap (λ s. picks s d n) e))) c.each_child-in-Filter.ensures.gave
+    takes_as _ _ _ _ _ (ap (flat_map rest) (flat_map-filter (holds (filter_view kept c.in-Filter.filter) d) (children n) ∙ sym (ap (λ s. picks s d n) e))) c.each_child-in-Filter.ensures.gave
 
 pub pick_each-pick-requires : goal.pick_each-pick-requires
 pick_each-pick-requires g t c κs within =
@@ -468,8 +498,11 @@ pick_each-returns-then-not-branch-clause-gave g t c =
     let n = node_of c.args.trail.now.way.steps.items c.args.at in
     let rest = through (segments_meant kept c.args.onward.rest.now) d in
     let inv = c.loop-selector.invariant in
-    let k = took_as _ _ _ _ _ (ap (λ q. flat_map rest (picks (selector_view kept c.selector-item.result) d (node_of q c.args.at))) inv.returns.same) c.in_ok-pick.ensures.gave in
-    record { given = turn_stop _ _ (selector_turns kept d n rest) c.args.onward.next.now c.loop-selector.selector-index c.selector-item.result _ _ _ _ c.loop-selector-test.true c.selector-item.is k c.if-not-branch.true inv.given; stopped = λ _. k.stopped c.if-not-branch.true }
+    let k = along_as _ _ _ _ _ (ap (λ q. flat_map rest (picks (selector_view kept c.selector-item.result) d (node_of q c.args.at))) inv.returns.same) c.in_ok-pick.ensures.gave in
+    goes_no_more _ _ (selector_turns kept d n rest) c.args.onward.next.now c.loop-selector.selector-index c.selector-item.result _ _ _ _ _ _ c.loop-selector-test.true c.selector-item.is k c.if-not-branch.true inv.given
+
+pub pick_each-loop-selector-init : goal.pick_each-loop-selector-init
+pick_each-loop-selector-init g t c = record { returns = record { same = refl; ready = c.requires.ready }; given = goes_off _ _ _ refl }
 
 pub pick_each-loop-selector-preserved : goal.pick_each-loop-selector-preserved
 pick_each-loop-selector-preserved g t c =
@@ -478,8 +511,8 @@ pick_each-loop-selector-preserved g t c =
     let n = node_of c.args.trail.now.way.steps.items c.args.at in
     let rest = through (segments_meant kept c.args.onward.rest.now) d in
     let inv = c.loop-selector.invariant in
-    let k = took_as _ _ _ _ _ (ap (λ q. flat_map rest (picks (selector_view kept c.selector-item.result) d (node_of q c.args.at))) inv.returns.same) c.in_ok-pick.ensures.gave in
-    record { returns = on inv.returns c.in_ok-pick.ensures.comes.back; given = turn_next _ _ (selector_turns kept d n rest) c.args.onward.next.now c.loop-selector.selector-index c.selector-item.result _ _ _ _ c.loop-selector-test.true c.selector-item.is k inv.given }
+    let k = along_as _ _ _ _ _ (ap (λ q. flat_map rest (picks (selector_view kept c.selector-item.result) d (node_of q c.args.at))) inv.returns.same) c.in_ok-pick.ensures.gave in
+    record { returns = on inv.returns c.in_ok-pick.ensures.comes.back; given = goes_on _ _ (selector_turns kept d n rest) c.args.onward.next.now c.loop-selector.selector-index c.selector-item.result _ _ _ _ _ c.loop-selector-test.true c.selector-item.is k inv.given }
 
 pub pick_each-returns-clause-gave : goal.pick_each-returns-clause-gave
 pick_each-returns-clause-gave g t c =
@@ -487,7 +520,7 @@ pick_each-returns-clause-gave g t c =
     let d = document c.args.self.now in
     let n = node_of c.args.trail.now.way.steps.items c.args.at in
     let rest = through (segments_meant kept c.args.onward.rest.now) d in
-    record { given = turn_end _ _ (selector_turns kept d n rest) c.args.onward.next.now c.loop-selector.selector-index _ _ c.loop-selector-test.false c.loop-selector.invariant.given; stopped = λ h. true_false h }
+    goes_to_the_end _ _ (selector_turns kept d n rest) c.args.onward.next.now c.loop-selector.selector-index _ _ _ c.loop-selector-test.false c.loop-selector.invariant.given
 
 pub pick_slice-returns-in_default-clause-gave : goal.pick_slice-returns-in_default-clause-gave
 pick_slice-returns-in_default-clause-gave g t c =
@@ -496,7 +529,7 @@ pick_slice-returns-in_default-clause-gave g t c =
     let n = node_of c.args.trail.now.way.steps.items c.args.at in
     let rest = through (segments_meant kept c.args.onward.rest.now) d in
     let h = c.in_default.ensures.value in
-    took_none _ _ (ap (λ o. flat_map rest (flat_map (λ ts. flat_map (λ k. element k n) (slice_of c.args.onward.next.0 c.args.onward.next.1 c.args.onward.next.2 (length ts))) (option_to_list o))) (sym h))
+    along_none _ _ (ap (λ o. flat_map rest (flat_map (λ ts. flat_map (λ k. element k n) (slice_of c.args.onward.next.0 c.args.onward.next.1 c.args.onward.next.2 (length ts))) (option_to_list o))) (sym h))
 
 pub pick_slice-at_child-requires : goal.pick_slice-at_child-requires
 pick_slice-at_child-requires g t c κs within =
@@ -537,8 +570,26 @@ pick_slice-returns-then-not-branch-clause-gave g t c =
     let inside : position < length items = All-head P position _ (subst (All P) steps inv.below) in
     let x = tree c.index.result.now in
     let here = element_at tree n.location n.tree items position c.index.result.now some inside c.index.ensures in
-    let k = took_as _ _ _ _ _ (ap (λ q. flat_map rest (below (lent_location q) (index position) x ∷ [])) inv.returns.same ∙ ap (flat_map rest) here) c.in_ok-at_child.ensures.gave in
-    record { given = place_stop rest (λ j. element j n) _ _ position _ _ _ _ steps k c.if-not-branch.true inv.given ∙ ap (λ ns. give (seen c.args.sink.now) (flat_map rest ns)) (sliced-list tree n items c.args.onward.next.0 c.args.onward.next.1 c.args.onward.next.2 some); stopped = λ _. k.stopped c.if-not-branch.true }
+    let k = along_as _ _ _ _ _ (ap (λ q. flat_map rest (below (lent_location q) (index position) x ∷ [])) inv.returns.same ∙ ap (flat_map rest) here) c.in_ok-at_child.ensures.gave in
+    along_as _ _ _ _ _ (ap (flat_map rest) (sliced-list tree n items c.args.onward.next.0 c.args.onward.next.1 c.args.onward.next.2 some)) (goes_to_no_place rest (λ j. element j n) _ _ position _ _ _ _ _ _ steps k c.if-not-branch.true inv.given)
+
+pub pick_slice-loop-position-init : goal.pick_slice-loop-position-init
+pick_slice-loop-position-init g t c =
+    let kept = kept_of c.args.self.now in
+    let d = document c.args.self.now in
+    let n = node_of c.args.trail.now.way.steps.items c.args.at in
+    let rest = through (segments_meant kept c.args.onward.rest.now) d in
+    let items = c.in-Some.items.now in
+    let bounds = c.args.onward.next in
+    let places = c.slice_places-position-items in
+    let same = c.into_iter-position-iterator.ensures.into_iter_gives in
+    let len : c.len.result ≡ length items.items = omega (arith, c.len.ensures, items.ok.0) in
+    let all = ap places_left same ∙ places.ensures.value ∙ ap (slice_of bounds.0 bounds.1 bounds.2) len in
+    record {
+      returns = record { same = refl; ready = c.requires.ready };
+      below = subst (λ m. All (λ i. i < m) (places_left c.into_iter-position-iterator.result)) len (subst (λ q. All (λ i. i < c.len.result) (places_left q)) (sym same) places.ensures.below);
+      given = goes_off _ _ _ (ap (λ is. flat_map rest (flat_map (λ k. element k n) is)) all);
+    }
 
 pub pick_slice-loop-position-preserved : goal.pick_slice-loop-position-preserved
 pick_slice-loop-position-preserved g t c =
@@ -556,8 +607,8 @@ pick_slice-loop-position-preserved g t c =
     let inside : position < length items = All-head P position _ (subst (All P) steps inv.below) in
     let x = tree c.index.result.now in
     let here = element_at tree n.location n.tree items position c.index.result.now some inside c.index.ensures in
-    let k = took_as _ _ _ _ _ (ap (λ q. flat_map rest (below (lent_location q) (index position) x ∷ [])) inv.returns.same ∙ ap (flat_map rest) here) c.in_ok-at_child.ensures.gave in
-    record { returns = record { same = c.in_ok-at_child.ensures.comes.back.same ∙ inv.returns.same; ready = c.in_ok-at_child.ensures.comes.back.ready }; below = All-tail P position _ (subst (All P) steps inv.below); given = place_next rest (λ j. element j n) _ _ position _ _ _ _ steps k inv.given }
+    let k = along_as _ _ _ _ _ (ap (λ q. flat_map rest (below (lent_location q) (index position) x ∷ [])) inv.returns.same ∙ ap (flat_map rest) here) c.in_ok-at_child.ensures.gave in
+    record { returns = record { same = c.in_ok-at_child.ensures.comes.back.same ∙ inv.returns.same; ready = c.in_ok-at_child.ensures.comes.back.ready }; below = All-tail P position _ (subst (All P) steps inv.below); given = goes_on_to_place rest (λ j. element j n) _ _ position _ _ _ _ _ steps k inv.given }
 
 pub pick_slice-returns-clause-gave : goal.pick_slice-returns-clause-gave
 pick_slice-returns-clause-gave g t c =
@@ -569,17 +620,18 @@ pick_slice-returns-clause-gave g t c =
     let items = c.in-Some.items.now.items in
     let some = c.in-Some.ensures.value in
     let inv = c.loop-position.invariant in
-    record { given = ap (λ is. give (seen c.loop-position.sink) (flat_map rest (flat_map (λ j. element j n) is))) (sym c.in-None.ensures.steps.0) ∙ inv.given ∙ ap (λ ns. give (seen c.args.sink.now) (flat_map rest ns)) (sliced-list tree n items c.args.onward.next.0 c.args.onward.next.1 c.args.onward.next.2 some); stopped = λ h. true_false h }
+    along_as _ _ _ _ _ (ap (flat_map rest) (sliced-list tree n items c.args.onward.next.0 c.args.onward.next.1 c.args.onward.next.2 some)) (goes_past_places rest (λ j. element j n) _ _ _ _ c.in-None.ensures.steps.0 inv.given)
 
 pub at_child-returns-clause-comes : goal.at_child-returns-clause-comes
 at_child-returns-clause-comes g t c =
     let back = c.in_ok-goes_on.ensures.comes.back in
-    record { back = record { same = c.pop.ensures _ _ (back.same ∙ c.in_ok-push.ensures.steps); ready = back.ready }; ready = tt; halts = tt }
+    record { back = record { same = c.pop.ensures.steps _ _ (back.same ∙ c.in_ok-push.ensures.steps); ready = back.ready }; ready = tt; halts = tt }
 
-pub act-returns-then-branch-clause-comes : goal.act-returns-then-branch-clause-comes
-act-returns-then-branch-clause-comes g t c =
+pub act-returns-then-holds-clause-comes : goal.act-returns-then-holds-clause-comes
+act-returns-then-holds-clause-comes g t c =
     let kept = kept_of c.args.self.now in
-    comes_on _ c.in_ok-filter_holds-in-If.ensures.comes.back c.walk-then-branch.ensures.comes (λ h. asked_right (action_patterns kept c.args.onward.next) (segments_patterns (segments_meant kept c.args.onward.rest.now)) h)
+    let back = c.in_ok-holds-in-If.ensures.comes.back in
+    comes_after _ c.walk-then-holds.ensures.comes (c.unsettle.ensures.steps ∙ back.same) back.ready (λ h. asked_right (action_patterns kept c.args.onward.next) (segments_patterns (segments_meant kept c.args.onward.rest.now)) h)
 
 pub descend-returns-clause-comes : goal.descend-returns-clause-comes
 descend-returns-clause-comes g t c = comes_on _ c.in_ok-pass.ensures.comes.back c.each_child.ensures.comes (λ h. h)
@@ -694,7 +746,7 @@ gather-returns-clause-given g t c =
     let kept = kept_of c.args.self.now in
     let d = document c.args.self.now in
     let n = node_of c.args.trail.now.way.steps.items c.args.at in
-    c.in_ok-_goes_on.ensures.gave.given ∙ ap (λ s. give s (through (segments_meant kept c.args.segments.now) d n)) c.start-sink.ensures
+    (c.in_ok-_goes_on.ensures.gave.took (tied_inside c.start-sink.result c.args.trail.now.way c.args.wanted c.start-sink.ensures)).given ∙ ap (λ s. give s (through (segments_meant kept c.args.segments.now) d n)) c.start-sink.ensures
 
 pub filter_holds-some_holds-requires : goal.filter_holds-some_holds-requires
 filter_holds-some_holds-requires g t c κs within =
@@ -1289,10 +1341,10 @@ constant_comparison-returns-clause-comes g t c =
 
 -- ---- why it halts
 
-pub act-returns-in_err-filter_holds-in-If-clause-comes : goal.act-returns-in_err-filter_holds-in-If-clause-comes
-act-returns-in_err-filter_holds-in-If-clause-comes g t c =
+pub act-returns-in_err-holds-in-If-clause-comes : goal.act-returns-in_err-holds-in-If-clause-comes
+act-returns-in_err-holds-in-If-clause-comes g t c =
     let kept = kept_of c.args.self.now in
-    comes_so _ _ c.from_residual.ensures.1 c.in_err-filter_holds-in-If.ensures.comes (λ h. asked_left (action_patterns kept c.args.onward.next) (segments_patterns (segments_meant kept c.args.onward.rest.now)) (asked_as (action_patterns kept) _ _ c.in-If.is h))
+    comes_so _ _ c.from_residual.ensures.1 c.in_err-holds-in-If.ensures.comes (λ h. asked_left (action_patterns kept c.args.onward.next) (segments_patterns (segments_meant kept c.args.onward.rest.now)) (asked_as (action_patterns kept) _ _ c.in-If.is h))
 
 pub pick_each-returns-in_err-pick-clause-comes : goal.pick_each-returns-in_err-pick-clause-comes
 pick_each-returns-in_err-pick-clause-comes g t c =

@@ -6,12 +6,12 @@ use Rattle.jsonpath_rust.specs.documents.Node.{element_nodes, member_nodes, chil
 use Rattle.jsonpath_rust.specs.documents.Meaning.{all_pick, element, some_holds, each_holds, all_trees}
 use Rattle.jsonpath_rust.specs.selection.inner.PlanViews.{segment_view, segments_meant, selector_view, selectors_meant, filter_view, filters_meant, side_view, call_view, argument_view, arguments_meant, nodes_view, query_at, call_at, called_view, comparison_at}
 use Rattle.jsonpath_rust.specs.selection.inner.Walking.{through, node_of, acted}
-use Rattle.jsonpath_rust.specs.selection.inner.Sinks.{seen, give}
 use Rattle.jsonpath_rust.specs.selection.inner.Keeping.{document, kept_of}
 use Rattle.jsonpath_rust.specs.selection.inner.Standing.{Returns}
 use Rattle.jsonpath_rust.specs.documents.inner.Operands.{arg_trees}
 use Rattle.jsonpath_rust.specs.documents.inner.Whole.{tree_of}
 use Rattle.jsonpath_rust.specs.documents.inner.Size.{size}
+use Rattle.jsonpath_rust.proofs.laws.selection.Along.{Goes}
 use Rattle.jsonpath_rust.proofs.laws.selection.Work.{work}
 use Rattle.jsonpath_rust.specs.selection.inner.Passing.{action_weight}
 use Rattle.jsonpath_rust.specs.documents.inner.Weight.{segments_weight, segment_weight, selectors_weight, selector_weight, filter_weight, filters_weight, test_weight, comparable_weight, comparison_weight, call_weight, argument_weight, arguments_weight}
@@ -107,7 +107,7 @@ invariant-pick_each-loop-selector g l =
     let rest = through (segments_meant (kept_of l.self) l.onward.rest.now) d in
     record {
       returns : Returns l.self l.initial.trail l.trail;
-      given : give (seen l.sink) (flat_map rest (all_pick (selectors_meant (kept_of l.self) (drop l.selector-index l.selector-items)) d n)) ≡ give (seen l.initial.sink) (flat_map rest (all_pick (selectors_meant (kept_of l.self) l.onward.next.now) d n));
+      given : Goes (l.initial.sink, l.initial.trail.way) (l.sink, l.trail.way) (flat_map rest (all_pick (selectors_meant (kept_of l.self) (drop l.selector-index l.selector-items)) d n)) (flat_map rest (all_pick (selectors_meant (kept_of l.self) l.onward.next.now) d n));
     }
 
 abbrev pub invariant-pick_slice-loop-position : goal.invariant-pick_slice-loop-position
@@ -118,7 +118,7 @@ invariant-pick_slice-loop-position g l =
     record {
       returns : Returns l.self l.initial.trail l.trail;
       below : All (λ i. i < length l.items.items) (places_left l.position-iterator);
-      given : give (seen l.sink) (flat_map rest (flat_map (λ k. element k n) (places_left l.position-iterator))) ≡ give (seen l.initial.sink) (flat_map rest (flat_map (λ k. element k n) (slice_of l.onward.next.0 l.onward.next.1 l.onward.next.2 (length l.items.items))));
+      given : Goes (l.initial.sink, l.initial.trail.way) (l.sink, l.trail.way) (flat_map rest (flat_map (λ k. element k n) (places_left l.position-iterator))) (flat_map rest (flat_map (λ k. element k n) (slice_of l.onward.next.0 l.onward.next.1 l.onward.next.2 (length l.items.items))));
     }
 
 abbrev pub invariant-each_child-loop-i : goal.invariant-each_child-loop-i
@@ -129,7 +129,7 @@ invariant-each_child-loop-i g l =
     let rest = through (segments_meant (kept_of l.self) l.onward.rest.now) d in
     record {
       returns : Returns l.self l.initial.trail l.trail;
-      given : give (seen l.sink) (flat_map rest (flat_map (acted (kept_of l.self) l.onward.next d) (element_nodes n.location l.i (map tree (drop l.i l.value-items))))) ≡ give (seen l.initial.sink) (flat_map rest (flat_map (acted (kept_of l.self) l.onward.next d) (children n)));
+      given : Goes (l.initial.sink, l.initial.trail.way) (l.sink, l.trail.way) (flat_map rest (flat_map (acted (kept_of l.self) l.onward.next d) (element_nodes n.location l.i (map tree (drop l.i l.value-items))))) (flat_map rest (flat_map (acted (kept_of l.self) l.onward.next d) (children n)));
     }
 
 abbrev pub invariant-each_member-loop-member : goal.invariant-each_member-loop-member
@@ -140,7 +140,7 @@ invariant-each_member-loop-member g l =
     let rest = through (segments_meant (kept_of l.self) l.onward.rest.now) d in
     record {
       returns : Returns l.self l.initial.trail l.trail;
-      given : give (seen l.sink) (flat_map rest (flat_map (acted (kept_of l.self) l.onward.next d) (member_nodes n.location (map (λ m. (m.0.now, tree m.1.now)) (drop l.member-index l.member-items))))) ≡ give (seen l.initial.sink) (flat_map rest (flat_map (acted (kept_of l.self) l.onward.next d) (children n)));
+      given : Goes (l.initial.sink, l.initial.trail.way) (l.sink, l.trail.way) (flat_map rest (flat_map (acted (kept_of l.self) l.onward.next d) (member_nodes n.location (map (λ m. (m.0.now, tree m.1.now)) (drop l.member-index l.member-items))))) (flat_map rest (flat_map (acted (kept_of l.self) l.onward.next d) (children n)));
     }
 
 -- the parts that are left decide

@@ -1,0 +1,197 @@
+-- What a sink has, once it was given nodes along the way.
+use Rattle.std.proofs.Common.{◌≡◌, ℕ, ◌+◌, ◌<◌, ◌≤◌, List, [], ◌∷◌, ◌++◌, drop, take, length, map, get_or, append-nil, refl, sym, ◌∙◌, ap, arith, subst, Bool, true, false, Option, Some, None, Result, IfOk, rules}
+use Rattle.std.proofs.lemmas.Result.{IfOk-weaker}
+use Rattle.std.proofs.lemmas.List.{take-append-le, take-take, take-append-drop, length-map, map-append}
+use Rattle.std.specs.List.{flat_map}
+use Rattle.std.specs.declared.fmt.Debug as debug
+use Rattle.jsonpath_parser.specs.Location.{Location}
+use Rattle.jsonpath_base.specs.Tree.{Tree, null, truth, number, text, list, object, elements, pairs, as_list, as_members}
+use Rattle.jsonpath_base.specs.Steps.{lent_step, lent_location}
+use Rattle.jsonpath_base.specs.RemovalViews.{LastBegins}
+use Rattle.jsonpath_base.specs.declared.removal.Removal.{Removal}
+use Rattle.jsonpath_base.specs.declared.step.StepRef.{StepRef}
+use Rattle.jsonpath_base.specs.declared.way.Way.{Way}
+use Rattle.jsonpath_base.proofs.LastMarks.{ends_less}
+use Rattle.jsonpath_rust.specs.documents.Node.{Node, element_nodes, member_nodes, children_at}
+use Rattle.jsonpath_rust.specs.selection.inner.Sinks.{Seen, seen, start, give, Took, Takes, IsTied, TookAlong, TakesAlong}
+use Rattle.jsonpath_rust.specs.declared.documents.queryable.Queryable.{Ghosts}
+use Rattle.jsonpath_rust.specs.declared.selection.sink.Sink.{Sink}
+use Rattle.jsonpath_rust.specs.declared.selection.sink.Sink.TheVariants as sink
+use Rattle.jsonpath_rust.specs.declared.selection.sink.Wanted.{Wanted}
+use Rattle.jsonpath_rust.specs.declared.selection.sink.Wanted.TheVariants as wanted
+use Rattle.jsonpath_rust.proofs.laws.selection.Sinks.{took_none, took_as, took_then, took_stop, true_false}
+use Rattle.jsonpath_rust.proofs.laws.selection.Walks.{Turns, turn_next, turn_stop, turn_end, place_next, place_stop}
+
+-- ---- the tie
+
+-- the steps that are settled
+abbrev settled_steps : Way → Location
+settled_steps w = take w.settled (lent_location w.steps.items)
+
+tied_by : {A : Type 0} {R : Ghosts A} {D : debug.Ghosts A} (s : Sink A R D) (w v : Way) → ((r : Removal) → LastBegins r (settled_steps w) → LastBegins r (settled_steps v)) → IsTied s w → IsTied s v
+tied_by (sink.Removal r) w v f t = f r.value t
+tied_by (sink.Nodes ns) w v f t = tt
+tied_by (sink.Paths ps) w v f t = tt
+tied_by (sink.Values vs) w v f t = tt
+tied_by (sink.Locations ls) w v f t = tt
+tied_by (sink.Any b) w v f t = tt
+tied_by (sink.Count n) w v f t = tt
+tied_by (sink.Only o) w v f t = tt
+tied_by (sink.First o) w v f t = tt
+
+-- at the root
+pub tied_at_root : {A : Type 0} {R : Ghosts A} {D : debug.Ghosts A} (s : Sink A R D) (w : Way) → w.steps.items ≡ [] → IsTied s w
+tied_at_root (sink.Removal r) w e = subst (LastBegins r.value) (sym (none w.settled (lent_location w.steps.items) (ap lent_location e))) tt
+  where
+    none : (n : ℕ) (l : Location) → l ≡ [] → take n l ≡ []
+    none n l e = search (rules, e)
+tied_at_root (sink.Nodes ns) w e = tt
+tied_at_root (sink.Paths ps) w e = tt
+tied_at_root (sink.Values vs) w e = tt
+tied_at_root (sink.Locations ls) w e = tt
+tied_at_root (sink.Any b) w e = tt
+tied_at_root (sink.Count n) w e = tt
+tied_at_root (sink.Only o) w e = tt
+tied_at_root (sink.First o) w e = tt
+
+-- a sink of a filter marks nothing
+pub tied_inside : {A : Type 0} {R : Ghosts A} {D : debug.Ghosts A} (s : Sink A R D) (w : Way) (of : Wanted) → seen s ≡ start of → IsTied s w
+tied_inside (sink.Removal r) w wanted.Any e = absurd cc
+tied_inside (sink.Removal r) w wanted.Count e = absurd cc
+tied_inside (sink.Removal r) w wanted.Only e = absurd cc
+tied_inside (sink.Removal r) w wanted.Values e = absurd cc
+tied_inside (sink.Nodes ns) w of e = tt
+tied_inside (sink.Paths ps) w of e = tt
+tied_inside (sink.Values vs) w of e = tt
+tied_inside (sink.Locations ls) w of e = tt
+tied_inside (sink.Any b) w of e = tt
+tied_inside (sink.Count n) w of e = tt
+tied_inside (sink.Only o) w of e = tt
+tied_inside (sink.First o) w of e = tt
+
+-- one step further
+pub tied_further : {A : Type 0} {R : Ghosts A} {D : debug.Ghosts A} (s : Sink A R D) (w v : Way) (step : StepRef) → v.steps.items ≡ w.steps.items ++ step ∷ [] → v.settled ≡ w.settled → IsTied s w → IsTied s v
+tied_further s w v step e n t = tied_by s w v (λ r h. subst (LastBegins r) same h) t
+  where
+    same : settled_steps w ≡ settled_steps v
+    same =
+        let within : w.settled ≤ length (lent_location w.steps.items) = omega (arith, w.within, length-map w.steps.items lent_step) in
+        sym (take-append-le w.settled (lent_location w.steps.items) (lent_step step ∷ []) within) ∙ ap (take w.settled) (sym (ap lent_location e ∙ map-append lent_step w.steps.items (step ∷ []))) ∙ ap (λ k. take k (lent_location v.steps.items)) (sym n)
+
+-- back, or where it was, with no more steps settled
+pub tied_back : {A : Type 0} {R : Ghosts A} {D : debug.Ghosts A} (s : Sink A R D) (w v : Way) (more : List StepRef) → w.steps.items ≡ v.steps.items ++ more → v.settled ≤ w.settled → IsTied s w → IsTied s v
+tied_back s w v more e le t = tied_by s w v (λ r h. ends_less (settled_steps v) rest _ (subst (LastBegins r) (sym same) h)) t
+  where
+    rest : Location
+    rest = drop v.settled (settled_steps w)
+
+    front : take v.settled (settled_steps w) ≡ settled_steps v
+    front =
+        let within : v.settled ≤ length (lent_location v.steps.items) = omega (arith, v.within, length-map v.steps.items lent_step) in
+        take-take v.settled w.settled (lent_location w.steps.items) le ∙ ap (take v.settled) (ap lent_location e ∙ map-append lent_step v.steps.items more) ∙ take-append-le v.settled (lent_location v.steps.items) (lent_location more) within
+
+    same : settled_steps v ++ rest ≡ settled_steps w
+    same = ap (λ x. x ++ rest) (sym front) ∙ take-append-drop v.settled (settled_steps w)
+
+pub tied_still : {A : Type 0} {R : Ghosts A} {D : debug.Ghosts A} (s : Sink A R D) (w v : Way) → v.steps.items ≡ w.steps.items → v.settled ≤ w.settled → IsTied s w → IsTied s v
+tied_still s w v e le t = tied_back s w v [] (sym e ∙ sym (append-nil v.steps.items)) le t
+
+-- ---- one call after another
+
+-- where no node is to be given, nothing is done
+pub along_none : {A : Type 0} {R : Ghosts A} {D : debug.Ghosts A} (s : Sink A R D × Way) (ns : List Node) → ns ≡ [] → TookAlong s ns s true
+along_none s ns e = record { took = λ t. took_none (seen s.0) ns e; tied = λ t. t }
+
+pub along_idle : {A : Type 0} {R : Ghosts A} {D : debug.Ghosts A} (s : Sink A R D) (w v : Way) (ns : List Node) → ns ≡ [] → (IsTied s w → IsTied s v) → TookAlong (s, w) ns (s, v) true
+along_idle s w v ns e f = record { took = λ t. took_none (seen s) ns e; tied = f }
+
+pub along_as : {A : Type 0} {R : Ghosts A} {D : debug.Ghosts A} (s : Sink A R D × Way) (xs ys : List Node) (z : Sink A R D × Way) (b : Bool) → xs ≡ ys → TookAlong s xs z b → TookAlong s ys z b
+along_as s xs ys z b e h = record { took = λ t. took_as (seen s.0) xs ys (seen z.0) b e (h.took t); tied = h.tied }
+
+-- from and to another way that the sinks are tied to
+pub along_between : {A : Type 0} {R : Ghosts A} {D : debug.Ghosts A} {s z : Sink A R D} {w p v u : Way} {ns : List Node} {b : Bool} → TookAlong (s, p) ns (z, v) b → (IsTied s w → IsTied s p) → (IsTied z v → IsTied z u) → TookAlong (s, w) ns (z, u) b
+along_between h f g = record { took = λ t. h.took (f t); tied = λ t. g (h.tied (f t)) }
+
+along_then : {A : Type 0} {R : Ghosts A} {D : debug.Ghosts A} (s : Sink A R D × Way) (xs ys all : List Node) (m z : Sink A R D × Way) (a b : Bool) → xs ++ ys ≡ all → TookAlong s xs m a → TookAlong m ys z b → TookAlong s all z b
+along_then s xs ys all m z a b e h k = record { took = λ t. took_then (seen s.0) xs ys all (seen m.0) (seen z.0) a b e (h.took t) (k.took (h.tied t)); tied = λ t. k.tied (h.tied t) }
+
+-- the rest makes no difference
+pub along_stop : {A : Type 0} {R : Ghosts A} {D : debug.Ghosts A} (s : Sink A R D × Way) (xs ys all : List Node) (m : Sink A R D × Way) (a b : Bool) → xs ++ ys ≡ all → TookAlong s xs m a → a ≡ false → TookAlong s all m b
+along_stop s xs ys all m a b e h f = record { took = λ t. took_stop (seen s.0) xs ys all (seen m.0) a b e (h.took t) f; tied = h.tied }
+
+-- a call's answer, with what it gave in other words
+pub takes_as : {A E : Type 0} {R : Ghosts A} {D : debug.Ghosts A} (r : Result Bool E) (s z : Sink A R D × Way) (xs ys : List Node) → xs ≡ ys → TakesAlong s z xs r → TakesAlong s z ys r
+takes_as r s z xs ys e h = IfOk-weaker r (λ b. TookAlong s xs z b) (λ b. TookAlong s ys z b) (λ b k. along_as s xs ys z b e k) h
+
+pub takes_then : {A E : Type 0} {R : Ghosts A} {D : debug.Ghosts A} (r : Result Bool E) (s m z : Sink A R D × Way) (xs ys all : List Node) (a : Bool) → xs ++ ys ≡ all → TookAlong s xs m a → TakesAlong m z ys r → TakesAlong s z all r
+takes_then r s m z xs ys all a e h k = IfOk-weaker r (λ b. TookAlong m ys z b) (λ b. TookAlong s all z b) (λ b q. along_then s xs ys all m z a b e h q) k
+
+pub takes_from : {A E : Type 0} {R : Ghosts A} {D : debug.Ghosts A} (r : Result Bool E) (s : Sink A R D) (w p : Way) (z : Sink A R D × Way) (ns : List Node) → TakesAlong (s, p) z ns r → (IsTied s w → IsTied s p) → TakesAlong (s, w) z ns r
+takes_from r s w p z ns h f = IfOk-weaker r (λ b. TookAlong (s, p) ns z b) (λ b. TookAlong (s, w) ns z b) (λ b k. along_between k f (λ t. t)) h
+
+-- what the sink took, where it is tied
+pub takes : {A E : Type 0} {R : Ghosts A} {D : debug.Ghosts A} (r : Result Bool E) (s z : Sink A R D × Way) (ns : List Node) → IsTied s.0 s.1 → TakesAlong s z ns r → Takes s.0 z.0 ns r
+takes r s z ns t h = IfOk-weaker r (λ b. TookAlong s ns z b) (λ b. Took (seen s.0) ns (seen z.0) b) (λ b k. k.took t) h
+
+-- ---- a loop
+
+-- What was given, with what is left, is what all of them give.
+pub record Goes {A : Type 0} {R : Ghosts A} {D : debug.Ghosts A} (s z : Sink A R D × Way) (left all : List Node) : Type 0 where
+  pub given : IsTied s.0 s.1 → give (seen z.0) left ≡ give (seen s.0) all
+  pub tied : IsTied s.0 s.1 → IsTied z.0 z.1
+
+pub goes_off : {A : Type 0} {R : Ghosts A} {D : debug.Ghosts A} (s : Sink A R D × Way) (left all : List Node) → left ≡ all → Goes s s left all
+goes_off s left all e = record { given = λ t. ap (give (seen s.0)) e; tied = λ t. t }
+
+pub goes_on : {A : Type 0} {R : Ghosts A} {D : debug.Ghosts A} {X : Type 0} (G : ℕ → List X → List Node) (g : ℕ → X → List Node) → Turns G g → (xs : List X) (i : ℕ) (x : X) (o s m : Sink A R D × Way) (all : List Node) (b : Bool) → i < length xs → x ≡ get_or xs i x
+    → TookAlong s (g i x) m b → Goes o s (G i (drop i xs)) all → Goes o m (G (i + 1) (drop (i + 1) xs)) all
+goes_on G g turns xs i x o s m all b lt e k v = record { given = λ t. turn_next G g turns xs i x (seen s.0) (seen m.0) (give (seen o.0) all) b lt e (k.took (v.tied t)) (v.given t); tied = λ t. k.tied (v.tied t) }
+
+-- the turn at x ends it: the rest makes no difference
+pub goes_no_more : {A : Type 0} {R : Ghosts A} {D : debug.Ghosts A} {X : Type 0} (G : ℕ → List X → List Node) (g : ℕ → X → List Node) → Turns G g → (xs : List X) (i : ℕ) (x : X) (o s m : Sink A R D × Way) (all : List Node) (b c : Bool) → i < length xs → x ≡ get_or xs i x
+    → TookAlong s (g i x) m b → b ≡ false → Goes o s (G i (drop i xs)) all → TookAlong o all m c
+goes_no_more G g turns xs i x o s m all b c lt e k f v = record {
+  took = λ t. record { given = turn_stop G g turns xs i x (seen s.0) (seen m.0) (give (seen o.0) all) b lt e (k.took (v.tied t)) f (v.given t); stopped = λ _. (k.took (v.tied t)).stopped f };
+  tied = λ t. k.tied (v.tied t);
+}
+
+-- nothing is left
+pub goes_to_the_end : {A : Type 0} {R : Ghosts A} {D : debug.Ghosts A} {X : Type 0} (G : ℕ → List X → List Node) (g : ℕ → X → List Node) → Turns G g → (xs : List X) (i : ℕ) (o s : Sink A R D × Way) (all : List Node) → length xs ≤ i → Goes o s (G i (drop i xs)) all → TookAlong o all s true
+goes_to_the_end G g turns xs i o s all le v = record { took = λ t. record { given = turn_end G g turns xs i (seen s.0) (give (seen o.0) all) le (v.given t); stopped = λ h. true_false h }; tied = v.tied }
+
+-- one place of a slice
+pub goes_on_to_place : {A : Type 0} {R : Ghosts A} {D : debug.Ghosts A} (rest : Node → List Node) (at : ℕ → List Node) (old new : List ℕ) (i : ℕ) (o s m : Sink A R D × Way) (all : List Node) (b : Bool) → old ≡ i ∷ new → TookAlong s (flat_map rest (at i)) m b
+    → Goes o s (flat_map rest (flat_map at old)) all → Goes o m (flat_map rest (flat_map at new)) all
+goes_on_to_place rest at old new i o s m all b e k v = record { given = λ t. place_next rest at old new i (seen s.0) (seen m.0) (give (seen o.0) all) b e (k.took (v.tied t)) (v.given t); tied = λ t. k.tied (v.tied t) }
+
+pub goes_to_no_place : {A : Type 0} {R : Ghosts A} {D : debug.Ghosts A} (rest : Node → List Node) (at : ℕ → List Node) (old new : List ℕ) (i : ℕ) (o s m : Sink A R D × Way) (all : List Node) (b c : Bool) → old ≡ i ∷ new → TookAlong s (flat_map rest (at i)) m b → b ≡ false
+    → Goes o s (flat_map rest (flat_map at old)) all → TookAlong o all m c
+goes_to_no_place rest at old new i o s m all b c e k f v = record {
+  took = λ t. record { given = place_stop rest at old new i (seen s.0) (seen m.0) (give (seen o.0) all) b e (k.took (v.tied t)) f (v.given t); stopped = λ _. (k.took (v.tied t)).stopped f };
+  tied = λ t. k.tied (v.tied t);
+}
+
+pub goes_past_places : {A : Type 0} {R : Ghosts A} {D : debug.Ghosts A} (rest : Node → List Node) (at : ℕ → List Node) (left : List ℕ) (o s : Sink A R D × Way) (all : List Node) → left ≡ [] → Goes o s (flat_map rest (flat_map at left)) all → TookAlong o all s true
+goes_past_places rest at left o s all e v = record { took = λ t. record { given = sym (ap (λ is. give (seen s.0) (flat_map rest (flat_map at is))) e) ∙ v.given t; stopped = λ h. true_false h }; tied = v.tied }
+
+-- ---- all children, before the first
+
+pub children-list : {A : Type 0} (tree_of : A → Tree) (l : Location) (t : Tree) (xs : List A) → Some (map tree_of xs) ≡ as_list t → element_nodes l 0 (map tree_of xs) ≡ children_at l t
+children-list tree_of l (list us) xs h =
+    let same : map tree_of xs ≡ elements us = cc in
+    ap (element_nodes l 0) same
+children-list tree_of l (object us) xs h = cc
+children-list tree_of l null xs h = cc
+children-list tree_of l (truth b) xs h = cc
+children-list tree_of l (number n) xs h = cc
+children-list tree_of l (text s) xs h = cc
+
+pub children-members : {A : Type 0} (pair : A → List ℕ × Tree) (l : Location) (t : Tree) (xs : List A) → Some (map pair xs) ≡ as_members t → member_nodes l (map pair xs) ≡ children_at l t
+children-members pair l (object us) xs h =
+    let same : map pair xs ≡ pairs us = cc in
+    ap (member_nodes l) same
+children-members pair l (list us) xs h = cc
+children-members pair l null xs h = cc
+children-members pair l (truth b) xs h = cc
+children-members pair l (number n) xs h = cc
+children-members pair l (text s) xs h = cc
