@@ -14,13 +14,13 @@ removal_set r = marked r.marks
 abbrev pub removal_count : Removal → ℕ
 removal_count r = distinct_count (listed r.marks)
 
--- the location that was added last begins with these steps
-abbrev pub LastBegins : Removal → Location → Type 0
-LastBegins r l = EndsWith l r.marks
-
 -- the same of a removal in order
 abbrev pub ordered_set : OrderedRemoval → Location → Bool
 ordered_set r = marked r.marks
 
 abbrev pub ordered_count : OrderedRemoval → ℕ
 ordered_count r = r.count
+
+-- the location that was added last begins with these steps
+abbrev pub LastBegins : Removal → Location → Type 0
+LastBegins r l = EndsWith l r.marks

@@ -68,8 +68,9 @@ impl Deletable for Value {
 /// many distinct ones there are, those inside other ones counted too. Where the root is selected, null is left.
 ///
 /// All nodes are found, and all memory is taken, before anything is removed: a step that many locations begin with is held
-/// once. Time as [`js_path_within`], and n log n in the steps of the locations; in a list that loses elements, each element
-/// behind the first of them is moved once.
+/// once. Time as [`js_path_within`], and n log n in the steps of the locations, of which the first that a location has from
+/// the one before count without their names; in a list that loses elements, each element behind the first of them is moved
+/// once.
 ///
 /// # Errors
 ///

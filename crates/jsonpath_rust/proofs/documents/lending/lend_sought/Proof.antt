@@ -41,7 +41,7 @@ use Rattle.jsonpath_rust.proofs.documents.lending.steps_in.Met.{met as met₁}
 use Rattle.jsonpath_base.specs.contracts.at_mut as g₂
 use Rattle.jsonpath_base.proofs.at_mut.Met.{met as met₂}
 
-abbrev stayed : Stays f.ended.signature.params f.ended.constants
+abbrev stayed : Stays f.ended.signature.params f.ended.kept
 stayed = (stay_dropped (mut_ref_to (0 ∷ []) tt (plain (λ _. R))) no, (stay_dropped (RefOf (1 ∷ []) tt (plain (λ _. N)) (λ _. tt)) yes, tt))
 
 pub lend_sought_spec : {M : Type 1} → statement M

@@ -46,7 +46,7 @@ use Rattle.jsonpath_rust.proofs.documents.lending.lend_sought.Met.{met as met₁
 use Rattle.jsonpath_rust.specs.contracts.documents.lending.answered as g₂
 use Rattle.jsonpath_rust.proofs.documents.lending.answered.Met.{met as met₂}
 
-abbrev stayed : Stays f.ended.signature.params f.ended.constants
+abbrev stayed : Stays f.ended.signature.params f.ended.kept
 stayed = (stay_dropped (plain (λ _. A)) yes, (stay_dropped (mut_ref_to (0 ∷ []) tt (plain (λ _. R))) no, (stay_dropped (StrRefOf (1 ∷ []) tt) yes, tt)))
 
 abbrev second : Lft → NamedLft

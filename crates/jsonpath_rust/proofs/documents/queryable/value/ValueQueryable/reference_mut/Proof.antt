@@ -31,7 +31,7 @@ use Rattle.jsonpath_rust.proofs.documents.queryable.value.ValueQueryable.referen
 use Rattle.jsonpath_rust.specs.contracts.documents.lending.referred_mut as g₀
 use Rattle.jsonpath_rust.proofs.documents.lending.referred_mut.Met.{met as met₀}
 
-abbrev stayed : Stays f.ended.signature.params f.ended.constants
+abbrev stayed : Stays f.ended.signature.params f.ended.kept
 stayed = (stay_dropped (mut_ref_to (0 ∷ []) tt (plain (λ _. R))) no, (stay_dropped (plain (λ _. A)) yes, (stay_dropped (StrRefOf (1 ∷ []) tt) yes, tt)))
 
 abbrev second : Lft → NamedLft
