@@ -3,9 +3,9 @@ ghost use Rattle.std.specs.Prelude.{◌≡◌, map, IsTrue, IfOk};
 ghost use Rattle.jsonpath_base.specs.Values.{value_is_whole};
 ghost use Rattle.jsonpath_rust.specs.documents.Answer.{shown, paths_of};
 
+use crate::checked::is_by_whole;
 use crate::doc::document::are_equal;
 use crate::doc::processed::is_by_process;
-use crate::whole::is_by_whole;
 use jsonpath_parser::{let_go, parse_json_path_within};
 use jsonpath_rust::JsonPath;
 use jsonpath_rust::query::queryable::Queryable;
@@ -119,12 +119,9 @@ pub fn is_by_tree<T: Queryable>(
         memory,
         nodes,
         js_path_process_vals(memory.alloc, &tree, document),
-    ) && are_paths(
-        memory,
-        nodes,
-        selected_paths(memory.alloc, &tree, document),
-    ) && (makes_too_many(query)
-        || memory.holds(is_by_process(memory.alloc, &tree, document, nodes)));
+    ) && are_paths(memory, nodes, selected_paths(memory.alloc, &tree, document))
+        && (makes_too_many(query)
+            || memory.holds(is_by_process(memory.alloc, &tree, document, nodes)));
     let_go(tree);
     agrees
 }

@@ -2,9 +2,9 @@
 ghost use Rattle.std.specs.Prelude.{IsTrue};
 ghost use Rattle.jsonpath_base.specs.Values.{value_is_whole};
 
+use crate::checked::are_deleted_of_whole;
 use crate::doc::Doc;
 use crate::doc::document::{Document, are_equal};
-use crate::whole::are_deleted_of_whole;
 use jsonpath_rust::query::queryable::{Deletable, Queryable};
 use jsonpath_rust::query::{Queried, QueryPath, QueryRef, delete_within, js_path_path};
 use rows_common::Memory;

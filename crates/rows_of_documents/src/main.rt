@@ -3,6 +3,7 @@
 #![tactic(auto)]
 
 mod agreement;
+mod checked;
 mod custom;
 mod deletion;
 mod doc;
@@ -17,7 +18,6 @@ mod row;
 mod runs;
 mod states;
 mod suite;
-mod whole;
 
 use rows_common::members::{list_at, string_at};
 use rows_common::{Memory, ask_rows};

@@ -1,7 +1,7 @@
 //! Rows on reading and writing by a path: `reference` with `values`; `replace` with `new`, `replaced` and `left`.
+use crate::checked::{is_put_in_whole, refers_in_whole};
 use crate::doc::Doc;
 use crate::doc::document::{Document, are_equal};
-use crate::whole::{is_put_in_whole, refers_in_whole};
 use jsonpath_rust::query::queryable::Queryable;
 use jsonpath_rust::query::{QueryRef, replace_by_path};
 use rows_common::Memory;

@@ -1,5 +1,5 @@
 //! One row: what it asks is told by its members. One with another member, or without one that it needs, does not hold.
-use crate::{custom, deletion, location, node, query, reference, refused, runs, states, whole};
+use crate::{checked, custom, deletion, location, node, query, reference, refused, runs, states};
 use rows_common::Memory;
 use serde_json::Value;
 
@@ -14,7 +14,7 @@ pub fn holds(memory: &Memory, row: &Value) -> bool {
     } else if row.get("location").is_some() || row.get("referred").is_some() {
         location::holds(memory, row)
     } else if row.get("read").is_some() {
-        whole::holds(memory, row)
+        checked::holds(memory, row)
     } else if row.get("enough").is_some() {
         runs::holds(memory, row)
     } else if row.get("process").is_some() || row.get("states").is_some() {

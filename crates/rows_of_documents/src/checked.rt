@@ -194,11 +194,7 @@ fn is_put_at_steps(memory: &Memory, writing: Writing<'_>) -> bool {
     let Some(mut whole) = whole_copy(memory, writing.document) else {
         return false;
     };
-    let found = match memory.ok(referred_location(
-        memory.alloc,
-        whole.get(),
-        writing.path,
-    )) {
+    let found = match memory.ok(referred_location(memory.alloc, whole.get(), writing.path)) {
         Some(Some(steps)) => match whole_copy(memory, writing.new) {
             Some(new) => Some(whole.put_at(&steps, new)),
             None => None,
