@@ -6,9 +6,10 @@
 
 Each row of the first table is a query with its document, in several sizes: the least of three runs of `jpath values`, in
 processor seconds, a slash between the sizes. Its like, which looks at the current node where the query looks at the
-root, comes behind. So do runs of `jpath delete`, with a short name in the like. The second table has the least stack of `jpath nodes`, in KB, to within 64. The third has, for several
-sizes of query or document, the least units that are enough for `js_path_limited`, and nanoseconds a unit: the least of three
-runs with one unit less, and less the time of a run with none.
+root, comes behind; so do runs of `jpath delete`, with a short name in the like. The second table has the least stack of
+`jpath nodes`, in KB, to within 64. The third has, for several sizes of query or document, the least units that are enough
+for `js_path_limited`, and nanoseconds a unit: the least of three runs with one unit less, and less the time of a run with
+none.
 """
 
 import json
