@@ -20,6 +20,7 @@ pub use Rattle.jsonpath_parser.specs.tree.Syntax
 pub use Rattle.jsonpath_parser.specs.tree.Steps
 pub use Rattle.jsonpath_parser.specs.tree.View
 pub use Rattle.jsonpath_parser.specs.tree.Typing
+pub use Rattle.jsonpath_parser.specs.tree.Reach
 pub use Rattle.jsonpath_parser.specs.tree.Making
 pub use Rattle.jsonpath_parser.specs.tree.Shown
 pub use Rattle.jsonpath_parser.specs.declared.tree.model.JpQuery

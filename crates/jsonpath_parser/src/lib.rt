@@ -22,5 +22,7 @@ pub use crate::error_equality::equal_errors_hold_the_same;
 pub use crate::errors::Parsed;
 pub use crate::one_tree::{no_text_derives_two_trees, no_text_spells_two_trees};
 pub use crate::parse::{MAX_NESTING_DEPTH, parse_json_path, parse_json_path_within};
-pub use crate::tree::{equal_parts_are_one_tree, is_typed, let_go, model};
+pub use crate::tree::{
+    calls_only, equal_parts_are_one_tree, is_local, is_singular, is_typed, let_go, model,
+};
 pub use crate::words::depth::nests_deeper;

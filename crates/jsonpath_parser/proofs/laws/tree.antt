@@ -1,5 +1,6 @@
 pub mod Calls
 pub mod Joined
+pub mod Reached
 pub mod TreeEquality
 pub mod Typed
 pub mod ViewEquations

@@ -27,7 +27,7 @@ fn are_steps(segments: &[Segment]) -> bool
 
 /// Whether each segment is one name or one index (2.3.5.1).
 #[tactic(auto, using(crate::proofs::laws::tree::Calls::is_singular_all))]
-fn is_singular(segments: &[Segment]) -> bool
+pub(crate) fn is_singular(segments: &[Segment]) -> bool
     ensures { result ≡ typing.is_singular (segments_of (map segment_view segments.now)) }
 {
     are_steps(segments)
