@@ -25,6 +25,11 @@ pub mod InOrder
 pub mod Removing
 pub mod Removed
 pub mod WithoutLaws
+pub mod RemainingLaws
+pub mod OrderedMarks
+pub mod Filling
+pub mod Filled
+pub mod OverwrittenLaws
 pub mod Loans
 pub mod LoanTies
 pub mod LoanWords

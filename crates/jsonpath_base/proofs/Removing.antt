@@ -239,10 +239,10 @@ drops_as marks start i now new gone next g n e f h d = subst (λ xs. DropsSoFar 
 abbrev pub is_entry : List ℕ → String Global → Bool
 is_entry k = is_at (λ l. slice_cmp nat_cmp k (string_bytes l))
 
-same_name : (k : List ℕ) (l : String Global) → is_entry k l ≡ true → k ≡ string_bytes l
+pub same_name : (k : List ℕ) (l : String Global) → is_entry k l ≡ true → k ≡ string_bytes l
 same_name k l h = (bytes_eq-Decides k (string_bytes l)).0 (sym (is_eq-slice_cmp k (string_bytes l)) ∙ h)
 
-other_name : (k : List ℕ) (l : String Global) → is_entry k l ≡ false → bytes_eq (string_bytes l) k ≡ false
+pub other_name : (k : List ℕ) (l : String Global) → is_entry k l ≡ false → bytes_eq (string_bytes l) k ≡ false
 other_name k l h = pick (bytes_eq (string_bytes l) k) refl
   where
     pick : (b : Bool) → bytes_eq (string_bytes l) k ≡ b → b ≡ false
@@ -269,7 +269,7 @@ pub absent_thinned : (k : String Global) (m : Marks) (es : List (String Global �
     → members_thinned (marked_below to_member ((k, m) ∷ es)) (members_view ms) ≡ members_thinned (marked_below to_member es) (members_view ms)
 absent_thinned k m es ms h = others_thinned k m es ms (none_passes_from_lookup (is_entry (string_bytes k)) ms h)
 
-none_after : (k : List ℕ) (e : Entry) (ms : List Entry) → is_entry k e.0 ≡ true → AllByRecursion (λ l. string_cmp e.0 l ≡ Less) (keys_of ms) → NonePasses (is_entry k) ms
+pub none_after : (k : List ℕ) (e : Entry) (ms : List Entry) → is_entry k e.0 ≡ true → AllByRecursion (λ l. string_cmp e.0 l ≡ Less) (keys_of ms) → NonePasses (is_entry k) ms
 none_after k e [] same h = tt
 none_after k e (f ∷ ms) same h = (ap (λ x. is_eq (slice_cmp nat_cmp x (string_bytes f.0))) (same_name k e.0 same) ∙ ap is_eq h.0, none_after k e ms same h.1)
 

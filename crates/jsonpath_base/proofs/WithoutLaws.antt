@@ -5,7 +5,7 @@ use Rattle.jsonpath_base.specs.Without.{thinned, elements_thinned, members_thinn
 use Rattle.jsonpath_base.proofs.Removed.{without_alike}
 
 mutual
-  thinned_none : (t : Tree) → thinned (λ l. false) t ≡ t
+  pub thinned_none : (t : Tree) → thinned (λ l. false) t ≡ t
   thinned_none null = refl
   thinned_none (truth b) = refl
   thinned_none (number n) = refl

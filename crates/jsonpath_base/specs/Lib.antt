@@ -6,6 +6,8 @@ pub mod Added
 pub mod Pointer
 pub mod Lending
 pub mod Without
+pub mod Remaining
+pub mod Overwritten
 pub mod RemovalViews
 pub mod Values
 pub mod Pattern

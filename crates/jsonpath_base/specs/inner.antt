@@ -3,6 +3,7 @@ pub mod PatternParts
 pub mod Picked
 pub mod Marks
 pub mod Thinning
+pub mod Masking
 pub mod Lent
 pub mod Way
 pub mod Adding

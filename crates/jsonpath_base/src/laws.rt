@@ -1,8 +1,10 @@
-//! Laws of what is written and added and of what is the same. Each function states laws and does nothing.
+//! Laws of what is written, added, replaced and removed and of what is the same. Each function states laws and does nothing.
 ghost use Rattle.jsonpath_parser.specs.Equality.{IsEqualityOf};
 ghost use Rattle.jsonpath_base.specs.Added.{AddedIndexMovesLater, AddedIsThere, AddedLeavesTheRest, AddedNameLeavesSiblings};
+ghost use Rattle.jsonpath_base.specs.Overwritten.{OverwrittenAtOneIsPut, OverwrittenForgets, OverwrittenIsSeen, OverwrittenLeavesTheRest};
 ghost use Rattle.jsonpath_base.specs.Pointer.{PointerFindsItsPlace};
 ghost use Rattle.jsonpath_base.specs.Put.{PutIsSeenAbove, PutIsThere, PutLeavesTheRest};
+ghost use Rattle.jsonpath_base.specs.Remaining.{RemovedMemberIsGone, WithoutIsSeen, WithoutLeavesTheRest};
 ghost use Rattle.jsonpath_base.specs.Same.{SameIsAnEquivalence};
 ghost use Rattle.jsonpath_base.specs.Steps.{owned_step};
 ghost use Rattle.jsonpath_base.specs.contracts.step.StepPartialEq.TheImpl as step;
@@ -30,6 +32,35 @@ pub fn added_leaves_the_rest()
     ensures names { AddedNameLeavesSiblings }
     ensures elements { AddedIndexMovesLater }
     ensures rest { AddedLeavesTheRest }
+{}
+
+/// A replacement at one location is a write there, on trees with distinct names, such as those of whole values.
+pub fn overwritten_at_one_is_put()
+    ensures { OverwrittenAtOneIsPut }
+{}
+
+/// After a replacement stands at a location that no replaced one lies above: what was there, with what is replaced there and
+/// inside. So what lies neither inside a replaced one nor above one is as it was.
+pub fn overwritten_is_seen()
+    ensures seen { OverwrittenIsSeen }
+    ensures rest { OverwrittenLeavesTheRest }
+{}
+
+/// A replacement forgets what it replaces: two documents that differ there alone become the same one.
+pub fn overwritten_forgets()
+    ensures { OverwrittenForgets }
+{}
+
+/// A location stays in its place where nothing is removed at it or above it, and no element before one that it goes through. Such
+/// a one holds after a removal what it held, without what was removed inside: as it was, where that is nothing.
+pub fn removal_leaves_the_rest()
+    ensures seen { WithoutIsSeen }
+    ensures rest { WithoutLeavesTheRest }
+{}
+
+/// Nothing is where a member was removed, if what held it stays in its place.
+pub fn removed_member_is_gone()
+    ensures { RemovedMemberIsGone }
 {}
 
 /// On trees with distinct names, such as those of whole values, being the same is an equivalence.

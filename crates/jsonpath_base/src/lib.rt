@@ -1,6 +1,6 @@
 //! What evaluation stands on: the steps of Normalized Paths and the way to a value, slices, texts, the patterns of `match` and
-//! `search`, and values of `serde_json` as documents, compared with one another and in sets, read, written and removed at
-//! locations.
+//! `search`, and values of `serde_json` as documents, compared with one another and in sets, read, written, replaced
+//! and removed at locations.
 #![tactic(auto)]
 
 mod adding;
@@ -10,6 +10,7 @@ pub mod laws;
 mod lending;
 mod location;
 mod marks;
+mod masking;
 mod ordering;
 mod pattern;
 mod place;
@@ -29,7 +30,7 @@ pub use location::{begins, path_of};
 pub use pattern::{Extent, Finder, Pattern, found};
 pub use place::{at, put_at, take_at};
 pub use pointer::{location_by_pointer, pointer_of};
-pub use removal::{OrderedRemoval, Removal, remove_all};
+pub use removal::{OrderedRemoval, Removal, remove_all, replace_all};
 pub use set_functions::set_function;
 pub use slice::{SlicePlaces, picked, slice_places};
 pub use step::{Step, StepRef, add_index, add_name};

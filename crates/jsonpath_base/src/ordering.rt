@@ -64,7 +64,7 @@ fn ones(here: bool) -> usize
 }
 
 /// The sum. No memory holds so many marks that it is refused.
-fn sum(left: usize, right: usize) -> Result<usize, AllocError>
+pub fn sum(left: usize, right: usize) -> Result<usize, AllocError>
     ensures { IfOk result (λ n. n ≡ left + right) }
 {
     match left.checked_add(right) {

@@ -1,4 +1,4 @@
-//! Removal of locations from a value, all at once.
+//! Removal of locations from a value, and replacement at them, all at once.
 ghost use Rattle.std.specs.Prelude.{◌≡◌, ◌<◌, ◌≤◌, ◌-◌, ◌++◌, take, drop, length, map, false, IfOk, IfErr, OnOk, OnErr, IsTrue, string_cmp};
 ghost use Rattle.std.specs.Vec.{vec_len};
 ghost use Rattle.serde_json.specs.View.{view, items_view, members_view};
@@ -7,11 +7,13 @@ ghost use Rattle.jsonpath_parser.specs.Location as location;
 ghost use Rattle.jsonpath_parser.specs.Location.{Location};
 ghost use Rattle.jsonpath_base.specs.Steps.{location_view, lent_location};
 ghost use Rattle.jsonpath_base.specs.Values.{value_tree, value_is_whole};
+ghost use Rattle.jsonpath_base.specs.Overwritten.{overwritten};
 ghost use Rattle.jsonpath_base.specs.Without.{without, is_among, distinct_count, counted_with, HasAlso};
 ghost use Rattle.jsonpath_base.specs.inner.Marks.{to_member, marked, marked_below, in_order, level_in_order};
 ghost use Rattle.jsonpath_base.specs.inner.Thinning.{data_thinned, items_thinned, members_thinned, sieved, IsThinnedAt, IsThinnedBy};
 
 use crate::marks::{Marks, mark};
+use crate::masking::{copies_for, fill};
 use crate::ordering::put_in_order;
 use crate::step::{Step, StepRef};
 use jsonpath_parser::errors::{JsonPathError, Parsed};
@@ -19,7 +21,7 @@ use serde_json::{Map, Value};
 use std::alloc::Global;
 use std::mem;
 
-/// Locations to be removed from a value. Of those that come one after the other each step that they begin with is held once.
+/// Locations to be removed from a value, or replaced in it. Of those that come one after the other each step that they begin with is held once.
 #[derive(Drop)]
 pub struct Removal {
     marks: Marks,
@@ -65,7 +67,7 @@ impl Removal {
     }
 }
 
-/// Locations to be removed from a value, in order, and how many distinct ones they are.
+/// Locations to be removed from a value, or replaced in it, in order, and how many distinct ones they are.
 #[derive(Drop)]
 pub struct OrderedRemoval {
     marks: Marks,
@@ -75,6 +77,20 @@ pub struct OrderedRemoval {
 
 impl OrderedRemoval {
     ghost use Rattle.jsonpath_base.specs.RemovalViews.{ordered_set, ordered_count};
+
+    /// These locations. It refuses by `OutOfMemory` alone.
+    fn at_places(alloc: Global, places: &[Vec<Step>]) -> Parsed<Self>
+        ensures set { IfOk result (λ r. ordered_set r ≡ is_among (map (λ p. location_view p.items) places.now)) }
+        ensures count { IfOk result (λ r. ordered_count r ≡ distinct_count (map (λ p. location_view p.items) places.now)) }
+        ensures memory { IfErr result (λ e. e ≡ JsonPathError.OutOfMemory) }
+    {
+        let mut removal = Removal::new(alloc);
+        for place in places {
+            let steps = lent_steps(alloc, place)?;
+            removal.add(alloc, &steps, 0)?;
+        }
+        removal.ordered(alloc)
+    }
 
     /// How many distinct locations there are.
     pub fn count(&self) -> usize
@@ -95,6 +111,20 @@ impl OrderedRemoval {
         }
         thin(value, &self.marks);
     }
+
+    /// Puts a copy of `new` at each of the locations, all at once; of those that lie inside one another the outermost is
+    /// replaced, and one where nothing is changes nothing. It refuses by `OutOfMemory` alone, and then the value is as it was:
+    /// all copies are made first, one for each location that lies inside no other.
+    pub fn replace_in(&self, alloc: Global, value: &mut Value, new: &Value) -> Parsed<()>
+        ensures replaced { OnOk result (value_tree value.new ≡ overwritten (ordered_set self.now) (value_tree new.now) (value_tree value.old)) }
+        ensures whole { IsTrue (value_is_whole value.old) → IsTrue (value_is_whole new.now) → IsTrue (value_is_whole value.new) }
+        ensures kept { OnErr result (value.new ≡ value.old) }
+        ensures memory { IfErr result (λ e. e ≡ JsonPathError.OutOfMemory) }
+    {
+        let mut copies = copies_for(alloc, &self.marks, new)?;
+        fill(value, &self.marks, &mut copies);
+        Ok(())
+    }
 }
 
 /// Removes the values at these locations, all at once and each by its original place, and returns how many distinct
@@ -110,13 +140,31 @@ pub fn remove_all(alloc: Global, value: &mut Value, places: &[Vec<Step>]) -> Par
     ensures kept { OnErr result (value.new ≡ value.old) }
     ensures memory { IfErr result (λ e. e ≡ JsonPathError.OutOfMemory) }
 {
-    let mut removal = Removal::new(alloc);
-    for place in places {
-        let steps = lent_steps(alloc, place)?;
-        removal.add(alloc, &steps, 0)?;
-    }
-    let removal = removal.ordered(alloc)?;
+    let removal = OrderedRemoval::at_places(alloc, places)?;
     removal.remove_from(value);
+    Ok(removal.count)
+}
+
+/// Puts a copy of `new` at each of these locations, all at once, and returns how many distinct locations there are. Of those that
+/// lie inside one another the outermost is replaced, and the others count; one where nothing is counts, and changes nothing.
+///
+/// It refuses by `OutOfMemory` alone, and then the value is as it was: all locations are marked, and all copies made, before
+/// anything is replaced. Time n log n in the steps of the locations, and the size of `new` for each location that lies inside
+/// no other; the copies stand in memory until then.
+pub fn replace_all(
+    alloc: Global,
+    value: &mut Value,
+    places: &[Vec<Step>],
+    new: &Value,
+) -> Parsed<usize>
+    ensures replaced { OnOk result (value_tree value.new ≡ overwritten (is_among (map (λ p. location_view p.items) places.now)) (value_tree new.now) (value_tree value.old)) }
+    ensures count { IfOk result (λ n. n ≡ distinct_count (map (λ p. location_view p.items) places.now)) }
+    ensures whole { IsTrue (value_is_whole value.old) → IsTrue (value_is_whole new.now) → IsTrue (value_is_whole value.new) }
+    ensures kept { OnErr result (value.new ≡ value.old) }
+    ensures memory { IfErr result (λ e. e ≡ JsonPathError.OutOfMemory) }
+{
+    let removal = OrderedRemoval::at_places(alloc, places)?;
+    removal.replace_in(alloc, value, new)?;
     Ok(removal.count)
 }
 

@@ -1,25 +1,18 @@
-use Rattle.std.proofs.Common.{◌≡◌, ◌<◌, ◌+◌, length, drop, true, true≢false, ◌∷◌, BTreeMap, String, Global, string_bytes, string_cmp, nat_cmp, refl, sym, ap, ◌∙◌, arith}
-use Rattle.std.proofs.lemmas.Bool.{and_parts}
+use Rattle.std.proofs.Common.{◌<◌, ◌+◌, length, drop, true≢false, ◌∷◌, BTreeMap, String, Global, string_bytes, string_cmp, nat_cmp, refl, sym, ap, ◌∙◌, arith}
 use Rattle.std.proofs.lemmas.List.{drop_all}
 use Rattle.std.specs.Map.{lookup, set_value, remove_entry}
 use Rattle.serde_json.specs.declared.value.Value.{Value}
 use Rattle.serde_json.specs.View.{view, items_view, members_view}
 use Rattle.serde_json.proofs.Views.{view-Array, view-Object}
 use Rattle.jsonpath_parser.specs.Location.{name, index}
-use Rattle.jsonpath_base.specs.inner.Marks.{to_member, marked, marked_below, marks_total, in_order, level_in_order}
+use Rattle.jsonpath_base.specs.inner.Marks.{to_member, marked, marked_below, marks_total, level_in_order}
 use Rattle.jsonpath_base.specs.inner.Thinning.{thinned_below, members_thinned}
-use Rattle.jsonpath_base.specs.declared.marks.Marks.{Marks}
 use Rattle.jsonpath_base.specs.declared.marks.Marks.TheViews.{out-Marks}
 use Rattle.jsonpath_base.proofs.Marking.{count_out, marked_here, marked_member, marked_element, name_test, index_test, are_keys}
-use Rattle.jsonpath_base.proofs.InOrder.{order_out, level_sorted, turn}
+use Rattle.jsonpath_base.proofs.InOrder.{level_sorted, turn}
+use Rattle.jsonpath_base.proofs.OrderedMarks.{names_in_order, indexes_in_order}
 use Rattle.jsonpath_base.proofs.Removing.{array_thinned, object_thinned, write_below, beyond_below, here_below, items_end, absent_thinned, removed_thinned, written_thinned, members_end, is_entry}
 use Rattle.jsonpath_base.proofs.removal.+thin.Goals as goal
-
-names_in_order : (m : Marks) → in_order m ≡ true → level_in_order string_cmp (out-Marks m).names.items ≡ true
-names_in_order m h = (and_parts (level_in_order string_cmp (out-Marks m).names.items) (level_in_order nat_cmp (out-Marks m).indexes.items) (sym (order_out m) ∙ h)).0
-
-indexes_in_order : (m : Marks) → in_order m ≡ true → level_in_order nat_cmp (out-Marks m).indexes.items ≡ true
-indexes_in_order m h = (and_parts (level_in_order string_cmp (out-Marks m).names.items) (level_in_order nat_cmp (out-Marks m).indexes.items) (sym (order_out m) ∙ h)).1
 
 pub thin-thin_items-requires : goal.thin-thin_items-requires
 thin-thin_items-requires t c =

@@ -2,7 +2,7 @@ use Rattle.std.proofs.Common.{◌≡◌, drop, map}
 use Rattle.jsonpath_base.specs.Steps.{location_view}
 use Rattle.jsonpath_base.specs.Without.{is_among, distinct_count}
 use Rattle.jsonpath_base.specs.inner.Marks.{listed, marked, set_with}
-use Rattle.jsonpath_base.proofs.removal.remove_all.Given as goal
+use Rattle.jsonpath_base.proofs.removal.OrderedRemoval.at_places.Given as goal
 
 -- with the places that are left, the removal is of all
 abbrev pub invariant-loop-place : goal.invariant-loop-place

@@ -1,0 +1,24 @@
+-- What is seen of a tree without a set of locations.
+use Rattle.std.specs.Prelude.{◌≡◌, ◌<◌, ℕ, List, [], ◌∷◌, ◌++◌, Bool, false, IsTrue, None, option_map}
+use Rattle.jsonpath_parser.specs.Location.{name, index, Location}
+use Rattle.jsonpath_base.specs.Places.{at}
+use Rattle.jsonpath_base.specs.Tree.{Tree}
+use Rattle.jsonpath_base.specs.Without.{without}
+
+-- No location of the set is this one or lies above it, and no element of the set stands before one that it goes through.
+abbrev pub StaysInPlace : (Location → Bool) → Location → Type 0
+StaysInPlace gone [] = gone [] ≡ false
+StaysInPlace gone (name k ∷ l) = (gone [] ≡ false) × StaysInPlace (λ m. gone (name k ∷ m)) l
+StaysInPlace gone (index i ∷ l) = (gone [] ≡ false) × ((j : ℕ) → j < i → gone (index j ∷ []) ≡ false) × StaysInPlace (λ m. gone (index i ∷ m)) l
+
+-- What stays in its place is there, without what of the set lies inside it.
+abbrev pub WithoutIsSeen : Type 0
+WithoutIsSeen = (gone : Location → Bool) (l : Location) (t : Tree) → StaysInPlace gone l → at l (without gone t) ≡ option_map (without (λ m. gone (l ++ m))) (at l t)
+
+-- Nothing is where a member was removed from what stays in its place.
+abbrev pub RemovedMemberIsGone : Type 0
+RemovedMemberIsGone = (gone : Location → Bool) (l : Location) (k : List ℕ) (t : Tree) → StaysInPlace gone l → IsTrue (gone (l ++ name k ∷ [])) → at (l ++ name k ∷ []) (without gone t) ≡ None
+
+-- What stays in its place, with nothing of the set inside it, is as it was.
+abbrev pub WithoutLeavesTheRest : Type 0
+WithoutLeavesTheRest = (gone : Location → Bool) (l : Location) (t : Tree) → StaysInPlace gone l → ((m : Location) → gone (l ++ m) ≡ false) → at l (without gone t) ≡ at l t
