@@ -1,4 +1,6 @@
 pub mod laws
 pub mod Deleting
+pub mod ByText
 pub mod First
 pub mod NormalPaths
+pub mod Withins

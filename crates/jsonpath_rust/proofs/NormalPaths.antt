@@ -1,5 +1,5 @@
 -- A Normalized Path selects the node at its location.
-use Rattle.std.proofs.Common.{◌≡◌, ℕ, List, [], ◌∷◌, map, Option, Some, None, option_to_list, Result, Ok, Err, IfOk, IfErr, IfSome, MatchResult, option_map, refl, sym, ap, ◌∙◌, subst}
+use Rattle.std.proofs.Common.{◌≡◌, ℕ, List, [], ◌∷◌, map, Option, Some, None, option_to_list, Result, Ok, Err, IfOk, IfErr, MatchResult, option_map, refl, sym, ap, ◌∙◌, subst}
 use Rattle.std.specs.List.{AllZip}
 use Rattle.jsonpath_parser.specs.Location.{name, index, Location}
 use Rattle.jsonpath_parser.specs.Normal.{IsNormal, normal}
@@ -18,7 +18,7 @@ use Rattle.jsonpath_rust.proofs.laws.documents.NormalSteps.{selected-steps}
 use Rattle.jsonpath_rust.proofs.laws.selection.HaltingLaws.{stop_is_memory}
 
 -- what is shown of the nodes of a location's query is the node there
-only_node : (l : Location) (doc : Document) (q : Query) (path : List ℕ) (answer : List (List ℕ × Tree)) → IsNormal l path → q ≡ steps_query l → AllZip (IsNodeAt doc) (selected q doc) answer → answer ≡ node_there doc l path
+pub only_node : (l : Location) (doc : Document) (q : Query) (path : List ℕ) (answer : List (List ℕ × Tree)) → IsNormal l path → q ≡ steps_query l → AllZip (IsNodeAt doc) (selected q doc) answer → answer ≡ node_there doc l path
 only_node l doc q path answer is same all =
     by_value (at l doc.root) refl answer (subst (λ ls. AllZip (IsNodeAt doc) ls answer) (ap (λ v. selected v doc) same ∙ selected-steps l doc) all)
   where
@@ -34,7 +34,7 @@ only_node l doc q path answer is same all =
     by_value (Some t) e (a ∷ b ∷ more) h = absurd h.1
 
 -- no pattern stands in it
-steps_patterns : (l : Location) → segments_patterns (steps_query l) ≡ []
+pub steps_patterns : (l : Location) → segments_patterns (steps_query l) ≡ []
 steps_patterns [] = refl
 steps_patterns (name k ∷ ss) = steps_patterns ss
 steps_patterns (index i ∷ ss) = steps_patterns ss
@@ -44,13 +44,6 @@ pub normal_answered : {X : Type 0} (show : X → List (List ℕ × Tree)) (l : L
     → IfOk r (λ v. AllZip (IsNodeAt doc) (selected q doc) (show v)) → IfErr r (IsStop q doc) → MatchResult r (λ v. show v ≡ node_there doc l path) (λ e. e ≡ OutOfMemory)
 normal_answered show l doc q path (Ok v) is same nodes refused = only_node l doc q path (show v) is same nodes
 normal_answered show l doc q path (Err e) is same nodes refused = stop_is_memory q doc e (ap segments_patterns same ∙ steps_patterns l) refused
-
--- the same, of a call with a limit
-pub normal_limited : {X : Type 0} (show : X → List (List ℕ × Tree)) (l : Location) (doc : Document) (q : Query) (path : List ℕ) (r : Result (Option X) JsonPathError) → IsNormal l path → q ≡ steps_query l
-    → IfOk r (λ o. IfSome o (λ v. AllZip (IsNodeAt doc) (selected q doc) (show v))) → IfErr r (IsStop q doc) → MatchResult r (λ o. IfSome o (λ v. show v ≡ node_there doc l path)) (λ e. e ≡ OutOfMemory)
-normal_limited show l doc q path (Ok None) is same nodes refused = tt
-normal_limited show l doc q path (Ok (Some v)) is same nodes refused = only_node l doc q path (show v) is same nodes
-normal_limited show l doc q path (Err e) is same nodes refused = stop_is_memory q doc e (ap segments_patterns same ∙ steps_patterns l) refused
 
 -- the first node of such a query is the one there
 only_first : (l : Location) (doc : Document) (q : Query) (path : List ℕ) (answer : Option (List ℕ × Tree)) → IsNormal l path → q ≡ steps_query l → IsFirst q doc answer → answer ≡ option_map (λ t. (path, t)) (at l doc.root)

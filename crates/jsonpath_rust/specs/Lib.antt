@@ -3,6 +3,8 @@ pub mod documents
 pub mod selection
 pub mod states
 pub mod Deleting
+pub mod ByText
+pub mod Replacing
 pub mod First
 pub mod Reading
 pub mod Defaults
@@ -17,7 +19,10 @@ pub use Rattle.jsonpath_rust.specs.documents.Patterns
 pub use Rattle.jsonpath_rust.specs.documents.Referring
 pub use Rattle.jsonpath_rust.specs.documents.Lending
 pub use Rattle.jsonpath_rust.specs.documents.Locating
+pub use Rattle.jsonpath_rust.specs.selection.Only
 pub use Rattle.jsonpath_rust.specs.selection.Prepared
+pub use Rattle.jsonpath_rust.specs.selection.Within
+pub use Rattle.jsonpath_rust.specs.selection.Condition
 pub use Rattle.jsonpath_rust.specs.states.State
 pub use Rattle.jsonpath_rust.specs.states.Process
 pub use Rattle.jsonpath_rust.specs.states.Asking
@@ -35,6 +40,7 @@ pub use Rattle.jsonpath_parser.specs.Depth
 pub use Rattle.jsonpath_parser.specs.tree.Syntax
 pub use Rattle.jsonpath_parser.specs.tree.View
 pub use Rattle.jsonpath_parser.specs.tree.Typing
+pub use Rattle.jsonpath_parser.specs.tree.Reach
 pub use Rattle.jsonpath_parser.specs.tree.Making
 pub use Rattle.jsonpath_parser.specs.tree.Shown
 pub use Rattle.jsonpath_parser.specs.declared.tree.model.JpQuery
@@ -49,6 +55,8 @@ pub use Rattle.jsonpath_base.specs.Put
 pub use Rattle.jsonpath_base.specs.Added
 pub use Rattle.jsonpath_base.specs.Pointer
 pub use Rattle.jsonpath_base.specs.Without
+pub use Rattle.jsonpath_base.specs.Overwritten
+pub use Rattle.jsonpath_base.specs.Remaining
 pub use Rattle.jsonpath_base.specs.Pattern
 pub use Rattle.jsonpath_base.specs.PatternViews
 pub use Rattle.jsonpath_base.specs.Same

@@ -1,5 +1,5 @@
 //! Queries on a document.
-ghost use Rattle.std.specs.Prelude.{◌≡◌, ◌≤◌, map, All, IsTrue, IsFalse, IfOk, IfErr, IfSome, MatchResult};
+ghost use Rattle.std.specs.Prelude.{◌≡◌, ◌≤◌, map, All, IsTrue, IsFalse, IfOk, IfErr, MatchResult};
 ghost use Rattle.std.specs.List.{AllZip};
 ghost use Rattle.jsonpath_parser.specs.Derives.{Derives};
 ghost use Rattle.jsonpath_parser.specs.Location.{Location};
@@ -15,17 +15,22 @@ ghost use Rattle.jsonpath_rust.specs.states.Asking.{IsProcessStop};
 ghost use Rattle.jsonpath_rust.specs.documents.Patterns.{segments_patterns, IsStop, IsQueryRefusal};
 ghost use Rattle.jsonpath_rust.specs.states.State.{root_content};
 ghost use Rattle.jsonpath_rust.specs.documents.Answer.{IsNodeAt, IsPathAt, IsValueAt, Lists, shown, paths_of, node_there};
+ghost use Rattle.jsonpath_rust.specs.selection.Within.{IfDone};
 ghost use Rattle.jsonpath_rust.specs.states.Processed.{processed};
 
+mod count;
 mod deletion;
 mod first;
 mod location;
+mod masking;
+mod only;
 pub mod queryable;
 
 use crate::documents::queryable::Queryable;
 pub use crate::documents::{
     Queried, QueryPath, QueryRef, not_a_reference, referred_location, replace_by_path,
 };
+pub use crate::query::count::js_path_count;
 pub use crate::query::deletion::{
     delete_selected, delete_within, nothing_selected_deletes_nothing,
 };
@@ -34,18 +39,23 @@ pub use crate::query::location::{
     location_by_path, location_of, normalized_path_derives_its_steps, selected_is_there,
     steps_select_their_location,
 };
+pub use crate::query::masking::{replace_selected, replace_within};
+pub use crate::query::only::js_path_only;
 pub use crate::selection::{
-    Prepared, Runner, selected_locations, selected_nodes, selected_paths, selected_values,
+    Condition, ConditionRunner, Limited, Only, Prepared, Runner, Within, selected_count,
+    selected_first, selected_locations, selected_nodes, selected_only, selected_paths,
+    selected_values,
 };
 pub use crate::states::{Query, apply, selector, state};
 use crate::states::{processed_nodes, processed_values};
 pub use jsonpath_base::laws::{
-    added_is_there, added_leaves_the_rest, equal_steps_are_one_step, pointer_finds_its_place,
-    put_is_there, put_leaves_the_rest, same_is_an_equivalence,
+    added_is_there, added_leaves_the_rest, equal_steps_are_one_step, overwritten_at_one_is_put,
+    overwritten_forgets, overwritten_is_seen, pointer_finds_its_place, put_is_there,
+    put_leaves_the_rest, removal_leaves_the_rest, removed_member_is_gone, same_is_an_equivalence,
 };
 pub use jsonpath_base::{
     Step, add_at, at, at_mut, begins, location_by_pointer, path_of, pointer_of, put_at, remove_all,
-    take_at,
+    replace_all, take_at,
 };
 use jsonpath_parser::model::JpQuery;
 use jsonpath_parser::{
@@ -117,8 +127,8 @@ pub fn js_path_within<'a, T: Queryable>(
     nodes
 }
 
-/// The nodes that a query text selects in a document, as [`js_path`], or None where so many units of work are not enough: for
-/// queries of strangers. What a unit is spent for stands at [`Runner`].
+/// The nodes that a query text selects in a document, as [`js_path`], or [`Within::Spent`] where so many units of work are not
+/// enough: for queries of strangers. What a unit is spent for stands at [`Limited`].
 ///
 /// # Errors
 ///
@@ -128,25 +138,25 @@ pub fn js_path_limited<'a, T: Queryable>(
     path: &str,
     units: usize,
     value: &'a T,
-) -> Queried<Option<Vec<QueryRef<'a, T>>>>
+) -> Queried<Within<Vec<QueryRef<'a, T>>>>
     requires { IsTrue (T.is_whole value.now) }
-    ensures answered { IfOk result (λ o. IfSome o (λ v. Lists IsNodeAt MAX_NESTING_DEPTH path.now (document_of T.tree T.custom value.now) (shown T.tree v.items))) }
+    ensures answered { IfOk result (λ w. IfDone w (λ v. Lists IsNodeAt MAX_NESTING_DEPTH path.now (document_of T.tree T.custom value.now) (shown T.tree v.items))) }
 
     // Whatever query the text derives, its nodes are answered, unless the work, or memory, ran out or a pattern was refused.
     ensures only { (q : Query) → Derives MAX_NESTING_DEPTH path.now q → MatchResult result
-        (λ o. IfSome o (λ v. AllZip (IsNodeAt (document_of T.tree T.custom value.now)) (selected q (document_of T.tree T.custom value.now)) (shown T.tree v.items)))
+        (λ w. IfDone w (λ v. AllZip (IsNodeAt (document_of T.tree T.custom value.now)) (selected q (document_of T.tree T.custom value.now)) (shown T.tree v.items)))
         (IsStop q (document_of T.tree T.custom value.now)) }
 
     // A Normalized Path is refused by `OutOfMemory` alone. Its node is given, or none where nothing is there, if the work is enough.
     ensures normal { (l : Location) → IsNormal l path.now → HasIndexesInRange l → MatchResult result
-        (λ o. IfSome o (λ v. shown T.tree v.items ≡ node_there (document_of T.tree T.custom value.now) l path.now))
+        (λ w. IfDone w (λ v. shown T.tree v.items ≡ node_there (document_of T.tree T.custom value.now) l path.now))
         (λ e. e ≡ OutOfMemory) }
-    ensures whole { IfOk result (λ o. IfSome o (λ v. All (λ r. IsTrue (T.is_whole r.val.now)) v.items)) }
+    ensures whole { IfOk result (λ w. IfDone w (λ v. All (λ r. IsTrue (T.is_whole r.val.now)) v.items)) }
     ensures refused { IfErr result (IsQueryRefusal MAX_NESTING_DEPTH path.now (document_of T.tree T.custom value.now)) }
 {
     let query = parse_json_path(alloc, path)?;
     let prepared = Prepared::new(alloc, query)?;
-    prepared.runner(alloc).nodes_limited(alloc, units, value)
+    prepared.runner(alloc).limited(units).nodes(alloc, value)
 }
 
 /// The values of the nodes that a query text selects in a document, in order. No path is made.

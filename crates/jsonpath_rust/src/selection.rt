@@ -10,15 +10,19 @@ mod argument;
 mod budget;
 mod cache;
 mod children;
+mod condition;
 mod constants;
 mod cost;
 mod counting;
+mod deciding;
 mod direct;
 mod early;
 mod filter;
 mod function;
 mod give;
+mod limited;
 mod nodelist;
+mod only;
 mod onward;
 mod plan;
 mod planned;
@@ -30,9 +34,15 @@ mod sink;
 mod subquery;
 mod trail;
 mod walk;
+mod within;
 
+pub use crate::selection::condition::{Condition, ConditionRunner};
+pub use crate::selection::limited::Limited;
 pub use crate::selection::nodelist::{
-    selected_locations, selected_nodes, selected_paths, selected_removal, selected_values,
+    selected_count, selected_first, selected_locations, selected_nodes, selected_only,
+    selected_paths, selected_removal, selected_values,
 };
+pub use crate::selection::only::Only;
 pub use crate::selection::prepared::Prepared;
 pub use crate::selection::runner::Runner;
+pub use crate::selection::within::Within;

@@ -1,6 +1,7 @@
 pub mod Along
 pub mod Answers
 pub mod Arguing
+pub mod Conditions
 pub mod Constants
 pub mod CostLaws
 pub mod Counting

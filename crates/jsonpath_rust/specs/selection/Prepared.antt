@@ -7,6 +7,7 @@ use Rattle.jsonpath_base.specs.Tree.{Tree}
 use Rattle.jsonpath_rust.specs.documents.Answer.{IsNodeAt}
 use Rattle.jsonpath_rust.specs.documents.Document.{Document}
 use Rattle.jsonpath_rust.specs.documents.Meaning.{selected}
+use Rattle.jsonpath_rust.specs.declared.selection.limited.Limited.{Limited}
 use Rattle.jsonpath_rust.specs.declared.selection.prepared.Prepared.{Prepared}
 use Rattle.jsonpath_rust.specs.declared.selection.runner.Runner.{Runner}
 
@@ -16,6 +17,9 @@ prepared_view p = query_view p.planned.query
 
 abbrev pub runner_view : Runner → Query
 runner_view r = prepared_view r.prepared.now
+
+abbrev pub limited_view : Limited → Query
+limited_view l = runner_view l.runner
 
 -- what is shown is the node at the first location that the query selects
 pub record IsFirstNode (q : Query) (doc : Document) (shown : List ℕ × Tree) : Type 0 where

@@ -4,6 +4,7 @@ pub mod AtHand
 pub mod Costs
 pub mod Halting
 pub mod Keeping
+pub mod Only
 pub mod Passing
 pub mod PlanMaking
 pub mod PlanViews

@@ -7,13 +7,14 @@ use std::alloc::AllocError;
 mod reading;
 
 /// A value that is whole.
-#[derive(Drop)]
+#[derive(Debug, Drop)]
 pub struct Whole<T: Queryable> {
     pub(crate) value: T,
     ghost whole: { IsTrue (T.is_whole value) },
 }
 
 /// A value that is whole, borrowed: as large as the reference that it is.
+#[derive(Debug)]
 pub struct WholeRef<'a, T: Queryable> {
     pub(crate) value: &'a T,
     ghost whole: { IsTrue (T.is_whole value.now) },

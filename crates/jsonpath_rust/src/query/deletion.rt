@@ -12,10 +12,12 @@ ghost use Rattle.jsonpath_rust.specs.Deleting.{IsDeletion, Deletes, NothingSelec
 ghost use Rattle.jsonpath_rust.specs.documents.Document.{document_of};
 ghost use Rattle.jsonpath_rust.specs.documents.Meaning.{selected};
 ghost use Rattle.jsonpath_rust.specs.documents.Patterns.{IsStop, IsQueryRefusal};
+ghost use Rattle.jsonpath_rust.specs.selection.Prepared.{runner_view, limited_view};
+ghost use Rattle.jsonpath_rust.specs.selection.Within.{IfDone, IfSpent};
 
 use crate::documents::Queried;
 use crate::documents::queryable::Queryable;
-use crate::selection::selected_removal;
+use crate::selection::{Limited, Runner, Within, selected_removal};
 use jsonpath_parser::errors::JsonPathError;
 use jsonpath_parser::model::JpQuery;
 use jsonpath_parser::{MAX_NESTING_DEPTH, let_go, parse_json_path_within};
@@ -114,4 +116,53 @@ pub fn delete_selected(alloc: Global, value: &mut Value, query: &JpQuery) -> Que
     let removal = selected_removal(alloc, query, value)?.ordered(alloc)?;
     removal.remove_from(value);
     Ok(removal.count())
+}
+
+impl<'p> Runner<'p> {
+    /// Removes all locations that the query selects in a document, and returns how many distinct ones there are, as
+    /// [`delete_selected`] does.
+    ///
+    /// # Errors
+    ///
+    /// Those of [`delete_selected`]; after any of them the document is as it was.
+    pub fn delete(&mut self, alloc: Global, value: &mut Value) -> Queried<usize>
+        requires { IsTrue (value_is_whole value.old) }
+        ensures removed { OnOk result (value_tree value.new ≡ without (is_among (selected (runner_view self.old) (document_of value_tree set_function value.old))) (value_tree value.old)) }
+        ensures count { IfOk result (λ n. n ≡ distinct_count (selected (runner_view self.old) (document_of value_tree set_function value.old))) }
+        ensures kept { OnErr result (value.new ≡ value.old) }
+        ensures whole { IsTrue (value_is_whole value.new) }
+        ensures same { runner_view self.new ≡ runner_view self.old }
+        ensures refused { IfErr result (IsStop (runner_view self.old) (document_of value_tree set_function value.old)) }
+    {
+        let ordered = self.removal(alloc, value)?.ordered(alloc)?;
+        ordered.remove_from(value);
+        Ok(ordered.count())
+    }
+}
+
+impl<'p> Limited<'p> {
+    /// The same as [`Runner::delete`]. Where the units are not enough, the document is as it was.
+    ///
+    /// # Errors
+    ///
+    /// Those of [`delete_selected`]; after any of them the document is as it was.
+    pub fn delete(&mut self, alloc: Global, value: &mut Value) -> Queried<Within<usize>>
+        requires { IsTrue (value_is_whole value.old) }
+        ensures deleted { IfOk result (λ w. IfDone w (λ n. IsDeletion (limited_view self.old) (document_of value_tree set_function value.old) (value_tree value.new) n)) }
+        ensures spent { IfOk result (λ w. IfSpent w (value.new ≡ value.old)) }
+        ensures kept { OnErr result (value.new ≡ value.old) }
+        ensures whole { IsTrue (value_is_whole value.new) }
+        ensures same { limited_view self.new ≡ limited_view self.old }
+        ensures refused { IfErr result (IsStop (limited_view self.old) (document_of value_tree set_function value.old)) }
+    {
+        let within = self.removal(alloc, value)?;
+        match within {
+            Within::Done(removal) => {
+                let marked = removal.ordered(alloc)?;
+                marked.remove_from(value);
+                Ok(Within::Done(marked.count()))
+            }
+            Within::Spent => Ok(Within::Spent),
+        }
+    }
 }

@@ -1,5 +1,5 @@
 //! The nodelist of a query (RFC 9535, 2.1.2): its nodes, or what of them is wanted.
-ghost use Rattle.std.specs.Prelude.{◌≡◌, map, All, IsTrue, IfOk, IfErr};
+ghost use Rattle.std.specs.Prelude.{◌≡◌, [], map, All, IsTrue, IfOk, IfErr, IfSome, IfNone, string_bytes};
 ghost use Rattle.std.specs.List.{AllZip};
 ghost use Rattle.jsonpath_parser.specs.tree.View.{query_view};
 ghost use Rattle.jsonpath_base.specs.Steps.{location_view};
@@ -7,6 +7,8 @@ ghost use Rattle.jsonpath_rust.specs.documents.Answer.{IsNodeAt, IsPathAt, IsVal
 ghost use Rattle.jsonpath_rust.specs.documents.Document.{document_of};
 ghost use Rattle.jsonpath_rust.specs.documents.Meaning.{selected};
 ghost use Rattle.jsonpath_rust.specs.documents.Patterns.{IsStop};
+ghost use Rattle.jsonpath_rust.specs.selection.Only.{IsOnly, sole_value, node_count};
+ghost use Rattle.jsonpath_rust.specs.selection.Prepared.{IsFirstNode};
 ghost use Rattle.jsonpath_rust.specs.selection.inner.Sinks.{IsRemovalOf};
 
 use crate::documents::nodes::{WholeNodes, WholeValues};
@@ -14,7 +16,8 @@ use crate::documents::queryable::Queryable;
 use crate::documents::whole::WholeRef;
 use crate::documents::{Queried, QueryPath, QueryRef};
 use crate::selection::give::give_nodes;
-use crate::selection::sink::Sink;
+use crate::selection::only::Only;
+use crate::selection::sink::{Only as OnlyKept, Sink};
 use jsonpath_base::{Removal, Step};
 use jsonpath_parser::model::JpQuery;
 use std::alloc::Global;
@@ -104,7 +107,63 @@ pub fn selected_locations<T: Queryable>(
     Ok(sink.into_locations(alloc))
 }
 
-/// The locations of the nodes that [`selected_nodes`] returns, to be removed.
+/// The first of the nodes that [`selected_nodes`] returns, or None where there is none. The document is walked no further than
+/// to that node.
+///
+/// # Errors
+///
+/// Those of [`selected_nodes`].
+pub fn selected_first<'a, T: Queryable>(
+    alloc: Global,
+    query: &JpQuery,
+    value: &'a T,
+) -> Queried<Option<QueryRef<'a, T>>>
+    requires { IsTrue (T.is_whole value.now) }
+    ensures first { IfOk result (λ o. IfSome o (λ r. IsFirstNode (query_view query.now) (document_of T.tree T.custom value.now) (string_bytes r.path, T.tree r.val.now))) }
+    ensures none { IfOk result (λ o. IfNone o (selected (query_view query.now) (document_of T.tree T.custom value.now) ≡ [])) }
+    ensures whole { IfOk result (λ o. IfSome o (λ r. IsTrue (T.is_whole r.val.now))) }
+    ensures refused { IfErr result (IsStop (query_view query.now) (document_of T.tree T.custom value.now)) }
+{
+    let sink = give_nodes(alloc, query, WholeRef { value }, Sink::First(None))?;
+    Ok(sink.into_first())
+}
+
+/// The value of the only node that [`selected_nodes`] returns, or that there is none, or several. The document is walked no
+/// further than to the second node, and no path is made.
+///
+/// # Errors
+///
+/// Those of [`selected_nodes`].
+pub fn selected_only<'a, T: Queryable>(
+    alloc: Global,
+    query: &JpQuery,
+    value: &'a T,
+) -> Queried<Only<'a, T>>
+    requires { IsTrue (T.is_whole value.now) }
+    ensures only { IfOk result (λ o. IsOnly T.tree (query_view query.now) (document_of T.tree T.custom value.now) o) }
+    ensures whole { IfOk result (λ o. IfSome (sole_value o) (λ x. IsTrue (T.is_whole x))) }
+    ensures refused { IfErr result (IsStop (query_view query.now) (document_of T.tree T.custom value.now)) }
+{
+    let begun = Sink::Only(OnlyKept::Nothing);
+    let sink = give_nodes(alloc, query, WholeRef { value }, begun)?;
+    Ok(sink.into_only())
+}
+
+/// How many nodes [`selected_nodes`] returns, up to 2^63 - 1. No path and no list is made.
+///
+/// # Errors
+///
+/// Those of [`selected_nodes`].
+pub fn selected_count<T: Queryable>(alloc: Global, query: &JpQuery, value: &T) -> Queried<usize>
+    requires { IsTrue (T.is_whole value.now) }
+    ensures count { IfOk result (λ n. n ≡ node_count (query_view query.now) (document_of T.tree T.custom value.now)) }
+    ensures refused { IfErr result (IsStop (query_view query.now) (document_of T.tree T.custom value.now)) }
+{
+    let sink = give_nodes(alloc, query, WholeRef { value }, Sink::Count(0))?;
+    Ok(sink.into_count())
+}
+
+/// The locations of the nodes that [`selected_nodes`] returns, to be removed or replaced.
 ///
 /// # Errors
 ///

@@ -7,6 +7,8 @@ ghost use Rattle.jsonpath_rust.specs.documents.Answer.{shown, paths_of};
 ghost use Rattle.jsonpath_rust.specs.documents.Functions.{greatest_count};
 ghost use Rattle.jsonpath_rust.specs.documents.Node.{Node, root_node};
 ghost use Rattle.jsonpath_rust.specs.documents.inner.Whole.{tree_of};
+ghost use Rattle.jsonpath_rust.specs.selection.Only.{sole_value};
+ghost use Rattle.jsonpath_rust.specs.selection.inner.Only.{only_seen, only_told};
 ghost use Rattle.jsonpath_rust.specs.selection.inner.Sinks.{Took, TakesAlong, seen, seen_only, seen_first, start, add, any_in, count_in, only_in, first_in, nodes_in, values_in, paths_in, locations_in, removal_in};
 ghost use Rattle.jsonpath_rust.specs.selection.inner.Walking.{node_of};
 
@@ -16,6 +18,7 @@ use crate::documents::queryable::Queryable;
 use crate::documents::value::GREATEST_COUNT;
 use crate::documents::whole::WholeRef;
 use crate::documents::{QueryPath, QueryRef};
+use crate::selection::only::Only as OnlyNode;
 use jsonpath_base::engine::Way;
 use jsonpath_base::{Removal, Step};
 use std::alloc::Global;
@@ -26,6 +29,20 @@ pub enum Only<'a, T: Queryable> {
     Nothing,
     One(WholeRef<'a, T>),
     Several,
+}
+
+impl<'a, T: Queryable> Only<'a, T> {
+    /// As a caller is told.
+    fn told(self) -> OnlyNode<'a, T>
+        ensures only { only_seen T.tree result ≡ only_told (seen_only self.entry) }
+        ensures whole { IfSome (sole_value result) (λ x. IsTrue (T.is_whole x)) }
+    {
+        match self {
+            Only::Nothing => OnlyNode::Nothing,
+            Only::One(value) => OnlyNode::One(value.value),
+            Only::Several => OnlyNode::Several,
+        }
+    }
 }
 
 /// What is wanted of the nodes of a query inside a filter.
@@ -182,6 +199,29 @@ impl<'a, T: Queryable> Sink<'a, T> {
         match self {
             Sink::Only(Only::One(value)) => Some(*value),
             _ => None,
+        }
+    }
+
+    /// How many nodes a `Count` was given. The sink is freed.
+    pub fn into_count(self) -> usize
+        ensures { result ≡ count_in (seen self.entry) }
+    {
+        let count = self.counted();
+        drop(self);
+        count
+    }
+
+    /// What a caller is told of the only node that an `Only` was given.
+    pub fn into_only(self) -> OnlyNode<'a, T>
+        ensures only { only_seen T.tree result ≡ only_told (seen self.entry) }
+        ensures whole { IfSome (sole_value result) (λ x. IsTrue (T.is_whole x)) }
+    {
+        match self {
+            Sink::Only(only) => only.told(),
+            other => {
+                drop(other);
+                OnlyNode::Nothing
+            }
         }
     }
 

@@ -7,6 +7,7 @@ ghost use Rattle.jsonpath_parser.specs.tree.Steps.{HasIndexesInRange};
 ghost use Rattle.jsonpath_parser.specs.tree.Syntax.{Query};
 ghost use Rattle.jsonpath_parser.specs.tree.View.{query_view};
 ghost use Rattle.jsonpath_parser.specs.declared.errors.JsonPathError.TheVariants.{OutOfMemory};
+ghost use Rattle.jsonpath_base.specs.Overwritten.{overwritten};
 ghost use Rattle.jsonpath_base.specs.Places as places;
 ghost use Rattle.jsonpath_base.specs.Put.{put};
 ghost use Rattle.jsonpath_base.specs.SetFunctions.{set_function};
@@ -14,6 +15,7 @@ ghost use Rattle.jsonpath_base.specs.Steps.{location_view};
 ghost use Rattle.jsonpath_base.specs.Values.{value_tree, value_is_whole};
 ghost use Rattle.jsonpath_base.specs.Without.{without, is_among, distinct_count};
 ghost use Rattle.jsonpath_rust.specs.Deleting.{IsDeletion, Deletes};
+ghost use Rattle.jsonpath_rust.specs.Replacing.{IsReplacement, Replaces};
 ghost use Rattle.jsonpath_rust.specs.documents.Document.{document_of};
 ghost use Rattle.jsonpath_rust.specs.documents.Meaning.{selected};
 ghost use Rattle.jsonpath_rust.specs.documents.Patterns.{IsStop, IsQueryRefusal};
@@ -22,8 +24,10 @@ ghost use Rattle.jsonpath_rust.specs.documents.Referring.{IsReferred, IsReplaced
 use crate::documents::Queried;
 use crate::documents::queryable::Queryable;
 use crate::documents::whole::Whole;
-use crate::query::{delete_selected, delete_within, replace_by_path};
-use jsonpath_base::{Step, put_at, remove_all};
+use crate::query::{
+    delete_selected, delete_within, replace_by_path, replace_selected, replace_within,
+};
+use jsonpath_base::{Step, put_at, remove_all, replace_all};
 use jsonpath_parser::MAX_NESTING_DEPTH;
 use jsonpath_parser::model::JpQuery;
 use serde_json::Value;
@@ -95,5 +99,55 @@ impl Whole<Value> {
         ensures memory { IfErr result (λ e. e ≡ OutOfMemory) }
     {
         remove_all(alloc, &mut self.value, places)
+    }
+
+    /// Puts a copy of `new` at all locations that a query text selects, at once, as [`replace_within`].
+    pub fn replace_within(
+        &mut self,
+        alloc: Global,
+        path: &str,
+        depth: usize,
+        new: &Whole<Value>,
+    ) -> Queried<usize>
+        ensures replaced { IfOk result (Replaces depth path.now (value_tree new.now.value) (document_of value_tree set_function self.old.value) (value_tree self.new.value)) }
+
+        // Whatever query the text derives, what it selects is replaced, unless memory ran out or a pattern was refused.
+        ensures only { (q : Query) → Derives depth path.now q → MatchResult result
+            (IsReplacement q (value_tree new.now.value) (document_of value_tree set_function self.old.value) (value_tree self.new.value))
+            (IsStop q (document_of value_tree set_function self.old.value)) }
+        ensures kept { OnErr result (self.new.value ≡ self.old.value) }
+        ensures refused { IfErr result (IsQueryRefusal depth path.now (document_of value_tree set_function self.old.value)) }
+    {
+        replace_within(alloc, &mut self.value, path, depth, &new.value)
+    }
+
+    /// Puts a copy of `new` at all locations that a query selects, as [`replace_selected`].
+    pub fn replace_selected(
+        &mut self,
+        alloc: Global,
+        query: &JpQuery,
+        new: &Whole<Value>,
+    ) -> Queried<usize>
+        ensures replaced { OnOk result (value_tree self.new.value ≡ overwritten (is_among (selected (query_view query.now) (document_of value_tree set_function self.old.value))) (value_tree new.now.value) (value_tree self.old.value)) }
+        ensures count { IfOk result (λ n. n ≡ distinct_count (selected (query_view query.now) (document_of value_tree set_function self.old.value))) }
+        ensures kept { OnErr result (self.new.value ≡ self.old.value) }
+        ensures refused { IfErr result (IsStop (query_view query.now) (document_of value_tree set_function self.old.value)) }
+    {
+        replace_selected(alloc, &mut self.value, query, &new.value)
+    }
+
+    /// Puts a copy of `new` at all these locations, at once, as [`replace_all`].
+    pub fn replace_all(
+        &mut self,
+        alloc: Global,
+        places: &[Vec<Step>],
+        new: &Whole<Value>,
+    ) -> Queried<usize>
+        ensures replaced { OnOk result (value_tree self.new.value ≡ overwritten (is_among (map (λ p. location_view p.items) places.now)) (value_tree new.now.value) (value_tree self.old.value)) }
+        ensures count { IfOk result (λ n. n ≡ distinct_count (map (λ p. location_view p.items) places.now)) }
+        ensures kept { OnErr result (self.new.value ≡ self.old.value) }
+        ensures memory { IfErr result (λ e. e ≡ OutOfMemory) }
+    {
+        replace_all(alloc, &mut self.value, places, &new.value)
     }
 }

@@ -1,6 +1,7 @@
 -- What the calls answer, from what the walk gave.
-use Rattle.std.proofs.Common.{◌≡◌, ◌↔◌, ℕ, List, [], ◌∷◌, map, Bool, true, false, Option, None, Some, option_map, IfSome, IfNone, IsTrue, IsFalse, sym, ◌∙◌, ap, subst, refl}
+use Rattle.std.proofs.Common.{◌≡◌, ◌↔◌, ◌+◌, ℕ, min, List, [], ◌∷◌, map, length, arith, Bool, true, false, Option, None, Some, option_map, IfSome, IfNone, IsTrue, IsFalse, sym, ◌∙◌, ap, subst, refl}
 use Rattle.std.proofs.lemmas.Bool.{false≢true}
+use Rattle.std.proofs.lemmas.List.{length-map}
 use Rattle.std.specs.List.{AllByRecursion, AllZip}
 use Rattle.jsonpath_parser.proofs.NormalLemmas.{only_path}
 use Rattle.jsonpath_parser.specs.tree.Syntax.{Query}
@@ -8,13 +9,18 @@ use Rattle.jsonpath_parser.specs.Normal.{normal}
 use Rattle.jsonpath_base.specs.Tree.{Tree, has_distinct_names}
 use Rattle.jsonpath_base.specs.Places.{at}
 use Rattle.jsonpath_rust.specs.documents.Document.{Document}
+use Rattle.jsonpath_rust.specs.documents.Functions.{greatest_count}
 use Rattle.jsonpath_rust.specs.documents.Node.{Node}
 use Rattle.jsonpath_rust.specs.documents.Meaning.{nodelist, selected}
 use Rattle.jsonpath_rust.specs.documents.Answer.{IsNodeAt, IsPathAt, IsValueAt}
+use Rattle.jsonpath_rust.specs.selection.Only.{IsOnly, node_count}
 use Rattle.jsonpath_rust.specs.selection.Prepared.{IsFirstNode}
-use Rattle.jsonpath_rust.specs.selection.inner.Sinks.{any, first, any_in, first_in, give, path_and_tree}
+use Rattle.jsonpath_rust.specs.selection.inner.Only.{only_seen, only_told}
+use Rattle.jsonpath_rust.specs.selection.inner.Sinks.{any, count, first, nothing, one, several, any_in, count_in, first_in, give, path_and_tree}
+use Rattle.jsonpath_rust.specs.declared.selection.only.Only.{Only}
+use Rattle.jsonpath_rust.specs.declared.selection.only.Only.TheVariants.{Nothing, One, Several}
 use Rattle.jsonpath_rust.proofs.laws.documents.NodesAt.{nodes_at}
-use Rattle.jsonpath_rust.proofs.laws.selection.Sinks.{any_given, only_first}
+use Rattle.jsonpath_rust.proofs.laws.selection.Sinks.{any_given, only_first, give-count, give-full}
 
 nodes_zipped : (doc : Document) (ns : List Node) → AllByRecursion (λ n. at n.location doc.root ≡ Some n.tree) ns → AllZip (IsNodeAt doc) (map (λ n. n.location) ns) (map path_and_tree ns)
 nodes_zipped doc [] h = tt
@@ -70,3 +76,32 @@ no_node b [] e = (λ h. refl, λ h. e)
 no_node b (n ∷ ns) e =
     let is : b ≡ true = e ∙ any_given (n ∷ ns) in
     (λ h. absurd (false≢true (sym h ∙ is)), λ h. absurd cc)
+
+-- ---- where the walk ends at the second node
+
+only_there : {A : Type 0} (tree : A → Tree) (q : Query) (doc : Document) (o : Only A) (ns : List Node) → nodelist q doc ≡ ns → AllByRecursion (λ n. at n.location doc.root ≡ Some n.tree) ns → only_seen tree o ≡ only_told (give nothing ns) → IsOnly tree q doc o
+only_there tree q doc Nothing [] e h k = ap (map (λ n. n.location)) e
+only_there tree q doc Nothing (n ∷ []) e h k = absurd cc
+only_there tree q doc Nothing (n ∷ m ∷ ns) e h k = absurd (cc (k ∙ ap only_told (give-full several ns refl)))
+only_there tree q doc (One v) [] e h k = absurd cc
+only_there tree q doc (One v) (n ∷ []) e h k =
+    let same : tree v.now ≡ n.tree = cc in
+    (n.location, ap (map (λ m. m.location)) e, h.0 ∙ ap Some (sym same))
+only_there tree q doc (One v) (n ∷ m ∷ ns) e h k = absurd (cc (k ∙ ap only_told (give-full several ns refl)))
+only_there tree q doc Several [] e h k = absurd cc
+only_there tree q doc Several (n ∷ []) e h k = absurd cc
+only_there tree q doc Several (n ∷ m ∷ ns) e h k = (n.location, m.location, map (λ r. r.location) ns, ap (map (λ r. r.location)) e)
+
+-- what is told of the only node, where the nodelist was given
+pub only_answered : {A : Type 0} (tree : A → Tree) (q : Query) (doc : Document) (o : Only A) → IsTrue (has_distinct_names doc.root) → only_seen tree o ≡ only_told (give nothing (nodelist q doc)) → IsOnly tree q doc o
+only_answered tree q doc o distinct e = only_there tree q doc o (nodelist q doc) refl (nodes_at q doc distinct) e
+
+-- ---- how many nodes there are
+
+from_none : (n : ℕ) → min (0 + n) greatest_count ≡ min n greatest_count
+from_none n = omega arith
+
+pub count_answered : (q : Query) (doc : Document) (k : ℕ) → k ≡ count_in (give (count 0) (nodelist q doc)) → k ≡ node_count q doc
+count_answered q doc k e =
+    let all : k ≡ min (length (nodelist q doc)) greatest_count = e ∙ ap count_in (give-count 0 (nodelist q doc) (omega arith)) ∙ from_none (length (nodelist q doc)) in
+    all ∙ ap (λ (n : ℕ). min n greatest_count) (sym (length-map (nodelist q doc) (λ (n : Node). n.location)))

@@ -1,5 +1,5 @@
 //! What is read of a whole value: each call of [`Queryable`] agrees with its tree.
-ghost use Rattle.std.specs.Prelude.{◌≡◌, ◌<◌, map, length, None, option_map, option_to_list, All, IsTrue, IfOk, IfSome};
+ghost use Rattle.std.specs.Prelude.{◌≡◌, ◌<◌, map, length, None, option_map, option_to_list, All, IsTrue, IfOk, IfErr, IfSome};
 ghost use Rattle.jsonpath_parser.specs.Location.{Location};
 ghost use Rattle.jsonpath_parser.specs.Location as location;
 ghost use Rattle.jsonpath_parser.specs.declared.errors.JsonPathError.TheVariants.{OutOfMemory};
@@ -26,10 +26,10 @@ impl<T: Queryable> Whole<T> {
         WholeRef { value: &self.value }
     }
 
-    /// A value of the same tree. It refuses by `OutOfMemory` alone.
-    pub(crate) fn try_clone(&self, alloc: Global) -> Queried<Self>
-        ensures value { IfOk result (λ v. own_tree v ≡ own_tree self.now) }
-        ensures memory { MemoryAlone result }
+    /// A value of the same tree, which is whole too. It refuses by `OutOfMemory` alone.
+    pub fn try_clone(&self, alloc: Global) -> Queried<Self>
+        ensures value { IfOk result (λ v. T.tree v.value ≡ T.tree self.now.value) }
+        ensures memory { IfErr result (λ e. e ≡ OutOfMemory) }
     {
         let value = self.value.try_clone(alloc)?;
         Ok(Whole { value })

@@ -1,0 +1,61 @@
+-- The query of an expression, and the expression of a query.
+use Rattle.std.proofs.Common.{◌≡◌, ℕ, nat_eq, List, [], ◌∷◌, ◌++◌, map, length, Bool, true, false, Option, Some, None, Result, Ok, Err, IfOk, IfErr, is_some, unwrap_or, refl, sym, ap, ◌∙◌, subst}
+use Rattle.jsonpath_parser.specs.tree.Syntax as syntax
+use Rattle.jsonpath_parser.specs.tree.Syntax.{Segment, one, several, descendant, no_segments, segment, Filter, or, no_filters, Query}
+use Rattle.jsonpath_parser.specs.tree.View.{segments_of}
+use Rattle.jsonpath_rust.specs.documents.Document.{Document}
+use Rattle.jsonpath_rust.specs.documents.Meaning.{holds}
+use Rattle.jsonpath_rust.specs.documents.Node.{Node}
+use Rattle.jsonpath_rust.specs.documents.Patterns.{AsksPattern, filter_patterns, segments_patterns}
+use Rattle.jsonpath_rust.specs.selection.Condition.{filter_query, filter_of, segment_filter, expression_of}
+use Rattle.jsonpath_rust.specs.selection.inner.Halting.{IsHalt}
+use Rattle.jsonpath_rust.specs.declared.documents.halt.Halt.{Halt}
+use Rattle.jsonpath_rust.specs.declared.selection.budget.Limit.{Limit}
+use Rattle.jsonpath_rust.proofs.laws.selection.HaltingLaws.{asked_left, halts_as}
+
+-- the expression of its query is itself
+pub expression_back : (f : Filter) (q : Query) → q ≡ filter_query f → expression_of q ≡ f
+expression_back f q e = ap expression_of e
+
+one_back : (g : Segment) → is_some (segment_filter g) ≡ true → segment (one (syntax.Selector.filter (expression_of (segment g no_segments)))) no_segments ≡ segment g no_segments
+one_back (one (syntax.Selector.filter f)) h = refl
+one_back (one (syntax.Selector.name k)) h = absurd cc
+one_back (one syntax.Selector.wildcard) h = absurd cc
+one_back (one (syntax.Selector.index i)) h = absurd cc
+one_back (one (syntax.Selector.slice start end step)) h = absurd cc
+one_back (several ss) h = absurd cc
+one_back (descendant g) h = absurd cc
+
+-- the query of the expression of a query `$[?e]` is that query
+pub query_back : (q : Query) → is_some (filter_of q) ≡ true → filter_query (expression_of q) ≡ q
+query_back no_segments h = absurd cc
+query_back (segment g no_segments) h = one_back g h
+query_back (segment g (segment k ks)) h = absurd cc
+
+-- no query of an expression is one of none
+pub never_none : (f : Filter) (q : Query) → q ≡ filter_query f → is_some (filter_of q) ≡ false → ⊥
+never_none f q e h = let both : true ≡ false = ap (λ x. is_some (filter_of x)) (sym e) ∙ h in absurd cc
+
+-- what an expression asks, its query asks
+pub filter_asks : {d : Document} (f : Filter) → AsksPattern (filter_patterns f) d → AsksPattern (segments_patterns (filter_query f)) d
+filter_asks f h = asked_left (filter_patterns f) [] h
+
+-- of several segments none is the filter alone
+pub none_of_more : {X : Type 0} (view : X → Segment) (xs rest : List X) (x : X) → xs ≡ x ∷ rest → nat_eq (length rest) 0 ≡ false → None ≡ filter_of (segments_of (map view xs))
+none_of_more view xs [] x e h = absurd cc
+none_of_more view xs (y ∷ ys) x e h = ap (λ zs. filter_of (segments_of (map view zs))) (sym e)
+
+-- what the filter that was found means, the expression means
+pub found_expression : (f : Filter) (q : Query) → Some f ≡ filter_of q → expression_of q ≡ f
+found_expression f q e = ap (λ o. unwrap_or o (or no_filters)) (sym e)
+
+pub none_holds : (q : Query) (d : Document) (n : Node) → None ≡ filter_of q → false ≡ holds (expression_of q) d n
+none_holds q d n e = ap (λ o. holds (unwrap_or o (or no_filters)) d n) e
+
+-- a result about a filter is one about the expression
+pub held_as : {E : Type 0} (f : Filter) (q : Query) (d : Document) (n m : Node) (r : Result Bool E) → Some f ≡ filter_of q → n ≡ m → IfOk r (λ b. b ≡ holds f d n) → IfOk r (λ b. b ≡ holds (expression_of q) d m)
+held_as f q d n m (Ok b) e k h = h ∙ ap (λ x. holds f d x) k ∙ ap (λ g. holds g d m) (sym (found_expression f q e))
+held_as f q d n m (Err x) e k h = tt
+
+pub refused_as : {A : Type 0} (limit : Limit) (f : Filter) (q : Query) (d : Document) (r : Result A Halt) → Some f ≡ filter_of q → IfErr r (IsHalt limit (filter_patterns f) d) → IfErr r (IsHalt limit (segments_patterns (filter_query (expression_of q))) d)
+refused_as limit f q d r e h = halts_as limit r h (λ k. subst (λ g. AsksPattern (segments_patterns (filter_query g)) d) (sym (found_expression f q e)) (filter_asks f k))

@@ -1,0 +1,13 @@
+use Rattle.std.proofs.Common.{is_some, sym, ap, ◌∙◌}
+use Rattle.jsonpath_parser.proofs.laws.tree.ViewEquations.{query_view-segments}
+use Rattle.jsonpath_parser.specs.tree.View.{segment_view}
+use Rattle.jsonpath_rust.specs.documents.inner.Parts.{segments_in}
+use Rattle.jsonpath_rust.specs.selection.Condition.{filter_of}
+use Rattle.jsonpath_rust.proofs.laws.selection.Conditions.{none_of_more}
+use Rattle.jsonpath_rust.proofs.selection.condition.is_one_filter.Goals as goal
+
+pub returns-else-is_empty : goal.returns-else-is_empty
+returns-else-is_empty c =
+    let all = query_view-segments c.args.query.now ∙ ap segments_in (sym c.deref.ensures.value) in
+    let none = none_of_more segment_view c.deref.result.now c.in-Some.rest.now c.in-Some.first.now c.in-Some.ensures.cases.0 (sym c.is_empty.ensures ∙ c.if-is_empty.false) in
+    c.if-is_empty.false ∙ ap is_some none ∙ ap (λ q. is_some (filter_of q)) (sym all)

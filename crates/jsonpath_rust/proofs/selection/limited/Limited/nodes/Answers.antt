@@ -1,0 +1,15 @@
+use Rattle.std.proofs.Common.{◌∙◌, string_bytes}
+use Rattle.jsonpath_rust.specs.documents.Document.{document_of}
+use Rattle.jsonpath_rust.specs.documents.Meaning.{nodelist}
+use Rattle.jsonpath_rust.specs.selection.Prepared.{limited_view}
+use Rattle.jsonpath_rust.proofs.laws.selection.Sinks.{given_nodes}
+use Rattle.jsonpath_rust.proofs.laws.selection.Answers.{nodes_answered}
+use Rattle.jsonpath_rust.proofs.Withins.{of_done}
+use Rattle.jsonpath_rust.proofs.selection.limited.Limited.nodes.Goals as goal
+
+pub returns-in-Done-clause-nodes : goal.returns-in-Done-clause-nodes
+returns-in-Done-clause-nodes g c =
+    let tree = g.T.Queryable.tree in
+    let q = limited_view c.args.self.now in
+    let doc = document_of tree g.T.Queryable.custom c.args.value.now in
+    nodes_answered q doc _ (g.met.T.Queryable.distinct c.args.value.now c.requires) (c.into_nodes.ensures.nodes ∙ given_nodes (λ r. (string_bytes r.path, tree r.val.now)) c.new.result.list.items _ (nodelist q doc) c.new.ensures (of_done _ _ _ c.in-Done.is c.in_ok-within.ensures.gave))

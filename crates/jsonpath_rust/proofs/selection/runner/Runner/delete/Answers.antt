@@ -1,0 +1,11 @@
+use Rattle.std.proofs.Common.{ap, ◌∙◌}
+use Rattle.jsonpath_base.specs.Values.{value_tree}
+use Rattle.jsonpath_base.specs.Without.{without}
+use Rattle.jsonpath_rust.proofs.selection.runner.Runner.delete.Goals as goal
+
+pub returns-clause-removed : goal.returns-clause-removed
+returns-clause-removed c =
+    c.remove_from.ensures.removed ∙ ap (λ s. without s (value_tree c.args.value.now)) (c.in_ok-ordered.ensures.set ∙ c.in_ok-removal.ensures.removal.set)
+
+pub returns-clause-count : goal.returns-clause-count
+returns-clause-count c = c.count.ensures ∙ c.in_ok-ordered.ensures.count ∙ c.in_ok-removal.ensures.removal.count

@@ -1,0 +1,12 @@
+use Rattle.std.proofs.Common.{◌∙◌, ap}
+use Rattle.jsonpath_rust.specs.documents.Document.{document_of}
+use Rattle.jsonpath_rust.specs.selection.Prepared.{runner_view}
+use Rattle.jsonpath_rust.specs.selection.inner.Only.{only_told}
+use Rattle.jsonpath_rust.proofs.laws.selection.Answers.{only_answered}
+use Rattle.jsonpath_rust.proofs.selection.runner.Runner.only.Goals as goal
+
+pub returns-clause-only : goal.returns-clause-only
+returns-clause-only g c =
+    let tree = g.T.Queryable.tree in
+    let doc = document_of tree g.T.Queryable.custom c.args.value.now in
+    only_answered tree (runner_view c.args.self.now) doc c.into_only.result (g.met.T.Queryable.distinct c.args.value.now c.requires) (c.into_only.ensures.only ∙ ap only_told c.in_ok-sink.ensures.gave)

@@ -1,0 +1,19 @@
+use Rattle.std.proofs.Common.{ap, ◌∙◌}
+use Rattle.jsonpath_base.specs.RemovalViews.{removal_set, removal_count}
+use Rattle.jsonpath_base.specs.declared.removal.Removal.{Removal}
+use Rattle.jsonpath_rust.specs.documents.Document.{document_of}
+use Rattle.jsonpath_rust.specs.documents.Meaning.{nodelist}
+use Rattle.jsonpath_rust.specs.selection.Prepared.{runner_view}
+use Rattle.jsonpath_rust.proofs.laws.selection.Sinks.{removal_is, removal_there}
+use Rattle.jsonpath_rust.proofs.selection.runner.Runner.removal.Goals as goal
+
+pub returns-in-Some-clause-removal : goal.returns-in-Some-clause-removal
+returns-in-Some-clause-removal g c =
+    let begun = c.in_ok-new.field-0.value in let same = c.in_ok-new.ensures.ok in let d = document_of g.T.Queryable.tree g.T.Queryable.custom c.args.value.now in
+    let all = removal_is begun c.in-Some.removal.value _ (nodelist (runner_view c.args.self.now) d) (λ l. ap (λ (r : Removal). removal_set r l) same ∙ c.new.ensures.none l) (ap (λ (r : Removal). removal_count r) same ∙ c.new.ensures.count) c.in_ok-sink.ensures.gave c.in-Some.ensures in
+    record { set = ap (λ (r : Removal). removal_set r) c.into_inner.ensures ∙ all.set; count = ap (λ (r : Removal). removal_count r) c.into_inner.ensures ∙ all.count }
+
+pub returns-in-None-clause-removal : goal.returns-in-None-clause-removal
+returns-in-None-clause-removal g c =
+    let begun = c.in_ok-new.field-0.value in let same = c.in_ok-new.ensures.ok in let d = document_of g.T.Queryable.tree g.T.Queryable.custom c.args.value.now in
+    removal_there begun _ (nodelist (runner_view c.args.self.now) d) (λ l. ap (λ (r : Removal). removal_set r l) same ∙ c.new.ensures.none l) (ap (λ (r : Removal). removal_count r) same ∙ c.new.ensures.count) c.in_ok-sink.ensures.gave c.in-None.ensures

@@ -1,0 +1,20 @@
+-- What a replacement leaves, and what it answers.
+use Rattle.std.specs.Prelude.{◌≡◌, ℕ, List}
+use Rattle.jsonpath_parser.specs.Derives.{Derives}
+use Rattle.jsonpath_parser.specs.tree.Syntax.{Query}
+use Rattle.jsonpath_base.specs.Overwritten.{overwritten}
+use Rattle.jsonpath_base.specs.Tree.{Tree}
+use Rattle.jsonpath_base.specs.Without.{is_among, distinct_count}
+use Rattle.jsonpath_rust.specs.documents.Document.{Document}
+use Rattle.jsonpath_rust.specs.documents.Meaning.{selected}
+
+-- The tree left is the document with `u` at all locations that the query selects, put at once; and so many distinct ones there are.
+pub record IsReplacement (q : Query) (u : Tree) (doc : Document) (left : Tree) (count : ℕ) : Type 0 where
+  pub replaced : left ≡ overwritten (is_among (selected q doc)) u doc.root
+  pub counted : count ≡ distinct_count (selected q doc)
+
+-- The text derives a query, at this depth, and `u` is put at what that selects.
+pub record Replaces (depth : ℕ) (text : List ℕ) (u : Tree) (doc : Document) (left : Tree) (count : ℕ) : Type 0 where
+  pub query : Query
+  pub derived : Derives depth text query
+  pub replaced : IsReplacement query u doc left count

@@ -1,0 +1,52 @@
+-- A condition on a document itself: a logical expression (RFC 9535, 2.3.5), in which `@` and `$` both are the root.
+use Rattle.std.specs.Prelude.{ℕ, List, ◌++◌, Option, Some, None, ⊤, unwrap_or, codes}
+use Rattle.std.specs.Str.{IsCharBoundary}
+use Rattle.jsonpath_parser.specs.Derives.{SpellsTyped, IsRefusal}
+use Rattle.jsonpath_parser.specs.tree.Syntax as syntax
+use Rattle.jsonpath_parser.specs.tree.Syntax.{Segment, one, several, descendant, no_segments, segment, Filter, or, no_filters, Query}
+use Rattle.jsonpath_parser.specs.declared.errors.JsonPathError.{JsonPathError}
+use Rattle.jsonpath_parser.specs.declared.errors.JsonPathError.TheVariants.{PestError, OutOfMemory}
+use Rattle.jsonpath_rust.specs.selection.Prepared.{prepared_view}
+use Rattle.jsonpath_rust.specs.declared.selection.condition.Condition.{Condition}
+use Rattle.jsonpath_rust.specs.declared.selection.condition.ConditionRunner.{ConditionRunner}
+
+-- the query `$[?e]`
+abbrev pub filter_query : Filter → Query
+filter_query f = segment (one (syntax.Selector.filter f)) no_segments
+
+-- the text `$[?e]` of a text `e`
+abbrev pub in_filter : List ℕ → List ℕ
+in_filter text = codes "$[?" ++ text ++ codes "]"
+
+abbrev pub segment_filter : Segment → Option Filter
+segment_filter (one (syntax.Selector.filter f)) = Some f
+segment_filter (one (syntax.Selector.name k)) = None
+segment_filter (one syntax.Selector.wildcard) = None
+segment_filter (one (syntax.Selector.index i)) = None
+segment_filter (one (syntax.Selector.slice start end step)) = None
+segment_filter (several ss) = None
+segment_filter (descendant g) = None
+
+-- the expression of a query `$[?e]`, and none of another
+abbrev pub filter_of : Query → Option Filter
+filter_of no_segments = None
+filter_of (segment g no_segments) = segment_filter g
+filter_of (segment g (segment h hs)) = None
+
+-- the same, and for others one that never holds
+abbrev pub expression_of : Query → Filter
+expression_of q = unwrap_or (filter_of q) (or no_filters)
+
+-- the expression that a condition asks; each is of a query `$[?e]`
+abbrev pub condition_view : Condition → Filter
+condition_view c = expression_of (prepared_view c.prepared)
+
+abbrev pub condition_runner_view : ConditionRunner → Filter
+condition_runner_view r = condition_view r.condition.now
+
+-- The refusals of a text, each with what it means: it is no one expression, and the place stands between two characters of it or at an end of it; memory ran
+-- out; all others are those of the query text `$[?e]`.
+abbrev pub IsConditionRefusal : ℕ → List ℕ → JsonPathError → Type 0
+IsConditionRefusal limit text (PestError place) = IsCharBoundary text place × ((f : Filter) → SpellsTyped (in_filter text) (filter_query f) → ⊥)
+IsConditionRefusal limit text OutOfMemory = ⊤
+IsConditionRefusal limit text e = IsRefusal limit (in_filter text) e

@@ -1,0 +1,28 @@
+-- The only node of a query, and how many nodes it has.
+use Rattle.std.specs.Prelude.{◌≡◌, ℕ, min, List, [], ◌∷◌, length, Option, Some, None}
+use Rattle.jsonpath_parser.specs.Location.{Location}
+use Rattle.jsonpath_parser.specs.tree.Syntax.{Query}
+use Rattle.jsonpath_base.specs.Tree.{Tree}
+use Rattle.jsonpath_rust.specs.documents.Answer.{IsValueAt}
+use Rattle.jsonpath_rust.specs.documents.Document.{Document}
+use Rattle.jsonpath_rust.specs.documents.Functions.{greatest_count}
+use Rattle.jsonpath_rust.specs.documents.Meaning.{selected}
+use Rattle.jsonpath_rust.specs.declared.selection.only.Only.{Only}
+use Rattle.jsonpath_rust.specs.declared.selection.only.Only.TheVariants.{Nothing, One, Several}
+
+-- What is told of the only node: the query selects nothing; or one location alone, where this value stands; or several. A location that is
+-- selected twice is two nodes (RFC 9535, 2.1.2).
+abbrev pub IsOnly : {A : Type 0} → (A → Tree) → Query → Document → Only A → Type 0
+IsOnly tree q doc Nothing = selected q doc ≡ []
+IsOnly tree q doc (One v) = (l : Location) × (selected q doc ≡ l ∷ []) × IsValueAt doc l (tree v.now)
+IsOnly tree q doc Several = (l m : Location) × (rest : List Location) × (selected q doc ≡ l ∷ m ∷ rest)
+
+-- the value, where there is one node alone
+abbrev pub sole_value : {A : Type 0} → Only A → Option A
+sole_value Nothing = None
+sole_value (One v) = Some v.now
+sole_value Several = None
+
+-- how many nodes the query selects, up to the greatest whole number of 64 bits
+abbrev pub node_count : Query → Document → ℕ
+node_count q doc = min (length (selected q doc)) greatest_count

@@ -1,0 +1,200 @@
+//! Conditions on a document itself.
+ghost use Rattle.std.specs.Prelude.{◌≡◌, ℕ, IsTrue, IfOk, IfErr, MatchResult, is_some, string_bytes};
+ghost use Rattle.std.specs.Str.{IsCharBoundary};
+ghost use Rattle.jsonpath_parser.specs.Derives.{Derives, IsRefusal};
+ghost use Rattle.jsonpath_parser.specs.tree.Syntax as syntax;
+ghost use Rattle.jsonpath_parser.specs.tree.View.{filter_view, query_view, segment_view};
+ghost use Rattle.jsonpath_parser.specs.declared.errors.JsonPathError.TheVariants.{OutOfMemory};
+ghost use Rattle.jsonpath_rust.specs.documents.Document.{document_of};
+ghost use Rattle.jsonpath_rust.specs.documents.Meaning.{holds};
+ghost use Rattle.jsonpath_rust.specs.documents.Node.{root_node};
+ghost use Rattle.jsonpath_rust.specs.documents.Patterns.{segments_patterns, IsStop};
+ghost use Rattle.jsonpath_rust.specs.documents.inner.Whole.{document_at, tree_of};
+ghost use Rattle.jsonpath_rust.specs.selection.Condition.{filter_query, in_filter, filter_of, segment_filter, condition_view, condition_runner_view, IsConditionRefusal};
+ghost use Rattle.jsonpath_rust.specs.selection.inner.Halting.{IsHalt};
+
+use crate::documents::Queried;
+use crate::documents::halt::Walked;
+use crate::documents::queryable::Queryable;
+use crate::documents::whole::WholeRef;
+use crate::selection::budget::Budget;
+use crate::selection::deciding::decide;
+use crate::selection::prepared::Prepared;
+use jsonpath_base::engine::KeptFinders;
+use jsonpath_parser::errors::{JsonPathError, Parsed};
+use jsonpath_parser::model::{Filter, JpQuery, Segment, Selector};
+use jsonpath_parser::{let_go, parse_json_path_within};
+use std::alloc::Global;
+use std::mem;
+
+/// What stands before a filter in a query.
+const OPENING: &str = "$[?";
+
+/// A logical expression (RFC 9535, 2.3.5) that is asked of a document itself: `@` and `$` both are its root. A query cannot say
+/// that, for `$[?!$.error]` tests the children of the root, and selects nothing in `{}`.
+///
+/// What its patterns are built of stays from one document to the next, as in [`Prepared`].
+#[derive(Drop)]
+pub struct Condition {
+    prepared: Prepared,
+}
+
+impl Condition {
+    /// The condition that is this expression, such as a tree of `jsonpath_build`. It refuses by `OutOfMemory` alone. The cost is linear
+    /// in the expression.
+    pub fn new(alloc: Global, filter: Filter) -> Queried<Self>
+        ensures filter { IfOk result (λ c. condition_view c ≡ filter_view filter) }
+        ensures memory { IfErr result (λ e. e ≡ OutOfMemory) }
+    {
+        let mut segments = Vec::new(alloc);
+        segments.push(Segment::Selector(Selector::Filter(filter)))?;
+        let prepared = Prepared::new(alloc, JpQuery::new(segments))?;
+        Ok(Condition { prepared })
+    }
+
+    /// The condition of a text, which is what may stand between `$[?` and `]` in a query, such as `@.type=='order'&&!@.error`.
+    ///
+    /// # Errors
+    ///
+    /// Those of `parse_json_path_within` of the query `$[?..]` around the text, whose `[` counts as one bracket; the place of
+    /// `PestError` is one in the text. A text whose query is not this one filter, such as `@.a][?@.b`, is refused by `PestError`, at
+    /// the text's end.
+    pub fn read(alloc: Global, text: &str, depth: usize) -> Queried<Self>
+        ensures read { IfOk result (λ c. Derives depth (in_filter text.now) (filter_query (condition_view c))) }
+
+        // Whatever expression the text is, it is the one asked, unless memory ran out.
+        ensures only { (f : syntax.Filter) → Derives depth (in_filter text.now) (filter_query f) → MatchResult result (λ c. condition_view c ≡ f) (λ e. e ≡ OutOfMemory) }
+        ensures refused { IfErr result (IsConditionRefusal depth text.now) }
+    {
+        let whole = query_text(alloc, text)?;
+        let query = match parse_json_path_within(alloc, whole.as_str(), depth) {
+            Ok(query) => query,
+            Err(error) => return Err(refusal(text, error)),
+        };
+        if !is_one_filter(&query) {
+            let_go(query);
+            return Err(JsonPathError::PestError(place_in(text, whole.len())));
+        }
+        let prepared = Prepared::new(alloc, query)?;
+        Ok(Condition { prepared })
+    }
+
+    /// Whether the condition holds of a document.
+    ///
+    /// # Errors
+    ///
+    /// Those of [`selected_nodes`](crate::query::selected_nodes) for the query `$[?..]` of the expression.
+    pub fn holds<T: Queryable>(&self, alloc: Global, value: &T) -> Queried<bool>
+        requires { IsTrue (T.is_whole value.now) }
+        ensures holds { IfOk result (λ b. b ≡ holds (condition_view self.now) (document_of T.tree T.custom value.now) (root_node (T.tree value.now))) }
+        ensures refused { IfErr result (IsStop (filter_query (condition_view self.now)) (document_of T.tree T.custom value.now)) }
+    {
+        self.runner(alloc).holds(alloc, value)
+    }
+
+    /// What asks the condition of one document after another, and keeps what searches for its patterns. Nothing is allocated yet.
+    pub fn runner(&self, alloc: Global) -> ConditionRunner<'_>
+        ensures { condition_runner_view result ≡ condition_view self.now }
+    {
+        ConditionRunner {
+            condition: self,
+            finders: self.prepared.finders(alloc),
+        }
+    }
+}
+
+/// What asks a [`Condition`] of one document after another.
+#[derive(Drop)]
+pub struct ConditionRunner<'c> {
+    condition: &'c Condition,
+    finders: KeptFinders<'c>,
+}
+
+impl<'c> ConditionRunner<'c> {
+    /// Whether the condition holds of a document, as [`Condition::holds`].
+    pub fn holds<T: Queryable>(&mut self, alloc: Global, value: &T) -> Queried<bool>
+        requires { IsTrue (T.is_whole value.now) }
+        ensures holds { IfOk result (λ b. b ≡ holds (condition_runner_view self.old) (document_of T.tree T.custom value.now) (root_node (T.tree value.now))) }
+        ensures same { condition_runner_view self.new ≡ condition_runner_view self.old }
+        ensures refused { IfErr result (IsStop (filter_query (condition_runner_view self.old)) (document_of T.tree T.custom value.now)) }
+    {
+        match self.decided(alloc, Budget::unlimited(), WholeRef { value }) {
+            Ok(held) => Ok(held),
+            Err(halt) => Err(halt.told(alloc)),
+        }
+    }
+
+    /// Whether it holds, for this work. What asks the patterns is lent, and comes back.
+    fn decided<T: Queryable>(
+        &mut self,
+        alloc: Global,
+        budget: Budget,
+        value: WholeRef<'_, T>,
+    ) -> Walked<bool>
+        ensures holds { IfOk result (λ b. b ≡ holds (condition_runner_view self.old) (document_at value.entry) (root_node (tree_of value.entry))) }
+        ensures same { condition_runner_view self.new ≡ condition_runner_view self.old }
+        ensures refused { IfErr result (IsHalt budget.limit (segments_patterns (filter_query (condition_runner_view self.old))) (document_at value.entry)) }
+    {
+        let condition = self.condition;
+        let finders = mem::replace(&mut self.finders, condition.prepared.finders(alloc));
+        let (held, finders) = decide(alloc, condition.prepared.request(finders, budget), value);
+        self.finders = finders;
+        held
+    }
+}
+
+/// The text of the query `$[?..]` around a text.
+fn query_text(alloc: Global, text: &str) -> Parsed<String>
+    ensures text { IfOk result (λ s. string_bytes s ≡ in_filter text.now) }
+    ensures memory { IfErr result (λ e. e ≡ OutOfMemory) }
+{
+    let mut whole = String::from_str(alloc, OPENING)?;
+    whole.push_str(text)?;
+    whole.push_str("]")?;
+    Ok(whole)
+}
+
+/// Whether a query is `$[?..]`.
+fn is_one_filter(query: &JpQuery) -> bool
+    ensures { result ≡ is_some (filter_of (query_view query.now)) }
+{
+    match query.segments.split_first() {
+        None => false,
+        Some((first, rest)) => rest.is_empty() && is_filter(first),
+    }
+}
+
+/// Whether a segment is `[?..]`.
+fn is_filter(segment: &Segment) -> bool
+    ensures { result ≡ is_some (segment_filter (segment_view segment.now)) }
+{
+    match segment {
+        Segment::Selector(selector) => match selector {
+            Selector::Filter(_) => true,
+            Selector::Name(_) => false,
+            Selector::Wildcard => false,
+            Selector::Index(_) => false,
+            Selector::Slice(_, _, _) => false,
+        },
+        Segment::Selectors(_) => false,
+        Segment::Descendant(_) => false,
+    }
+}
+
+/// The refusal of a text, from that of the query text around it.
+fn refusal(text: &str, error: JsonPathError) -> JsonPathError
+    ensures refused { (limit : ℕ) → IsRefusal limit (in_filter text.now) error → IsConditionRefusal limit text.now result }
+    ensures memory { error ≡ OutOfMemory → result ≡ OutOfMemory }
+{
+    match error {
+        JsonPathError::PestError(place) => JsonPathError::PestError(place_in(text, place)),
+        other => other,
+    }
+}
+
+/// The place in a text that a place in the query text around it is.
+fn place_in(text: &str, place: usize) -> usize
+    ensures { IsCharBoundary text.now result }
+{
+    text.floor_char_boundary(place.saturating_sub(OPENING.len()))
+}

@@ -1,0 +1,122 @@
+//! Whether the one filter that a plan is of holds at the root of a document.
+ghost use Rattle.std.specs.Prelude.{◌≡◌, option_map, IfOk, IfErr};
+ghost use Rattle.jsonpath_rust.specs.documents.Meaning.{holds};
+ghost use Rattle.jsonpath_rust.specs.documents.Node.{root_node};
+ghost use Rattle.jsonpath_rust.specs.documents.Patterns.{segments_patterns};
+ghost use Rattle.jsonpath_rust.specs.documents.inner.Whole.{document_at, tree_of};
+ghost use Rattle.jsonpath_rust.specs.selection.Condition.{expression_of, filter_of, filter_query, segment_filter};
+ghost use Rattle.jsonpath_rust.specs.selection.inner.Halting.{IsHalt};
+ghost use Rattle.jsonpath_rust.specs.selection.inner.PlanViews.{Constants, filter_view, segment_view, segments_meant};
+ghost use Rattle.jsonpath_rust.specs.selection.inner.Planned.{plan_view};
+
+use crate::documents::halt::Walked;
+use crate::documents::queryable::Queryable;
+use crate::documents::whole::WholeRef;
+use crate::selection::budget::Budget;
+use crate::selection::cache::Cache;
+use crate::selection::give::Request;
+use crate::selection::plan::{Filter, Plan, Segment, Selector};
+use crate::selection::trail::Trail;
+use crate::selection::walk::Task;
+use jsonpath_base::engine::{Finders, KeptFinders, LentCells, Way};
+use std::alloc::Global;
+
+/// Whether the filter holds. The second result asks the patterns of the plan, and can do so for the next document.
+pub fn decide<'a, 'p, T: Queryable>(
+    alloc: Global,
+    request: Request<'_, 'p>,
+    root: WholeRef<'a, T>,
+) -> (Walked<bool>, KeptFinders<'p>)
+    ensures holds { IfOk result.0 (λ b. b ≡ holds (expression_of (plan_view request.entry.plan.now)) (document_at root.entry) (root_node (tree_of root.entry))) }
+    ensures refused { IfErr result.0 (IsHalt request.entry.budget.limit (segments_patterns (filter_query (expression_of (plan_view request.entry.plan.now)))) (document_at root.entry)) }
+{
+    let Request {
+        plan,
+        finders,
+        budget,
+    } = request;
+    let lent = LentCells::new();
+    let finders = Finders::new(finders, &lent);
+    decide_from_root(alloc, plan, (finders, budget), root)
+}
+
+/// The same, where these ask the patterns, for this work.
+fn decide_from_root<'a: 's, 's, 'p, T: Queryable>(
+    alloc: Global,
+    plan: &'s Plan,
+    means: (Finders<'s, 'p>, Budget),
+    root: WholeRef<'a, T>,
+) -> (Walked<bool>, KeptFinders<'p>)
+    ensures holds { IfOk result.0 (λ b. b ≡ holds (expression_of (plan_view plan.now)) (document_at root.entry) (root_node (tree_of root.entry))) }
+    ensures refused { IfErr result.0 (IsHalt means.entry.1.limit (segments_patterns (filter_query (expression_of (plan_view plan.now)))) (document_at root.entry)) }
+{
+    let (finders, budget) = means;
+    let mut trail = Trail {
+        way: Way::new(alloc),
+        cache: Cache::empty(alloc),
+        finders,
+        budget,
+    };
+    let held = decide_along(alloc, plan, root, &mut trail);
+    let finders = trail.finders;
+    (held, finders.query)
+}
+
+/// The same, along a trail that begins here.
+fn decide_along<'a: 's, 's, T: Queryable>(
+    alloc: Global,
+    plan: &'s Plan,
+    root: WholeRef<'a, T>,
+    trail: &mut Trail<'a, 's, '_, T>,
+) -> Walked<bool>
+    ensures holds { IfOk result (λ b. b ≡ holds (expression_of (plan_view plan.now)) (document_at root.entry) (root_node (tree_of root.entry))) }
+    ensures refused { IfErr result (IsHalt trail.old.budget.limit (segments_patterns (filter_query (expression_of (plan_view plan.now)))) (document_at root.entry)) }
+{
+    let filter = match only_filter(&plan.segments) {
+        Some(filter) => filter,
+        None => return Ok(false),
+    };
+    let task = Task {
+        alloc,
+        plan,
+        root,
+        limit: trail.budget.limit,
+    };
+    let cache = Cache::new(alloc, plan.constants.len())?;
+    trail.cache = cache;
+    task.work_out_early(trail)?;
+    task.filter_holds(filter, root, trail)
+}
+
+/// The filter that these segments are, if they are one filter alone.
+fn only_filter(segments: &[Segment]) -> Option<&Filter>
+    ensures { (kept : Constants) → option_map (λ f. filter_view kept f.now) result ≡ filter_of (segments_meant kept segments.now) }
+{
+    match segments.split_first() {
+        None => None,
+        Some((first, rest)) => {
+            if rest.is_empty() {
+                segment_filter(first)
+            } else {
+                None
+            }
+        }
+    }
+}
+
+/// The filter that a segment is, if it is one filter alone.
+fn segment_filter(segment: &Segment) -> Option<&Filter>
+    ensures { (kept : Constants) → option_map (λ f. filter_view kept f.now) result ≡ segment_filter (segment_view kept segment.now) }
+{
+    match segment {
+        Segment::Selector(selector) => match selector {
+            Selector::Filter(filter) => Some(filter),
+            Selector::Name(_) => None,
+            Selector::Wildcard => None,
+            Selector::Index(_) => None,
+            Selector::Slice(_, _, _) => None,
+        },
+        Segment::Selectors(_) => None,
+        Segment::Descendant(_) => None,
+    }
+}

@@ -1,0 +1,272 @@
+//! A prepared query that is asked of one document after another, and may take only so much work for each.
+ghost use Rattle.std.specs.Prelude.{◌≡◌, ◌↔◌, [], map, All, IsTrue, IsFalse, IfOk, IfErr, IfSome, IfNone, string_bytes};
+ghost use Rattle.std.specs.List.{AllZip};
+ghost use Rattle.jsonpath_base.specs.Steps.{location_view};
+ghost use Rattle.jsonpath_rust.specs.documents.Answer.{IsNodeAt, IsPathAt, IsValueAt, shown, paths_of};
+ghost use Rattle.jsonpath_rust.specs.documents.Document.{document_of};
+ghost use Rattle.jsonpath_rust.specs.documents.Meaning.{selected, nodelist};
+ghost use Rattle.jsonpath_rust.specs.documents.Patterns.{IsStop};
+ghost use Rattle.jsonpath_rust.specs.documents.inner.Whole.{document_at};
+ghost use Rattle.jsonpath_rust.specs.selection.Only.{IsOnly, sole_value, node_count};
+ghost use Rattle.jsonpath_rust.specs.selection.Prepared.{runner_view, limited_view, IsFirstNode};
+ghost use Rattle.jsonpath_rust.specs.selection.Within.{IfDone};
+ghost use Rattle.jsonpath_rust.specs.selection.inner.Sinks.{IsRemovalOf, give, seen};
+
+use crate::documents::halt::Halt;
+use crate::documents::nodes::{WholeNodes, WholeValues};
+use crate::documents::queryable::Queryable;
+use crate::documents::whole::WholeRef;
+use crate::documents::{Queried, QueryPath, QueryRef};
+use crate::selection::budget::Budget;
+use crate::selection::only::Only;
+use crate::selection::runner::Runner;
+use crate::selection::sink::{Only as OnlyKept, Sink};
+use crate::selection::within::Within;
+use jsonpath_base::{Removal, Step};
+use std::alloc::Global;
+
+/// A [`Runner`] each of whose calls may take so many units of work: for queries of strangers.
+///
+/// Each call returns and refuses as that of `Runner` does, under [`Within::Done`], or returns [`Within::Spent`] where so many
+/// units are not enough. These are spent:
+///
+/// - one for each child that a `*`, a slice or `..` looks at, and two for each that a filter is tried on;
+/// - one for each selector of several in one segment, and for each operand of `&&` and `||`;
+/// - one for each value in the smaller side of a comparison, and for each 16 bytes of its texts and names;
+/// - one for each byte of a text, or of a pattern of the document, that `length`, `match` or `search` reads, and for each member
+///   of an object that `length` counts;
+/// - for a pattern that is not kept 256, and one for each of its characters where counted repetitions are written out, but
+///   2^20 at most: what is larger `regex` refuses. A class such as `\w` or `\p{L}` counts as 700, one such as `\d` as 71, and a
+///   pattern with the flag `x` as the largest;
+/// - for each byte of a text that is searched, one for each eight of these characters, where a class such as `\w` has eight;
+/// - one for each value that a custom function is given, and the product of their sizes, counted so; `count` and `value` spend
+///   what their walks spend;
+/// - one for each 64 bytes of the names in a path or a location that is returned; none for those in a location that is deleted;
+/// - where three queries from the root stand in one another, one for each value of the document that is looked at to see how
+///   deep it is.
+///
+/// Names and indexes cost nothing by themselves, so a unit takes longer where the query is longer. How long it takes is
+/// measured, and no clause says it. What is spent at once is counted first, as far as what is left; so a call that returns
+/// `Spent` may have listed the members of one object, and looked at a few times as many values more as it had units.
+#[derive(Drop)]
+pub struct Limited<'p> {
+    runner: Runner<'p>,
+    units: usize,
+}
+
+impl<'p> Limited<'p> {
+    /// This runner, with a limit for each call.
+    pub fn new(runner: Runner<'p>, units: usize) -> Self
+        ensures { limited_view result ≡ runner_view runner.entry }
+    {
+        Limited { runner, units }
+    }
+
+    /// The runner, with no limit.
+    pub fn into_runner(self) -> Runner<'p>
+        ensures { runner_view result ≡ limited_view self.entry }
+    {
+        self.runner
+    }
+
+    /// The same as [`Runner::nodes`].
+    pub fn nodes<'a, T: Queryable>(
+        &mut self,
+        alloc: Global,
+        value: &'a T,
+    ) -> Queried<Within<Vec<QueryRef<'a, T>>>>
+        requires { IsTrue (T.is_whole value.now) }
+        ensures nodes { IfOk result (λ w. IfDone w (λ v. AllZip (IsNodeAt (document_of T.tree T.custom value.now))
+            (selected (limited_view self.old) (document_of T.tree T.custom value.now)) (shown T.tree v.items))) }
+        ensures whole { IfOk result (λ w. IfDone w (λ v. All (λ r. IsTrue (T.is_whole r.val.now)) v.items)) }
+        ensures same { limited_view self.new ≡ limited_view self.old }
+        ensures refused { IfErr result (IsStop (limited_view self.old) (document_of T.tree T.custom value.now)) }
+    {
+        let begun = Sink::Nodes(WholeNodes::new(alloc));
+        let within = self.give(alloc, WholeRef { value }, begun)?;
+        match within {
+            Within::Done(sink) => Ok(Within::Done(sink.into_nodes(alloc))),
+            Within::Spent => Ok(Within::Spent),
+        }
+    }
+
+    /// The same as [`Runner::values`].
+    pub fn values<'a, T: Queryable>(
+        &mut self,
+        alloc: Global,
+        value: &'a T,
+    ) -> Queried<Within<Vec<&'a T>>>
+        requires { IsTrue (T.is_whole value.now) }
+        ensures values { IfOk result (λ w. IfDone w (λ v. AllZip (IsValueAt (document_of T.tree T.custom value.now))
+            (selected (limited_view self.old) (document_of T.tree T.custom value.now)) (map (λ x. T.tree x.now) v.items))) }
+        ensures whole { IfOk result (λ w. IfDone w (λ v. All (λ x. IsTrue (T.is_whole x.now)) v.items)) }
+        ensures same { limited_view self.new ≡ limited_view self.old }
+        ensures refused { IfErr result (IsStop (limited_view self.old) (document_of T.tree T.custom value.now)) }
+    {
+        let begun = Sink::Values(WholeValues::new(alloc));
+        let within = self.give(alloc, WholeRef { value }, begun)?;
+        match within {
+            Within::Done(sink) => Ok(Within::Done(sink.into_values(alloc))),
+            Within::Spent => Ok(Within::Spent),
+        }
+    }
+
+    /// The same as [`Runner::paths`].
+    pub fn paths<T: Queryable>(
+        &mut self,
+        alloc: Global,
+        value: &T,
+    ) -> Queried<Within<Vec<QueryPath>>>
+        requires { IsTrue (T.is_whole value.now) }
+        ensures paths { IfOk result (λ w. IfDone w (λ v. AllZip (IsPathAt (document_of T.tree T.custom value.now))
+            (selected (limited_view self.old) (document_of T.tree T.custom value.now)) (paths_of v.items))) }
+        ensures same { limited_view self.new ≡ limited_view self.old }
+        ensures refused { IfErr result (IsStop (limited_view self.old) (document_of T.tree T.custom value.now)) }
+    {
+        let begun = Sink::Paths(Vec::new(alloc));
+        let within = self.give(alloc, WholeRef { value }, begun)?;
+        match within {
+            Within::Done(sink) => Ok(Within::Done(sink.into_paths(alloc))),
+            Within::Spent => Ok(Within::Spent),
+        }
+    }
+
+    /// The same as [`Runner::locations`].
+    pub fn locations<T: Queryable>(
+        &mut self,
+        alloc: Global,
+        value: &T,
+    ) -> Queried<Within<Vec<Vec<Step>>>>
+        requires { IsTrue (T.is_whole value.now) }
+        ensures locations { IfOk result (λ w. IfDone w (λ v. map (λ l. location_view l.items) v.items ≡ selected (limited_view self.old) (document_of T.tree T.custom value.now))) }
+        ensures same { limited_view self.new ≡ limited_view self.old }
+        ensures refused { IfErr result (IsStop (limited_view self.old) (document_of T.tree T.custom value.now)) }
+    {
+        let begun = Sink::Locations(Vec::new(alloc));
+        let within = self.give(alloc, WholeRef { value }, begun)?;
+        match within {
+            Within::Done(sink) => Ok(Within::Done(sink.into_locations(alloc))),
+            Within::Spent => Ok(Within::Spent),
+        }
+    }
+
+    /// The same as [`Runner::first`].
+    pub fn first<'a, T: Queryable>(
+        &mut self,
+        alloc: Global,
+        value: &'a T,
+    ) -> Queried<Within<Option<QueryRef<'a, T>>>>
+        requires { IsTrue (T.is_whole value.now) }
+        ensures first { IfOk result (λ w. IfDone w (λ o. IfSome o (λ r. IsFirstNode (limited_view self.old) (document_of T.tree T.custom value.now) (string_bytes r.path, T.tree r.val.now)))) }
+        ensures none { IfOk result (λ w. IfDone w (λ o. IfNone o (selected (limited_view self.old) (document_of T.tree T.custom value.now) ≡ []))) }
+        ensures whole { IfOk result (λ w. IfDone w (λ o. IfSome o (λ r. IsTrue (T.is_whole r.val.now)))) }
+        ensures same { limited_view self.new ≡ limited_view self.old }
+        ensures refused { IfErr result (IsStop (limited_view self.old) (document_of T.tree T.custom value.now)) }
+    {
+        let begun = Sink::First(None);
+        let within = self.give(alloc, WholeRef { value }, begun)?;
+        match within {
+            Within::Done(sink) => Ok(Within::Done(sink.into_first())),
+            Within::Spent => Ok(Within::Spent),
+        }
+    }
+
+    /// The same as [`Runner::only`].
+    pub fn only<'a, T: Queryable>(
+        &mut self,
+        alloc: Global,
+        value: &'a T,
+    ) -> Queried<Within<Only<'a, T>>>
+        requires { IsTrue (T.is_whole value.now) }
+        ensures only { IfOk result (λ w. IfDone w (λ o. IsOnly T.tree (limited_view self.old) (document_of T.tree T.custom value.now) o)) }
+        ensures whole { IfOk result (λ w. IfDone w (λ o. IfSome (sole_value o) (λ x. IsTrue (T.is_whole x)))) }
+        ensures same { limited_view self.new ≡ limited_view self.old }
+        ensures refused { IfErr result (IsStop (limited_view self.old) (document_of T.tree T.custom value.now)) }
+    {
+        let begun = Sink::Only(OnlyKept::Nothing);
+        let within = self.give(alloc, WholeRef { value }, begun)?;
+        match within {
+            Within::Done(sink) => Ok(Within::Done(sink.into_only())),
+            Within::Spent => Ok(Within::Spent),
+        }
+    }
+
+    /// The same as [`Runner::count`].
+    pub fn count<T: Queryable>(&mut self, alloc: Global, value: &T) -> Queried<Within<usize>>
+        requires { IsTrue (T.is_whole value.now) }
+        ensures count { IfOk result (λ w. IfDone w (λ n. n ≡ node_count (limited_view self.old) (document_of T.tree T.custom value.now))) }
+        ensures same { limited_view self.new ≡ limited_view self.old }
+        ensures refused { IfErr result (IsStop (limited_view self.old) (document_of T.tree T.custom value.now)) }
+    {
+        let begun = Sink::Count(0);
+        let within = self.give(alloc, WholeRef { value }, begun)?;
+        match within {
+            Within::Done(sink) => Ok(Within::Done(sink.into_count())),
+            Within::Spent => Ok(Within::Spent),
+        }
+    }
+
+    /// The same as [`Runner::has_node`].
+    pub fn has_node<T: Queryable>(&mut self, alloc: Global, value: &T) -> Queried<Within<bool>>
+        requires { IsTrue (T.is_whole value.now) }
+        ensures none { IfOk result (λ w. IfDone w (λ b. IsFalse b ↔ (selected (limited_view self.old) (document_of T.tree T.custom value.now) ≡ []))) }
+        ensures same { limited_view self.new ≡ limited_view self.old }
+        ensures refused { IfErr result (IsStop (limited_view self.old) (document_of T.tree T.custom value.now)) }
+    {
+        let begun = Sink::Any(false);
+        let within = self.give(alloc, WholeRef { value }, begun)?;
+        match within {
+            Within::Done(sink) => Ok(Within::Done(sink.into_any())),
+            Within::Spent => Ok(Within::Spent),
+        }
+    }
+
+    /// The locations of the nodes, to be removed.
+    pub(crate) fn removal<T: Queryable>(
+        &mut self,
+        alloc: Global,
+        value: &T,
+    ) -> Queried<Within<Removal>>
+        requires { IsTrue (T.is_whole value.now) }
+        ensures removal { IfOk result (λ w. IfDone w (λ r. IsRemovalOf r (selected (limited_view self.old) (document_of T.tree T.custom value.now)))) }
+        ensures same { limited_view self.new ≡ limited_view self.old }
+        ensures refused { IfErr result (IsStop (limited_view self.old) (document_of T.tree T.custom value.now)) }
+    {
+        let begun = Sink::Removal(Box::new(alloc, Removal::new(alloc))?);
+        let within = self.give(alloc, WholeRef { value }, begun)?;
+        match within {
+            Within::Done(sink) => match sink.into_removal() {
+                Some(removal) => Ok(Within::Done(Box::into_inner(removal))),
+                None => Ok(Within::Done(Removal::new(alloc))),
+            },
+            Within::Spent => Ok(Within::Spent),
+        }
+    }
+
+    /// The sink, given the nodes, where the units are enough.
+    fn give<'a, T: Queryable>(
+        &mut self,
+        alloc: Global,
+        value: WholeRef<'a, T>,
+        mut sink: Sink<'a, T>,
+    ) -> Queried<Within<Sink<'a, T>>>
+        ensures gave { IfOk result (λ w. IfDone w (λ s. seen s ≡ give (seen sink.entry) (nodelist (limited_view self.old) (document_at value.entry)))) }
+        ensures same { limited_view self.new ≡ limited_view self.old }
+        ensures refused { IfErr result (IsStop (limited_view self.old) (document_at value.entry)) }
+    {
+        let given = self
+            .runner
+            .give(alloc, Budget::of(self.units), value, &mut sink);
+        match given {
+            Ok(_goes_on) => Ok(Within::Done(sink)),
+            Err(halt) => {
+                drop(sink);
+                match halt {
+                    Halt::Spent => Ok(Within::Spent),
+                    Halt::Memory => Err(Halt::Memory.told(alloc)),
+                    Halt::Pattern => Err(Halt::Pattern.told(alloc)),
+                }
+            }
+        }
+    }
+}
