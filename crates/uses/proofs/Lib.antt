@@ -2,4 +2,3 @@ pub mod Differing
 pub mod Firsts
 pub mod Telling
 pub mod Making
-pub mod Nulling

@@ -1,13 +1,14 @@
--- What is left of a document in which values are replaced by null.
-use Rattle.std.specs.Prelude.{◌≡◌, List, [], ◌∷◌, All, IfSome}
+-- What is left of a document in which values are masked.
+use Rattle.std.specs.Prelude.{◌≡◌, List, IsTrue}
 use Rattle.std.specs.List.{Contains, flat_map}
 use Rattle.jsonpath_rust.specs.Location.{Location, Begins}
 use Rattle.jsonpath_rust.specs.View.{query_view}
 use Rattle.jsonpath_rust.specs.JsonPathError.{JsonPathError}
+use Rattle.jsonpath_rust.specs.JsonPathError.TheVariants.{OutOfMemory}
 use Rattle.jsonpath_rust.specs.JpQuery.{JpQuery}
-use Rattle.jsonpath_rust.specs.Places.{at}
-use Rattle.jsonpath_rust.specs.Put.{put}
+use Rattle.jsonpath_rust.specs.Overwritten.{overwritten}
 use Rattle.jsonpath_rust.specs.Tree.{Tree, null}
+use Rattle.jsonpath_rust.specs.Without.{is_among}
 use Rattle.jsonpath_rust.specs.Document.{Document}
 use Rattle.jsonpath_rust.specs.Meaning.{selected}
 use Rattle.jsonpath_rust.specs.Patterns.{IsStop}
@@ -16,21 +17,20 @@ use Rattle.jsonpath_rust.specs.Patterns.{IsStop}
 abbrev pub all_selected : List JpQuery → Document → List Location
 all_selected queries doc = flat_map (λ q. selected (query_view q) doc) queries
 
--- the tree with null put at each of the locations, one after the other
-abbrev pub nulled : List Location → Tree → Tree
-nulled [] t = t
-nulled (l ∷ ls) t = nulled ls (put l null t)
-
--- what is at the location is null, if something is
-abbrev pub IsHidden : Tree → Location → Type 0
-IsHidden t l = IfSome (at l t) (λ u. u ≡ null)
+-- The two are one tree but for what stands at the locations: with null there they are the same.
+abbrev pub AgreeBut : List Location → Tree → Tree → Type 0
+AgreeBut ls t other = overwritten (is_among ls) null t ≡ overwritten (is_among ls) null other
 
 -- The location lies neither at one of these, nor inside one, nor above one.
 abbrev pub IsApart : List Location → Location → Type 0
-IsApart ls m = All (λ l. (Begins l m → ⊥) × (Begins m l → ⊥)) ls
+IsApart ls m = (l : Location) → IsTrue (is_among ls l) → (Begins l m → ⊥) × (Begins m l → ⊥)
 
 -- one of the queries is refused so
 pub record IsStopOf (queries : List JpQuery) (doc : Document) (e : JsonPathError) : Type 0 where
   pub query : JpQuery
   pub among : Contains queries query
   pub stop : IsStop (query_view query) doc e
+
+-- memory ran out, or one of the queries is refused so
+abbrev pub IsRefusalOf : List JpQuery → Document → JsonPathError → Type 0
+IsRefusalOf queries doc e = (e ≡ OutOfMemory → ⊥) → IsStopOf queries doc e

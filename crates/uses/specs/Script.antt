@@ -1,11 +1,11 @@
 -- What a list of edits makes of a document.
-use Rattle.std.specs.Prelude.{◌≡◌, ℕ, List, [], ◌∷◌, Bool, true, false, Some, IsTrue, nat_lt, string_bytes, take, slice_get}
+use Rattle.std.specs.Prelude.{◌≡◌, ℕ, List, [], ◌∷◌, Bool, true, false, Some, nat_lt, string_bytes, take, slice_get}
 use Rattle.jsonpath_rust.specs.parser.declared.parse.TheConstants.{MAX_NESTING_DEPTH}
 use Rattle.jsonpath_rust.specs.JsonPathError.{JsonPathError}
 use Rattle.jsonpath_rust.specs.JsonPathError.TheVariants.{OutOfMemory}
 use Rattle.jsonpath_rust.specs.SetFunctions.{set_function}
 use Rattle.jsonpath_rust.specs.Tree.{Tree}
-use Rattle.jsonpath_rust.specs.base.Values.{value_tree, value_is_whole}
+use Rattle.jsonpath_rust.specs.base.Values.{value_tree}
 use Rattle.jsonpath_rust.specs.Document.{Document}
 use Rattle.jsonpath_rust.specs.Patterns.{IsQueryRefusal}
 use Rattle.jsonpath_rust.specs.Referring.{IsReplaced}
@@ -14,22 +14,17 @@ use Rattle.uses.specs.declared.script.Edit.{Edit}
 use Rattle.uses.specs.declared.script.Edit.TheVariants.{Delete, Replace}
 
 -- the document that a tree of a `Value` is
-abbrev pub value_document : Tree → Document
-value_document t = record { root = t; custom = set_function }
-
--- the value that an edit brings is whole
-abbrev pub IsWholeEdit : Edit → Type 0
-IsWholeEdit (Delete path) = Unit {0}
-IsWholeEdit (Replace path new) = IsTrue (value_is_whole new)
+abbrev pub tree_document : Tree → Document
+tree_document t = record { root = t; custom = set_function }
 
 -- whether an edit found something to remove or to replace in a tree, and the tree that it leaves
 abbrev pub Leaves : Edit → Tree → Bool → Tree → Type 0
-Leaves (Delete path) t found u = (n : ℕ) × Deletes MAX_NESTING_DEPTH (string_bytes path) (value_document t) u n × (found ≡ nat_lt 0 n)
-Leaves (Replace path new) t found u = IsReplaced (string_bytes path) (value_document t) (value_tree new) found u
+Leaves (Delete path) t found u = (n : ℕ) × Deletes MAX_NESTING_DEPTH (string_bytes path) (tree_document t) u n × (found ≡ nat_lt 0 n)
+Leaves (Replace path new) t found u = IsReplaced (string_bytes path) (tree_document t) (value_tree new.value) found u
 
 -- why an edit of a tree is refused
 abbrev pub IsEditRefusal : Edit → Tree → JsonPathError → Type 0
-IsEditRefusal (Delete path) t e = IsQueryRefusal MAX_NESTING_DEPTH (string_bytes path) (value_document t) e
+IsEditRefusal (Delete path) t e = IsQueryRefusal MAX_NESTING_DEPTH (string_bytes path) (tree_document t) e
 IsEditRefusal (Replace path new) t e = e ≡ OutOfMemory
 
 -- Each edit in turn, made of what those before it leave, finds something; the last leaves this tree.

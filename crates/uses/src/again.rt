@@ -1,16 +1,15 @@
 //! What was found is asked again: a node by its printed path, and a part of a document as a document of its own.
-ghost use Rattle.std.specs.Prelude.{IsTrue, IfOk, IfErr, map, option_map};
-ghost use Rattle.jsonpath_rust.specs.Document.{document_of};
+ghost use Rattle.std.specs.Prelude.{IfOk, map, option_map};
+ghost use Rattle.jsonpath_rust.specs.Document.{value_document};
 ghost use Rattle.jsonpath_rust.specs.Places as places;
-ghost use Rattle.jsonpath_rust.specs.SetFunctions.{set_function};
 ghost use Rattle.jsonpath_rust.specs.View.{query_view};
 ghost use Rattle.jsonpath_rust.specs.base.Steps.{location_view};
-ghost use Rattle.jsonpath_rust.specs.base.Values.{value_tree, value_is_whole};
+ghost use Rattle.jsonpath_rust.specs.base.Values.{value_tree};
 ghost use Rattle.uses.specs.Again.{AreValuesIn, IsAtFirst};
 
 use crate::first::first_path;
+use jsonpath_rust::Whole;
 use jsonpath_rust::parser::model::JpQuery;
-use jsonpath_rust::query::queryable::Queryable;
 use jsonpath_rust::query::{Queried, Step, at, selected_values};
 use serde_json::Value;
 use std::alloc::Global;
@@ -25,12 +24,11 @@ use std::alloc::Global;
 pub fn first_again<'a>(
     alloc: Global,
     query: &JpQuery,
-    document: &'a Value,
+    document: &'a Whole<Value>,
 ) -> Queried<Option<&'a Value>>
-    requires { IsTrue (value_is_whole document.now) }
-    ensures again { IfOk result (λ o. IsAtFirst (document_of value_tree set_function document.now) (query_view query.now) (option_map (λ v. value_tree v.now) o)) }
+    ensures again { IfOk result (λ o. IsAtFirst (value_document document.now.value) (query_view query.now) (option_map (λ v. value_tree v.now) o)) }
 {
-    match first_path(alloc, query, document)? {
+    match first_path(alloc, query, document.as_ref())? {
         Some(path) => document.reference(alloc, path.as_str()),
         None => Ok(None),
     }
@@ -47,13 +45,12 @@ pub fn first_again<'a>(
 pub fn values_below<'a>(
     alloc: Global,
     query: &JpQuery,
-    document: &'a Value,
+    document: &'a Whole<Value>,
     steps: &[Step],
 ) -> Queried<Vec<&'a Value>>
-    requires { IsTrue (value_is_whole document.now) }
-    ensures values { IfOk result (λ v. AreValuesIn (query_view query.now) (places.at (location_view steps.now) (value_tree document.now)) (map (λ x. value_tree x.now) v.items)) }
+    ensures values { IfOk result (λ v. AreValuesIn (query_view query.now) (places.at (location_view steps.now) (value_tree document.now.value)) (map (λ x. value_tree x.now) v.items)) }
 {
-    match at(document, steps) {
+    match at(document.get(), steps) {
         Some(part) => selected_values(alloc, query, part),
         None => Ok(Vec::new(alloc)),
     }

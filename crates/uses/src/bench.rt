@@ -2,7 +2,8 @@
 //!
 //! - `counts BYTES`: how many nodes each query selects.
 //! - `time BYTES`: nodes selected, nodes of the bookstore, nanoseconds for each of these for values alone and with paths, query.
-//! - `route COUNT`: nanoseconds for each message that all of a table is asked of, by runners, prepared and by `js_path_process`.
+//! - `route COUNT`: nanoseconds for each message that all of a table is asked of, by runners that stay, by runners made for it and
+//!   by `js_path_process`.
 //! - `calls COUNT`: nanoseconds for each call on a tiny document, by text and by tree, query.
 //! - `delete BYTES`: locations deleted, nanoseconds for each of these, query.
 //! - `units COUNT`: whether so many units of work are enough for the query that is the first line of standard input on the document

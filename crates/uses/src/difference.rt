@@ -6,8 +6,8 @@ ghost use Rattle.jsonpath_rust.specs.Patterns.{IsStop};
 ghost use Rattle.uses.specs.Difference.{values_of, AreSame, IsFirstDifference};
 
 use jsonpath_rust::parser::model::JpQuery;
-use jsonpath_rust::query::queryable::Queryable;
 use jsonpath_rust::query::{Queried, selected_values};
+use jsonpath_rust::{Queryable, WholeRef};
 use std::alloc::Global;
 
 /// Which of two lists of values ends before an index.
@@ -38,19 +38,17 @@ pub struct Difference {
 pub fn difference_of<T: Queryable>(
     alloc: Global,
     query: &JpQuery,
-    document: &T,
+    document: WholeRef<'_, T>,
     other_query: &JpQuery,
-    other: &T,
+    other: WholeRef<'_, T>,
 ) -> Queried<Option<Difference>>
-    requires whole { IsTrue (T.is_whole document.now) }
-    requires other_whole { IsTrue (T.is_whole other.now) }
-    ensures same { IfOk result (λ o. IfNone o (AreSame (values_of query.now (document_of T.tree T.custom document.now)) (values_of other_query.now (document_of T.tree T.custom other.now)))) }
-    ensures different { IfOk result (λ o. IfSome o (λ d. IsFirstDifference d (values_of query.now (document_of T.tree T.custom document.now)) (values_of other_query.now (document_of T.tree T.custom other.now)))) }
-    ensures only { AreSame (values_of query.now (document_of T.tree T.custom document.now)) (values_of other_query.now (document_of T.tree T.custom other.now)) → IfOk result (λ o. o ≡ None) }
-    ensures refused { IfErr result (λ e. IsStop (query_view query.now) (document_of T.tree T.custom document.now) e ⊎ IsStop (query_view other_query.now) (document_of T.tree T.custom other.now) e) }
+    ensures same { IfOk result (λ o. IfNone o (AreSame (values_of query.now (document_of T.tree T.custom document.entry.value.now)) (values_of other_query.now (document_of T.tree T.custom other.entry.value.now)))) }
+    ensures different { IfOk result (λ o. IfSome o (λ d. IsFirstDifference d (values_of query.now (document_of T.tree T.custom document.entry.value.now)) (values_of other_query.now (document_of T.tree T.custom other.entry.value.now)))) }
+    ensures only { AreSame (values_of query.now (document_of T.tree T.custom document.entry.value.now)) (values_of other_query.now (document_of T.tree T.custom other.entry.value.now)) → IfOk result (λ o. o ≡ None) }
+    ensures refused { IfErr result (λ e. IsStop (query_view query.now) (document_of T.tree T.custom document.entry.value.now) e ⊎ IsStop (query_view other_query.now) (document_of T.tree T.custom other.entry.value.now) e) }
 {
-    let values = selected_values(alloc, query, document)?;
-    let others = selected_values(alloc, other_query, other)?;
+    let values = selected_values(alloc, query, document.get())?;
+    let others = selected_values(alloc, other_query, other.get())?;
     Ok(first_difference(&values, &others))
 }
 

@@ -1,13 +1,13 @@
 //! The first node that a query selects.
-ghost use Rattle.std.specs.Prelude.{IsTrue, IfOk, IfErr, IfSome, IfNone, string_bytes};
+ghost use Rattle.std.specs.Prelude.{IfOk, IfErr, IfSome, IfNone, string_bytes};
 ghost use Rattle.jsonpath_rust.specs.View.{query_view};
 ghost use Rattle.jsonpath_rust.specs.Document.{document_of};
 ghost use Rattle.jsonpath_rust.specs.Patterns.{IsStop};
 ghost use Rattle.uses.specs.First.{IsSilent, IsFirstPath};
 
 use jsonpath_rust::parser::model::JpQuery;
-use jsonpath_rust::query::queryable::Queryable;
 use jsonpath_rust::query::{Queried, QueryPath, selected_nodes};
+use jsonpath_rust::{Queryable, WholeRef};
 use std::alloc::Global;
 
 /// The Normalized Path of the first node that a query selects in a document, or None where it selects none.
@@ -16,14 +16,13 @@ use std::alloc::Global;
 pub fn first_path<T: Queryable>(
     alloc: Global,
     query: &JpQuery,
-    document: &T,
+    document: WholeRef<'_, T>,
 ) -> Queried<Option<QueryPath>>
-    requires { IsTrue (T.is_whole document.now) }
-    ensures found { IfOk result (λ o. IfSome o (λ path. IsFirstPath (document_of T.tree T.custom document.now) (string_bytes path) (query_view query.now))) }
-    ensures silent { IfOk result (λ o. IfNone o (IsSilent (document_of T.tree T.custom document.now) (query_view query.now))) }
-    ensures refused { IfErr result (IsStop (query_view query.now) (document_of T.tree T.custom document.now)) }
+    ensures found { IfOk result (λ o. IfSome o (λ path. IsFirstPath (document_of T.tree T.custom document.entry.value.now) (string_bytes path) (query_view query.now))) }
+    ensures silent { IfOk result (λ o. IfNone o (IsSilent (document_of T.tree T.custom document.entry.value.now) (query_view query.now))) }
+    ensures refused { IfErr result (IsStop (query_view query.now) (document_of T.tree T.custom document.entry.value.now)) }
 {
-    let nodes = selected_nodes(alloc, query, document)?;
+    let nodes = selected_nodes(alloc, query, document.get())?;
     match nodes.into_iter().next() {
         Some(node) => Ok(Some(node.path)),
         None => Ok(None),

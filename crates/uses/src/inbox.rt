@@ -1,12 +1,12 @@
 //! An inbox: in which documents a query selects something.
-ghost use Rattle.std.specs.Prelude.{All, IsTrue, IfOk};
+ghost use Rattle.std.specs.Prelude.{IfOk};
 ghost use Rattle.std.specs.List.{AllZip};
 ghost use Rattle.jsonpath_rust.specs.Document.{document_of};
 ghost use Rattle.jsonpath_rust.specs.Prepared.{prepared_view};
 ghost use Rattle.uses.specs.Inbox.{TellsWhether};
 
-use jsonpath_rust::query::queryable::Queryable;
 use jsonpath_rust::query::{Prepared, Queried};
+use jsonpath_rust::{Queryable, Whole};
 use std::alloc::Global;
 
 /// For each document, in order, whether the query selects something in it.
@@ -19,15 +19,14 @@ use std::alloc::Global;
 pub fn matching<T: Queryable>(
     alloc: Global,
     query: &Prepared,
-    documents: &[T],
+    documents: &[Whole<T>],
 ) -> Queried<Vec<bool>>
-    requires { All (λ x. IsTrue (T.is_whole x)) documents.now }
-    ensures { IfOk result (λ v. AllZip (λ x told. TellsWhether (prepared_view query.now) (document_of T.tree T.custom x) told) documents.now v.items) }
+    ensures { IfOk result (λ v. AllZip (λ w told. TellsWhether (prepared_view query.now) (document_of T.tree T.custom w.value) told) documents.now v.items) }
 {
     let mut runner = query.runner(alloc);
     let mut told = Vec::new(alloc);
     for document in documents {
-        let found = runner.has_node(alloc, document)?;
+        let found = runner.has_node(alloc, document.get())?;
         told.push(found)?;
     }
     Ok(told)

@@ -1,13 +1,13 @@
 //! A policy: queries that are to select nothing in a document.
-ghost use Rattle.std.specs.Prelude.{All, IsTrue, IfOk, IfErr, IfSome, IfNone, map, string_bytes};
+ghost use Rattle.std.specs.Prelude.{All, IfOk, IfErr, IfSome, IfNone, map, string_bytes};
 ghost use Rattle.jsonpath_rust.specs.View.{query_view};
 ghost use Rattle.jsonpath_rust.specs.Document.{document_of};
 ghost use Rattle.uses.specs.First.{IsSilent, IsFirst, IsFirstPath, IsStopped};
 
 use crate::first::first_path;
 use jsonpath_rust::parser::model::JpQuery;
-use jsonpath_rust::query::queryable::Queryable;
 use jsonpath_rust::query::{Queried, QueryPath};
+use jsonpath_rust::{Queryable, WholeRef};
 use std::alloc::Global;
 
 /// What a document has that it must not have.
@@ -31,13 +31,12 @@ pub struct Violation {
 pub fn first_violation<T: Queryable>(
     alloc: Global,
     policy: &[JpQuery],
-    document: &T,
+    document: WholeRef<'_, T>,
 ) -> Queried<Option<Violation>>
-    requires { IsTrue (T.is_whole document.now) }
-    ensures kept { IfOk result (λ o. IfNone o (All (IsSilent (document_of T.tree T.custom document.now)) (map query_view policy.now))) }
-    ensures broken { IfOk result (λ o. IfSome o (λ v. IsFirst (map query_view policy.now) (document_of T.tree T.custom document.now) v.rule
-        (IsFirstPath (document_of T.tree T.custom document.now) (string_bytes v.path)))) }
-    ensures refused { IfErr result (IsStopped (map query_view policy.now) (document_of T.tree T.custom document.now)) }
+    ensures kept { IfOk result (λ o. IfNone o (All (IsSilent (document_of T.tree T.custom document.entry.value.now)) (map query_view policy.now))) }
+    ensures broken { IfOk result (λ o. IfSome o (λ v. IsFirst (map query_view policy.now) (document_of T.tree T.custom document.entry.value.now) v.rule
+        (IsFirstPath (document_of T.tree T.custom document.entry.value.now) (string_bytes v.path)))) }
+    ensures refused { IfErr result (IsStopped (map query_view policy.now) (document_of T.tree T.custom document.entry.value.now)) }
 {
     for (rule, query) in policy.iter().enumerate() {
         match first_path(alloc, query, document)? {

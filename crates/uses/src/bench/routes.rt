@@ -1,9 +1,8 @@
-//! A router's table, asked of each message: by runners, by prepared queries, and by `js_path_process`.
+//! A router's table, asked of each message: by runners that stay, by runners made for it, and by `js_path_process`.
 ghost use Rattle.std.specs.Prelude.{IsTrue};
 ghost use Rattle.jsonpath_rust.specs.base.Values.{value_is_whole};
 
 use crate::bench::timing::refused;
-use jsonpath_rust::parser::parse_json_path;
 use jsonpath_rust::query::queryable::Queryable;
 use jsonpath_rust::query::{Prepared, Queried, QueryRef, Runner, js_path_process};
 use serde_json::Value;
@@ -37,7 +36,7 @@ impl Journeys {
 pub fn prepared(alloc: Global, texts: &[&str]) -> Queried<Vec<Prepared>> {
     let mut table = Vec::new(alloc);
     for text in texts {
-        table.push(Prepared::new(alloc, parse_json_path(alloc, text)?)?)?;
+        table.push(Prepared::read(alloc, text)?)?;
     }
     Ok(table)
 }
@@ -86,7 +85,7 @@ pub fn routed(
     Ok(round)
 }
 
-/// How often a query of the table selects something in a message, by runners, by prepared queries and by `js_path_process`.
+/// How often a query of the table selects something in a message, by runners, by runners made for it and by `js_path_process`.
 pub fn counted(alloc: Global, table: &[Prepared], messages: &[Value]) -> io::Result<usize> {
     let mut runners = runners(alloc, table)?;
     let mut selected = 0usize;
@@ -120,13 +119,13 @@ fn run(alloc: Global, runners: &mut Vec<Runner<'_>>, message: &Value) -> Queried
     Ok(count)
 }
 
-/// The same, by the prepared queries.
+/// The same, by runners made for this message.
 fn found(alloc: Global, table: &[Prepared], message: &Value) -> Queried<usize>
     requires { IsTrue (value_is_whole message.now) }
 {
     let mut count = 0usize;
     for query in table {
-        if query.has_node(alloc, message)? {
+        if query.runner(alloc).has_node(alloc, message)? {
             count = count.saturating_add(1);
         }
     }

@@ -4,7 +4,7 @@ ghost use Rattle.jsonpath_rust.specs.base.Values.{value_is_whole};
 
 use crate::bench::documents::read;
 use crate::bench::timing::refused;
-use jsonpath_rust::query::js_path_limited;
+use jsonpath_rust::query::{Within, js_path_limited};
 use serde_json::Value;
 use std::io;
 use std::io::ErrorKind;
@@ -36,5 +36,9 @@ fn one_call(
     let start = Instant::now(rt)?;
     let given = js_path_limited(rt.alloc(), query, units, document).map_err(refused)?;
     let taken = start.elapsed(rt)?;
-    Ok((given.is_some(), taken))
+    let enough = match given {
+        Within::Done(_nodes) => true,
+        Within::Spent => false,
+    };
+    Ok((enough, taken))
 }

@@ -1,13 +1,10 @@
 //! Rows on what is asked again: `again`, a query, and `document`; with `answer`, the value of its first node, or null where it
 //! selects none. With a member `below`, a list of names and indexes, the query is asked of the part there, and `answer` is the
 //! list of values. Each may be `refused`.
-ghost use Rattle.std.specs.Prelude.{IsTrue};
-ghost use Rattle.jsonpath_rust.specs.base.Values.{value_is_whole};
-
 use crate::again::{first_again, values_below};
-use crate::rows::wanted::{Wanted, refuses, wanted_of};
+use crate::rows::wanted::{Wanted, refuses, wanted_of, whole_copy};
+use jsonpath_rust::Whole;
 use jsonpath_rust::parser::{let_go, parse_json_path};
-use jsonpath_rust::query::queryable::Queryable;
 use jsonpath_rust::query::{Queried, Step};
 use rows_common::Memory;
 use rows_common::members::{has_only, list_at, size, string_at};
@@ -19,37 +16,44 @@ pub fn holds(memory: &Memory, row: &Value) -> bool {
     match (string_at(row, "again"), row.get("document"), wanted_of(row)) {
         (Some(query), Some(document), Some(wanted)) => {
             has_only(row, &["again", "document", "below", "answer", "refused"])
-                && match list_at(row, "below") {
-                    Some(steps) => is_below(memory, query, document, steps, wanted),
-                    None => is_first(memory, query, document, wanted),
+                && match whole_copy(memory, document) {
+                    Some(document) => asks(memory, query, &document, list_at(row, "below"), wanted),
+                    None => matches!(wanted, Wanted::NoCall),
                 }
         }
         _ => false,
     }
 }
 
+/// Whether what is asked again, in the part at these steps where there are any, is as it is wanted.
+fn asks(
+    memory: &Memory,
+    query: &str,
+    document: &Whole<Value>,
+    below: Option<&[Value]>,
+    wanted: Wanted<'_>,
+) -> bool {
+    match below {
+        Some(steps) => is_below(memory, query, document, steps, wanted),
+        None => is_first(memory, query, document, wanted),
+    }
+}
+
 /// Whether the first node is found again as it is wanted.
-fn is_first(memory: &Memory, query: &str, document: &Value, wanted: Wanted<'_>) -> bool {
+fn is_first(memory: &Memory, query: &str, document: &Whole<Value>, wanted: Wanted<'_>) -> bool {
     match wanted {
-        Wanted::Answer(answer) => {
-            document.is_whole()
-                && match memory.ok(first(memory.alloc, query, document)) {
-                    Some(Some(value)) => *value == *answer,
-                    Some(None) => answer.is_null(),
-                    None => false,
-                }
-        }
-        Wanted::Refused(kind) => {
-            document.is_whole() && refuses(memory, first(memory.alloc, query, document), kind)
-        }
-        Wanted::NoCall => !document.is_whole(),
+        Wanted::Answer(answer) => match memory.ok(first(memory.alloc, query, document)) {
+            Some(Some(value)) => *value == *answer,
+            Some(None) => answer.is_null(),
+            None => false,
+        },
+        Wanted::Refused(kind) => refuses(memory, first(memory.alloc, query, document), kind),
+        Wanted::NoCall => false,
     }
 }
 
 /// The value of the first node of the query that the text spells.
-fn first<'v>(alloc: Global, text: &str, document: &'v Value) -> Queried<Option<&'v Value>>
-    requires { IsTrue (value_is_whole document.now) }
-{
+fn first<'v>(alloc: Global, text: &str, document: &'v Whole<Value>) -> Queried<Option<&'v Value>> {
     let query = parse_json_path(alloc, text)?;
     let value = first_again(alloc, &query, document);
     let_go(query);
@@ -60,23 +64,19 @@ fn first<'v>(alloc: Global, text: &str, document: &'v Value) -> Queried<Option<&
 fn is_below(
     memory: &Memory,
     query: &str,
-    document: &Value,
+    document: &Whole<Value>,
     steps: &[Value],
     wanted: Wanted<'_>,
 ) -> bool {
     match wanted {
-        Wanted::Answer(answer) => {
-            document.is_whole()
-                && match memory.ok(below(memory.alloc, query, document, steps)) {
-                    Some(values) => are(&values, answer),
-                    None => false,
-                }
-        }
+        Wanted::Answer(answer) => match memory.ok(below(memory.alloc, query, document, steps)) {
+            Some(values) => are(&values, answer),
+            None => false,
+        },
         Wanted::Refused(kind) => {
-            document.is_whole()
-                && refuses(memory, below(memory.alloc, query, document, steps), kind)
+            refuses(memory, below(memory.alloc, query, document, steps), kind)
         }
-        Wanted::NoCall => !document.is_whole(),
+        Wanted::NoCall => false,
     }
 }
 
@@ -84,11 +84,9 @@ fn is_below(
 fn below<'v>(
     alloc: Global,
     text: &str,
-    document: &'v Value,
+    document: &'v Whole<Value>,
     steps: &[Value],
-) -> Queried<Vec<&'v Value>>
-    requires { IsTrue (value_is_whole document.now) }
-{
+) -> Queried<Vec<&'v Value>> {
     let steps = steps_of(alloc, steps)?;
     let query = parse_json_path(alloc, text)?;
     let values = values_below(alloc, &query, document, &steps);

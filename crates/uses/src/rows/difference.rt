@@ -1,13 +1,10 @@
 //! Rows on two queries of two documents: `difference`, which is the queries, and `documents`; with `answer`, which is
 //! `{"index": .., "missing": ..}`, or null where both select the same, or with `refused`.
-ghost use Rattle.std.specs.Prelude.{IsTrue};
-ghost use Rattle.jsonpath_rust.specs.base.Values.{value_is_whole};
-
 use crate::difference::{Difference, Missing, difference_of};
 use crate::rows::wanted::{Wanted, refuses, wanted_of};
+use jsonpath_rust::WholeRef;
 use jsonpath_rust::parser::parse_json_path;
 use jsonpath_rust::query::Queried;
-use jsonpath_rust::query::queryable::Queryable;
 use rows_common::Memory;
 use rows_common::members::{has_only, list_at, size, string_at};
 use serde_json::Value;
@@ -17,7 +14,7 @@ use std::alloc::Global;
 #[derive(Clone, Copy)]
 struct Asked<'r> {
     query: &'r str,
-    document: &'r Value,
+    document: WholeRef<'r, Value>,
 }
 
 /// Whether a row on a difference holds.
@@ -32,43 +29,47 @@ pub fn holds(memory: &Memory, row: &Value) -> bool {
             Some([document, other]),
             Some(wanted),
         ) => {
-            let first = Asked {
-                query: query.as_str(),
-                document,
-            };
-            let second = Asked {
-                query: other_query.as_str(),
-                document: other,
-            };
             has_only(row, &["difference", "documents", "answer", "refused"])
-                && tells(memory, first, second, wanted)
+                && tells(
+                    memory,
+                    (query.as_str(), document),
+                    (other_query.as_str(), other),
+                    wanted,
+                )
         }
         _ => false,
     }
 }
 
-/// Whether the helper tells what is wanted.
-fn tells(memory: &Memory, first: Asked<'_>, second: Asked<'_>, wanted: Wanted<'_>) -> bool {
-    match wanted {
-        Wanted::Answer(answer) => {
-            first.document.is_whole()
-                && second.document.is_whole()
-                && is_answer(memory, told(memory.alloc, first, second), answer)
+/// Whether the helper tells what is wanted of two queries, each with its document.
+fn tells(
+    memory: &Memory,
+    first: (&str, &Value),
+    second: (&str, &Value),
+    wanted: Wanted<'_>,
+) -> bool {
+    match (asked_of(first), asked_of(second), wanted) {
+        (Some(first), Some(second), Wanted::Answer(answer)) => {
+            is_answer(memory, told(memory.alloc, first, second), answer)
         }
-        Wanted::Refused(kind) => {
-            first.document.is_whole()
-                && second.document.is_whole()
-                && refuses(memory, told(memory.alloc, first, second), kind)
+        (Some(first), Some(second), Wanted::Refused(kind)) => {
+            refuses(memory, told(memory.alloc, first, second), kind)
         }
-        Wanted::NoCall => !first.document.is_whole() || !second.document.is_whole(),
+        (Some(_), Some(_), Wanted::NoCall) => false,
+        (_, _, wanted) => matches!(wanted, Wanted::NoCall),
     }
 }
 
+/// The query, asked of its document if that is whole.
+fn asked_of<'r>(row: (&'r str, &'r Value)) -> Option<Asked<'r>> {
+    Some(Asked {
+        query: row.0,
+        document: WholeRef::new(row.1)?,
+    })
+}
+
 /// What the helper tells of the queries that the texts spell.
-fn told(alloc: Global, first: Asked<'_>, second: Asked<'_>) -> Queried<Option<Difference>>
-    requires first_whole { IsTrue (value_is_whole first.document.now) }
-    requires second_whole { IsTrue (value_is_whole second.document.now) }
-{
+fn told(alloc: Global, first: Asked<'_>, second: Asked<'_>) -> Queried<Option<Difference>> {
     let query = parse_json_path(alloc, first.query)?;
     let other_query = parse_json_path(alloc, second.query)?;
     let difference = difference_of(alloc, &query, first.document, &other_query, second.document);

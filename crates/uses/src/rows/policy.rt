@@ -1,13 +1,10 @@
 //! Rows on a policy: `policy`, which is the queries, and `document`; with `answer`, `{"rule": .., "path": ..}` or null where the
 //! document keeps the policy, or `refused`.
-ghost use Rattle.std.specs.Prelude.{IsTrue};
-ghost use Rattle.jsonpath_rust.specs.base.Values.{value_is_whole};
-
 use crate::policy::{Violation, first_violation};
 use crate::rows::queries::queries_of;
 use crate::rows::wanted::{Wanted, refuses, wanted_of};
+use jsonpath_rust::WholeRef;
 use jsonpath_rust::query::Queried;
-use jsonpath_rust::query::queryable::Queryable;
 use rows_common::Memory;
 use rows_common::members::{has_only, list_at, size, string_at};
 use serde_json::Value;
@@ -26,22 +23,24 @@ pub fn holds(memory: &Memory, row: &Value) -> bool {
 
 /// Whether the check tells what is wanted.
 fn tells(memory: &Memory, rules: &[Value], document: &Value, wanted: Wanted<'_>) -> bool {
-    match wanted {
-        Wanted::Answer(answer) => {
-            document.is_whole()
-                && is_answer(memory, violation(memory.alloc, rules, document), answer)
+    match (WholeRef::new(document), wanted) {
+        (Some(document), Wanted::Answer(answer)) => {
+            is_answer(memory, violation(memory.alloc, rules, document), answer)
         }
-        Wanted::Refused(kind) => {
-            document.is_whole() && refuses(memory, violation(memory.alloc, rules, document), kind)
+        (Some(document), Wanted::Refused(kind)) => {
+            refuses(memory, violation(memory.alloc, rules, document), kind)
         }
-        Wanted::NoCall => !document.is_whole(),
+        (None, Wanted::NoCall) => true,
+        _ => false,
     }
 }
 
 /// What the check tells of the queries that the texts spell.
-fn violation(alloc: Global, rules: &[Value], document: &Value) -> Queried<Option<Violation>>
-    requires { IsTrue (value_is_whole document.now) }
-{
+fn violation(
+    alloc: Global,
+    rules: &[Value],
+    document: WholeRef<'_, Value>,
+) -> Queried<Option<Violation>> {
     let queries = queries_of(alloc, rules)?;
     let found = first_violation(alloc, &queries, document);
     drop(queries);

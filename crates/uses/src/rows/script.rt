@@ -1,14 +1,9 @@
 //! Rows on an edit script: `script`, whose steps are `{"delete": ..}`, with a query, and `{"put": .., "value": ..}`, with a path;
 //! and `document`; with `answer`, the index of the step that finds nothing, or null where all are made, or with `refused`. What
 //! is left is `left`, and without that member the document as it was.
-ghost use Rattle.std.specs.Prelude.{All, IsTrue};
-ghost use Rattle.jsonpath_rust.specs.base.Values.{value_is_whole};
-ghost use Rattle.uses.specs.Script.{IsWholeEdit};
-
-use crate::rows::wanted::{Wanted, is_index, refuses, wanted_of};
+use crate::rows::wanted::{Wanted, is_index, refuses, wanted_of, whole_copy};
 use crate::script::{Edit, apply_edits};
-use jsonpath_rust::query::Queried;
-use jsonpath_rust::query::queryable::Queryable;
+use jsonpath_rust::Whole;
 use rows_common::Memory;
 use rows_common::members::{has_only, list_at, string_at};
 use serde_json::Value;
@@ -33,23 +28,25 @@ fn leaves(
     left: &Value,
     wanted: Wanted<'_>,
 ) -> bool {
-    let Some(mut edited) = memory.ok(document.clone()) else {
-        return false;
+    let Some(mut edited) = whole_copy(memory, document) else {
+        return matches!(wanted, Wanted::NoCall);
     };
     let held = match edits_of(memory, steps) {
-        Some(edits) => answers(memory, &edits, &mut edited, wanted) && edited == *left,
-        None => false,
+        Some(edits) => { answers(memory, &edits, &mut edited, wanted) && *edited.get() == *left }
+        None => matches!(wanted, Wanted::NoCall),
     };
-    memory.note_kept(edited == *document);
+    memory.note_kept(*edited.get() == *document);
     drop(edited);
     held
 }
 
 /// Whether the edits, made of the document, answer so.
-fn answers(memory: &Memory, edits: &[Edit], document: &mut Value, wanted: Wanted<'_>) -> bool {
-    if !are_whole(edits) || !document.is_whole() {
-        return matches!(wanted, Wanted::NoCall);
-    }
+fn answers(
+    memory: &Memory,
+    edits: &[Edit],
+    document: &mut Whole<Value>,
+    wanted: Wanted<'_>,
+) -> bool {
     let answer = apply_edits(memory.alloc, edits, document);
     match wanted {
         Wanted::Answer(index) => is_index(memory, answer, index),
@@ -58,24 +55,7 @@ fn answers(memory: &Memory, edits: &[Edit], document: &mut Value, wanted: Wanted
     }
 }
 
-/// Whether all new values are whole.
-fn are_whole(edits: &[Edit]) -> bool
-    ensures { IsTrue result → All IsWholeEdit edits.now }
-{
-    edits.iter().all(is_whole)
-}
-
-/// Whether the new value is whole, if there is one.
-fn is_whole(edit: &Edit) -> bool
-    ensures { IsTrue result → IsWholeEdit edit.now }
-{
-    match edit {
-        Edit::Delete(_) => true,
-        Edit::Replace(_, new) => new.is_whole(),
-    }
-}
-
-/// The edits that the steps are, or None where one is no edit, or memory ran out.
+/// The edits that the steps are, or None where one is no edit or brings what is not whole, or memory ran out.
 fn edits_of(memory: &Memory, steps: &[Value]) -> Option<Vec<Edit>> {
     let mut edits = Vec::new(memory.alloc);
     for step in steps {
@@ -84,7 +64,7 @@ fn edits_of(memory: &Memory, steps: &[Value]) -> Option<Vec<Edit>> {
     Some(edits)
 }
 
-/// The edit that a step is, or None where it is none, or memory ran out.
+/// The edit that a step is, or None where it is none or brings what is not whole, or memory ran out.
 fn edit_of(memory: &Memory, step: &Value) -> Option<Edit> {
     match (
         string_at(step, "delete"),
@@ -97,7 +77,7 @@ fn edit_of(memory: &Memory, step: &Value) -> Option<Edit> {
         }
         (None, Some(path), Some(new)) => {
             let path = memory.ok(String::from_str(memory.alloc, path))?;
-            Some(Edit::Replace(path, memory.ok(new.clone())?))
+            Some(Edit::Replace(path, whole_copy(memory, new)?))
         }
         _ => None,
     }

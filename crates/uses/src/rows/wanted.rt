@@ -1,4 +1,5 @@
 //! What a row wants of a call: its member `answer`, or its member `refused`.
+use jsonpath_rust::Whole;
 use jsonpath_rust::query::Queried;
 use rows_common::Memory;
 use rows_common::members::{size, string_at};
@@ -38,4 +39,17 @@ pub fn is_index(memory: &Memory, answer: Queried<Option<usize>>, wanted: &Value)
         Some(None) => wanted.is_null(),
         None => false,
     }
+}
+
+/// Whether the answer is this count.
+pub fn is_count(memory: &Memory, answer: Queried<usize>, wanted: &Value) -> bool {
+    match memory.ok(answer) {
+        Some(count) => size(wanted) == Some(count),
+        None => false,
+    }
+}
+
+/// A copy of a value, checked; None where it is not whole, or memory ran out.
+pub fn whole_copy(memory: &Memory, value: &Value) -> Option<Whole<Value>> {
+    Whole::new(memory.ok(value.clone())?).ok()
 }

@@ -1,4 +1,4 @@
-use Rattle.std.proofs.Common.{map}
+use Rattle.std.proofs.Common.{map, sym}
 use Rattle.jsonpath_rust.specs.View.{query_view}
 use Rattle.jsonpath_rust.specs.Document.{document_of}
 use Rattle.jsonpath_rust.specs.Meaning.{selected}
@@ -9,23 +9,23 @@ use Rattle.uses.proofs.difference.difference_of.Goals as goal
 pub returns-clause-same : goal.returns-clause-same
 returns-clause-same g c =
     let tree = g.T.Queryable.tree in
-    let q = c.args.query.now in let doc = document_of tree g.T.Queryable.custom c.args.document.now in
-    let p = c.args.other_query.now in let other = document_of tree g.T.Queryable.custom c.args.other.now in
+    let q = c.args.query.now in let doc = document_of tree g.T.Queryable.custom c.get.result.now in
+    let p = c.args.other_query.now in let other = document_of tree g.T.Queryable.custom c.get-2.result.now in
     let left = values_lent (λ v. tree v.now) doc (selected (query_view q) doc) c.in_ok-values.values.items c.deref.result.now c.in_ok-values.ensures.values c.deref.ensures.value in
     let right = values_lent (λ v. tree v.now) other (selected (query_view p) other) c.in_ok-others.others.items c.deref-2.result.now c.in_ok-others.ensures.values c.deref-2.ensures.value in
-    same_as (values_of q doc) (values_of p other) (map (λ v. tree v.now) c.deref.result.now) (map (λ v. tree v.now) c.deref-2.result.now) c.first_difference.result left right c.first_difference.ensures.same
+    rw (sym c.get.ensures.same, sym c.get-2.ensures.same) (same_as (values_of q doc) (values_of p other) (map (λ v. tree v.now) c.deref.result.now) (map (λ v. tree v.now) c.deref-2.result.now) c.first_difference.result left right c.first_difference.ensures.same)
 
 pub returns-clause-different : goal.returns-clause-different
 returns-clause-different g c =
     let tree = g.T.Queryable.tree in
-    let q = c.args.query.now in let doc = document_of tree g.T.Queryable.custom c.args.document.now in
-    let p = c.args.other_query.now in let other = document_of tree g.T.Queryable.custom c.args.other.now in
+    let q = c.args.query.now in let doc = document_of tree g.T.Queryable.custom c.get.result.now in
+    let p = c.args.other_query.now in let other = document_of tree g.T.Queryable.custom c.get-2.result.now in
     let left = values_lent (λ v. tree v.now) doc (selected (query_view q) doc) c.in_ok-values.values.items c.deref.result.now c.in_ok-values.ensures.values c.deref.ensures.value in
     let right = values_lent (λ v. tree v.now) other (selected (query_view p) other) c.in_ok-others.others.items c.deref-2.result.now c.in_ok-others.ensures.values c.deref-2.ensures.value in
-    different_as (values_of q doc) (values_of p other) (map (λ v. tree v.now) c.deref.result.now) (map (λ v. tree v.now) c.deref-2.result.now) c.first_difference.result left right c.first_difference.ensures.different
+    rw (sym c.get.ensures.same, sym c.get-2.ensures.same) (different_as (values_of q doc) (values_of p other) (map (λ v. tree v.now) c.deref.result.now) (map (λ v. tree v.now) c.deref-2.result.now) c.first_difference.result left right c.first_difference.ensures.different)
 
 pub returns-clause-only : goal.returns-clause-only
 returns-clause-only g c alike =
     let tree = g.T.Queryable.tree in
-    let doc = document_of tree g.T.Queryable.custom c.args.document.now in let other = document_of tree g.T.Queryable.custom c.args.other.now in
+    let doc = document_of tree g.T.Queryable.custom c.args.document.value.now in let other = document_of tree g.T.Queryable.custom c.args.other.value.now in
     no_difference (values_of c.args.query.now doc) (values_of c.args.other_query.now other) c.first_difference.result (returns-clause-different g c) alike

@@ -1,4 +1,4 @@
-use Rattle.std.proofs.Common.{◌≡◌, [], ◌∷◌, subst, arith}
+use Rattle.std.proofs.Common.{◌≡◌, [], ◌∷◌, sym, subst, arith}
 use Rattle.std.proofs.lemmas.List.{nil_from_length}
 use Rattle.std.specs.List.{AllZip}
 use Rattle.jsonpath_rust.specs.View.{query_view}
@@ -11,15 +11,15 @@ use Rattle.uses.proofs.first.first_path.Goals as goal
 pub returns-in-Some-clause-found : goal.returns-in-Some-clause-found
 returns-in-Some-clause-found g c =
     let tree = g.T.Queryable.tree in
-    let doc = document_of tree g.T.Queryable.custom c.args.document.now in
+    let doc = document_of tree g.T.Queryable.custom c.get.result.now in
     let q = query_view c.args.query.now in
     let is : c.in_ok-nodes.nodes.items ≡ c.in-Some.node ∷ c.next.new.self.rest.items = cc in
-    first_shown tree doc q c.in-Some.node c.next.new.self.rest.items (subst (λ refs. AllZip (IsNodeAt doc) (selected q doc) (shown tree refs)) is c.in_ok-nodes.ensures.nodes)
+    rw (sym c.get.ensures.same) (first_shown tree doc q c.in-Some.node c.next.new.self.rest.items (subst (λ refs. AllZip (IsNodeAt doc) (selected q doc) (shown tree refs)) is c.in_ok-nodes.ensures.nodes))
 
 pub returns-clause-silent : goal.returns-clause-silent
 returns-clause-silent g c =
     let tree = g.T.Queryable.tree in
-    let doc = document_of tree g.T.Queryable.custom c.args.document.now in
+    let doc = document_of tree g.T.Queryable.custom c.get.result.now in
     let q = query_view c.args.query.now in
     let is : c.in_ok-nodes.nodes.items ≡ [] = nil_from_length c.in_ok-nodes.nodes.items (omega (arith, c.in-None.ensures.cases.0)) in
-    none_there (IsNodeAt doc) _ (subst (λ refs. AllZip (IsNodeAt doc) (selected q doc) (shown tree refs)) is c.in_ok-nodes.ensures.nodes)
+    rw (sym c.get.ensures.same) (none_there (IsNodeAt doc) _ (subst (λ refs. AllZip (IsNodeAt doc) (selected q doc) (shown tree refs)) is c.in_ok-nodes.ensures.nodes))

@@ -8,12 +8,12 @@ use Rattle.uses.proofs.inbox.matching.Goals as goal
 pub loop-document-preserved : goal.loop-document-preserved
 loop-document-preserved g c =
     let tree = g.T.Queryable.tree in
-    let doc = document_of tree g.T.Queryable.custom c.document-item.result in
+    let doc = document_of tree g.T.Queryable.custom in
     let was = c.loop-document.invariant in
-    let tells = subst (λ q. TellsWhether q doc c.in_ok-found.found) was.same c.in_ok-found.ensures.none in
+    let tells = subst (λ v. TellsWhether (prepared_view c.args.query.now) (doc v) c.in_ok-found.found) c.get.ensures.same (subst (λ q. TellsWhether q (doc c.get.result.now) c.in_ok-found.found) was.same c.in_ok-found.ensures.none) in
     record {
       same = c.in_ok-found.ensures.same ∙ was.same;
-      told = told_next (λ x b. TellsWhether (prepared_view c.args.query.now) (document_of tree g.T.Queryable.custom x) b) c.args.documents.now c.loop-document.told.items _ c.loop-document.document-index c.document-item.result c.in_ok-found.found was.told c.loop-document-test.true c.document-item.is tells c.in_ok-push.ensures.items;
+      told = told_next (λ x b. TellsWhether (prepared_view c.args.query.now) (doc x.value) b) c.args.documents.now c.loop-document.told.items _ c.loop-document.document-index c.document-item.result c.in_ok-found.found was.told c.loop-document-test.true c.document-item.is tells c.in_ok-push.ensures.items;
     }
 
 pub returns : goal.returns

@@ -9,5 +9,5 @@ use Rattle.uses.proofs.inbox.matching.Given as goal
 abbrev pub invariant-loop-document : goal.invariant-loop-document
 invariant-loop-document g l = record {
   same : runner_view l.runner ≡ prepared_view l.query;
-  told : AllZip (λ x b. TellsWhether (prepared_view l.query) (document_of g.T.Queryable.tree g.T.Queryable.custom x) b) (take l.document-index l.documents) l.told.items;
+  told : AllZip (λ x b. TellsWhether (prepared_view l.query) (document_of g.T.Queryable.tree g.T.Queryable.custom x.value) b) (take l.document-index l.documents) l.told.items;
 }

@@ -6,4 +6,4 @@ use Rattle.uses.proofs.policy.first_violation.Given as goal
 
 -- the queries that were asked select nothing
 abbrev pub invariant-loop-rule : goal.invariant-loop-rule
-invariant-loop-rule g l = All (IsSilent (document_of g.T.Queryable.tree g.T.Queryable.custom l.document)) (take l.rule (map query_view l.policy))
+invariant-loop-rule g l = All (IsSilent (document_of g.T.Queryable.tree g.T.Queryable.custom l.document.value.now)) (take l.rule (map query_view l.policy))

@@ -6,4 +6,4 @@ use Rattle.uses.proofs.routing.route.Given as goal
 
 -- the queries that were asked select nothing
 abbrev pub invariant-loop-index : goal.invariant-loop-index
-invariant-loop-index g l = All (IsSilent (document_of g.T.Queryable.tree g.T.Queryable.custom l.document)) (take l.index (map prepared_view l.table))
+invariant-loop-index g l = All (IsSilent (document_of g.T.Queryable.tree g.T.Queryable.custom l.document.value.now)) (take l.index (map prepared_view l.table))

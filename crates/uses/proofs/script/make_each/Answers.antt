@@ -11,9 +11,9 @@ returns-in_err-make-clause-refused c =
     let edits = c.args.edits.now in
     let edit = c.index-edits-index.result in
     let e = c.in_err-make.field-0.0 in
-    let refused : IsRefusedIn edits (value_tree c.args.document.now) e = record {
+    let refused : IsRefusedIn edits (value_tree c.args.document.now.value) e = record {
       index = c.loop-index.index;
-      refused = record { between = value_tree c.loop-index.document; before = c.loop-index.invariant.0; edit = edit; there = slice_get_read edits (length edits) c.loop-index.index edit refl (omega arith) c.index-edits-index.is; is_so = c.in_err-make.ensures.refused };
+      refused = record { between = value_tree c.loop-index.document.value; before = c.loop-index.invariant; edit = edit; there = slice_get_read edits (length edits) c.loop-index.index edit refl (omega arith) c.index-edits-index.is; is_so = c.in_err-make.ensures.refused };
     } in
     let p = err_from_is_err_and c.from_residual.result c.from_residual.ensures.1 in
     rw (p.1, p.2) refused
@@ -22,16 +22,16 @@ pub returns-then-not-branch-clause-stuck : goal.returns-then-not-branch-clause-s
 returns-then-not-branch-clause-stuck c =
     let edits = c.args.edits.now in
     let edit = c.index-edits-index.result in
-    let m = value_tree c.loop-index.document in
-    let u = value_tree c.make.new.document in
+    let m = value_tree c.loop-index.document.value in
+    let u = value_tree c.make.new.document.value in
     let makes = subst (λ b. Leaves edit m b u) c.if-not-branch.true c.in_ok-make.ensures.made in
-    record { between = m; before = c.loop-index.invariant.0; edit = edit; there = slice_get_read edits (length edits) c.loop-index.index edit refl (omega arith) c.index-edits-index.is; is_so = (u, makes) }
+    record { between = m; before = c.loop-index.invariant; edit = edit; there = slice_get_read edits (length edits) c.loop-index.index edit refl (omega arith) c.index-edits-index.is; is_so = (u, makes) }
 
 pub loop-index-preserved : goal.loop-index-preserved
 loop-index-preserved c =
     let edits = c.args.edits.now in
     let edit = c.index-edits-index.result in
-    let m = value_tree c.loop-index.document in
-    let u = value_tree c.make.new.document in
+    let m = value_tree c.loop-index.document.value in
+    let u = value_tree c.make.new.document.value in
     let makes = subst (λ b. Leaves edit m b u) c.if-not-branch.false c.in_ok-make.ensures.made in
-    (rw add-one (made_next edits (value_tree c.args.document.now) m u c.loop-index.index edit (omega arith) c.index-edits-index.is c.loop-index.invariant.0 makes), c.in_ok-make.ensures.whole)
+    rw add-one (made_next edits (value_tree c.args.document.now.value) m u c.loop-index.index edit (omega arith) c.index-edits-index.is c.loop-index.invariant makes)
