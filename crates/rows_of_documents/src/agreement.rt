@@ -6,13 +6,15 @@ ghost use Rattle.jsonpath_rust.specs.documents.Answer.{shown, paths_of};
 use crate::checked::is_by_whole;
 use crate::doc::document::are_equal;
 use crate::doc::processed::is_by_process;
+use jsonpath_parser::model::JpQuery;
 use jsonpath_parser::{let_go, parse_json_path_within};
-use jsonpath_rust::JsonPath;
 use jsonpath_rust::query::queryable::Queryable;
 use jsonpath_rust::query::{
-    Queried, QueryPath, QueryRef, js_path, js_path_first, js_path_path, js_path_process,
-    js_path_process_vals, js_path_vals, selected_paths,
+    Queried, QueryPath, QueryRef, js_path, js_path_count, js_path_first, js_path_only,
+    js_path_path, js_path_process, js_path_process_vals, js_path_vals, path_of, selected_count,
+    selected_first, selected_only, selected_paths,
 };
+use jsonpath_rust::{JsonPath, Only, Step};
 use rows_common::Memory;
 use serde_json::Value;
 use std::alloc::Global;
@@ -69,6 +71,26 @@ pub fn are_paths<T: Queryable>(
     nodes.len() == paths.len()
 }
 
+/// Whether the answer is the locations of the nodes, in order.
+pub fn are_locations<T: Queryable>(
+    memory: &Memory,
+    nodes: &[QueryRef<'_, T>],
+    answered: Queried<Vec<Vec<Step>>>,
+) -> bool {
+    let Some(locations) = memory.ok(answered) else {
+        return false;
+    };
+    for (node, location) in nodes.iter().zip(&locations) {
+        let Some(path) = memory.ok(path_of(memory.alloc, location)) else {
+            return false;
+        };
+        if node.path.as_str() != path.as_str() {
+            return false;
+        }
+    }
+    nodes.len() == locations.len()
+}
+
 /// Whether this is the first of the nodes, or None where there is none.
 pub fn is_first<T: Queryable>(nodes: &[QueryRef<'_, T>], first: Option<&QueryRef<'_, T>>) -> bool {
     match (nodes.first(), first) {
@@ -77,6 +99,19 @@ pub fn is_first<T: Queryable>(nodes: &[QueryRef<'_, T>], first: Option<&QueryRef
         }
         (None, None) => true,
         _ => false,
+    }
+}
+
+/// Whether this is told of the only one of the nodes.
+pub fn is_only<T: Queryable>(nodes: &[QueryRef<'_, T>], told: Option<Only<'_, T>>) -> bool {
+    match told {
+        Some(Only::Nothing) => nodes.is_empty(),
+        Some(Only::One(value)) => match nodes {
+            [node] => are_equal(node.val, value),
+            _ => false,
+        },
+        Some(Only::Several) => nodes.len() > 1,
+        None => false,
     }
 }
 
@@ -96,6 +131,11 @@ pub fn is_by_text<T: Queryable>(
             Some(first) => is_first(nodes, first.as_ref()),
             None => false,
         }
+        && is_only(
+            nodes,
+            memory.ok(js_path_only(memory.alloc, query, document)),
+        )
+        && memory.ok(js_path_count(memory.alloc, query, document)) == Some(nodes.len())
 }
 
 /// Whether the calls that take a tree answer these nodes.
@@ -120,10 +160,30 @@ pub fn is_by_tree<T: Queryable>(
         nodes,
         js_path_process_vals(memory.alloc, &tree, document),
     ) && are_paths(memory, nodes, selected_paths(memory.alloc, &tree, document))
+        && is_amount(memory, &tree, document, nodes)
         && (makes_too_many(query)
             || memory.holds(is_by_process(memory.alloc, &tree, document, nodes)));
     let_go(tree);
     agrees
+}
+
+/// Whether the calls that tell the first of the nodes, the only one, and how many there are, tell that of the tree.
+fn is_amount<T: Queryable>(
+    memory: &Memory,
+    tree: &JpQuery,
+    document: &T,
+    nodes: &[QueryRef<'_, T>],
+) -> bool
+    requires { IsTrue (T.is_whole document.now) }
+{
+    let alloc = memory.alloc;
+    let first = match memory.ok(selected_first(alloc, tree, document)) {
+        Some(first) => is_first(nodes, first.as_ref()),
+        None => false,
+    };
+    first
+        && is_only(nodes, memory.ok(selected_only(alloc, tree, document)))
+        && memory.ok(selected_count(alloc, tree, document)) == Some(nodes.len())
 }
 
 /// Whether more than ten `$` and `.` stand in the query. `process` makes each nodelist whole, and one for each node of the

@@ -2,8 +2,9 @@
 //! And whether the calls of such documents answer what other rows want.
 use crate::agreement::{are_paths, are_same, are_values};
 use crate::doc::document::are_equal;
+use crate::masking::Masking;
 use crate::reference::Writing;
-use jsonpath_rust::parser::{let_go, parse_json_path};
+use jsonpath_rust::parser::{let_go, parse_json_path, parse_json_path_within};
 use jsonpath_rust::query::{Queried, QueryRef, referred_location, selected_locations};
 use jsonpath_rust::{ReadError, Whole, WholeRef};
 use rows_common::Memory;
@@ -125,7 +126,63 @@ pub fn are_deleted_of_whole(
     true
 }
 
-/// What a deletion is told by.
+/// Whether masking by the text, by its tree, and at the locations that it selects answers that count and leaves that document.
+pub fn is_masked_of_whole(
+    memory: &Memory,
+    masking: Masking<'_>,
+    document: &Value,
+    count: usize,
+    left: &Value,
+) -> bool {
+    for by in [By::Text, By::Tree, By::Locations] {
+        let Some((masked, whole)) = masked_by(memory, by, masking, document) else {
+            return false;
+        };
+        let held = masked == count && are_equal(whole.get(), left);
+        drop(whole);
+        if !held {
+            return false;
+        }
+    }
+    true
+}
+
+/// The count that masking answers, and what it leaves.
+fn masked_by(
+    memory: &Memory,
+    by: By,
+    masking: Masking<'_>,
+    document: &Value,
+) -> Option<(usize, Whole<Value>)> {
+    let new = whole_copy(memory, masking.new)?;
+    let mut whole = whole_copy(memory, document)?;
+    let masked = memory.ok(masked(memory.alloc, &mut whole, by, masking, &new));
+    memory.note_kept(are_equal(whole.get(), document));
+    Some((masked?, whole))
+}
+
+fn masked(
+    alloc: Global,
+    whole: &mut Whole<Value>,
+    by: By,
+    masking: Masking<'_>,
+    new: &Whole<Value>,
+) -> Queried<usize> {
+    if let By::Text = by {
+        return whole.replace_within(alloc, masking.query, masking.depth, new);
+    }
+    let tree = parse_json_path_within(alloc, masking.query, masking.depth)?;
+    if let By::Tree = by {
+        let masked = whole.replace_selected(alloc, &tree, new);
+        let_go(tree);
+        return masked;
+    }
+    let places = selected_locations(alloc, &tree, whole.get());
+    let_go(tree);
+    whole.replace_all(alloc, &places?, new)
+}
+
+/// What a deletion, or masking, is told by.
 #[derive(Clone, Copy)]
 enum By {
     Text,

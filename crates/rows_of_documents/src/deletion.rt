@@ -5,6 +5,7 @@ ghost use Rattle.jsonpath_base.specs.Values.{value_is_whole};
 use crate::checked::are_deleted_of_whole;
 use crate::doc::Doc;
 use crate::doc::document::{Document, are_equal};
+use crate::runs::{Deletion, is_deleted_by_runner};
 use jsonpath_rust::query::queryable::{Deletable, Queryable};
 use jsonpath_rust::query::{Queried, QueryPath, QueryRef, delete_within, js_path_path};
 use rows_common::Memory;
@@ -45,9 +46,14 @@ fn leaves(memory: &Memory, row: &Value, query: &str, document: &Value) -> bool {
         return false;
     };
     let deleted = deleted(memory, document, &mut left, query, depth);
+    let told = Deletion {
+        count: deleted,
+        left: wanted,
+    };
     let held = deleted.is_some()
         && deleted == size(count)
         && are_equal(&left, wanted)
+        && is_deleted_by_runner(memory, query, depth.limit(), document, told)
         && match depth {
             Depth::Default => are_deleted_of_whole(memory, query, document, deleted, wanted),
             Depth::Limit(_) => true,

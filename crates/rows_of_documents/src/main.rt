@@ -3,11 +3,15 @@
 #![tactic(auto)]
 
 mod agreement;
+mod amount;
 mod checked;
+mod condition;
 mod custom;
 mod deletion;
 mod doc;
+mod limits;
 mod location;
+mod masking;
 mod node;
 mod nodes;
 mod query;

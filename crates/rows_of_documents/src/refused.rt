@@ -1,6 +1,7 @@
 //! Rows on texts that are refused: `refused`, by what is read and by what is asked of a document; or, with `document`, by
 //! what is asked of that one alone.
 use jsonpath_parser::{MAX_NESTING_DEPTH, parse_json_path, parse_json_path_within};
+use jsonpath_rust::Prepared;
 use jsonpath_rust::query::queryable::Queryable;
 use jsonpath_rust::query::{js_path, js_path_within};
 use rows_common::Memory;
@@ -57,6 +58,7 @@ fn is_refused_at(memory: &Memory, query: &str, depth: Depth, kind: &str) -> bool
     match depth {
         Depth::Default => {
             is_refused(memory, parse_json_path(memory.alloc, query), kind, length)
+                && is_refused(memory, Prepared::read(memory.alloc, query), kind, length)
                 && is_refused(
                     memory,
                     js_path(memory.alloc, query, &Value::Null),
@@ -68,6 +70,11 @@ fn is_refused_at(memory: &Memory, query: &str, depth: Depth, kind: &str) -> bool
             is_refused(
                 memory,
                 parse_json_path_within(memory.alloc, query, depth),
+                kind,
+                length,
+            ) && is_refused(
+                memory,
+                Prepared::read_within(memory.alloc, query, depth),
                 kind,
                 length,
             ) && is_refused(

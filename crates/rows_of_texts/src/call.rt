@@ -1,5 +1,5 @@
-//! Rows on the functions of `jsonpath_base`.
-use crate::{location, pattern, place, slice, step, values};
+//! Rows on the functions of `jsonpath_base`, and on what a query can reach.
+use crate::{location, pattern, place, reach, slice, step, values};
 use rows_common::Memory;
 use rows_common::members::{has_only, list_at, string_at};
 use serde_json::Value;
@@ -31,8 +31,11 @@ fn answers(memory: &Memory, name: &str, arguments: &[Value], answer: &Value) -> 
         "try_clone" | "begins" | "path_of" | "pointer_of" | "location_by_pointer" => {
             location::answers(memory, name, arguments, answer)
         }
-        "at" | "put_at" | "take_at" | "add_at" | "remove_all" => {
+        "at" | "put_at" | "take_at" | "add_at" | "remove_all" | "replace_all" => {
             place::answers(memory, name, arguments, answer)
+        }
+        "is_singular" | "is_local" | "calls_only" => {
+            reach::answers(memory, name, arguments, answer)
         }
         "found" => pattern::is_found(memory, arguments, answer),
         "found_each" => pattern::are_found_each(memory, arguments, answer),

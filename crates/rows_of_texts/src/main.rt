@@ -1,5 +1,5 @@
-//! Asks the rows on standard input that need no document: on texts and their trees, on trees made by hand, on errors, and on
-//! calls of `jsonpath_base`.
+//! Asks the rows on standard input that need no document: on texts and their trees, on trees made by hand, on what a query
+//! can reach, on errors, and on calls of `jsonpath_base`.
 #![tactic(auto)]
 
 mod built;
@@ -11,6 +11,7 @@ mod parse;
 mod pattern;
 mod place;
 mod production;
+mod reach;
 mod row;
 mod slice;
 mod step;

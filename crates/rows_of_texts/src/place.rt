@@ -1,9 +1,9 @@
-//! Rows on places in values: `at`, `put_at`, `take_at`, `add_at`, `remove_all`.
+//! Rows on places in values: `at`, `put_at`, `take_at`, `add_at`, `remove_all`, `replace_all`.
 ghost use Rattle.std.specs.Prelude.{IsTrue};
 ghost use Rattle.jsonpath_base.specs.Same.{same};
 ghost use Rattle.jsonpath_base.specs.Values.{value_tree};
 
-use jsonpath_base::{Step, add_at, at, put_at, remove_all, same, take_at, whole};
+use jsonpath_base::{Step, add_at, at, put_at, remove_all, replace_all, same, take_at, whole};
 use rows_common::Memory;
 use rows_common::members::{list, size};
 use serde_json::Value;
@@ -17,6 +17,9 @@ pub fn answers(memory: &Memory, name: &str, arguments: &[Value], answer: &Value)
         ("take_at", [value, location]) => is_taken(memory, value, location, answer),
         ("add_at", [value, location, new]) => is_added(memory, value, location, new, answer),
         ("remove_all", [value, locations]) => are_removed(memory, value, locations, answer),
+        ("replace_all", [value, locations, new]) => {
+            are_replaced(memory, value, locations, new, answer)
+        }
         _ => None,
     };
     held == Some(true)
@@ -102,6 +105,27 @@ fn are_removed(memory: &Memory, value: &Value, locations: &Value, answer: &Value
     let removed = memory.ok(remove_all(memory.alloc, &mut kept, places.as_slice()));
     memory.note_kept(are_same(&kept, value));
     let held = removed == Some(count) && are_same(&kept, left);
+    drop(kept);
+    Some(held)
+}
+
+/// Whether `replace_all` answers so and leaves that.
+fn are_replaced(
+    memory: &Memory,
+    value: &Value,
+    locations: &Value,
+    new: &Value,
+    answer: &Value,
+) -> Option<bool> {
+    let [count, left] = list(answer)? else {
+        return None;
+    };
+    let count = size(count)?;
+    let places = places_of(memory, locations)?;
+    let mut kept = memory.ok(value.clone())?;
+    let replaced = memory.ok(replace_all(memory.alloc, &mut kept, places.as_slice(), new));
+    memory.note_kept(are_same(&kept, value));
+    let held = replaced == Some(count) && are_same(&kept, left);
     drop(kept);
     Some(held)
 }

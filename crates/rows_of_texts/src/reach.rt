@@ -1,0 +1,36 @@
+//! Rows on what a query can reach: `is_singular`, `is_local`, `calls_only`.
+use jsonpath_rust::parser::model::JpQuery;
+use jsonpath_rust::parser::{calls_only, is_local, is_singular, let_go, parse_json_path};
+use rows_common::Memory;
+use rows_common::members::list;
+use serde_json::Value;
+
+/// Whether the call of that name answers so, of the tree that a text spells; `calls_only` takes a list of names too.
+pub fn answers(memory: &Memory, name: &str, arguments: &[Value], answer: &Value) -> bool {
+    let Some(tree) = spelt(memory, arguments) else {
+        return false;
+    };
+    let found = match (name, arguments) {
+        ("is_singular", [_]) => Some(is_singular(&tree)),
+        ("is_local", [_]) => Some(is_local(&tree)),
+        ("calls_only", [_, names]) => is_calling_only(memory, &tree, names),
+        _ => None,
+    };
+    let_go(tree);
+    found.is_some() && found == answer.as_bool()
+}
+
+/// The tree that the first argument spells.
+fn spelt(memory: &Memory, arguments: &[Value]) -> Option<JpQuery> {
+    let text = arguments.first()?.as_str()?;
+    memory.ok(parse_json_path(memory.alloc, text))
+}
+
+/// What `calls_only` answers, or None where memory ran out or the row is none.
+fn is_calling_only(memory: &Memory, tree: &JpQuery, names: &Value) -> Option<bool> {
+    let mut texts = Vec::new(memory.alloc);
+    for name in list(names)? {
+        memory.ok(texts.push(name.as_str()?))?;
+    }
+    Some(calls_only(tree, texts.as_slice()))
+}
