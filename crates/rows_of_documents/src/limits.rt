@@ -85,21 +85,27 @@ fn is_enough_for_runner(
     let mut less = prepared
         .runner(memory.alloc)
         .limited(units.saturating_sub(1));
-    let spent = units == 0 || is_spent(memory, less.nodes(memory.alloc, document));
-    let kept = is_kept(memory, &mut less, document);
+    if units > 0 && !is_spent(memory, less.nodes(memory.alloc, document)) {
+        return false;
+    }
+    if !is_kept(memory, &mut less, document) {
+        return false;
+    }
     let mut limited = less.into_runner().limited(units);
-    let answered = answers(memory, &mut limited, document, nodes);
-    let left = left_by(memory, &mut limited, document);
-    let mut runner = limited.into_runner();
-    let deleted = match &left {
-        Some((count, left)) => {
-            let count = Some(*count);
-            deletes(memory, &mut runner, document, Deletion { count, left })
-        }
-        None => false,
+    if !answers(memory, &mut limited, document, nodes) {
+        return false;
+    }
+    let Some((count, left)) = left_by(memory, &mut limited, document) else {
+        return false;
     };
+    let mut runner = limited.into_runner();
+    let wanted = Deletion {
+        count: Some(count),
+        left: &left,
+    };
+    let deleted = deletes(memory, &mut runner, document, wanted);
     drop(left);
-    spent && kept && answered && deleted && runs(memory, &mut runner, document, nodes)
+    deleted && runs(memory, &mut runner, document, nodes)
 }
 
 /// Whether the runner answers these nodes by each of its calls.
