@@ -10,6 +10,7 @@ use jsonpath_rust::query::queryable::Queryable;
 use jsonpath_rust::query::{Limited, Queried, QueryRef, Within, js_path, js_path_limited};
 use rows_common::Memory;
 use rows_common::members::{has_only, size};
+use rows_common::memory::Met;
 use rows_common::text::text_at;
 use serde_json::Value;
 
@@ -163,7 +164,8 @@ fn is_kept(memory: &Memory, runner: &mut Limited<'_>, document: &Value) -> bool 
     };
     let deleted = deleted(memory, runner, &mut copy);
     memory.note_kept(are_equal(&copy, document));
-    let held = deleted.is_some() || are_equal(&copy, document);
+    let met = memory.met();
+    let held = matches!(met, Met::Enough) && (deleted.is_some() || are_equal(&copy, document));
     drop(copy);
     held
 }
