@@ -59,7 +59,7 @@ single_chars : (k : List ℕ) → k ≡ concat (map (λ c. c ∷ []) k)
 single_chars [] = refl
 single_chars (c ∷ cs) = ap (λ v. c ∷ v) (single_chars cs)
 
-name_spelled : (k : List ℕ) → SpellsString k (39 ∷ (name_chars k ++ 39 ∷ []))
+pub name_spelled : (k : List ℕ) → SpellsString k (39 ∷ (name_chars k ++ 39 ∷ []))
 name_spelled k = (39, map (λ c. c ∷ []) k, name_chars k, refl, chars_spelled k, single_chars k, refl)
 
 -- ---- indexes
@@ -80,7 +80,7 @@ first_digit [] h = absurd (omega (arith, h))
 first_digit (d ∷ ds) h = omega (arith, h)
 
 -- the digits of an index are an int
-index_spelled : (i : ℕ) → SpellsInt (pos i) (index_digits i)
+pub index_spelled : (i : ℕ) → SpellsInt (pos i) (index_digits i)
 index_spelled zero = refl
 index_spelled (suc n) =
     let some : suc n ≡ 0 → ⊥ = λ e. cc in

@@ -3,3 +3,6 @@ pub mod ReadingLists
 pub mod ReadingGrammar
 pub mod ReadingQuery
 pub mod ReadingParts
+pub mod Spellable
+pub mod QueryTexts
+pub mod Nesting

@@ -23,6 +23,8 @@ pub use crate::errors::Parsed;
 pub use crate::one_tree::{no_text_derives_two_trees, no_text_spells_two_trees};
 pub use crate::parse::{MAX_NESTING_DEPTH, parse_json_path, parse_json_path_within};
 pub use crate::tree::{
-    calls_only, equal_parts_are_one_tree, is_local, is_singular, is_typed, let_go, model,
+    calls_only, each_text_of_a_tree_derives_it, equal_parts_are_one_tree, is_local, is_singular,
+    is_typed, let_go, model, to_query_text,
 };
 pub use crate::words::depth::nests_deeper;
+pub use crate::words::quoting::push_name_chars;

@@ -1,6 +1,7 @@
 pub mod Calls
 pub mod Joined
 pub mod Reached
+pub mod Spellable
 pub mod TreeEquality
 pub mod Typed
 pub mod ViewEquations

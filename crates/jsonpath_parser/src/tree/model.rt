@@ -7,7 +7,7 @@ ghost use Rattle.jsonpath_parser.specs.declared.errors.JsonPathError.TheVariants
 
 pub(crate) mod call;
 mod clone;
-mod display;
+pub(crate) mod display;
 mod operator;
 mod refusal;
 

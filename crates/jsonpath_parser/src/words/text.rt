@@ -68,7 +68,7 @@ pub fn is_function_first(byte: u8) -> bool
 
 /// Whether the byte may stand in the name of a function.
 #[inline]
-fn is_function_byte(byte: u8) -> bool
+pub fn is_function_byte(byte: u8) -> bool
     ensures { result ≡ spec.is_function_byte byte }
 {
     is_function_first(byte) || byte == b'_' || byte.is_ascii_digit()

@@ -5,7 +5,7 @@ use Rattle.std.proofs.lemmas.List.{drop_more, drop_all}
 use Rattle.jsonpath_parser.specs.words.Depth.{Place, next_place, next_open, depth_from}
 
 -- what stands open counts
-depth_from-ge : (place : Place) (o : ℕ) (bs : List ℕ) → o ≤ depth_from place o bs
+pub depth_from-ge : (place : Place) (o : ℕ) (bs : List ℕ) → o ≤ depth_from place o bs
 depth_from-ge place o [] = le_refl o
 depth_from-ge place o (b ∷ bs) = omega arith
 

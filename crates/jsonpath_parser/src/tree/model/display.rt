@@ -96,7 +96,7 @@ impl Display for Filter {
 }
 
 /// `!` where `not`.
-fn not_sign(not: bool) -> &'static str
+pub(crate) fn not_sign(not: bool) -> &'static str
     ensures { result.now ≡ not_shown not }
 {
     if not { "!" } else { "" }

@@ -1,0 +1,77 @@
+-- How deep brackets nest in the text that the code writes for a tree. The laws of proofs/ join it to the depth of any text that spells the tree.
+use Rattle.std.specs.Prelude.{ℕ, suc, max, List, [], ◌∷◌}
+use Rattle.jsonpath_parser.specs.tree.Syntax.{SingularStep, SingularQuery, current, root, Selector, name, wildcard, index, slice, filter, Selectors, no_selectors, selector, Segment, one, several, descendant, no_segments, segment, Filter, or, and, atom, Filters, no_filters, filter_then, Atom, group, test, comparison, Comparison, compare, Comparable, literal, function, singular, Test, relative, absolute, call, Call, custom_call, length_call, value_call, count_call, search_call, match_call, Argument, literal_argument, test_argument, filter_argument, Arguments, no_arguments, argument, Query}
+
+-- each step stands in brackets
+abbrev pub steps_nesting : List SingularStep → ℕ
+steps_nesting [] = 0
+steps_nesting (s ∷ ss) = max 1 (steps_nesting ss)
+
+abbrev pub singular_nesting : SingularQuery → ℕ
+singular_nesting (current ss) = steps_nesting ss
+singular_nesting (root ss) = steps_nesting ss
+
+abbrev mutual
+  pub nesting : Query → ℕ
+  nesting no_segments = 0
+  nesting (segment g gs) = max (segment_nesting g) (nesting gs)
+
+  pub segment_nesting : Segment → ℕ
+  segment_nesting (one s) = suc (selector_nesting s)
+  segment_nesting (several ss) = suc (selectors_nesting ss)
+  segment_nesting (descendant g) = segment_nesting g
+
+  pub selector_nesting : Selector → ℕ
+  selector_nesting (name n) = 0
+  selector_nesting wildcard = 0
+  selector_nesting (index i) = 0
+  selector_nesting (slice start end step) = 0
+  selector_nesting (filter f) = filter_nesting f
+
+  pub selectors_nesting : Selectors → ℕ
+  selectors_nesting no_selectors = 0
+  selectors_nesting (selector s ss) = max (selector_nesting s) (selectors_nesting ss)
+
+  pub filter_nesting : Filter → ℕ
+  filter_nesting (or fs) = filters_nesting fs
+  filter_nesting (and fs) = filters_nesting fs
+  filter_nesting (atom a) = atom_nesting a
+
+  pub filters_nesting : Filters → ℕ
+  filters_nesting no_filters = 0
+  filters_nesting (filter_then f fs) = max (filter_nesting f) (filters_nesting fs)
+
+  pub atom_nesting : Atom → ℕ
+  atom_nesting (group negated f) = suc (filter_nesting f)
+  atom_nesting (test negated t) = test_nesting t
+  atom_nesting (comparison c) = comparison_nesting c
+
+  pub comparison_nesting : Comparison → ℕ
+  comparison_nesting (compare op left right) = max (comparable_nesting left) (comparable_nesting right)
+
+  pub comparable_nesting : Comparable → ℕ
+  comparable_nesting (literal l) = 0
+  comparable_nesting (function c) = call_nesting c
+  comparable_nesting (singular q) = singular_nesting q
+
+  pub test_nesting : Test → ℕ
+  test_nesting (relative gs) = nesting gs
+  test_nesting (absolute gs) = nesting gs
+  test_nesting (call c) = call_nesting c
+
+  pub call_nesting : Call → ℕ
+  call_nesting (custom_call n xs) = suc (arguments_nesting xs)
+  call_nesting (length_call x) = suc (argument_nesting x)
+  call_nesting (value_call x) = suc (argument_nesting x)
+  call_nesting (count_call x) = suc (argument_nesting x)
+  call_nesting (search_call x y) = suc (max (argument_nesting x) (argument_nesting y))
+  call_nesting (match_call x y) = suc (max (argument_nesting x) (argument_nesting y))
+
+  pub argument_nesting : Argument → ℕ
+  argument_nesting (literal_argument l) = 0
+  argument_nesting (test_argument t) = test_nesting t
+  argument_nesting (filter_argument f) = filter_nesting f
+
+  pub arguments_nesting : Arguments → ℕ
+  arguments_nesting no_arguments = 0
+  arguments_nesting (argument x xs) = max (argument_nesting x) (arguments_nesting xs)
