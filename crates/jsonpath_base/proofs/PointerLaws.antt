@@ -27,7 +27,7 @@ use Rattle.jsonpath_base.specs.Tree.{Tree}
 use Rattle.jsonpath_base.specs.Values.{tree_of, value_tree}
 use Rattle.jsonpath_base.proofs.PointerTexts.{Lacks}
 use Rattle.jsonpath_base.proofs.PointerWays.{unescape_head, mark_one, mark_zero}
-use Rattle.jsonpath_base.proofs.StepLemmas.{decimal_index}
+use Rattle.jsonpath_parser.proofs.laws.words.Quoting.{decimal_index}
 use Rattle.jsonpath_base.proofs.Placing.{item_at-trees_of}
 use Rattle.jsonpath_base.proofs.Putting.{is_entry, no_list, no_object}
 use Rattle.jsonpath_base.proofs.PutWhole.{list_data, object_data}

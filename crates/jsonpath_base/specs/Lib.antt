@@ -1,6 +1,7 @@
 pub mod Tree
 pub mod Places
 pub mod Steps
+pub mod FixedPart
 pub mod Put
 pub mod Added
 pub mod Pointer

@@ -1,11 +1,16 @@
-//! Locations as values: whether one begins another, and the Normalized Path of each (RFC 9535, 2.7).
-ghost use Rattle.std.specs.Prelude.{◌≡◌, ◌↔◌, ◌++◌, IfErr, IfOk, IsTrue, OnOk, string_bytes};
+//! Locations as values: whether one begins another, the Normalized Path of each (RFC 9535, 2.7), and the one at the front of a
+//! query.
+ghost use Rattle.std.specs.Prelude.{◌≡◌, ◌↔◌, ◌++◌, IfErr, IfOk, IsTrue, OnOk, map, option_map, string_bytes};
 ghost use Rattle.jsonpath_parser.specs.Location.{Begins};
 ghost use Rattle.jsonpath_parser.specs.Normal.{IsNormal, step_text};
+ghost use Rattle.jsonpath_parser.specs.tree.Syntax as syntax;
+ghost use Rattle.jsonpath_parser.specs.tree.View.{query_view, segment_view, segments_of, selector_view};
+ghost use Rattle.jsonpath_base.specs.FixedPart.{fixed_part, fixed_step};
 ghost use Rattle.jsonpath_base.specs.Steps.{location_view, owned_step};
 
 use crate::step::{Step, add_index, add_name};
 use jsonpath_parser::errors::{JsonPathError, Parsed};
+use jsonpath_parser::model::{JpQuery, Segment, Selector};
 use std::alloc::Global;
 
 /// Whether a location begins with the steps of another, so that it is that one or lies below it. It takes no memory, and time
@@ -41,5 +46,70 @@ fn add_step(alloc: Global, path: &mut String, step: &Step) -> Parsed<()>
     match step {
         Step::Name(name) => add_name(alloc, path, name),
         Step::Index(index) => add_index(alloc, path, *index),
+    }
+}
+
+/// The location with which each location begins that a query selects, in every document: the steps of its leading segments
+/// that are one name each, or one index from 0 on, up to the first that is neither (RFC 9535, 2.3.1 and 2.3.3). Of
+/// `$.tenants['t1'].orders[?@.total>10].id` it is `$['tenants']['t1']['orders']`, of `$..a` and of `$[-1]` it is `$`.
+///
+/// The time is linear in these steps and in the names that they hold.
+///
+/// # Errors
+///
+/// `OutOfMemory` where memory ran out.
+pub fn fixed_steps(alloc: Global, query: &JpQuery) -> Parsed<Vec<Step>>
+    ensures steps { IfOk result (λ v. location_view v.items ≡ fixed_part (query_view query.now)) }
+    ensures memory { IfErr result (λ e. e ≡ JsonPathError.OutOfMemory) }
+{
+    leading_steps(alloc, &query.segments)
+}
+
+/// The steps of the leading segments, up to the first that is none.
+fn leading_steps(alloc: Global, segments: &[Segment]) -> Parsed<Vec<Step>>
+    ensures value { IfOk result (λ v. location_view v.items ≡ fixed_part (segments_of (map segment_view segments.now))) }
+    ensures memory { IfErr result (λ e. e ≡ JsonPathError.OutOfMemory) }
+{
+    let mut steps = Vec::new(alloc);
+    for segment in segments {
+        match segment_step(alloc, segment)? {
+            Some(step) => steps.push(step)?,
+            None => return Ok(steps),
+        }
+    }
+    Ok(steps)
+}
+
+/// The step that a segment is: one name, or one index from 0 on.
+fn segment_step(alloc: Global, segment: &Segment) -> Parsed<Option<Step>>
+    ensures value { IfOk result (λ o. option_map owned_step o ≡ fixed_step (segment_view segment.now)) }
+    ensures memory { IfErr result (λ e. e ≡ JsonPathError.OutOfMemory) }
+{
+    match segment {
+        Segment::Selector(selector) => selector_step(alloc, selector),
+        Segment::Selectors(_) | Segment::Descendant(_) => Ok(None),
+    }
+}
+
+/// The step that a selector is.
+fn selector_step(alloc: Global, selector: &Selector) -> Parsed<Option<Step>>
+    ensures value { IfOk result (λ o. option_map owned_step o ≡ fixed_step (syntax.one (selector_view selector.now))) }
+    ensures memory { IfErr result (λ e. e ≡ JsonPathError.OutOfMemory) }
+{
+    match selector {
+        Selector::Name(name) => Ok(Some(Step::Name(String::from_str(alloc, name)?))),
+        Selector::Index(index) => Ok(index_step(*index)),
+        Selector::Wildcard | Selector::Slice(_, _, _) | Selector::Filter(_) => Ok(None),
+    }
+}
+
+/// The step that an index from 0 on is.
+fn index_step(index: i64) -> Option<Step>
+    ensures { option_map owned_step result ≡ fixed_step (syntax.one (syntax.Selector.index index)) }
+{
+    if index < 0 {
+        None
+    } else {
+        Some(Step::Index(index as usize))
     }
 }

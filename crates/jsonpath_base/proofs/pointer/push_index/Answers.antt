@@ -1,5 +1,5 @@
 use Rattle.std.proofs.Common.{ap, ◌∙◌, ◌++◌, string_bytes, arith}
-use Rattle.jsonpath_base.proofs.StepLemmas.{decimal_index}
+use Rattle.jsonpath_parser.proofs.laws.words.Quoting.{decimal_index}
 use Rattle.jsonpath_base.proofs.pointer.push_index.Goals as goal
 
 pub returns : goal.returns

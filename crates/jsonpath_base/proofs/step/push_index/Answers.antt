@@ -1,6 +1,6 @@
 use Rattle.std.proofs.Common.{◌≡◌, [], ◌∷◌, ◌++◌, ap, ◌∙◌, append_assoc, arith, string_bytes}
 use Rattle.jsonpath_parser.specs.Normal.{index_digits}
-use Rattle.jsonpath_base.proofs.StepLemmas.{decimal_index}
+use Rattle.jsonpath_parser.proofs.laws.words.Quoting.{decimal_index}
 use Rattle.jsonpath_base.proofs.step.push_index.Goals as goal
 
 pub returns-clause-value : goal.returns-clause-value
