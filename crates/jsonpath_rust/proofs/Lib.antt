@@ -3,4 +3,5 @@ pub mod Deleting
 pub mod ByText
 pub mod First
 pub mod NormalPaths
+pub mod NormalChanges
 pub mod Withins

@@ -1,19 +1,26 @@
 -- What a call under a limit of work answers.
-use Rattle.std.proofs.Common.{◌≡◌, ℕ, List, Result, Ok, Err, IfOk, IfErr, MatchResult, inr, ap, ◌∙◌, subst}
-use Rattle.std.specs.List.{AllZip}
+use Rattle.std.proofs.Common.{◌≡◌, ℕ, List, [], Result, Ok, Err, IfOk, IfErr, OnOk, IsTrue, MatchResult, inr, refl, sym, ap, ◌∙◌, subst, arith}
+use Rattle.std.specs.List.{AllZip, Contains}
 use Rattle.jsonpath_parser.specs.Derives.{Derives}
 use Rattle.jsonpath_parser.specs.Location.{Location}
 use Rattle.jsonpath_parser.specs.Normal.{IsNormal}
 use Rattle.jsonpath_parser.specs.tree.Steps.{steps_query}
-use Rattle.jsonpath_parser.specs.tree.Syntax.{Query}
+use Rattle.jsonpath_parser.specs.tree.Syntax.{Query, no_segments, segment, one, several, descendant, name, wildcard, index, slice, filter}
+use Rattle.jsonpath_parser.specs.tree.Typing.{is_singular}
 use Rattle.jsonpath_parser.specs.declared.errors.JsonPathError.{JsonPathError}
 use Rattle.jsonpath_parser.specs.declared.errors.JsonPathError.TheVariants.{OutOfMemory}
+use Rattle.jsonpath_base.specs.Pattern.{IsInvalid}
 use Rattle.jsonpath_base.specs.Tree.{Tree}
 use Rattle.jsonpath_rust.specs.documents.Answer.{IsNodeAt, Lists, node_there}
 use Rattle.jsonpath_rust.specs.documents.Document.{Document}
 use Rattle.jsonpath_rust.specs.documents.Meaning.{selected}
-use Rattle.jsonpath_rust.specs.documents.Patterns.{segments_patterns, IsStop, IsQueryRefusal}
-use Rattle.jsonpath_rust.specs.selection.Within.{IfDone}
+use Rattle.jsonpath_rust.specs.documents.Patterns.{segments_patterns, AsksPattern, IsStop, IsQueryRefusal}
+use Rattle.jsonpath_rust.specs.selection.Within.{IfDone, IfSpent}
+use Rattle.jsonpath_rust.specs.selection.inner.Halting.{IsHalt}
+use Rattle.jsonpath_rust.specs.declared.documents.halt.Halt.{Halt}
+use Rattle.jsonpath_rust.specs.declared.documents.halt.Halt.TheVariants as halt
+use Rattle.jsonpath_rust.specs.declared.selection.budget.Limit.{Limit}
+use Rattle.jsonpath_rust.specs.declared.selection.budget.Limit.TheVariants as limits
 use Rattle.jsonpath_rust.specs.declared.selection.within.Within.{Within}
 use Rattle.jsonpath_rust.specs.declared.selection.within.Within.TheVariants.{Done, Spent}
 use Rattle.jsonpath_rust.proofs.NormalPaths.{only_node, steps_patterns}
@@ -44,3 +51,51 @@ normal_within show l doc q path (Err e) is same nodes refused = stop_is_memory q
 pub stopped_within : {X : Type 0} (limit : ℕ) (text : List ℕ) (q t : Query) (doc : Document) (r : Result X JsonPathError) → Derives limit text t → q ≡ t → IfErr r (IsStop q doc) → IfErr r (IsQueryRefusal limit text doc)
 stopped_within limit text q t doc (Ok x) derived same h = tt
 stopped_within limit text q t doc (Err e) derived same h = inr (t, derived, subst (λ s. IsStop s doc e) same h)
+
+-- ---- what a halt is told as
+
+pub never_done : {X E : Type 0} (P : X → Type 0) (r : Result (Within X) E) → IfOk r (λ w. IfDone w (λ x. ⊥)) → IfOk r (λ w. IfDone w P)
+never_done P (Ok (Done x)) h = absurd h
+never_done P (Ok Spent) h = tt
+never_done P (Err e) h = tt
+
+-- what is refused for a pattern halted for one
+pub halted_stop : {X : Type 0} (limit : Limit) (q : Query) (doc : Document) (cause : Halt) (r : Result X JsonPathError) → IsHalt limit (segments_patterns q) doc cause
+    → IfErr r (λ e. (e ≡ OutOfMemory → ⊥) → IsInvalid e × (cause ≡ halt.Pattern)) → IfErr r (IsStop q doc)
+halted_stop limit q doc cause (Ok x) h told = tt
+halted_stop limit q doc cause (Err e) h told = λ other. ((told other).0, asked (told other).1)
+  where
+    asked : cause ≡ halt.Pattern → AsksPattern (segments_patterns q) doc
+    asked is = h (λ memory. let both : halt.Pattern ≡ halt.Memory = sym is ∙ memory in cc) (λ spent. let both : halt.Pattern ≡ halt.Spent = sym is ∙ spent.0 in cc)
+
+-- ---- any work is enough for a singular query
+
+-- none of its segments has a pattern
+singular_patterns : (q : Query) → IsTrue (is_singular q) → segments_patterns q ≡ []
+singular_patterns no_segments h = refl
+singular_patterns (segment (one (name k)) gs) h = singular_patterns gs h
+singular_patterns (segment (one (index i)) gs) h = singular_patterns gs h
+singular_patterns (segment (one wildcard) gs) h = absurd cc
+singular_patterns (segment (one (slice start end step)) gs) h = absurd cc
+singular_patterns (segment (one (filter f)) gs) h = absurd cc
+singular_patterns (segment (several ss) gs) h = absurd cc
+singular_patterns (segment (descendant g) gs) h = absurd cc
+
+-- so its work, which is not limited, never runs out
+pub never_spent : {X E : Type 0} (limit : Limit) (q : Query) (doc : Document) (cause : Halt) (r : Result (Within X) E) → (IsTrue (is_singular q) → limit ≡ limits.Unlimited) → IsHalt limit (segments_patterns q) doc cause → OnOk r (cause ≡ halt.Spent)
+    → IsTrue (is_singular q) → IfOk r (λ w. IfSpent w ⊥)
+never_spent limit q doc cause (Ok (Done x)) rule h spent singular = tt
+never_spent limit q doc cause (Err e) rule h spent singular = tt
+never_spent limit q doc cause (Ok Spent) rule h spent singular =
+    nothing_asked (h (λ memory. let both : halt.Spent ≡ halt.Memory = sym spent ∙ memory in cc) (λ s. let both : limits.Unlimited ≡ limits.Limited = sym (rule singular) ∙ s.1 in cc))
+  where
+    nothing_asked : AsksPattern (segments_patterns q) doc → ⊥
+    nothing_asked asks = omega (arith, (subst (λ ps. Contains ps (asks.entire, asks.pattern)) (singular_patterns q singular) asks.stands).1)
+
+-- so no call that is passed what was done is spent
+pub of_spent : {X : Type 0} (w : Within X) → w ≡ Spent → IfSpent w ⊥ → ⊥
+of_spent w e h = subst (λ q. IfSpent q ⊥) e h
+
+-- of a query that is the text's
+pub enough_of_text : {X E : Type 0} (q t : Query) (r : Result (Within X) E) → q ≡ t → (IsTrue (is_singular q) → IfOk r (λ w. IfSpent w ⊥)) → IsTrue (is_singular t) → IfOk r (λ w. IfSpent w ⊥)
+enough_of_text q t r same enough singular = enough (ap is_singular same ∙ singular)

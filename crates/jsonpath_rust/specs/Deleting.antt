@@ -1,7 +1,9 @@
 -- What a deletion leaves, and what it answers.
-use Rattle.std.specs.Prelude.{◌≡◌, ℕ, List, []}
+use Rattle.std.specs.Prelude.{◌≡◌, ℕ, List, [], ◌∷◌, is_some, if◌then◌else◌}
 use Rattle.jsonpath_parser.specs.Derives.{Derives}
+use Rattle.jsonpath_parser.specs.Location.{Location}
 use Rattle.jsonpath_parser.specs.tree.Syntax.{Query}
+use Rattle.jsonpath_base.specs.Places.{at}
 use Rattle.jsonpath_base.specs.Tree.{Tree}
 use Rattle.jsonpath_base.specs.Without.{without, is_among, distinct_count}
 use Rattle.jsonpath_rust.specs.documents.Document.{Document}
@@ -17,6 +19,15 @@ pub record Deletes (depth : ℕ) (text : List ℕ) (doc : Document) (left : Tree
   pub query : Query
   pub derived : Derives depth text query
   pub deleted : IsDeletion query doc left count
+
+-- 1 where something is at the location, else 0
+abbrev pub count_at : Location → Tree → ℕ
+count_at l t = if is_some (at l t) then 1 else 0
+
+-- The tree left is the tree before without this location; so it is as it was where nothing is there.
+pub record IsDeletionAt (l : Location) (before left : Tree) (count : ℕ) : Type 0 where
+  pub removed : left ≡ without (is_among (l ∷ [])) before
+  pub counted : count ≡ count_at l before
 
 -- A deletion by a query that selects nothing leaves the document's tree, and its count is 0.
 abbrev pub NothingSelectedDeletesNothing : Type 0

@@ -19,6 +19,7 @@ pub use Rattle.jsonpath_rust.specs.documents.Patterns
 pub use Rattle.jsonpath_rust.specs.documents.Referring
 pub use Rattle.jsonpath_rust.specs.documents.Lending
 pub use Rattle.jsonpath_rust.specs.documents.Locating
+pub use Rattle.jsonpath_rust.specs.documents.Confining
 pub use Rattle.jsonpath_rust.specs.selection.Only
 pub use Rattle.jsonpath_rust.specs.selection.Prepared
 pub use Rattle.jsonpath_rust.specs.selection.Within
@@ -51,6 +52,7 @@ pub use Rattle.jsonpath_parser.specs.Derives
 pub use Rattle.jsonpath_parser.specs.Unambiguous
 pub use Rattle.jsonpath_base.specs.Tree
 pub use Rattle.jsonpath_base.specs.Places
+pub use Rattle.jsonpath_base.specs.FixedPart
 pub use Rattle.jsonpath_base.specs.Put
 pub use Rattle.jsonpath_base.specs.Added
 pub use Rattle.jsonpath_base.specs.Pointer

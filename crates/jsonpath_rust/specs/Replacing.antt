@@ -1,10 +1,13 @@
 -- What a replacement leaves, and what it answers.
 use Rattle.std.specs.Prelude.{◌≡◌, ℕ, List}
 use Rattle.jsonpath_parser.specs.Derives.{Derives}
+use Rattle.jsonpath_parser.specs.Location.{Location}
 use Rattle.jsonpath_parser.specs.tree.Syntax.{Query}
 use Rattle.jsonpath_base.specs.Overwritten.{overwritten}
+use Rattle.jsonpath_base.specs.Put.{put}
 use Rattle.jsonpath_base.specs.Tree.{Tree}
 use Rattle.jsonpath_base.specs.Without.{is_among, distinct_count}
+use Rattle.jsonpath_rust.specs.Deleting.{count_at}
 use Rattle.jsonpath_rust.specs.documents.Document.{Document}
 use Rattle.jsonpath_rust.specs.documents.Meaning.{selected}
 
@@ -18,3 +21,8 @@ pub record Replaces (depth : ℕ) (text : List ℕ) (u : Tree) (doc : Document) 
   pub query : Query
   pub derived : Derives depth text query
   pub replaced : IsReplacement query u doc left count
+
+-- The tree left is the tree before with `u` at this location; so it is as it was where nothing is there.
+pub record IsReplacementAt (l : Location) (u before left : Tree) (count : ℕ) : Type 0 where
+  pub replaced : left ≡ put l u before
+  pub counted : count ≡ count_at l before

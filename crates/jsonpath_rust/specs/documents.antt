@@ -9,4 +9,5 @@ pub mod Patterns
 pub mod Referring
 pub mod Lending
 pub mod Locating
+pub mod Confining
 pub mod inner

@@ -15,7 +15,9 @@ mod whole;
 pub use crate::documents::whole::{Whole, WholeRef};
 pub use crate::json_path::JsonPath;
 pub use crate::query::queryable::{Deletable, Queryable};
-pub use crate::query::{Condition, ConditionRunner, Limited, Only, Prepared, Runner, Step, Within};
+pub use crate::query::{
+    Condition, ConditionRunner, Limited, LimitedCondition, Only, Prepared, Runner, Step, Within,
+};
 pub use crate::whole::ReadError;
 pub use jsonpath_build as build;
 pub use jsonpath_parser as parser;

@@ -15,12 +15,13 @@ ghost use Rattle.jsonpath_rust.specs.states.Asking.{IsProcessStop};
 ghost use Rattle.jsonpath_rust.specs.documents.Patterns.{segments_patterns, IsStop, IsQueryRefusal};
 ghost use Rattle.jsonpath_rust.specs.states.State.{root_content};
 ghost use Rattle.jsonpath_rust.specs.documents.Answer.{IsNodeAt, IsPathAt, IsValueAt, Lists, shown, paths_of, node_there};
-ghost use Rattle.jsonpath_rust.specs.selection.Within.{IfDone};
+ghost use Rattle.jsonpath_rust.specs.selection.Within.{IfDone, IfSpent};
 ghost use Rattle.jsonpath_rust.specs.states.Processed.{processed};
 
 mod count;
 mod deletion;
 mod first;
+pub mod laws;
 mod location;
 mod masking;
 mod only;
@@ -31,31 +32,21 @@ pub use crate::documents::{
     Queried, QueryPath, QueryRef, not_a_reference, referred_location, replace_by_path,
 };
 pub use crate::query::count::js_path_count;
-pub use crate::query::deletion::{
-    delete_selected, delete_within, nothing_selected_deletes_nothing,
-};
+pub use crate::query::deletion::{delete_selected, delete_within};
 pub use crate::query::first::js_path_first;
-pub use crate::query::location::{
-    location_by_path, location_of, normalized_path_derives_its_steps, selected_is_there,
-    steps_select_their_location,
-};
+pub use crate::query::location::{location_by_path, location_of};
 pub use crate::query::masking::{replace_selected, replace_within};
 pub use crate::query::only::js_path_only;
 pub use crate::selection::{
-    Condition, ConditionRunner, Limited, Only, Prepared, Runner, Within, selected_count,
-    selected_first, selected_locations, selected_nodes, selected_only, selected_paths,
-    selected_values,
+    Condition, ConditionRunner, Limited, LimitedCondition, Only, Prepared, Runner, Within,
+    selected_count, selected_first, selected_locations, selected_nodes, selected_only,
+    selected_paths, selected_values,
 };
 pub use crate::states::{Query, apply, selector, state};
 use crate::states::{processed_nodes, processed_values};
-pub use jsonpath_base::laws::{
-    added_is_there, added_leaves_the_rest, equal_steps_are_one_step, overwritten_at_one_is_put,
-    overwritten_forgets, overwritten_is_seen, pointer_finds_its_place, put_is_there,
-    put_leaves_the_rest, removal_leaves_the_rest, removed_member_is_gone, same_is_an_equivalence,
-};
 pub use jsonpath_base::{
-    Step, add_at, at, at_mut, begins, location_by_pointer, path_of, pointer_of, put_at, remove_all,
-    replace_all, take_at,
+    Step, add_at, at, at_mut, begins, fixed_steps, location_by_pointer, path_of, pointer_of,
+    put_at, remove_all, replace_all, take_at,
 };
 use jsonpath_parser::model::JpQuery;
 use jsonpath_parser::{
@@ -128,7 +119,7 @@ pub fn js_path_within<'a, T: Queryable>(
 }
 
 /// The nodes that a query text selects in a document, as [`js_path`], or [`Within::Spent`] where so many units of work are not
-/// enough: for queries of strangers. What a unit is spent for stands at [`Limited`].
+/// enough: for queries of strangers. What a unit is spent for stands at [`Limited`]; a singular query spends none.
 ///
 /// # Errors
 ///
@@ -147,7 +138,10 @@ pub fn js_path_limited<'a, T: Queryable>(
         (λ w. IfDone w (λ v. AllZip (IsNodeAt (document_of T.tree T.custom value.now)) (selected q (document_of T.tree T.custom value.now)) (shown T.tree v.items)))
         (IsStop q (document_of T.tree T.custom value.now)) }
 
-    // A Normalized Path is refused by `OutOfMemory` alone. Its node is given, or none where nothing is there, if the work is enough.
+    // Any work is enough for a singular query.
+    ensures enough { (q : Query) → Derives MAX_NESTING_DEPTH path.now q → IsTrue (typing.is_singular q) → IfOk result (λ w. IfSpent w ⊥) }
+
+    // A Normalized Path is refused by `OutOfMemory` alone. Its node is given, or none where nothing is there; any work is enough.
     ensures normal { (l : Location) → IsNormal l path.now → HasIndexesInRange l → MatchResult result
         (λ w. IfDone w (λ v. shown T.tree v.items ≡ node_there (document_of T.tree T.custom value.now) l path.now))
         (λ e. e ≡ OutOfMemory) }
@@ -210,8 +204,9 @@ pub fn js_path_path<T: Queryable>(alloc: Global, path: &str, value: &T) -> Queri
 ///
 /// That holds for each tree that [`is_typed`], with any index and any slice; a tree that was read from a text is one. A
 /// tree made by hand may be refused by the typing of RFC 9535, 2.4.3, as one with `length(@.*)`, where `length` is given
-/// nodes in place of a value. It selects nothing by the RFC; here it is asked all the same, and the nodes are those of
-/// [`Query::process`] from [`State::root`](state::State::root), which gives that `length` the number of the nodes.
+/// nodes in place of a value. It selects nothing by the RFC; here it is asked all the same, and [`Query::process`] gives
+/// that `length` the number of the nodes. Of every tree the nodes are those of [`Query::process`] from
+/// [`State::root`](state::State::root), which on a typed one are those that it selects ([`laws::process_gives_the_nodelist`]).
 ///
 /// # Errors
 ///
@@ -227,7 +222,7 @@ pub fn js_path_process<'a, T: Queryable>(
     requires { IsTrue (T.is_whole value.now) }
     ensures nodes { IsTrue (typing.is_typed (query_view path.now)) → IfOk result (λ v. AllZip (IsNodeAt (document_of T.tree T.custom value.now))
         (selected (query_view path.now) (document_of T.tree T.custom value.now)) (shown T.tree v.items)) }
-    ensures processed { IsFalse (typing.is_typed (query_view path.now)) → IfOk result (λ v. shown T.tree v.items ≡ processed (query_view path.now) (document_of T.tree T.custom value.now)) }
+    ensures processed { IfOk result (λ v. shown T.tree v.items ≡ processed (query_view path.now) (document_of T.tree T.custom value.now)) }
     ensures whole { IfOk result (λ v. All (λ r. IsTrue (T.is_whole r.val.now)) v.items) }
     ensures refused { IsTrue (typing.is_typed (query_view path.now)) → IfErr result (IsStop (query_view path.now) (document_of T.tree T.custom value.now)) }
     ensures processing_refused { IsFalse (typing.is_typed (query_view path.now)) → IfErr result (IsProcessStop (segments_patterns (query_view path.now)) (document_of T.tree T.custom value.now)
@@ -253,7 +248,7 @@ pub fn js_path_process_vals<'a, T: Queryable>(
     requires { IsTrue (T.is_whole value.now) }
     ensures values { IsTrue (typing.is_typed (query_view query.now)) → IfOk result (λ v. AllZip (IsValueAt (document_of T.tree T.custom value.now))
         (selected (query_view query.now) (document_of T.tree T.custom value.now)) (map (λ x. T.tree x.now) v.items)) }
-    ensures processed { IsFalse (typing.is_typed (query_view query.now)) → IfOk result (λ v. map (λ x. T.tree x.now) v.items
+    ensures processed { IfOk result (λ v. map (λ x. T.tree x.now) v.items
         ≡ map (λ n. n.1) (processed (query_view query.now) (document_of T.tree T.custom value.now))) }
     ensures whole { IfOk result (λ v. All (λ x. IsTrue (T.is_whole x.now)) v.items) }
     ensures refused { IsTrue (typing.is_typed (query_view query.now)) → IfErr result (IsStop (query_view query.now) (document_of T.tree T.custom value.now)) }

@@ -21,6 +21,7 @@ mod filter;
 mod function;
 mod give;
 mod limited;
+mod limited_condition;
 mod nodelist;
 mod only;
 mod onward;
@@ -38,6 +39,7 @@ mod within;
 
 pub use crate::selection::condition::{Condition, ConditionRunner};
 pub use crate::selection::limited::Limited;
+pub use crate::selection::limited_condition::LimitedCondition;
 pub use crate::selection::nodelist::{
     selected_count, selected_first, selected_locations, selected_nodes, selected_only,
     selected_paths, selected_removal, selected_values,

@@ -1,4 +1,5 @@
 pub mod Arguments
+pub mod Confining
 pub mod Following
 pub mod LendingLaws
 pub mod Locating
@@ -6,5 +7,6 @@ pub mod Made
 pub mod MemberCounts
 pub mod NodesAt
 pub mod NormalSteps
+pub mod Nowhere
 pub mod Parts
 pub mod Trees

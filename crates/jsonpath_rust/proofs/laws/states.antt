@@ -4,3 +4,8 @@ pub mod Lies
 pub mod Maps
 pub mod PartWeight
 pub mod ProcessedLaws
+pub mod Finders
+pub mod Contents
+pub mod Parents
+pub mod Meant
+pub mod Agreeing

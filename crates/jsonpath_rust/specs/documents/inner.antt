@@ -1,6 +1,5 @@
 -- What the crate's own contracts and proofs say. Nothing here is part of what a query means.
 pub mod Following
-pub mod Locating
 pub mod Operands
 pub mod Parts
 pub mod Refusing

@@ -9,6 +9,7 @@ use Rattle.jsonpath_parser.specs.declared.errors.JsonPathError.TheVariants.{Pest
 use Rattle.jsonpath_rust.specs.selection.Prepared.{prepared_view}
 use Rattle.jsonpath_rust.specs.declared.selection.condition.Condition.{Condition}
 use Rattle.jsonpath_rust.specs.declared.selection.condition.ConditionRunner.{ConditionRunner}
+use Rattle.jsonpath_rust.specs.declared.selection.limited_condition.LimitedCondition.{LimitedCondition}
 
 -- the query `$[?e]`
 abbrev pub filter_query : Filter → Query
@@ -43,6 +44,9 @@ condition_view c = expression_of (prepared_view c.prepared)
 
 abbrev pub condition_runner_view : ConditionRunner → Filter
 condition_runner_view r = condition_view r.condition.now
+
+abbrev pub limited_condition_view : LimitedCondition → Filter
+limited_condition_view l = condition_runner_view l.runner
 
 -- The refusals of a text, each with what it means: it is no one expression, and the place stands between two characters of it or at an end of it; memory ran
 -- out; all others are those of the query text `$[?e]`.

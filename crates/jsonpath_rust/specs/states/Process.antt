@@ -1,5 +1,5 @@
 -- What `process` answers on a state, for each part of a query. It has a value on every state and every tree, also where the typing of RFC 9535,
--- 2.4.3 refuses the tree. That the nodes from the root are those that Meaning selects, where the typing takes the tree, is tested and not proved.
+-- 2.4.3 refuses the tree. Where the typing takes the tree, the nodes from the root are those that Meaning selects: a law, in Processed.
 use Rattle.std.specs.Prelude.{List, [], ◌∷◌, ◌++◌, length, map, Bool, true, false, not, ◌&&◌, ◌||◌, Option, Some, None}
 use Rattle.jsonpath_parser.specs.tree.Making.{is_truth_call}
 use Rattle.jsonpath_parser.specs.tree.Syntax as syntax

@@ -1,8 +1,11 @@
 -- What `process` answers of a whole query.
-use Rattle.std.specs.Prelude.{ℕ, List, map}
+use Rattle.std.specs.Prelude.{◌≡◌, ℕ, List, map, IsTrue}
+use Rattle.jsonpath_parser.specs.Normal.{normal}
 use Rattle.jsonpath_parser.specs.tree.Syntax.{Query}
+use Rattle.jsonpath_parser.specs.tree.Typing.{is_typed}
 use Rattle.jsonpath_base.specs.Tree.{Tree}
 use Rattle.jsonpath_rust.specs.documents.Document.{Document}
+use Rattle.jsonpath_rust.specs.documents.Meaning.{nodelist}
 use Rattle.jsonpath_rust.specs.states.Process.{segments_content}
 use Rattle.jsonpath_rust.specs.states.State.{targets, root_content}
 
@@ -10,3 +13,7 @@ use Rattle.jsonpath_rust.specs.states.State.{targets, root_content}
 -- typing of RFC 9535, 2.4.3 refuses this need not be what Meaning selects.
 abbrev pub processed : Query → Document → List (List ℕ × Tree)
 processed q doc = map (λ p. (p.path, p.tree)) (targets (segments_content q doc (root_content doc)))
+
+-- Where the typing takes the query, these are the nodes that it selects (2.1.2), in order, under their Normalized Paths (2.7).
+abbrev pub ProcessGivesTheNodelist : Type 0
+ProcessGivesTheNodelist = (q : Query) (doc : Document) → IsTrue (is_typed q) → processed q doc ≡ map (λ n. (normal n.location, n.tree)) (nodelist q doc)

@@ -1,14 +1,19 @@
 //! Deletion of what a query selects.
-ghost use Rattle.std.specs.Prelude.{◌≡◌, Bool, true, false, map, IsTrue, IfOk, IfErr, OnOk, OnErr, MatchResult};
+ghost use Rattle.std.specs.Prelude.{◌≡◌, ◌≤◌, Bool, true, false, map, IsTrue, IfOk, IfErr, OnOk, OnErr, MatchResult};
 ghost use Rattle.std.specs.Result.{IsErrAnd};
 ghost use Rattle.jsonpath_parser.specs.Derives.{Derives};
+ghost use Rattle.jsonpath_parser.specs.Location.{Location};
+ghost use Rattle.jsonpath_parser.specs.Normal.{IsNormal};
+ghost use Rattle.jsonpath_parser.specs.tree.Steps.{HasIndexesInRange};
 ghost use Rattle.jsonpath_parser.specs.tree.Syntax.{Query};
+ghost use Rattle.jsonpath_parser.specs.tree.Typing as typing;
 ghost use Rattle.jsonpath_parser.specs.tree.View.{query_view};
+ghost use Rattle.jsonpath_parser.specs.declared.errors.JsonPathError.TheVariants.{OutOfMemory};
 ghost use Rattle.jsonpath_base.specs.SetFunctions.{set_function};
 ghost use Rattle.jsonpath_base.specs.Values.{value_tree, value_is_whole};
 ghost use Rattle.jsonpath_base.specs.Without.{without, is_among, distinct_count};
 ghost use Rattle.jsonpath_rust.specs.Defaults.{IsUnsupported};
-ghost use Rattle.jsonpath_rust.specs.Deleting.{IsDeletion, Deletes, NothingSelectedDeletesNothing};
+ghost use Rattle.jsonpath_rust.specs.Deleting.{IsDeletion, IsDeletionAt, Deletes};
 ghost use Rattle.jsonpath_rust.specs.documents.Document.{document_of};
 ghost use Rattle.jsonpath_rust.specs.documents.Meaning.{selected};
 ghost use Rattle.jsonpath_rust.specs.documents.Patterns.{IsStop, IsQueryRefusal};
@@ -23,11 +28,6 @@ use jsonpath_parser::model::JpQuery;
 use jsonpath_parser::{MAX_NESTING_DEPTH, let_go, parse_json_path_within};
 use serde_json::Value;
 use std::alloc::Global;
-
-/// States a law and does nothing: a deletion by a query that selects nothing leaves the document's tree, and returns 0.
-pub fn nothing_selected_deletes_nothing()
-    ensures { NothingSelectedDeletesNothing }
-{}
 
 /// A document from which the locations that a query selects can be removed.
 pub trait Deletable: Queryable {
@@ -58,6 +58,11 @@ impl Deletable for Value {
         ensures only { (q : Query) → Derives MAX_NESTING_DEPTH path.now q → MatchResult result
             (IsDeletion q (document_of value_tree set_function self.old) (value_tree self.new))
             (IsStop q (document_of value_tree set_function self.old)) }
+
+        // A Normalized Path is refused by `OutOfMemory` alone. Its location is removed, and nothing where nothing is there.
+        ensures normal { (l : Location) → IsNormal l path.now → HasIndexesInRange l → MatchResult result
+            (IsDeletionAt l (value_tree self.old) (value_tree self.new))
+            (λ e. e ≡ OutOfMemory) }
         ensures kept { OnErr result (self.new ≡ self.old) }
         ensures whole { IsTrue (value_is_whole self.new) }
         ensures refused { IfErr result (IsQueryRefusal MAX_NESTING_DEPTH path.now (document_of value_tree set_function self.old)) }
@@ -87,6 +92,11 @@ pub fn delete_within(alloc: Global, value: &mut Value, path: &str, depth: usize)
     ensures only { (q : Query) → Derives depth path.now q → MatchResult result
         (IsDeletion q (document_of value_tree set_function value.old) (value_tree value.new))
         (IsStop q (document_of value_tree set_function value.old)) }
+
+    // A Normalized Path is refused by `OutOfMemory` alone. Its location is removed, and nothing where nothing is there.
+    ensures normal { (l : Location) → IsNormal l path.now → HasIndexesInRange l → 1 ≤ depth → MatchResult result
+        (IsDeletionAt l (value_tree value.old) (value_tree value.new))
+        (λ e. e ≡ OutOfMemory) }
     ensures kept { OnErr result (value.new ≡ value.old) }
     ensures whole { IsTrue (value_is_whole value.new) }
     ensures refused { IfErr result (IsQueryRefusal depth path.now (document_of value_tree set_function value.old)) }
@@ -152,6 +162,7 @@ impl<'p> Limited<'p> {
         ensures spent { IfOk result (λ w. IfSpent w (value.new ≡ value.old)) }
         ensures kept { OnErr result (value.new ≡ value.old) }
         ensures whole { IsTrue (value_is_whole value.new) }
+        ensures enough { IsTrue (typing.is_singular (limited_view self.old)) → IfOk result (λ w. IfSpent w ⊥) }
         ensures same { limited_view self.new ≡ limited_view self.old }
         ensures refused { IfErr result (IsStop (limited_view self.old) (document_of value_tree set_function value.old)) }
     {

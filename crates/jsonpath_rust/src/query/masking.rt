@@ -1,19 +1,26 @@
 //! Masking: a value in the place of all that a query selects.
-ghost use Rattle.std.specs.Prelude.{◌≡◌, IsTrue, IfOk, IfErr, OnOk, OnErr, MatchResult};
+ghost use Rattle.std.specs.Prelude.{◌≡◌, ◌≤◌, IsTrue, IfOk, IfErr, OnOk, OnErr, MatchResult};
 ghost use Rattle.jsonpath_parser.specs.Derives.{Derives};
+ghost use Rattle.jsonpath_parser.specs.Location.{Location};
+ghost use Rattle.jsonpath_parser.specs.Normal.{IsNormal};
+ghost use Rattle.jsonpath_parser.specs.tree.Steps.{HasIndexesInRange};
 ghost use Rattle.jsonpath_parser.specs.tree.Syntax.{Query};
+ghost use Rattle.jsonpath_parser.specs.tree.Typing as typing;
 ghost use Rattle.jsonpath_parser.specs.tree.View.{query_view};
+ghost use Rattle.jsonpath_parser.specs.declared.errors.JsonPathError.TheVariants.{OutOfMemory};
 ghost use Rattle.jsonpath_base.specs.Overwritten.{overwritten};
 ghost use Rattle.jsonpath_base.specs.SetFunctions.{set_function};
 ghost use Rattle.jsonpath_base.specs.Values.{value_tree, value_is_whole};
 ghost use Rattle.jsonpath_base.specs.Without.{is_among, distinct_count};
-ghost use Rattle.jsonpath_rust.specs.Replacing.{IsReplacement, Replaces};
+ghost use Rattle.jsonpath_rust.specs.Replacing.{IsReplacement, IsReplacementAt, Replaces};
 ghost use Rattle.jsonpath_rust.specs.documents.Document.{document_of};
 ghost use Rattle.jsonpath_rust.specs.documents.Meaning.{selected};
 ghost use Rattle.jsonpath_rust.specs.documents.Patterns.{IsStop, IsQueryRefusal};
+ghost use Rattle.jsonpath_rust.specs.selection.Prepared.{runner_view, limited_view};
+ghost use Rattle.jsonpath_rust.specs.selection.Within.{IfDone, IfSpent};
 
 use crate::documents::Queried;
-use crate::selection::selected_removal;
+use crate::selection::{Limited, Runner, Within, selected_removal};
 use jsonpath_parser::model::JpQuery;
 use jsonpath_parser::{let_go, parse_json_path_within};
 use serde_json::Value;
@@ -46,6 +53,11 @@ pub fn replace_within(
     ensures only { (q : Query) → Derives depth path.now q → MatchResult result
         (IsReplacement q (value_tree new.now) (document_of value_tree set_function value.old) (value_tree value.new))
         (IsStop q (document_of value_tree set_function value.old)) }
+
+    // A Normalized Path is refused by `OutOfMemory` alone. The copy stands at its location, and nowhere where nothing is there.
+    ensures normal { (l : Location) → IsNormal l path.now → HasIndexesInRange l → 1 ≤ depth → MatchResult result
+        (IsReplacementAt l (value_tree new.now) (value_tree value.old) (value_tree value.new))
+        (λ e. e ≡ OutOfMemory) }
     ensures kept { OnErr result (value.new ≡ value.old) }
     ensures whole { IsTrue (value_is_whole value.new) }
     ensures refused { IfErr result (IsQueryRefusal depth path.now (document_of value_tree set_function value.old)) }
@@ -81,4 +93,62 @@ pub fn replace_selected(
     let places = selected_removal(alloc, query, value)?.ordered(alloc)?;
     places.replace_in(alloc, value, new)?;
     Ok(places.count())
+}
+
+impl<'p> Runner<'p> {
+    /// Puts a copy of `new` at all locations that the query selects in a document, and returns how many distinct ones there are,
+    /// as [`replace_selected`] does.
+    ///
+    /// # Errors
+    ///
+    /// Those of [`replace_selected`]; after any of them the document is as it was.
+    pub fn replace(&mut self, alloc: Global, value: &mut Value, new: &Value) -> Queried<usize>
+        requires value_whole { IsTrue (value_is_whole value.old) }
+        requires new_whole { IsTrue (value_is_whole new.now) }
+        ensures replaced { OnOk result (value_tree value.new ≡ overwritten (is_among (selected (runner_view self.old) (document_of value_tree set_function value.old))) (value_tree new.now) (value_tree value.old)) }
+        ensures count { IfOk result (λ n. n ≡ distinct_count (selected (runner_view self.old) (document_of value_tree set_function value.old))) }
+        ensures kept { OnErr result (value.new ≡ value.old) }
+        ensures whole { IsTrue (value_is_whole value.new) }
+        ensures same { runner_view self.new ≡ runner_view self.old }
+        ensures refused { IfErr result (IsStop (runner_view self.old) (document_of value_tree set_function value.old)) }
+    {
+        let ordered = self.removal(alloc, value)?.ordered(alloc)?;
+        ordered.replace_in(alloc, value, new)?;
+        Ok(ordered.count())
+    }
+}
+
+impl<'p> Limited<'p> {
+    /// The same as [`Runner::replace`]. Where the units are not enough, the document is as it was. The size of the copies is not
+    /// limited.
+    ///
+    /// # Errors
+    ///
+    /// Those of [`replace_selected`]; after any of them the document is as it was.
+    pub fn replace(
+        &mut self,
+        alloc: Global,
+        value: &mut Value,
+        new: &Value,
+    ) -> Queried<Within<usize>>
+        requires value_whole { IsTrue (value_is_whole value.old) }
+        requires new_whole { IsTrue (value_is_whole new.now) }
+        ensures replaced { IfOk result (λ w. IfDone w (λ n. IsReplacement (limited_view self.old) (value_tree new.now) (document_of value_tree set_function value.old) (value_tree value.new) n)) }
+        ensures spent { IfOk result (λ w. IfSpent w (value.new ≡ value.old)) }
+        ensures kept { OnErr result (value.new ≡ value.old) }
+        ensures whole { IsTrue (value_is_whole value.new) }
+        ensures enough { IsTrue (typing.is_singular (limited_view self.old)) → IfOk result (λ w. IfSpent w ⊥) }
+        ensures same { limited_view self.new ≡ limited_view self.old }
+        ensures refused { IfErr result (IsStop (limited_view self.old) (document_of value_tree set_function value.old)) }
+    {
+        let within = self.removal(alloc, value)?;
+        match within {
+            Within::Done(removal) => {
+                let marked = removal.ordered(alloc)?;
+                marked.replace_in(alloc, value, new)?;
+                Ok(Within::Done(marked.count()))
+            }
+            Within::Spent => Ok(Within::Spent),
+        }
+    }
 }

@@ -1,7 +1,8 @@
 //! Conditions on a document itself.
-ghost use Rattle.std.specs.Prelude.{◌≡◌, ℕ, IsTrue, IfOk, IfErr, MatchResult, is_some, string_bytes};
+ghost use Rattle.std.specs.Prelude.{◌≡◌, ℕ, ◌++◌, Some, IsTrue, IfOk, IfErr, MatchResult, is_some, codes, string_bytes};
 ghost use Rattle.std.specs.Str.{IsCharBoundary};
 ghost use Rattle.jsonpath_parser.specs.Derives.{Derives, IsRefusal};
+ghost use Rattle.jsonpath_parser.specs.tree.Shown.{query_shown};
 ghost use Rattle.jsonpath_parser.specs.tree.Syntax as syntax;
 ghost use Rattle.jsonpath_parser.specs.tree.View.{filter_view, query_view, segment_view};
 ghost use Rattle.jsonpath_parser.specs.declared.errors.JsonPathError.TheVariants.{OutOfMemory};
@@ -10,7 +11,8 @@ ghost use Rattle.jsonpath_rust.specs.documents.Meaning.{holds};
 ghost use Rattle.jsonpath_rust.specs.documents.Node.{root_node};
 ghost use Rattle.jsonpath_rust.specs.documents.Patterns.{segments_patterns, IsStop};
 ghost use Rattle.jsonpath_rust.specs.documents.inner.Whole.{document_at, tree_of};
-ghost use Rattle.jsonpath_rust.specs.selection.Condition.{filter_query, in_filter, filter_of, segment_filter, condition_view, condition_runner_view, IsConditionRefusal};
+ghost use Rattle.jsonpath_rust.specs.selection.Condition.{filter_query, in_filter, filter_of, segment_filter, condition_view, condition_runner_view, limited_condition_view, IsConditionRefusal};
+ghost use Rattle.jsonpath_rust.specs.selection.Prepared.{prepared_view};
 ghost use Rattle.jsonpath_rust.specs.selection.inner.Halting.{IsHalt};
 
 use crate::documents::Queried;
@@ -19,13 +21,15 @@ use crate::documents::queryable::Queryable;
 use crate::documents::whole::WholeRef;
 use crate::selection::budget::Budget;
 use crate::selection::deciding::decide;
+use crate::selection::limited_condition::LimitedCondition;
 use crate::selection::prepared::Prepared;
 use jsonpath_base::engine::KeptFinders;
 use jsonpath_parser::errors::{JsonPathError, Parsed};
 use jsonpath_parser::model::{Filter, JpQuery, Segment, Selector};
 use jsonpath_parser::{let_go, parse_json_path_within};
 use std::alloc::Global;
-use std::mem;
+use std::fmt::{Debug, Formatter, Write};
+use std::{fmt, mem};
 
 /// What stands before a filter in a query.
 const OPENING: &str = "$[?";
@@ -103,7 +107,18 @@ impl Condition {
     }
 }
 
+/// `Condition` and its query between parentheses, as that is shown.
+impl Debug for Condition {
+    ghost debug_output = { λ c. Some (codes "Condition(" ++ query_shown (prepared_view c.prepared) ++ codes ")") };
+
+    fn fmt<W: Write>(&self, f: &mut Formatter<W>) -> fmt::Result {
+        write!(f, "Condition({})", self.prepared.query())
+    }
+}
+
 /// What asks a [`Condition`] of one document after another.
+///
+/// For conditions of strangers the work of each call can be limited, by [`ConditionRunner::limited`].
 #[derive(Drop)]
 pub struct ConditionRunner<'c> {
     condition: &'c Condition,
@@ -111,6 +126,14 @@ pub struct ConditionRunner<'c> {
 }
 
 impl<'c> ConditionRunner<'c> {
+    /// The runner, with a limit: each of its calls may take so many units of work. What these are spent for stands at
+    /// [`Limited`](crate::selection::Limited).
+    pub fn limited(self, units: usize) -> LimitedCondition<'c>
+        ensures { limited_condition_view result ≡ condition_runner_view self.entry }
+    {
+        LimitedCondition::new(self, units)
+    }
+
     /// Whether the condition holds of a document, as [`Condition::holds`].
     pub fn holds<T: Queryable>(&mut self, alloc: Global, value: &T) -> Queried<bool>
         requires { IsTrue (T.is_whole value.now) }
@@ -124,8 +147,15 @@ impl<'c> ConditionRunner<'c> {
         }
     }
 
+    /// The query `$[?..]` of the condition.
+    pub(crate) fn query(&self) -> &JpQuery
+        ensures { query_view result.now ≡ prepared_view self.now.condition.now.prepared }
+    {
+        self.condition.prepared.query()
+    }
+
     /// Whether it holds, for this work. What asks the patterns is lent, and comes back.
-    fn decided<T: Queryable>(
+    pub(crate) fn decided<T: Queryable>(
         &mut self,
         alloc: Global,
         budget: Budget,
@@ -140,6 +170,15 @@ impl<'c> ConditionRunner<'c> {
         let (held, finders) = decide(alloc, condition.prepared.request(finders, budget), value);
         self.finders = finders;
         held
+    }
+}
+
+/// `ConditionRunner` and its query between parentheses, as that is shown.
+impl<'c> Debug for ConditionRunner<'c> {
+    ghost debug_output = { λ r. Some (codes "ConditionRunner(" ++ query_shown (prepared_view r.condition.now.prepared) ++ codes ")") };
+
+    fn fmt<W: Write>(&self, f: &mut Formatter<W>) -> fmt::Result {
+        write!(f, "ConditionRunner({})", self.query())
     }
 }
 

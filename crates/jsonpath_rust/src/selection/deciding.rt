@@ -12,13 +12,11 @@ ghost use Rattle.jsonpath_rust.specs.selection.inner.Planned.{plan_view};
 use crate::documents::halt::Walked;
 use crate::documents::queryable::Queryable;
 use crate::documents::whole::WholeRef;
-use crate::selection::budget::Budget;
-use crate::selection::cache::Cache;
 use crate::selection::give::Request;
 use crate::selection::plan::{Filter, Plan, Segment, Selector};
 use crate::selection::trail::Trail;
 use crate::selection::walk::Task;
-use jsonpath_base::engine::{Finders, KeptFinders, LentCells, Way};
+use jsonpath_base::engine::{Finders, KeptFinders, LentCells};
 use std::alloc::Global;
 
 /// Whether the filter holds. The second result asks the patterns of the plan, and can do so for the next document.
@@ -35,57 +33,25 @@ pub fn decide<'a, 'p, T: Queryable>(
         finders,
         budget,
     } = request;
-    let lent = LentCells::new();
-    let finders = Finders::new(finders, &lent);
-    decide_from_root(alloc, plan, (finders, budget), root)
-}
-
-/// The same, where these ask the patterns, for this work.
-fn decide_from_root<'a: 's, 's, 'p, T: Queryable>(
-    alloc: Global,
-    plan: &'s Plan,
-    means: (Finders<'s, 'p>, Budget),
-    root: WholeRef<'a, T>,
-) -> (Walked<bool>, KeptFinders<'p>)
-    ensures holds { IfOk result.0 (λ b. b ≡ holds (expression_of (plan_view plan.now)) (document_at root.entry) (root_node (tree_of root.entry))) }
-    ensures refused { IfErr result.0 (IsHalt means.entry.1.limit (segments_patterns (filter_query (expression_of (plan_view plan.now)))) (document_at root.entry)) }
-{
-    let (finders, budget) = means;
-    let mut trail = Trail {
-        way: Way::new(alloc),
-        cache: Cache::empty(alloc),
-        finders,
-        budget,
-    };
-    let held = decide_along(alloc, plan, root, &mut trail);
-    let finders = trail.finders;
-    (held, finders.query)
-}
-
-/// The same, along a trail that begins here.
-fn decide_along<'a: 's, 's, T: Queryable>(
-    alloc: Global,
-    plan: &'s Plan,
-    root: WholeRef<'a, T>,
-    trail: &mut Trail<'a, 's, '_, T>,
-) -> Walked<bool>
-    ensures holds { IfOk result (λ b. b ≡ holds (expression_of (plan_view plan.now)) (document_at root.entry) (root_node (tree_of root.entry))) }
-    ensures refused { IfErr result (IsHalt trail.old.budget.limit (segments_patterns (filter_query (expression_of (plan_view plan.now)))) (document_at root.entry)) }
-{
     let filter = match only_filter(&plan.segments) {
         Some(filter) => filter,
-        None => return Ok(false),
+        None => return (Ok(false), finders),
     };
+    let lent = LentCells::new();
     let task = Task {
         alloc,
         plan,
         root,
-        limit: trail.budget.limit,
+        limit: budget.limit,
     };
-    let cache = Cache::new(alloc, plan.constants.len())?;
-    trail.cache = cache;
-    task.work_out_early(trail)?;
-    task.filter_holds(filter, root, trail)
+    let mut trail = Trail::new(alloc, Finders::new(finders, &lent), budget);
+    match task.begin(&mut trail) {
+        Ok(_begun) => {
+            let held = task.filter_holds(filter, root, &mut trail);
+            (held, trail.into_finders())
+        }
+        Err(halt) => (Err(halt), trail.into_finders()),
+    }
 }
 
 /// The filter that these segments are, if they are one filter alone.

@@ -1,4 +1,4 @@
-//! Constants that are worked out before the walk, so that never more than a few queries are on their way at once.
+//! How a walk begins: constants are worked out before it, so that never more than a few queries are on their way at once.
 ghost use Rattle.std.specs.Prelude.{◌≡◌, [], IfErr, OnOk};
 ghost use Rattle.jsonpath_rust.specs.selection.inner.Halting.{IsHalt};
 ghost use Rattle.jsonpath_rust.specs.selection.inner.Keeping.{IsReady, document};
@@ -7,6 +7,7 @@ use crate::documents::depth::is_deeper;
 use crate::documents::halt::{Halt, Walked};
 use crate::documents::queryable::Queryable;
 use crate::selection::budget::{Budget, Limit};
+use crate::selection::cache::Cache;
 use crate::selection::plan::{Constant, MOST_AT_ONCE};
 use crate::selection::sink::Wanted;
 use crate::selection::trail::Trail;
@@ -21,8 +22,19 @@ const MOST_LEVELS: usize = 405;
 const LEVELS_BESIDE: usize = 8;
 
 impl<'a: 's, 's, T: Queryable> Task<'a, 's, T> {
+    /// Begins a walk at the root: there is room for what the constants give, and those that are early are worked out.
+    pub fn begin(&self, trail: &mut Trail<'a, 's, '_, T>) -> Walked<()>
+        ensures ready { OnOk result (IsReady self.now trail.new.cache) }
+        ensures way { OnOk result (trail.new.way.steps.items ≡ []) }
+        ensures halts { IfErr result (IsHalt self.now.limit [] (document self.now)) }
+    {
+        let cache = Cache::new(self.alloc, self.plan.constants.len())?;
+        trail.cache = cache;
+        self.work_out_early(trail)
+    }
+
     /// Where that would stand too deep, works out the queries from the root that are early, inner ones first. It comes back to the root.
-    pub fn work_out_early(&self, trail: &mut Trail<'a, 's, '_, T>) -> Walked<()>
+    fn work_out_early(&self, trail: &mut Trail<'a, 's, '_, T>) -> Walked<()>
         requires { IsReady self.now trail.old.cache }
         ensures ready { OnOk result (IsReady self.now trail.new.cache) }
         ensures way { OnOk result (trail.new.way.steps.items ≡ []) }

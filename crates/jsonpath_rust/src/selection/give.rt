@@ -7,19 +7,17 @@ ghost use Rattle.jsonpath_rust.specs.documents.inner.Whole.{document_at};
 ghost use Rattle.jsonpath_rust.specs.selection.inner.Halting.{IsHalt};
 ghost use Rattle.jsonpath_rust.specs.selection.inner.Planned.{plan_view};
 ghost use Rattle.jsonpath_rust.specs.selection.inner.Sinks.{Takes, give, seen};
-ghost use Rattle.jsonpath_rust.specs.selection.inner.AtHand.{here};
 
 use crate::documents::Queried;
 use crate::documents::halt::Walked;
 use crate::documents::queryable::Queryable;
 use crate::documents::whole::WholeRef;
 use crate::selection::budget::Budget;
-use crate::selection::cache::Cache;
 use crate::selection::plan::{Plan, plan_of, release};
 use crate::selection::sink::Sink;
 use crate::selection::trail::Trail;
 use crate::selection::walk::Task;
-use jsonpath_base::engine::{Cells, Finders, KeptFinders, LentCells, Way};
+use jsonpath_base::engine::{Cells, Finders, KeptFinders, LentCells};
 use jsonpath_parser::model::JpQuery;
 use std::alloc::Global;
 
@@ -41,7 +39,16 @@ pub fn give_nodes<'a, T: Queryable>(
     ensures gave { IfOk result (λ s. seen s ≡ give (seen sink.entry) (nodelist (query_view query.now) (document_at root.entry))) }
     ensures refused { IfErr result (IsStop (query_view query.now) (document_at root.entry)) }
 {
-    match give_planned(alloc, query, root, &mut sink) {
+    let plan = match plan_of(alloc, query) {
+        Ok(plan) => plan,
+        Err(error) => {
+            drop(sink);
+            return Err(error);
+        }
+    };
+    let given = give_once(alloc, &plan, root, &mut sink);
+    release(plan);
+    match given {
         Ok(_goes_on) => Ok(sink),
         Err(error) => {
             drop(sink);
@@ -50,23 +57,7 @@ pub fn give_nodes<'a, T: Queryable>(
     }
 }
 
-/// Gives to the sink the nodes of a query on a document. The result says whether to go on.
-fn give_planned<'a, T: Queryable>(
-    alloc: Global,
-    query: &JpQuery,
-    root: WholeRef<'a, T>,
-    sink: &mut Sink<'a, T>,
-) -> Queried<bool>
-    ensures gave { Takes sink.old sink.new (nodelist (query_view query.now) (document_at root.entry)) result }
-    ensures refused { IfErr result (IsStop (query_view query.now) (document_at root.entry)) }
-{
-    let plan = plan_of(alloc, query)?;
-    let given = give_once(alloc, &plan, root, sink);
-    release(plan);
-    given
-}
-
-/// The same, of a query that has a plan.
+/// Gives to the sink the nodes of a query that has a plan. The result says whether to go on.
 fn give_once<'a, T: Queryable>(
     alloc: Global,
     plan: &Plan,
@@ -106,52 +97,18 @@ pub fn give_requested<'a, 'p, T: Queryable>(
         budget,
     } = request;
     let lent = LentCells::new();
-    let finders = Finders::new(finders, &lent);
-    give_from_root(alloc, plan, (finders, budget), root, sink)
-}
-
-/// The same, where these ask the patterns, for this work.
-fn give_from_root<'a: 's, 's, 'p, T: Queryable>(
-    alloc: Global,
-    plan: &'s Plan,
-    means: (Finders<'s, 'p>, Budget),
-    root: WholeRef<'a, T>,
-    sink: &mut Sink<'a, T>,
-) -> (Walked<bool>, KeptFinders<'p>)
-    ensures gave { Takes sink.old sink.new (nodelist (plan_view plan.now) (document_at root.entry)) result.0 }
-    ensures refused { IfErr result.0 (IsHalt means.entry.1.limit (segments_patterns (plan_view plan.now)) (document_at root.entry)) }
-{
-    let (finders, budget) = means;
-    let mut trail = Trail {
-        way: Way::new(alloc),
-        cache: Cache::empty(alloc),
-        finders,
-        budget,
-    };
-    let given = give_along(alloc, plan, root, &mut trail, sink);
-    let finders = trail.finders;
-    (given, finders.query)
-}
-
-/// The same, along a trail that begins here.
-fn give_along<'a: 's, 's, T: Queryable>(
-    alloc: Global,
-    plan: &'s Plan,
-    root: WholeRef<'a, T>,
-    trail: &mut Trail<'a, 's, '_, T>,
-    sink: &mut Sink<'a, T>,
-) -> Walked<bool>
-    ensures gave { Takes sink.old sink.new (nodelist (plan_view plan.now) (document_at root.entry)) result }
-    ensures refused { IfErr result (IsHalt trail.old.budget.limit (segments_patterns (plan_view plan.now)) (document_at root.entry)) }
-{
     let task = Task {
         alloc,
         plan,
         root,
-        limit: trail.budget.limit,
+        limit: budget.limit,
     };
-    let cache = Cache::new(alloc, plan.constants.len())?;
-    trail.cache = cache;
-    task.work_out_early(trail)?;
-    task.walk(&plan.segments, root, trail, sink)
+    let mut trail = Trail::new(alloc, Finders::new(finders, &lent), budget);
+    match task.begin(&mut trail) {
+        Ok(_begun) => {
+            let given = task.walk(&plan.segments, root, &mut trail, sink);
+            (given, trail.into_finders())
+        }
+        Err(halt) => (Err(halt), trail.into_finders()),
+    }
 }

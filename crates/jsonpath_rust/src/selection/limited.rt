@@ -1,6 +1,8 @@
 //! A prepared query that is asked of one document after another, and may take only so much work for each.
-ghost use Rattle.std.specs.Prelude.{◌≡◌, ◌↔◌, [], map, All, IsTrue, IsFalse, IfOk, IfErr, IfSome, IfNone, string_bytes};
+ghost use Rattle.std.specs.Prelude.{◌≡◌, ◌↔◌, [], ◌++◌, map, All, Some, IsTrue, IsFalse, IfOk, IfErr, IfSome, IfNone, codes, string_bytes};
 ghost use Rattle.std.specs.List.{AllZip};
+ghost use Rattle.jsonpath_parser.specs.tree.Shown.{query_shown};
+ghost use Rattle.jsonpath_parser.specs.tree.Typing as typing;
 ghost use Rattle.jsonpath_base.specs.Steps.{location_view};
 ghost use Rattle.jsonpath_rust.specs.documents.Answer.{IsNodeAt, IsPathAt, IsValueAt, shown, paths_of};
 ghost use Rattle.jsonpath_rust.specs.documents.Document.{document_of};
@@ -9,10 +11,10 @@ ghost use Rattle.jsonpath_rust.specs.documents.Patterns.{IsStop};
 ghost use Rattle.jsonpath_rust.specs.documents.inner.Whole.{document_at};
 ghost use Rattle.jsonpath_rust.specs.selection.Only.{IsOnly, sole_value, node_count};
 ghost use Rattle.jsonpath_rust.specs.selection.Prepared.{runner_view, limited_view, IsFirstNode};
-ghost use Rattle.jsonpath_rust.specs.selection.Within.{IfDone};
+ghost use Rattle.jsonpath_rust.specs.selection.Within.{IfDone, IfSpent};
 ghost use Rattle.jsonpath_rust.specs.selection.inner.Sinks.{IsRemovalOf, give, seen};
+ghost use Rattle.jsonpath_rust.specs.declared.selection.budget.Limit.TheVariants.{Unlimited};
 
-use crate::documents::halt::Halt;
 use crate::documents::nodes::{WholeNodes, WholeValues};
 use crate::documents::queryable::Queryable;
 use crate::documents::whole::WholeRef;
@@ -23,12 +25,16 @@ use crate::selection::runner::Runner;
 use crate::selection::sink::{Only as OnlyKept, Sink};
 use crate::selection::within::Within;
 use jsonpath_base::{Removal, Step};
+use jsonpath_parser::is_singular;
 use std::alloc::Global;
+use std::fmt;
+use std::fmt::{Debug, Formatter, Write};
 
 /// A [`Runner`] each of whose calls may take so many units of work: for queries of strangers.
 ///
 /// Each call returns and refuses as that of `Runner` does, under [`Within::Done`], or returns [`Within::Spent`] where so many
-/// units are not enough. These are spent:
+/// units are not enough. A singular query, such as `$.a[0]` (RFC 9535, 2.3.5.1), looks up no more than the names and indexes that
+/// it has: it spends nothing, and no call returns `Spent` for it. For other queries these are spent:
 ///
 /// - one for each child that a `*`, a slice or `..` looks at, and two for each that a filter is tried on;
 /// - one for each selector of several in one segment, and for each operand of `&&` and `||`;
@@ -79,6 +85,7 @@ impl<'p> Limited<'p> {
         ensures nodes { IfOk result (λ w. IfDone w (λ v. AllZip (IsNodeAt (document_of T.tree T.custom value.now))
             (selected (limited_view self.old) (document_of T.tree T.custom value.now)) (shown T.tree v.items))) }
         ensures whole { IfOk result (λ w. IfDone w (λ v. All (λ r. IsTrue (T.is_whole r.val.now)) v.items)) }
+        ensures enough { IsTrue (typing.is_singular (limited_view self.old)) → IfOk result (λ w. IfSpent w ⊥) }
         ensures same { limited_view self.new ≡ limited_view self.old }
         ensures refused { IfErr result (IsStop (limited_view self.old) (document_of T.tree T.custom value.now)) }
     {
@@ -100,6 +107,7 @@ impl<'p> Limited<'p> {
         ensures values { IfOk result (λ w. IfDone w (λ v. AllZip (IsValueAt (document_of T.tree T.custom value.now))
             (selected (limited_view self.old) (document_of T.tree T.custom value.now)) (map (λ x. T.tree x.now) v.items))) }
         ensures whole { IfOk result (λ w. IfDone w (λ v. All (λ x. IsTrue (T.is_whole x.now)) v.items)) }
+        ensures enough { IsTrue (typing.is_singular (limited_view self.old)) → IfOk result (λ w. IfSpent w ⊥) }
         ensures same { limited_view self.new ≡ limited_view self.old }
         ensures refused { IfErr result (IsStop (limited_view self.old) (document_of T.tree T.custom value.now)) }
     {
@@ -120,6 +128,7 @@ impl<'p> Limited<'p> {
         requires { IsTrue (T.is_whole value.now) }
         ensures paths { IfOk result (λ w. IfDone w (λ v. AllZip (IsPathAt (document_of T.tree T.custom value.now))
             (selected (limited_view self.old) (document_of T.tree T.custom value.now)) (paths_of v.items))) }
+        ensures enough { IsTrue (typing.is_singular (limited_view self.old)) → IfOk result (λ w. IfSpent w ⊥) }
         ensures same { limited_view self.new ≡ limited_view self.old }
         ensures refused { IfErr result (IsStop (limited_view self.old) (document_of T.tree T.custom value.now)) }
     {
@@ -139,6 +148,7 @@ impl<'p> Limited<'p> {
     ) -> Queried<Within<Vec<Vec<Step>>>>
         requires { IsTrue (T.is_whole value.now) }
         ensures locations { IfOk result (λ w. IfDone w (λ v. map (λ l. location_view l.items) v.items ≡ selected (limited_view self.old) (document_of T.tree T.custom value.now))) }
+        ensures enough { IsTrue (typing.is_singular (limited_view self.old)) → IfOk result (λ w. IfSpent w ⊥) }
         ensures same { limited_view self.new ≡ limited_view self.old }
         ensures refused { IfErr result (IsStop (limited_view self.old) (document_of T.tree T.custom value.now)) }
     {
@@ -160,6 +170,7 @@ impl<'p> Limited<'p> {
         ensures first { IfOk result (λ w. IfDone w (λ o. IfSome o (λ r. IsFirstNode (limited_view self.old) (document_of T.tree T.custom value.now) (string_bytes r.path, T.tree r.val.now)))) }
         ensures none { IfOk result (λ w. IfDone w (λ o. IfNone o (selected (limited_view self.old) (document_of T.tree T.custom value.now) ≡ []))) }
         ensures whole { IfOk result (λ w. IfDone w (λ o. IfSome o (λ r. IsTrue (T.is_whole r.val.now)))) }
+        ensures enough { IsTrue (typing.is_singular (limited_view self.old)) → IfOk result (λ w. IfSpent w ⊥) }
         ensures same { limited_view self.new ≡ limited_view self.old }
         ensures refused { IfErr result (IsStop (limited_view self.old) (document_of T.tree T.custom value.now)) }
     {
@@ -180,6 +191,7 @@ impl<'p> Limited<'p> {
         requires { IsTrue (T.is_whole value.now) }
         ensures only { IfOk result (λ w. IfDone w (λ o. IsOnly T.tree (limited_view self.old) (document_of T.tree T.custom value.now) o)) }
         ensures whole { IfOk result (λ w. IfDone w (λ o. IfSome (sole_value o) (λ x. IsTrue (T.is_whole x)))) }
+        ensures enough { IsTrue (typing.is_singular (limited_view self.old)) → IfOk result (λ w. IfSpent w ⊥) }
         ensures same { limited_view self.new ≡ limited_view self.old }
         ensures refused { IfErr result (IsStop (limited_view self.old) (document_of T.tree T.custom value.now)) }
     {
@@ -195,6 +207,7 @@ impl<'p> Limited<'p> {
     pub fn count<T: Queryable>(&mut self, alloc: Global, value: &T) -> Queried<Within<usize>>
         requires { IsTrue (T.is_whole value.now) }
         ensures count { IfOk result (λ w. IfDone w (λ n. n ≡ node_count (limited_view self.old) (document_of T.tree T.custom value.now))) }
+        ensures enough { IsTrue (typing.is_singular (limited_view self.old)) → IfOk result (λ w. IfSpent w ⊥) }
         ensures same { limited_view self.new ≡ limited_view self.old }
         ensures refused { IfErr result (IsStop (limited_view self.old) (document_of T.tree T.custom value.now)) }
     {
@@ -210,6 +223,7 @@ impl<'p> Limited<'p> {
     pub fn has_node<T: Queryable>(&mut self, alloc: Global, value: &T) -> Queried<Within<bool>>
         requires { IsTrue (T.is_whole value.now) }
         ensures none { IfOk result (λ w. IfDone w (λ b. IsFalse b ↔ (selected (limited_view self.old) (document_of T.tree T.custom value.now) ≡ []))) }
+        ensures enough { IsTrue (typing.is_singular (limited_view self.old)) → IfOk result (λ w. IfSpent w ⊥) }
         ensures same { limited_view self.new ≡ limited_view self.old }
         ensures refused { IfErr result (IsStop (limited_view self.old) (document_of T.tree T.custom value.now)) }
     {
@@ -229,6 +243,7 @@ impl<'p> Limited<'p> {
     ) -> Queried<Within<Removal>>
         requires { IsTrue (T.is_whole value.now) }
         ensures removal { IfOk result (λ w. IfDone w (λ r. IsRemovalOf r (selected (limited_view self.old) (document_of T.tree T.custom value.now)))) }
+        ensures enough { IsTrue (typing.is_singular (limited_view self.old)) → IfOk result (λ w. IfSpent w ⊥) }
         ensures same { limited_view self.new ≡ limited_view self.old }
         ensures refused { IfErr result (IsStop (limited_view self.old) (document_of T.tree T.custom value.now)) }
     {
@@ -251,22 +266,37 @@ impl<'p> Limited<'p> {
         mut sink: Sink<'a, T>,
     ) -> Queried<Within<Sink<'a, T>>>
         ensures gave { IfOk result (λ w. IfDone w (λ s. seen s ≡ give (seen sink.entry) (nodelist (limited_view self.old) (document_at value.entry)))) }
+        ensures enough { IsTrue (typing.is_singular (limited_view self.old)) → IfOk result (λ w. IfSpent w ⊥) }
         ensures same { limited_view self.new ≡ limited_view self.old }
         ensures refused { IfErr result (IsStop (limited_view self.old) (document_at value.entry)) }
     {
-        let given = self
-            .runner
-            .give(alloc, Budget::of(self.units), value, &mut sink);
-        match given {
+        let budget = budget_for(&self.runner, self.units);
+        match self.runner.give(alloc, budget, value, &mut sink) {
             Ok(_goes_on) => Ok(Within::Done(sink)),
             Err(halt) => {
                 drop(sink);
-                match halt {
-                    Halt::Spent => Ok(Within::Spent),
-                    Halt::Memory => Err(Halt::Memory.told(alloc)),
-                    Halt::Pattern => Err(Halt::Pattern.told(alloc)),
-                }
+                Within::halted(alloc, halt)
             }
         }
+    }
+}
+
+/// `Limited` and its query between parentheses, as that is shown.
+impl<'p> Debug for Limited<'p> {
+    ghost debug_output = { λ l. Some (codes "Limited(" ++ query_shown (limited_view l) ++ codes ")") };
+
+    fn fmt<W: Write>(&self, f: &mut Formatter<W>) -> fmt::Result {
+        write!(f, "Limited({})", self.runner.query())
+    }
+}
+
+/// So many units of work, and any amount of it for a singular query.
+fn budget_for(runner: &Runner<'_>, units: usize) -> Budget
+    ensures { IsTrue (typing.is_singular (runner_view runner.now)) → result.limit ≡ Unlimited }
+{
+    if is_singular(runner.query()) {
+        Budget::unlimited()
+    } else {
+        Budget::of(units)
     }
 }

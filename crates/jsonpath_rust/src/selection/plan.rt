@@ -2,7 +2,6 @@
 //! are looked up and which are walked, which queries from the root are one, and which patterns are one.
 ghost use Rattle.jsonpath_rust.specs.selection.inner.PlanViews.{IsSettled, IsSettled-prop, IsRooted, IsRooted-prop};
 
-mod absolute;
 mod constants;
 mod make;
 mod numbering;

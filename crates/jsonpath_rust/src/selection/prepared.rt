@@ -1,8 +1,9 @@
 //! A query that is prepared once, to be asked of many documents.
-ghost use Rattle.std.specs.Prelude.{◌≡◌, ◌≤◌, IfOk, IfErr, MatchResult};
+ghost use Rattle.std.specs.Prelude.{◌≡◌, ◌≤◌, ◌++◌, Some, IfOk, IfErr, MatchResult, codes};
 ghost use Rattle.jsonpath_parser.specs.Derives.{Derives, IsRefusal};
 ghost use Rattle.jsonpath_parser.specs.Location.{Location};
 ghost use Rattle.jsonpath_parser.specs.Normal.{IsNormal};
+ghost use Rattle.jsonpath_parser.specs.tree.Shown.{query_shown};
 ghost use Rattle.jsonpath_parser.specs.tree.Steps.{HasIndexesInRange, steps_query};
 ghost use Rattle.jsonpath_parser.specs.tree.Syntax.{Query};
 ghost use Rattle.jsonpath_parser.specs.tree.View.{query_view};
@@ -20,6 +21,8 @@ use jsonpath_base::engine::{Cells, KeptFinders};
 use jsonpath_parser::model::JpQuery;
 use jsonpath_parser::{MAX_NESTING_DEPTH, parse_json_path_within};
 use std::alloc::Global;
+use std::fmt;
+use std::fmt::{Debug, Formatter, Write};
 
 /// A query, to be run on any number of documents, of any types, by the [`Runner`]s that [`Prepared::runner`] makes.
 ///
@@ -117,5 +120,14 @@ impl Prepared {
             finders,
             budget,
         }
+    }
+}
+
+/// `Prepared` and its query between parentheses, as that is shown.
+impl Debug for Prepared {
+    ghost debug_output = { λ p. Some (codes "Prepared(" ++ query_shown (prepared_view p) ++ codes ")") };
+
+    fn fmt<W: Write>(&self, f: &mut Formatter<W>) -> fmt::Result {
+        write!(f, "Prepared({})", self.query())
     }
 }

@@ -1,6 +1,7 @@
 //! A prepared query that is asked of one document after another.
-ghost use Rattle.std.specs.Prelude.{◌≡◌, ◌↔◌, [], map, All, IsTrue, IsFalse, IfOk, IfErr, IfSome, IfNone, string_bytes};
+ghost use Rattle.std.specs.Prelude.{◌≡◌, ◌↔◌, [], ◌++◌, map, All, Some, IsTrue, IsFalse, IfOk, IfErr, IfSome, IfNone, codes, string_bytes};
 ghost use Rattle.std.specs.List.{AllZip};
+ghost use Rattle.jsonpath_parser.specs.tree.Shown.{query_shown};
 ghost use Rattle.jsonpath_parser.specs.tree.View.{query_view};
 ghost use Rattle.jsonpath_base.specs.Steps.{location_view};
 ghost use Rattle.jsonpath_rust.specs.documents.Answer.{IsNodeAt, IsPathAt, IsValueAt, shown, paths_of};
@@ -28,7 +29,8 @@ use jsonpath_base::engine::KeptFinders;
 use jsonpath_base::{Removal, Step};
 use jsonpath_parser::model::JpQuery;
 use std::alloc::Global;
-use std::mem;
+use std::fmt::{Debug, Formatter, Write};
+use std::{fmt, mem};
 
 /// What runs a [`Prepared`] query on one document after another. Beside what `Prepared` keeps, what searches for its patterns
 /// stays from one call to the next, so that only the first call makes it.
@@ -238,5 +240,14 @@ impl<'p> Runner<'p> {
         );
         self.finders = finders;
         given
+    }
+}
+
+/// `Runner` and its query between parentheses, as that is shown.
+impl<'p> Debug for Runner<'p> {
+    ghost debug_output = { λ r. Some (codes "Runner(" ++ query_shown (runner_view r) ++ codes ")") };
+
+    fn fmt<W: Write>(&self, f: &mut Formatter<W>) -> fmt::Result {
+        write!(f, "Runner({})", self.query())
     }
 }

@@ -1,5 +1,5 @@
 //! What is asked of a whole `Value` alone, and changed in it.
-ghost use Rattle.std.specs.Prelude.{◌≡◌, map, IsTrue, IfOk, IfErr, IfSome, OnOk, OnErr, MatchResult, option_map, is_some};
+ghost use Rattle.std.specs.Prelude.{◌≡◌, ◌≤◌, map, IsTrue, IfOk, IfErr, IfSome, OnOk, OnErr, MatchResult, option_map, is_some};
 ghost use Rattle.jsonpath_parser.specs.Derives.{Derives};
 ghost use Rattle.jsonpath_parser.specs.Location.{Location};
 ghost use Rattle.jsonpath_parser.specs.Normal.{IsNormal};
@@ -14,8 +14,8 @@ ghost use Rattle.jsonpath_base.specs.SetFunctions.{set_function};
 ghost use Rattle.jsonpath_base.specs.Steps.{location_view};
 ghost use Rattle.jsonpath_base.specs.Values.{value_tree, value_is_whole};
 ghost use Rattle.jsonpath_base.specs.Without.{without, is_among, distinct_count};
-ghost use Rattle.jsonpath_rust.specs.Deleting.{IsDeletion, Deletes};
-ghost use Rattle.jsonpath_rust.specs.Replacing.{IsReplacement, Replaces};
+ghost use Rattle.jsonpath_rust.specs.Deleting.{IsDeletion, IsDeletionAt, Deletes};
+ghost use Rattle.jsonpath_rust.specs.Replacing.{IsReplacement, IsReplacementAt, Replaces};
 ghost use Rattle.jsonpath_rust.specs.documents.Document.{document_of};
 ghost use Rattle.jsonpath_rust.specs.documents.Meaning.{selected};
 ghost use Rattle.jsonpath_rust.specs.documents.Patterns.{IsStop, IsQueryRefusal};
@@ -75,6 +75,11 @@ impl Whole<Value> {
         ensures only { (q : Query) → Derives MAX_NESTING_DEPTH path.now q → MatchResult result
             (IsDeletion q (document_of value_tree set_function self.old.value) (value_tree self.new.value))
             (IsStop q (document_of value_tree set_function self.old.value)) }
+
+        // A Normalized Path is refused by `OutOfMemory` alone. Its location is removed, and nothing where nothing is there.
+        ensures normal { (l : Location) → IsNormal l path.now → HasIndexesInRange l → MatchResult result
+            (IsDeletionAt l (value_tree self.old.value) (value_tree self.new.value))
+            (λ e. e ≡ OutOfMemory) }
         ensures kept { OnErr result (self.new.value ≡ self.old.value) }
         ensures refused { IfErr result (IsQueryRefusal MAX_NESTING_DEPTH path.now (document_of value_tree set_function self.old.value)) }
     {
@@ -115,6 +120,11 @@ impl Whole<Value> {
         ensures only { (q : Query) → Derives depth path.now q → MatchResult result
             (IsReplacement q (value_tree new.now.value) (document_of value_tree set_function self.old.value) (value_tree self.new.value))
             (IsStop q (document_of value_tree set_function self.old.value)) }
+
+        // A Normalized Path is refused by `OutOfMemory` alone. The copy stands at its location, and nowhere where nothing is there.
+        ensures normal { (l : Location) → IsNormal l path.now → HasIndexesInRange l → 1 ≤ depth → MatchResult result
+            (IsReplacementAt l (value_tree new.now.value) (value_tree self.old.value) (value_tree self.new.value))
+            (λ e. e ≡ OutOfMemory) }
         ensures kept { OnErr result (self.new.value ≡ self.old.value) }
         ensures refused { IfErr result (IsQueryRefusal depth path.now (document_of value_tree set_function self.old.value)) }
     {

@@ -21,13 +21,13 @@ use Rattle.jsonpath_rust.specs.declared.documents.reference.Referent.{Referent}
 use Rattle.jsonpath_rust.proofs.laws.documents.NodesAt.{at-below}
 use Rattle.jsonpath_rust.proofs.laws.documents.Trees.{child_there}
 
-abbrev node_at : Location → Tree → Node
+abbrev pub node_at : Location → Tree → Node
 node_at l t = record { location = l; tree = t }
 
 abbrev nodes_below : Location → Option (Step × Tree) → List Node
 nodes_below l o = map (λ p. below l p.0 p.1) (option_to_list o)
 
-abbrev nodes_of : Option (Location × Tree) → List Node
+abbrev pub nodes_of : Option (Location × Tree) → List Node
 nodes_of o = map (λ p. node_at p.0 p.1) (option_to_list o)
 
 -- ---- one segment
@@ -79,7 +79,7 @@ step_child (descendant g) t p e = absurd cc
 
 -- ---- all segments
 
-applied_to_none : (gs : Segments) (d : Document) → all_applied gs d [] ≡ []
+pub applied_to_none : (gs : Segments) (d : Document) → all_applied gs d [] ≡ []
 applied_to_none no_segments d = refl
 applied_to_none (segment g gs) d = applied_to_none gs d
 
@@ -116,7 +116,7 @@ led (segment g gs) doc l t p here e = led_by g gs doc l t (segment_child g t) p 
 abbrev Only : List ℕ → Query → Type 0
 Only text q = (t : Query) → Derives 128 text t → q ≡ t
 
-selected_followed : (q : Query) (doc : Document) → IsTrue (is_singular q) → selected q doc ≡ map (λ n. n.location) (nodes_of (followed q [] doc.root))
+pub selected_followed : (q : Query) (doc : Document) → IsTrue (is_singular q) → selected q doc ≡ map (λ n. n.location) (nodes_of (followed q [] doc.root))
 selected_followed q doc h = ap (map (λ n. n.location)) (applied_followed q doc [] doc.root h)
 
 meant_by : (text : List ℕ) (doc : Document) (q : Query) (o : Option (Location × Tree)) → followed q [] doc.root ≡ o → Derives 128 text q → Only text q → IsReference text doc (option_map (λ p. p.0) o)

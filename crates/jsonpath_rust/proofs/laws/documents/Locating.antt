@@ -1,78 +1,92 @@
--- A query is a location's exactly where its segments are read as steps.
-use Rattle.std.proofs.Common.{◌≡◌, ℤ, pos, negsuc, List, [], ◌∷◌, ◌++◌, map, Option, Some, None, Result, Ok, Err, IsSome, IfOk, IfErr, IfSome, MatchResult, option_and_then, append-nil, append_assoc, refl, sym, ap, ◌∙◌, subst}
+-- A query is a location's exactly where each of its segments is a step.
+use Rattle.std.proofs.Common.{◌≡◌, ℕ, suc, pos, negsuc, arith, length, List, [], ◌∷◌, map, Option, Some, None, Result, Ok, Err, IsSome, IfOk, IfErr, MatchResult, refl, sym, ap, ◌∙◌, subst}
+use Rattle.std.proofs.lemmas.List.{length-map}
 use Rattle.std.proofs.lemmas.List.Elements.{All-from_recursion}
 use Rattle.std.specs.List.{AllByRecursion}
+use Rattle.std.specs.Option.{option_map_or}
 use Rattle.jsonpath_parser.proofs.NormalQueries.{normal_derives}
+use Rattle.jsonpath_parser.proofs.laws.tree.ViewEquations.{query_view-segments}
 use Rattle.jsonpath_parser.specs.Location.{Step, name, index, Location}
 use Rattle.jsonpath_parser.specs.tree.Steps.{step_segment, steps_query}
 use Rattle.jsonpath_parser.specs.tree.Syntax as syntax
 use Rattle.jsonpath_parser.specs.tree.Syntax.{Selector, Segment, one, several, descendant, Segments, no_segments, segment, Query}
+use Rattle.jsonpath_parser.specs.tree.View.{query_view}
+use Rattle.jsonpath_parser.specs.declared.tree.model.JpQuery.{JpQuery}
+use Rattle.jsonpath_parser.specs.declared.tree.model.Segment as model
 use Rattle.jsonpath_parser.specs.declared.errors.JsonPathError.{JsonPathError}
 use Rattle.jsonpath_parser.specs.declared.errors.JsonPathError.TheVariants.{OutOfMemory}
+use Rattle.jsonpath_base.specs.FixedPart.{fixed_step, fixed_part}
 use Rattle.jsonpath_base.specs.Places.{at}
+use Rattle.jsonpath_base.specs.Steps.{owned_step, location_view}
 use Rattle.jsonpath_base.specs.Tree.{Tree}
+use Rattle.jsonpath_base.specs.declared.step.Step as owned
 use Rattle.jsonpath_rust.specs.documents.Document.{Document}
 use Rattle.jsonpath_rust.specs.documents.Locating.{IsLocationOf, NormalizedPathDerivesItsSteps, StepsSelectTheirLocation, SelectedIsThere}
 use Rattle.jsonpath_rust.specs.documents.Meaning.{nodelist, selected}
 use Rattle.jsonpath_rust.specs.documents.Node.{Node}
-use Rattle.jsonpath_rust.specs.documents.inner.Locating.{index_step, segment_step, located}
+use Rattle.jsonpath_rust.specs.documents.inner.Parts.{segments_in}
 use Rattle.jsonpath_rust.proofs.laws.documents.NodesAt.{nodes_at}
 use Rattle.jsonpath_rust.proofs.laws.documents.NormalSteps.{selected-steps}
 
 -- ---- segments and steps
 
-indexed_by : (i : ℤ) (s : Step) → index_step i ≡ Some s → one (syntax.Selector.index i) ≡ step_segment s
-indexed_by (pos n) s e = let same : index n ≡ s = cc in ap step_segment same
-indexed_by (negsuc n) s e = absurd cc
-
--- a segment that is read as a step is the step's
-step_is : (g : Segment) (s : Step) → segment_step g ≡ Some s → g ≡ step_segment s
+-- a segment that has a step is that of the step
+pub step_is : (g : Segment) (s : Step) → fixed_step g ≡ Some s → g ≡ step_segment s
 step_is (one (syntax.Selector.name k)) s e = let same : name k ≡ s = cc in ap step_segment same
-step_is (one (syntax.Selector.index i)) s e = indexed_by i s e
+step_is (one (syntax.Selector.index (pos n))) s e = let same : index n ≡ s = cc in ap step_segment same
+step_is (one (syntax.Selector.index (negsuc n))) s e = absurd cc
 step_is (one syntax.Selector.wildcard) s e = absurd cc
-step_is (one (syntax.Selector.slice a b c)) s e = absurd cc
+step_is (one (syntax.Selector.slice start end step)) s e = absurd cc
 step_is (one (syntax.Selector.filter f)) s e = absurd cc
 step_is (several ss) s e = absurd cc
 step_is (descendant g) s e = absurd cc
 
--- the steps of a location's query are read
-located_steps : (l m : Location) → located (steps_query l) m ≡ Some (m ++ l)
-located_steps [] m = ap Some (sym (append-nil m))
-located_steps (name k ∷ ss) m = located_steps ss (m ++ name k ∷ []) ∙ ap Some (append_assoc m (name k ∷ []) ss)
-located_steps (index i ∷ ss) m = located_steps ss (m ++ index i ∷ []) ∙ ap Some (append_assoc m (index i ∷ []) ss)
+-- the fixed part of a location's query is the location
+fixed_steps : (l : Location) → fixed_part (steps_query l) ≡ l
+fixed_steps [] = refl
+fixed_steps (name k ∷ ss) = ap (λ l. name k ∷ l) (fixed_steps ss)
+fixed_steps (index i ∷ ss) = ap (λ l. index i ∷ l) (fixed_steps ss)
 
--- what is read is a location behind the one begun with, and the segments are its query
-record IsRead (gs : Segments) (m p : Location) : Type 0 where
-  behind : Location
-  whole : p ≡ m ++ behind
-  query : gs ≡ steps_query behind
+abbrev segment_count : Segments → ℕ
+segment_count no_segments = 0
+segment_count (segment g gs) = suc (segment_count gs)
 
-step_read : (g : Segment) (gs : Segments) (m p : Location) (o : Option Step) → segment_step g ≡ o → ((n : Location) → located gs n ≡ Some p → IsRead gs n p) → option_and_then (λ s. located gs (m ++ s ∷ [])) o ≡ Some p → IsRead (segment g gs) m p
-step_read g gs m p None is more e = absurd cc
-step_read g gs m p (Some s) is more e =
-    let rest = more (m ++ s ∷ []) e in
-    record {
-      behind = s ∷ rest.behind;
-      whole = rest.whole ∙ append_assoc m (s ∷ []) rest.behind;
-      query = ap (λ h. segment h gs) (step_is g s is) ∙ ap (segment (step_segment s)) rest.query;
-    }
+count_in : (gs : List model.Segment) → segment_count (segments_in gs) ≡ length gs
+count_in [] = refl
+count_in (g ∷ gs) = ap suc (count_in gs)
 
-read : (gs : Segments) (m p : Location) → located gs m ≡ Some p → IsRead gs m p
-read no_segments m p e = let same : m ≡ p = cc in record { behind = []; whole = sym same ∙ sym (append-nil m); query = refl }
-read (segment g gs) m p e = step_read g gs m p (segment_step g) refl (λ n. read gs n p) e
+count_steps : (l : Location) → segment_count (steps_query l) ≡ length l
+count_steps [] = refl
+count_steps (s ∷ ss) = ap suc (count_steps ss)
 
--- so the steps that are read off a query are its location
-pub location_read : (q : Query) (o : Option Location) → o ≡ located q [] → IsLocationOf q o
-location_read q o e = record { found = by_value o e; all = λ l same. e ∙ ap (λ gs. located gs []) same ∙ located_steps l [] }
-  where
-    by_value : (o : Option Location) → o ≡ located q [] → IfSome o (λ l. q ≡ steps_query l)
-    by_value None h = tt
-    by_value (Some p) h = let this = read q [] p (sym h) in this.query ∙ ap steps_query (sym this.whole)
+all_fixed_by : (g : Segment) (gs : Segments) (n : ℕ) (o : Option Step) → fixed_step g ≡ o → (length (fixed_part gs) ≡ n → gs ≡ steps_query (fixed_part gs))
+    → length (option_map_or (λ s. s ∷ fixed_part gs) o []) ≡ suc n → segment g gs ≡ steps_query (option_map_or (λ s. s ∷ fixed_part gs) o [])
+all_fixed_by g gs n None is more e = absurd (omega (arith, e))
+all_fixed_by g gs n (Some s) is more e = ap (λ h. segment h gs) (step_is g s is) ∙ ap (segment (step_segment s)) (more (omega (arith, e)))
 
--- the same of what a call answers
-pub locations_read : {X E : Type 0} (view : X → Option Location) (q : Query) (gs : Segments) (r : Result X E) → q ≡ gs → IfOk r (λ o. view o ≡ located gs []) → IfOk r (λ o. IsLocationOf q (view o))
-locations_read view q gs (Ok o) same h = location_read q (view o) (h ∙ ap (λ x. located x []) (sym same))
-locations_read view q gs (Err e) same h = tt
+-- a query with as many segments as its fixed part has steps is the query of that location
+all_fixed : (gs : Segments) → length (fixed_part gs) ≡ segment_count gs → gs ≡ steps_query (fixed_part gs)
+all_fixed no_segments e = refl
+all_fixed (segment g gs) e = all_fixed_by g gs (segment_count gs) (fixed_step g) refl (all_fixed gs) e
+
+count_of : (q : JpQuery) → segment_count (query_view q) ≡ length q.segments.items
+count_of q = ap segment_count (query_view-segments q) ∙ count_in q.segments.items
+
+steps_there : (q : JpQuery) (ss : List owned.Step) → location_view ss ≡ fixed_part (query_view q) → length ss ≡ length (fixed_part (query_view q))
+steps_there q ss is = sym (length-map ss owned_step) ∙ ap length is
+
+-- the steps at the front of a query are its location exactly where it has no further segment
+pub whole_location : (q : JpQuery) (ss : List owned.Step) → location_view ss ≡ fixed_part (query_view q) → length ss ≡ length q.segments.items → IsLocationOf (query_view q) (Some (location_view ss))
+whole_location q ss is full = record {
+  found = all_fixed (query_view q) (sym (steps_there q ss is) ∙ full ∙ sym (count_of q)) ∙ ap steps_query (sym is);
+  all = λ m same. ap Some (is ∙ ap fixed_part same ∙ fixed_steps m);
+}
+
+pub no_location : (q : JpQuery) (ss : List owned.Step) → location_view ss ≡ fixed_part (query_view q) → (length ss ≡ length q.segments.items → ⊥) → IsLocationOf (query_view q) None
+no_location q ss is more = record {
+  found = tt;
+  all = λ m same. absurd (more (steps_there q ss is ∙ ap length (ap fixed_part same ∙ fixed_steps m) ∙ sym (count_steps m) ∙ sym (ap segment_count same) ∙ count_of q));
+}
 
 -- ---- what a text means
 

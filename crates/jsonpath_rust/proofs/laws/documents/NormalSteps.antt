@@ -39,7 +39,7 @@ indexed-element i l (number n) = refl
 indexed-element i l (text s) = refl
 
 -- the segment of a step gives the child of that step, where there is one
-step-child : (s : Step) (d : Document) (n : Node) → replaced (step_segment s) d n ≡ map (below n.location s) (option_to_list (child s n.tree))
+pub step-child : (s : Step) (d : Document) (n : Node) → replaced (step_segment s) d n ≡ map (below n.location s) (option_to_list (child s n.tree))
 step-child (name k) d n = refl
 step-child (index i) d n = indexed-element i n.location n.tree
 

@@ -52,9 +52,6 @@ joined_end F none xs i was all h v = sym (append-nil was) ∙ ap (λ ys. was ++ 
 pub all_more : {A : Type 0} (P : A → Type 0) (got more : List A) (a : A) → more ≡ got ++ a ∷ [] → P a → All P got → All P more
 all_more P got more a e h k = subst (All P) (sym e) (All-append P got (a ∷ []) k (All-cons P a [] h (All-nil P)))
 
-pub all_joined : {A : Type 0} (P : A → Type 0) (got more xs : List A) → more ≡ got ++ xs → All P xs → All P got → All P more
-all_joined P got more xs e h k = subst (All P) (sym e) (All-append P got xs k h)
-
 -- the elements that a test keeps
 kept_turn : {A : Type 0} (b : Bool) (x : A) (xs : List A) → cond b (x ∷ xs) xs ≡ cond b (x ∷ []) [] ++ xs
 kept_turn true x xs = refl
@@ -97,11 +94,7 @@ pub ok_through : {A B E : Type 0} (r : Result A E) (f : A → B) (x y : B) → x
 ok_through (Ok a) f x y e h = h ∙ e
 ok_through (Err k) f x y e h = tt
 
--- what follows from an answer
-pub ok_so : {A E : Type 0} (r : Result A E) (P Q : A → Type 0) → ((a : A) → P a → Q a) → IfOk r P → IfOk r Q
-ok_so (Ok a) P Q f h = f a h
-ok_so (Err e) P Q f h = tt
-
+-- what follows from an error
 pub err_so : {A E : Type 0} (r : Result A E) (P Q : E → Type 0) → ((e : E) → P e → Q e) → IfErr r P → IfErr r Q
 err_so (Ok a) P Q f h = tt
 err_so (Err e) P Q f h = f e h

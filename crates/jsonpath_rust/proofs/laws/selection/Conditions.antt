@@ -1,13 +1,12 @@
 -- The query of an expression, and the expression of a query.
-use Rattle.std.proofs.Common.{◌≡◌, ℕ, nat_eq, List, [], ◌∷◌, ◌++◌, map, length, Bool, true, false, Option, Some, None, Result, Ok, Err, IfOk, IfErr, is_some, unwrap_or, refl, sym, ap, ◌∙◌, subst}
-use Rattle.jsonpath_parser.specs.tree.Syntax as syntax
-use Rattle.jsonpath_parser.specs.tree.Syntax.{Segment, one, several, descendant, no_segments, segment, Filter, or, no_filters, Query}
+use Rattle.std.proofs.Common.{◌≡◌, nat_eq, List, [], ◌∷◌, map, length, Bool, true, false, Some, None, Result, Ok, Err, IfOk, IfErr, is_some, unwrap_or, sym, ap, ◌∙◌, subst}
+use Rattle.jsonpath_parser.specs.tree.Syntax.{Segment, Filter, or, no_filters, Query}
 use Rattle.jsonpath_parser.specs.tree.View.{segments_of}
 use Rattle.jsonpath_rust.specs.documents.Document.{Document}
 use Rattle.jsonpath_rust.specs.documents.Meaning.{holds}
 use Rattle.jsonpath_rust.specs.documents.Node.{Node}
 use Rattle.jsonpath_rust.specs.documents.Patterns.{AsksPattern, filter_patterns, segments_patterns}
-use Rattle.jsonpath_rust.specs.selection.Condition.{filter_query, filter_of, segment_filter, expression_of}
+use Rattle.jsonpath_rust.specs.selection.Condition.{filter_query, filter_of, expression_of}
 use Rattle.jsonpath_rust.specs.selection.inner.Halting.{IsHalt}
 use Rattle.jsonpath_rust.specs.declared.documents.halt.Halt.{Halt}
 use Rattle.jsonpath_rust.specs.declared.selection.budget.Limit.{Limit}
@@ -16,21 +15,6 @@ use Rattle.jsonpath_rust.proofs.laws.selection.HaltingLaws.{asked_left, halts_as
 -- the expression of its query is itself
 pub expression_back : (f : Filter) (q : Query) → q ≡ filter_query f → expression_of q ≡ f
 expression_back f q e = ap expression_of e
-
-one_back : (g : Segment) → is_some (segment_filter g) ≡ true → segment (one (syntax.Selector.filter (expression_of (segment g no_segments)))) no_segments ≡ segment g no_segments
-one_back (one (syntax.Selector.filter f)) h = refl
-one_back (one (syntax.Selector.name k)) h = absurd cc
-one_back (one syntax.Selector.wildcard) h = absurd cc
-one_back (one (syntax.Selector.index i)) h = absurd cc
-one_back (one (syntax.Selector.slice start end step)) h = absurd cc
-one_back (several ss) h = absurd cc
-one_back (descendant g) h = absurd cc
-
--- the query of the expression of a query `$[?e]` is that query
-pub query_back : (q : Query) → is_some (filter_of q) ≡ true → filter_query (expression_of q) ≡ q
-query_back no_segments h = absurd cc
-query_back (segment g no_segments) h = one_back g h
-query_back (segment g (segment k ks)) h = absurd cc
 
 -- no query of an expression is one of none
 pub never_none : (f : Filter) (q : Query) → q ≡ filter_query f → is_some (filter_of q) ≡ false → ⊥

@@ -1,6 +1,6 @@
 -- What a value costs, by its kind, and what a loop over its parts finds.
 use Rattle.std.proofs.Common.{◌≡◌, ℕ, ◌+◌, ◌-◌, ◌/◌, ◌≤◌, List, [], ◌∷◌, length, refl, sym, ◌∙◌, ap, arith, Option, Some, None, option_map, unwrap_or}
-use Rattle.jsonpath_base.specs.Tree.{Tree, null, truth, number, text, list, object, Trees, no_trees, tree, Members, no_members, member, elements, pairs, as_list, as_members, as_text}
+use Rattle.jsonpath_base.specs.Tree.{Tree, null, truth, number, text, list, object, Trees, no_trees, tree, Members, no_members, member, elements, pairs, as_list, as_members}
 use Rattle.jsonpath_rust.specs.selection.inner.Costs.{cost, trees_cost, members_cost, elements_cost, pairs_cost}
 
 trees-elements : (ts : Trees) → trees_cost ts ≡ elements_cost (elements ts)
@@ -19,18 +19,6 @@ some_cost (number n) = omega arith
 some_cost (text s) = omega arith
 some_cost (list ts) = omega arith
 some_cost (object ms) = omega arith
-
-pub text_cost : (t : Tree) (s : List ℕ) → Some s ≡ as_text t → cost t ≡ length s / 16 + 1
-text_cost (text r) s h = sym (ap cost_or h)
-  where
-    cost_or : Option (List ℕ) → ℕ
-    cost_or None = 0
-    cost_or (Some r) = length r / 16 + 1
-text_cost null s h = absurd cc
-text_cost (truth b) s h = absurd cc
-text_cost (number n) s h = absurd cc
-text_cost (list ts) s h = absurd cc
-text_cost (object ms) s h = absurd cc
 
 pub list_cost : (t : Tree) (ts : List Tree) → Some ts ≡ as_list t → cost t ≡ elements_cost ts + 1
 list_cost (list us) ts h = ap (λ n. n + 1) (trees-elements us ∙ sym (ap cost_or h))

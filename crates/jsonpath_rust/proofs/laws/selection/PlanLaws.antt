@@ -1,14 +1,15 @@
 -- How the steps of the making of a plan follow one another.
-use Rattle.std.proofs.Common.{◌≡◌, ℕ, ◌+◌, ◌<◌, ◌≤◌, List, [], ◌∷◌, ◌++◌, map, length, get_or, take, true, Bool, refl, sym, ◌∙◌, ap, subst, append_assoc, append-nil, if◌then◌else◌, IsTrue}
+use Rattle.std.proofs.Common.{◌≡◌, ℕ, ◌+◌, ◌<◌, ◌≤◌, List, [], ◌∷◌, ◌++◌, map, length, get_or, take, true, false, Bool, ◌&&◌, refl, sym, ◌∙◌, ap, subst, append_assoc, append-nil, if◌then◌else◌, IsTrue}
 use Rattle.std.proofs.Math.Seq.{get_or-append_seam}
 use Rattle.std.proofs.lemmas.List.{map-append, map_more, get_or_append_left, take_all}
 use Rattle.std.proofs.Math.ListN.{length-map}
-use Rattle.std.proofs.lemmas.Bool.{and_from}
+use Rattle.std.proofs.lemmas.Bool.{and_from, and_parts, both_ways}
 use Rattle.std.proofs.lemmas.List.Folds.{list_all-append}
 use Rattle.std.specs.List.{list_all}
 use Rattle.jsonpath_parser.specs.tree.Syntax as tree
-use Rattle.jsonpath_parser.specs.tree.View.{segments_of}
-use Rattle.jsonpath_rust.specs.selection.inner.PlanViews.{Constants, ConstantPart, nodes, value, kept_view, kept_from, constant_view, segments_meant, segment_view, is_same_wanted, query_in, part_at, part_is_rooted, IsSettled, IsRooted, AreRooted}
+use Rattle.jsonpath_parser.specs.tree.View.{segments_of, filters_of, arguments_of}
+use Rattle.jsonpath_rust.specs.selection.inner.PlanViews.{Constants, ConstantPart, nodes, value, kept_view, kept_from, constant_view, segments_meant, segment_view, is_same_wanted, query_in, part_at, part_is_rooted, IsSettled, IsRooted}
+use Rattle.jsonpath_rust.specs.selection.inner.Rooted.{filter_is_rooted, filters_are_rooted, argument_is_rooted, arguments_are_rooted}
 use Rattle.jsonpath_rust.specs.selection.inner.PlanMaking.{Extends, IsRight, Made, IsBeside, IsKept, IsNumbered, IsNumberOf, kept_in, parts_where}
 use Rattle.jsonpath_rust.specs.declared.selection.plan.Constant.{Constant}
 use Rattle.jsonpath_rust.specs.declared.selection.plan.Segment.{Segment}
@@ -23,64 +24,76 @@ extends_on : (a b c : Constants) → Extends a b → Extends b c → Extends a c
 extends_on a b c h k = record { more = h.more ++ k.more; is = k.is ∙ ap (λ x. x ++ k.more) h.is ∙ append_assoc a h.more k.more }
 
 -- nothing more is kept
-pub made_none : {A : Type 0} (m : Maker) (part : Constants → A) (a : A) → ((kept : Constants) → part kept ≡ a) → Made m m part a
-made_none m part a s = record { grows = extends_none (kept_in m); says = λ r kept h. s kept; right = λ r. r }
+pub made_none : {A : Type 0} {m : Maker} {test : A → Bool} (part : Constants → A) (b : A) {a : A} → ((kept : Constants) → part kept ≡ b) → a ≡ b → IsTrue (test b) → Made test m m part a
+made_none {m = m} {test = test} part b s e t = record { grows = extends_none (kept_in m); says = λ r kept h. s kept ∙ sym e; right = λ r. r; rooted = λ h. (h, ap test e ∙ t) }
 
 -- nothing is kept between the two
-right_beside : (old new : Maker) → IsBeside old new → IsRight old → IsRight new
-right_beside old new b r =
-    let e : kept_in new ≡ kept_in old = ap kept_view b.same in
+right_beside : (old new : Maker) → new.constants.items ≡ old.constants.items → IsRight old → IsRight new
+right_beside old new same r =
+    let e : kept_in new ≡ kept_in old = ap kept_view same in
     record {
-      settled = λ kept x. ap (parts_where kept) b.same ∙ r.settled kept (subst (λ k. Extends k kept) e x) ∙ sym e;
+      settled = λ kept x. ap (parts_where kept) same ∙ r.settled kept (subst (λ k. Extends k kept) e x) ∙ sym e;
       rooted = ap (list_all part_is_rooted) e ∙ r.rooted;
     }
 
-pub made_beside : {A : Type 0} (old new : Maker) (part : Constants → A) (a : A) → IsBeside old new → ((kept : Constants) → part kept ≡ a) → Made old new part a
-made_beside old new part a b s = record {
-  grows = subst (Extends (kept_in old)) (sym (ap kept_view b.same)) (extends_none (kept_in old));
-  says = λ r kept h. s kept;
-  right = right_beside old new b;
-}
+pub same_maker : {m : Maker} → IsBeside m m m.met.rooted
+same_maker = record { same = refl; met = refl }
 
-pub made_after : {A : Type 0} {old mid new : Maker} {part : Constants → A} {a : A} → IsBeside old mid → Made mid new part a → Made old new part a
-made_after {old = old} {mid = mid} {new = new} b m = record {
-  grows = subst (λ k. Extends k (kept_in new)) (ap kept_view b.same) m.grows;
-  says = λ r. m.says (right_beside old mid b r);
-  right = λ r. m.right (right_beside old mid b r);
-}
-
-pub made_before : {A : Type 0} {old mid new : Maker} {part : Constants → A} {a : A} → IsBeside mid new → Made old mid part a → Made old new part a
-made_before {old = old} {mid = mid} {new = new} b m =
-    let e : kept_in new ≡ kept_in mid = ap kept_view b.same in
+-- a part, where nothing is kept before it and behind it
+pub made_around : {A : Type 0} {test inner : A → Bool} {old begun made new : Maker} {part : Constants → A} {a : A} {around now : Bool} → IsBeside begun old around → IsBeside made new now → (IsTrue now → IsTrue around × IsTrue (test a)) → Made inner begun made part a → Made test old new part a
+made_around {old = old} {begun = begun} {made = made} {new = new} b e back m =
+    let first : kept_in begun ≡ kept_in old = sym (ap kept_view b.same) in
+    let last : kept_in new ≡ kept_in made = ap kept_view e.same in
     record {
-      grows = subst (Extends (kept_in old)) (sym e) m.grows;
-      says = λ r kept x. m.says r kept (subst (λ k. Extends k kept) e x);
-      right = λ r. right_beside mid new b (m.right r);
+      grows = subst (λ k. Extends k (kept_in new)) first (subst (Extends (kept_in begun)) (sym last) m.grows);
+      says = λ r kept x. m.says (right_beside old begun (sym b.same) r) kept (subst (λ k. Extends k kept) last x);
+      right = λ r. right_beside made new e.same (m.right (right_beside old begun (sym b.same) r));
+      rooted = λ h. let both = back (sym e.met ∙ h) in (b.met ∙ both.0, both.1);
     }
 
+-- a part that was begun and ended
+pub made_ended : {A : Type 0} {test : A → Bool} {old begun made new : Maker} {part : Constants → A} {a : A} {around : Bool} → IsBeside begun old around → IsBeside made new (around && made.met.rooted) → Made test begun made part a → Made test old new part a
+made_ended b e m = made_around b e (λ h. let both = and_parts _ _ h in (both.0, (m.rooted both.1).1)) m
+
+-- a part behind an `@`
+pub made_here : {A : Type 0} {test inner : A → Bool} {old begun new : Maker} {part : Constants → A} {a : A} → IsBeside old begun false → Made inner begun new part a → Made test old new part a
+made_here b m = made_around (record { same = sym b.same; met = refl }) same_maker (λ h. absurd (both_ways _ b.met (m.rooted h).0)) m
+
 -- the part in other words, or what holds it
-pub made_as : {A B : Type 0} {old new : Maker} {part : Constants → A} {a : A} (k : A → B) (whole : Constants → B) (b : B) → ((kept : Constants) → whole kept ≡ k (part kept)) → b ≡ k a → Made old new part a → Made old new whole b
-made_as k whole b e f m = record { grows = m.grows; says = λ r kept h. e kept ∙ ap k (m.says r kept h) ∙ sym f; right = m.right }
+pub made_as : {A B : Type 0} {inner : A → Bool} {test : B → Bool} {old new : Maker} {part : Constants → A} {a : A} (k : A → B) (whole : Constants → B) (b : B) → ((kept : Constants) → whole kept ≡ k (part kept)) → b ≡ k a → (IsTrue (inner a) → IsTrue (test (k a))) → Made inner old new part a → Made test old new whole b
+made_as {test = test} k whole b e f t m = record { grows = m.grows; says = λ r kept h. e kept ∙ ap k (m.says r kept h) ∙ sym f; right = m.right; rooted = λ h. let both = m.rooted h in (both.0, ap test f ∙ t both.1) }
 
 -- two parts, one after the other
-pub made_both : {A B C : Type 0} {old mid new : Maker} {first : Constants → A} {second : Constants → B} {a : A} {b : B} (k : A → B → C) (whole : Constants → C) (c : C) → ((kept : Constants) → whole kept ≡ k (first kept) (second kept)) → c ≡ k a b → Made old mid first a → Made mid new second b → Made old new whole c
-made_both {old = old} {mid = mid} {new = new} {first = first} {second = second} {a = a} {b = b} k whole c e f m n = record {
+pub made_both : {A B C : Type 0} {one : A → Bool} {other : B → Bool} {test : C → Bool} {old mid new : Maker} {first : Constants → A} {second : Constants → B} {a : A} {b : B} (k : A → B → C) (whole : Constants → C) (c : C) → ((kept : Constants) → whole kept ≡ k (first kept) (second kept)) → c ≡ k a b → (IsTrue (one a) → IsTrue (other b) → IsTrue (test (k a b))) → Made one old mid first a → Made other mid new second b → Made test old new whole c
+made_both {test = test} {old = old} {mid = mid} {new = new} {first = first} {second = second} {a = a} {b = b} k whole c e f t m n = record {
   grows = extends_on (kept_in old) (kept_in mid) (kept_in new) m.grows n.grows;
   says = λ r kept h. e kept ∙ ap (λ x. k x (second kept)) (m.says r kept (extends_on (kept_in mid) (kept_in new) kept n.grows h)) ∙ ap (k a) (n.says (m.right r) kept h) ∙ sym f;
   right = λ r. n.right (m.right r);
+  rooted = λ h.
+      let later = n.rooted h in
+      let sooner = m.rooted later.0 in
+      (sooner.0, ap test f ∙ t sooner.1 later.1);
 }
 
 -- none of a list
-pub made_start : {X Y A : Type 0} (m : Maker) (view : Constants → X → A) (source : Y → A) (xs : List X) (ys : List Y) → xs ≡ [] → Made m m (λ kept. map (view kept) xs) (map source (take 0 ys))
-made_start m view source xs ys e = made_none m (λ kept. map (view kept) xs) (map source (take 0 ys)) (λ kept. ap (map (view kept)) e)
+pub made_start : {X Y A : Type 0} {m : Maker} (test : A → Bool) (view : Constants → X → A) (source : Y → A) (xs : List X) (ys : List Y) → xs ≡ [] → Made (list_all test) m m (λ kept. map (view kept) xs) (map source (take 0 ys))
+made_start test view source xs ys e = made_none (λ kept. map (view kept) xs) [] (λ kept. ap (map (view kept)) e) refl refl
 
 -- all of a list
-pub made_end : {Y A : Type 0} {old new : Maker} (part : Constants → List A) (source : Y → A) (ys : List Y) (i : ℕ) → length ys ≤ i → Made old new part (map source (take i ys)) → Made old new part (map source ys)
-made_end part source ys i h m = record { grows = m.grows; says = λ r kept x. m.says r kept x ∙ ap (map source) (take_all i ys h); right = m.right }
+pub made_end : {Y A : Type 0} {old new : Maker} (test : A → Bool) (part : Constants → List A) (source : Y → A) (ys : List Y) (i : ℕ) → length ys ≤ i → Made (list_all test) old new part (map source (take i ys)) → Made (list_all test) old new part (map source ys)
+made_end test part source ys i h m = made_as (λ xs. xs) part (map source ys) (λ kept. refl) (sym (ap (map source) (take_all i ys h))) (λ t. t) m
 
 -- one more of a list
-pub made_next : {X Y A : Type 0} {old mid new : Maker} (view : Constants → X → A) (source : Y → A) (xs zs : List X) (x : X) (ys : List Y) (i : ℕ) (y : Y) → zs ≡ xs ++ x ∷ [] → i < length ys → y ≡ get_or ys i y → Made old mid (λ kept. map (view kept) xs) (map source (take i ys)) → Made mid new (λ kept. view kept x) (source y) → Made old new (λ kept. map (view kept) zs) (map source (take (i + 1) ys))
-made_next view source xs zs x ys i y p h e m n = made_both (λ done a. done ++ a ∷ []) _ _ (λ kept. ap (map (view kept)) p ∙ map-append (view kept) xs (x ∷ [])) (map_more source ys i y h ∙ ap (λ z. map source (take i ys) ++ source z ∷ []) (sym e)) m n
+pub made_next : {X Y A : Type 0} {test : A → Bool} {old mid new : Maker} (view : Constants → X → A) (source : Y → A) (xs zs : List X) (x : X) (ys : List Y) (i : ℕ) (y : Y) → zs ≡ xs ++ x ∷ [] → i < length ys → y ≡ get_or ys i y → Made (list_all test) old mid (λ kept. map (view kept) xs) (map source (take i ys)) → Made test mid new (λ kept. view kept x) (source y) → Made (list_all test) old new (λ kept. map (view kept) zs) (map source (take (i + 1) ys))
+made_next {test = test} view source xs zs x ys i y p h e m n = made_both (λ done a. done ++ a ∷ []) _ _ (λ kept. ap (map (view kept)) p ∙ map-append (view kept) xs (x ∷ [])) (map_more source ys i y h ∙ ap (λ z. map source (take i ys) ++ source z ∷ []) (sym e)) (λ all one. list_all-append test _ _ ∙ and_from _ _ all (and_from _ _ one refl)) m n
+
+pub filters_rooted : (fs : List tree.Filter) → filters_are_rooted (filters_of fs) ≡ list_all filter_is_rooted fs
+filters_rooted [] = refl
+filters_rooted (f ∷ fs) = ap (λ b. filter_is_rooted f && b) (filters_rooted fs)
+
+pub arguments_rooted : (args : List tree.Argument) → arguments_are_rooted (arguments_of args) ≡ list_all argument_is_rooted args
+arguments_rooted [] = refl
+arguments_rooted (a ∷ args) = ap (λ b. argument_is_rooted a && b) (arguments_rooted args)
 
 -- ---- constants
 
@@ -111,6 +124,7 @@ numbered_found m part n h = record {
         let right : IsRight m = d.right r in
         ap (λ l. part_at l n) x.is ∙ get_or_append_left (kept_in m) x.more (value []) n (subst (λ k. n < k) (sym (kept_count m right)) h.within) ∙ ap (λ l. part_at l n) (sym (right.settled kept x)) ∙ h.is kept ∙ d.says r kept x;
     right = d.right;
+    rooted = d.rooted;
   };
 }
 
@@ -131,17 +145,14 @@ numbered_kept old new part n k = record {
               settled = λ kept x.
                   let on : Extends (kept_in old) kept = extends_on (kept_in old) (kept_in new) kept grows x in
                   ap (parts_where kept) k.constants ∙ map-append (constant_view kept) old.constants.items _ ∙ ap (λ l. l ++ constant_view kept part ∷ []) (was.settled kept on) ∙ ap (λ q. kept_in old ++ q ∷ []) (m.says r kept on ∙ sym (is r)) ∙ sym grown;
-              rooted = ap (list_all part_is_rooted) grown ∙ list_all-append part_is_rooted (kept_in old) (last ∷ []) ∙ and_from _ _ was.rooted (and_from _ _ (ap part_is_rooted (is r) ∙ root r) refl);
+              rooted = ap (list_all part_is_rooted) grown ∙ list_all-append part_is_rooted (kept_in old) (last ∷ []) ∙ and_from _ _ was.rooted (and_from _ _ (ap part_is_rooted (is r) ∙ root) refl);
             };
+        rooted = λ h. m.rooted (sym k.met ∙ h);
       };
 }
 
-pub numbered_by : {old new : Maker} {part : Constant} {n : ℕ} → IsNumberOf old.constants.items part n → IsBeside old new → IsNumbered old new part n
-numbered_by {old = old} {new = new} {part = part} {n = n} h b = record { made = λ m root. made_before b ((numbered_found old part n h).made m root) }
-
--- the part that was made stands for this, so what it shows, this has
-pub source_rooted : {A : Type 0} {old new : Maker} {part : Constants → A} {a : A} (test : A → Bool) → Made old new part a → ((kept : Constants) → AreRooted kept → IsTrue (test (part kept))) → IsRight old → IsTrue (test a)
-source_rooted {new = new} test m shows r = sym (ap test (m.says r (kept_in new) (extends_none (kept_in new)))) ∙ shows (kept_in new) (m.right r).rooted
+pub numbered_by : {old new : Maker} {part : Constant} {n : ℕ} → IsNumberOf old.constants.items part n → IsBeside old new old.met.rooted → IsNumbered old new part n
+numbered_by {old = old} {new = new} {part = part} {n = n} h b = record { made = λ m root. made_around same_maker b m.rooted ((numbered_found old part n h).made m root) }
 
 -- ---- the plan
 
@@ -152,11 +163,11 @@ begun_right m k = record {
   rooted = ap (λ l. list_all part_is_rooted (kept_view l)) k;
 }
 
-pub plan_made : {old new : Maker} {was : List tree.Segment} (gs : List Segment) → Made old new (λ kept. map (segment_view kept) gs) was → old.constants.items ≡ [] → segments_meant (kept_view new.constants.items) gs ≡ segments_of was
+pub plan_made : {test : List tree.Segment → Bool} {old new : Maker} {was : List tree.Segment} (gs : List Segment) → Made test old new (λ kept. map (segment_view kept) gs) was → old.constants.items ≡ [] → segments_meant (kept_view new.constants.items) gs ≡ segments_of was
 plan_made {old = old} {new = new} gs m k = ap segments_of (m.says (begun_right old k) (kept_in new) (extends_none (kept_in new)))
 
-pub plan_settled : {A : Type 0} {old new : Maker} {part : Constants → A} {a : A} → Made old new part a → old.constants.items ≡ [] → IsSettled new.constants.items
+pub plan_settled : {A : Type 0} {test : A → Bool} {old new : Maker} {part : Constants → A} {a : A} → Made test old new part a → old.constants.items ≡ [] → IsSettled new.constants.items
 plan_settled {old = old} {new = new} m k = (m.right (begun_right old k)).settled (kept_in new) (extends_none (kept_in new))
 
-pub plan_rooted : {A : Type 0} {old new : Maker} {part : Constants → A} {a : A} → Made old new part a → old.constants.items ≡ [] → IsRooted new.constants.items
+pub plan_rooted : {A : Type 0} {test : A → Bool} {old new : Maker} {part : Constants → A} {a : A} → Made test old new part a → old.constants.items ≡ [] → IsRooted new.constants.items
 plan_rooted {old = old} m k = (m.right (begun_right old k)).rooted

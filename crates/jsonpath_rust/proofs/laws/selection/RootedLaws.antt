@@ -96,17 +96,11 @@ comparison_in_rooted (value ss) h = refl
 comparison_in_rooted (answered c) h = refl
 comparison_in_rooted (compared c) h = h
 
-pub kept_call_rooted : (kept : Constants) (n : ℕ) → AreRooted kept → IsTrue (call_is_rooted (call_at kept n))
-kept_call_rooted kept n h = call_in_rooted (part_at kept n) (part_rooted kept n h)
-
 pub kept_call_same : (kept : Constants) (k : ℕ) (d : Document) (n m : Node) → AreRooted kept → answer (call_at kept k) d n ≡ answer (call_at kept k) d m
-kept_call_same kept k d n m h = call_same (call_at kept k) d n m (kept_call_rooted kept k h)
-
-pub kept_comparison_rooted : (kept : Constants) (n : ℕ) → AreRooted kept → IsTrue (comparison_is_rooted (comparison_at kept n))
-kept_comparison_rooted kept n h = comparison_in_rooted (part_at kept n) (part_rooted kept n h)
+kept_call_same kept k d n m h = call_same (call_at kept k) d n m (call_in_rooted (part_at kept k) (part_rooted kept k h))
 
 pub kept_comparison_same : (kept : Constants) (k : ℕ) (d : Document) (n m : Node) → AreRooted kept → comparison_holds (comparison_at kept k) d n ≡ comparison_holds (comparison_at kept k) d m
-kept_comparison_same kept k d n m h = comparison_same (comparison_at kept k) d n m (kept_comparison_rooted kept k h)
+kept_comparison_same kept k d n m h = comparison_same (comparison_at kept k) d n m (comparison_in_rooted (part_at kept k) (part_rooted kept k h))
 
 -- ---- what is worked out at the root
 

@@ -59,9 +59,6 @@ took_stop s xs ys all m a b e h f = record { given = sym (give-full m ys (h.stop
 pub result_as : {E : Type 0} (r : Result Bool E) (s z : Seen) (xs ys : List Node) → xs ≡ ys → IfOk r (λ b. Took s xs z b) → IfOk r (λ b. Took s ys z b)
 result_as r s z xs ys e h = IfOk-weaker r (λ b. Took s xs z b) (λ b. Took s ys z b) (λ b k. took_as s xs ys z b e k) h
 
-pub result_then : {E : Type 0} (r : Result Bool E) (s m z : Seen) (xs ys all : List Node) (a : Bool) → xs ++ ys ≡ all → Took s xs m a → IfOk r (λ b. Took m ys z b) → IfOk r (λ b. Took s all z b)
-result_then r s m z xs ys all a e h k = IfOk-weaker r (λ b. Took m ys z b) (λ b. Took s all z b) (λ b q. took_then s xs ys all m z a b e h q) k
-
 -- ---- inside a filter
 
 pub any_given : (ns : List Node) → any_in (give (any false) ns) ≡ has_node ns

@@ -17,11 +17,11 @@ use Rattle.jsonpath_rust.specs.documents.inner.Size.{size, trees_size, members_s
 
 -- ---- the nodes of a subtree, from another path
 
-abbrev shift : Location → Node → Node
+abbrev pub shift : Location → Node → Node
 shift l n = record { location = l ++ n.location; tree = n.tree }
 
 mutual
-  subtree-shift : (l m : Location) (t : Tree) → subtree_at (l ++ m) t ≡ map (shift l) (subtree_at m t)
+  pub subtree-shift : (l m : Location) (t : Tree) → subtree_at (l ++ m) t ≡ map (shift l) (subtree_at m t)
   subtree-shift l m (list ts) = ap (λ ns. record { location = l ++ m; tree = list ts } ∷ ns) (subtrees-shift l m 0 ts)
   subtree-shift l m (object ms) = ap (λ ns. record { location = l ++ m; tree = object ms } ∷ ns) (members-shift l m ms)
   subtree-shift l m null = refl
@@ -45,7 +45,7 @@ mutual
       ∙ ap (λ ns. map (shift l) (subtree_at (m ++ name k ∷ []) t) ++ ns) (members-shift l m ms)
       ∙ sym (map-append (shift l) (subtree_at (m ++ name k ∷ []) t) (member_subtrees m ms))
 
-steps_text-append : (l m : Location) → steps_text (l ++ m) ≡ steps_text l ++ steps_text m
+pub steps_text-append : (l m : Location) → steps_text (l ++ m) ≡ steps_text l ++ steps_text m
 steps_text-append [] m = refl
 steps_text-append (s ∷ l) m = ap (λ x. step_text s ++ x) (steps_text-append l m) ∙ sym (append_assoc (step_text s) (steps_text l) (steps_text m))
 

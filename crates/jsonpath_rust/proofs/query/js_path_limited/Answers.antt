@@ -3,7 +3,7 @@ use Rattle.jsonpath_parser.specs.tree.View.{query_view}
 use Rattle.jsonpath_rust.specs.documents.Answer.{shown}
 use Rattle.jsonpath_rust.specs.documents.Document.{document_of}
 use Rattle.jsonpath_rust.specs.selection.Prepared.{limited_view}
-use Rattle.jsonpath_rust.proofs.Withins.{lists_within, nodes_within, normal_within, stopped_within}
+use Rattle.jsonpath_rust.proofs.Withins.{lists_within, nodes_within, normal_within, stopped_within, enough_of_text}
 use Rattle.jsonpath_rust.proofs.query.js_path_limited.Goals as goal
 
 pub returns-clause-answered : goal.returns-clause-answered
@@ -32,3 +32,8 @@ returns-clause-refused g c =
     let doc = document_of g.T.Queryable.tree g.T.Queryable.custom c.args.value.now in
     let same = c.limited.ensures ∙ c.runner.ensures ∙ c.in_ok-prepared.ensures.query in
     stopped_within _ _ (limited_view c.limited.result) (query_view c.in_ok-query.query) doc c.nodes.result c.in_ok-query.ensures.derived same c.nodes.ensures.refused
+
+pub returns-clause-enough : goal.returns-clause-enough
+returns-clause-enough g c t derived =
+    let same = c.limited.ensures ∙ c.runner.ensures ∙ c.in_ok-prepared.ensures.query ∙ c.in_ok-query.ensures.only t derived in
+    enough_of_text (limited_view c.limited.result) t c.nodes.result same c.nodes.ensures.enough

@@ -1,10 +1,12 @@
 -- How a plan is made, for the contracts of its maker alone: the definitions here are no part of what a query means.
-use Rattle.std.specs.Prelude.{◌≡◌, ℕ, ◌<◌, List, [], ◌∷◌, ◌++◌, map, length, IsTrue}
+use Rattle.std.specs.Prelude.{◌≡◌, ℕ, ◌<◌, Bool, true, List, [], ◌∷◌, ◌++◌, map, length, IsTrue}
 use Rattle.jsonpath_parser.specs.tree.Syntax.{Comparison, atom, comparison}
 use Rattle.jsonpath_rust.specs.selection.inner.PlanViews.{Constants, ConstantPart, compared, kept_view, part_at, part_is_rooted, constant_view, AreRooted, filter_view}
+use Rattle.jsonpath_rust.specs.selection.inner.Rooted.{filter_is_rooted}
 use Rattle.jsonpath_rust.specs.declared.selection.plan.Filter.{Filter}
 use Rattle.jsonpath_rust.specs.declared.selection.plan.Constant.{Constant}
 use Rattle.jsonpath_rust.specs.declared.selection.plan.make.Maker.{Maker}
+use Rattle.jsonpath_rust.specs.declared.selection.plan.numbering.Met.{Met}
 
 -- what is kept so far
 abbrev pub kept_in : Maker → Constants
@@ -24,20 +26,28 @@ pub record IsRight (m : Maker) : Type 0 where
   pub settled : (kept : Constants) → Extends (kept_in m) kept → parts_where kept m.constants.items ≡ kept_in m
   pub rooted : AreRooted (kept_in m)
 
--- The part that was made stands for this, where what is kept now is kept, whatever is kept behind it.
-pub record Made {A : Type 0} (old new : Maker) (part : Constants → A) (a : A) : Type 0 where
+-- The part that was made stands for this, where what is kept now is kept, whatever is kept behind it. Where no `@` is met by
+-- its end, none was before it, and what it stands for passes the test that it has no `@`.
+pub record Made {A : Type 0} (test : A → Bool) (old new : Maker) (part : Constants → A) (a : A) : Type 0 where
   pub grows : Extends (kept_in old) (kept_in new)
   pub says : IsRight old → (kept : Constants) → Extends (kept_in new) kept → part kept ≡ a
   pub right : IsRight old → IsRight new
+  pub rooted : IsTrue new.met.rooted → IsTrue old.met.rooted × IsTrue (test a)
 
--- nothing was kept between the two
-pub record IsBeside (old new : Maker) : Type 0 where
+-- the test of what no constant is made of: all pass it
+abbrev pub every : {A : Type 0} → A → Bool
+every a = true
+
+-- nothing was kept between the two, and the second has this for whether no `@` was met
+pub record IsBeside (old new : Maker) (rooted : Bool) : Type 0 where
   pub same : new.constants.items ≡ old.constants.items
+  pub met : new.met.rooted ≡ rooted
 
 -- this constant is kept too, and has this number
 pub record IsKept (old new : Maker) (part : Constant) (n : ℕ) : Type 0 where
   pub number : n ≡ length old.constants.items
   pub constants : new.constants.items ≡ old.constants.items ++ part ∷ []
+  pub met : new.met.rooted ≡ old.met.rooted
 
 -- the number of a constant that stands for what this one stands for, whatever is kept
 pub record IsNumberOf (es : List Constant) (part : Constant) (n : ℕ) : Type 0 where
@@ -46,8 +56,8 @@ pub record IsNumberOf (es : List Constant) (part : Constant) (n : ℕ) : Type 0 
 
 -- What the part that was made stands for, its number stands for too, where it has no `@`.
 pub record IsNumbered (old new : Maker) (part : Constant) (n : ℕ) : Type 0 where
-  pub made : {first : Maker} {p : ConstantPart} → Made first old (λ kept. constant_view kept part) p → (IsRight first → IsTrue (part_is_rooted p)) → Made first new (λ kept. part_at kept n) p
+  pub made : {first : Maker} {p : ConstantPart} → Made part_is_rooted first old (λ kept. constant_view kept part) p → IsTrue (part_is_rooted p) → Made part_is_rooted first new (λ kept. part_at kept n) p
 
--- what the comparison that was made stands for, the filter stands for too
-pub record IsCompared (old new : Maker) (part : Constant) (f : Filter) : Type 0 where
-  pub made : {first : Maker} {c : Comparison} → Made first old (λ kept. constant_view kept part) (compared c) → Made first new (λ kept. filter_view kept f) (atom (comparison c))
+-- what the comparison that was begun and made stands for, the filter stands for too
+pub record IsCompared (around : Met) (old new : Maker) (part : Constant) (f : Filter) : Type 0 where
+  pub made : {first begun : Maker} {c : Comparison} → IsBeside begun first around.rooted → Made part_is_rooted begun old (λ kept. constant_view kept part) (compared c) → Made filter_is_rooted first new (λ kept. filter_view kept f) (atom (comparison c))

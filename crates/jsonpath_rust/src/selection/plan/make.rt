@@ -1,20 +1,20 @@
 //! How a plan is made: by one pass over the query.
 ghost use Rattle.std.specs.Prelude.{◌≡◌, IfOk, map};
+ghost use Rattle.std.specs.List.{list_all};
 ghost use Rattle.jsonpath_parser.specs.tree.Syntax as syntax;
 ghost use Rattle.jsonpath_parser.specs.tree.View as tree;
 ghost use Rattle.jsonpath_rust.specs.documents.inner.Refusing.{MemoryAlone};
 ghost use Rattle.jsonpath_rust.specs.selection.inner.PlanViews as plan;
-ghost use Rattle.jsonpath_rust.specs.selection.inner.PlanMaking.{Made};
+ghost use Rattle.jsonpath_rust.specs.selection.inner.PlanMaking.{Made, every};
 ghost use Rattle.jsonpath_rust.specs.selection.inner.Planned.{plan_view};
+ghost use Rattle.jsonpath_rust.specs.selection.inner.Rooted.{argument_is_rooted, call_is_rooted, comparable_is_rooted, filter_is_rooted, test_is_rooted};
 ghost use Rattle.jsonpath_rust.specs.declared.selection.sink.Wanted.{Wanted};
 ghost use Rattle.jsonpath_rust.specs.declared.selection.sink.Wanted.TheVariants.{Only, Values};
 
-use super::absolute::is_rooted_call;
+use super::numbering::Met;
 use super::patterns::Numbers;
 use super::steps::{steps_again, steps_of, steps_to_children, steps_to_counted};
-use super::{
-    Argument, Call, Called, Constant, Filter, Nesting, Nodes, Plan, Segment, Selector, Side,
-};
+use super::{Argument, Call, Called, Constant, Filter, Nodes, Plan, Segment, Selector, Side};
 use crate::selection::sink::Wanted;
 use jsonpath_base::Extent;
 use jsonpath_parser::errors::Parsed;
@@ -31,15 +31,15 @@ pub fn plan_of(alloc: Global, query: &JpQuery) -> Parsed<Plan>
     let mut maker = Maker {
         alloc,
         constants: Vec::new(alloc),
-        nesting: Nesting::NONE,
+        met: Met::NOTHING,
         patterns: Numbers::new(alloc),
     };
     let segments = maker.segments(&query.segments)?;
-    let pattern_count = maker.patterns.count;
+    let pattern_count = maker.patterns.count();
     Ok(Plan {
         segments,
         constants: maker.constants,
-        nesting: maker.nesting.whole,
+        nesting: maker.met.nesting.whole,
         pattern_count,
     })
 }
@@ -50,8 +50,8 @@ pub struct Maker<'q> {
     pub alloc: Global,
     /// The constants that have a number.
     pub constants: Vec<Constant>,
-    /// The greatest nesting of the constants that were met since the one at hand began.
-    pub nesting: Nesting,
+    /// What was met since the part at hand began.
+    pub met: Met,
     /// The patterns that have a number.
     pub patterns: Numbers<'q>,
 }
@@ -59,7 +59,7 @@ pub struct Maker<'q> {
 impl<'q> Maker<'q> {
     #[cycle(make)]
     fn segments(&mut self, segments: &'q [tree::Segment]) -> Parsed<Vec<Segment>>
-        ensures made { IfOk result (λ v. Made self.old self.new (λ kept. map (plan.segment_view kept) v.items)
+        ensures made { IfOk result (λ v. Made (list_all every) self.old self.new (λ kept. map (plan.segment_view kept) v.items)
             (map tree.segment_view segments.now)) }
         ensures memory { MemoryAlone result }
     {
@@ -72,7 +72,7 @@ impl<'q> Maker<'q> {
 
     #[cycle(make)]
     fn segment(&mut self, segment: &'q tree::Segment) -> Parsed<Segment>
-        ensures made { IfOk result (λ g. Made self.old self.new (λ kept. plan.segment_view kept g)
+        ensures made { IfOk result (λ g. Made every self.old self.new (λ kept. plan.segment_view kept g)
             (tree.segment_view segment.now)) }
         ensures memory { MemoryAlone result }
     {
@@ -88,7 +88,7 @@ impl<'q> Maker<'q> {
 
     #[cycle(make)]
     fn selectors(&mut self, selectors: &'q [tree::Selector]) -> Parsed<Vec<Selector>>
-        ensures made { IfOk result (λ v. Made self.old self.new (λ kept. map (plan.selector_view kept) v.items)
+        ensures made { IfOk result (λ v. Made (list_all every) self.old self.new (λ kept. map (plan.selector_view kept) v.items)
             (map tree.selector_view selectors.now)) }
         ensures memory { MemoryAlone result }
     {
@@ -101,7 +101,7 @@ impl<'q> Maker<'q> {
 
     #[cycle(make)]
     fn selector(&mut self, selector: &'q tree::Selector) -> Parsed<Selector>
-        ensures made { IfOk result (λ s. Made self.old self.new (λ kept. plan.selector_view kept s)
+        ensures made { IfOk result (λ s. Made every self.old self.new (λ kept. plan.selector_view kept s)
             (tree.selector_view selector.now)) }
         ensures memory { MemoryAlone result }
     {
@@ -116,7 +116,7 @@ impl<'q> Maker<'q> {
 
     #[cycle(make)]
     fn filters(&mut self, filters: &'q [tree::Filter]) -> Parsed<Vec<Filter>>
-        ensures made { IfOk result (λ v. Made self.old self.new (λ kept. map (plan.filter_view kept) v.items)
+        ensures made { IfOk result (λ v. Made (list_all filter_is_rooted) self.old self.new (λ kept. map (plan.filter_view kept) v.items)
             (map tree.filter_view filters.now)) }
         ensures memory { MemoryAlone result }
     {
@@ -129,7 +129,7 @@ impl<'q> Maker<'q> {
 
     #[cycle(make)]
     fn filter(&mut self, filter: &'q tree::Filter) -> Parsed<Filter>
-        ensures made { IfOk result (λ f. Made self.old self.new (λ kept. plan.filter_view kept f)
+        ensures made { IfOk result (λ f. Made filter_is_rooted self.old self.new (λ kept. plan.filter_view kept f)
             (tree.filter_view filter.now)) }
         ensures memory { MemoryAlone result }
     {
@@ -142,7 +142,7 @@ impl<'q> Maker<'q> {
 
     #[cycle(make)]
     fn atom(&mut self, atom: &'q tree::FilterAtom) -> Parsed<Filter>
-        ensures made { IfOk result (λ f. Made self.old self.new (λ kept. plan.filter_view kept f)
+        ensures made { IfOk result (λ f. Made filter_is_rooted self.old self.new (λ kept. plan.filter_view kept f)
             (syntax.atom (tree.atom_view atom.now))) }
         ensures memory { MemoryAlone result }
     {
@@ -162,13 +162,14 @@ impl<'q> Maker<'q> {
     /// A test, turned round where `not`.
     #[cycle(make)]
     fn test(&mut self, test: &'q tree::Test, not: bool) -> Parsed<Filter>
-        ensures made { IfOk result (λ f. Made self.old self.new (λ kept. plan.filter_view kept f)
+        ensures made { IfOk result (λ f. Made filter_is_rooted self.old self.new (λ kept. plan.filter_view kept f)
             (syntax.atom (syntax.Atom.test not (tree.test_view test.now)))) }
         ensures memory { MemoryAlone result }
     {
         match test {
             tree::Test::RelQuery(segments) => {
                 if let Some(steps) = steps_to_children(self.alloc, segments)? {
+                    self.meet_current();
                     return Ok(Filter::HasChild { steps, not });
                 }
                 let nodes = self.relative(segments)?;
@@ -187,7 +188,7 @@ impl<'q> Maker<'q> {
 
     #[cycle(make)]
     fn comparison(&mut self, comparison: &'q tree::Comparison) -> Parsed<Filter>
-        ensures made { IfOk result (λ f. Made self.old self.new (λ kept. plan.filter_view kept f)
+        ensures made { IfOk result (λ f. Made filter_is_rooted self.old self.new (λ kept. plan.filter_view kept f)
             (syntax.atom (syntax.comparison (tree.comparison_view comparison.now)))) }
         ensures memory { MemoryAlone result }
     {
@@ -206,7 +207,7 @@ impl<'q> Maker<'q> {
 
     #[cycle(make)]
     fn side(&mut self, side: &'q tree::Comparable) -> Parsed<Side>
-        ensures made { IfOk result (λ s. Made self.old self.new (λ kept. plan.side_view kept s)
+        ensures made { IfOk result (λ s. Made comparable_is_rooted self.old self.new (λ kept. plan.side_view kept s)
             (tree.comparable_view side.now)) }
         ensures memory { MemoryAlone result }
     {
@@ -219,12 +220,15 @@ impl<'q> Maker<'q> {
 
     /// A query of at most one node, as a side.
     fn singular(&mut self, query: &'q SingularQuery) -> Parsed<Side>
-        ensures made { IfOk result (λ s. Made self.old self.new (λ kept. plan.side_view kept s)
+        ensures made { IfOk result (λ s. Made comparable_is_rooted self.old self.new (λ kept. plan.side_view kept s)
             (syntax.singular (tree.singular_view query.now))) }
         ensures memory { MemoryAlone result }
     {
         match query {
-            SingularQuery::Current(steps) => Ok(Side::Lookup(steps_again(self.alloc, steps)?)),
+            SingularQuery::Current(steps) => {
+                self.meet_current();
+                Ok(Side::Lookup(steps_again(self.alloc, steps)?))
+            }
             SingularQuery::Root(steps) => {
                 let steps = steps_again(self.alloc, steps)?;
                 Ok(Side::Constant(self.number(Constant::Value(steps))?))
@@ -235,10 +239,11 @@ impl<'q> Maker<'q> {
     /// A query from the current node.
     #[cycle(make)]
     fn relative(&mut self, segments: &'q [tree::Segment]) -> Parsed<Nodes>
-        ensures made { (wanted : Wanted) → IfOk result (λ n. Made self.old self.new (λ kept. plan.nodes_view kept n wanted)
+        ensures made { (wanted : Wanted) → IfOk result (λ n. Made test_is_rooted self.old self.new (λ kept. plan.nodes_view kept n wanted)
             (syntax.relative (tree.segments_of (map tree.segment_view segments.now)))) }
         ensures memory { MemoryAlone result }
     {
+        self.meet_current();
         match steps_of(self.alloc, segments)? {
             Some(steps) => Ok(Nodes::Lookup(steps)),
             None => Ok(Nodes::Walk(self.segments(segments)?)),
@@ -248,7 +253,7 @@ impl<'q> Maker<'q> {
     /// The number of a query from the root.
     #[cycle(make)]
     fn absolute(&mut self, query: &'q JpQuery, wanted: Wanted) -> Parsed<usize>
-        ensures made { IfOk result (λ n. Made self.old self.new (λ kept. plan.query_at kept wanted n)
+        ensures made { IfOk result (λ n. Made every self.old self.new (λ kept. plan.query_at kept wanted n)
             (tree.query_view query.now)) }
         ensures memory { MemoryAlone result }
     {
@@ -265,13 +270,12 @@ impl<'q> Maker<'q> {
     /// A call: the number of the constant, where it has no `@`.
     #[cycle(make)]
     fn called(&mut self, call: &'q tree::TestFunction) -> Parsed<Called>
-        ensures made { IfOk result (λ c. Made self.old self.new (λ kept. plan.called_view kept c) (tree.call_view call.now)) }
+        ensures made { IfOk result (λ c. Made call_is_rooted self.old self.new (λ kept. plan.called_view kept c) (tree.call_view call.now)) }
         ensures memory { MemoryAlone result }
     {
         let around = self.begin();
         let made = self.call(call)?;
-        self.end(around);
-        if is_rooted_call(&made) {
+        if self.end(around) {
             let number = self.number(Constant::Answer(made))?;
             return Ok(Called::Constant(number));
         }
@@ -280,7 +284,7 @@ impl<'q> Maker<'q> {
 
     #[cycle(make)]
     fn call(&mut self, call: &'q tree::TestFunction) -> Parsed<Call>
-        ensures made { IfOk result (λ c. Made self.old self.new (λ kept. plan.call_view kept c) (tree.call_view call.now)) }
+        ensures made { IfOk result (λ c. Made call_is_rooted self.old self.new (λ kept. plan.call_view kept c) (tree.call_view call.now)) }
         ensures memory { MemoryAlone result }
     {
         match call {
@@ -307,11 +311,12 @@ impl<'q> Maker<'q> {
     /// A call of `count`.
     #[cycle(make)]
     fn count(&mut self, argument: &'q tree::FnArg) -> Parsed<Call>
-        ensures made { IfOk result (λ c. Made self.old self.new (λ kept. plan.call_view kept c)
+        ensures made { IfOk result (λ c. Made call_is_rooted self.old self.new (λ kept. plan.call_view kept c)
             (syntax.count_call (tree.argument_view argument.now))) }
         ensures memory { MemoryAlone result }
     {
         if let Some(steps) = steps_to_counted(self.alloc, argument)? {
+            self.meet_current();
             return Ok(Call::CountChildren(steps));
         }
         Ok(Call::Count(self.argument(argument, Wanted::Count)?))
@@ -320,7 +325,7 @@ impl<'q> Maker<'q> {
     /// The arguments of a custom function.
     #[cycle(make)]
     fn arguments(&mut self, arguments: &'q [tree::FnArg]) -> Parsed<Vec<Argument>>
-        ensures made { IfOk result (λ v. Made self.old self.new (λ kept. map (λ a. plan.argument_view kept a Values) v.items)
+        ensures made { IfOk result (λ v. Made (list_all argument_is_rooted) self.old self.new (λ kept. map (λ a. plan.argument_view kept a Values) v.items)
             (map tree.argument_view arguments.now)) }
         ensures memory { MemoryAlone result }
     {
@@ -334,7 +339,7 @@ impl<'q> Maker<'q> {
     /// The second argument of `match` or `search`.
     #[cycle(make)]
     fn pattern(&mut self, argument: &'q tree::FnArg, extent: Extent) -> Parsed<Argument>
-        ensures made { IfOk result (λ a. Made self.old self.new (λ kept. plan.argument_view kept a Only)
+        ensures made { IfOk result (λ a. Made argument_is_rooted self.old self.new (λ kept. plan.argument_view kept a Only)
             (tree.argument_view argument.now)) }
         ensures memory { MemoryAlone result }
     {
@@ -346,7 +351,7 @@ impl<'q> Maker<'q> {
 
     #[cycle(make)]
     fn argument(&mut self, argument: &'q tree::FnArg, wanted: Wanted) -> Parsed<Argument>
-        ensures made { IfOk result (λ a. Made self.old self.new (λ kept. plan.argument_view kept a wanted)
+        ensures made { IfOk result (λ a. Made argument_is_rooted self.old self.new (λ kept. plan.argument_view kept a wanted)
             (tree.argument_view argument.now)) }
         ensures memory { MemoryAlone result }
     {
@@ -360,7 +365,7 @@ impl<'q> Maker<'q> {
     /// A query or a call, as an argument.
     #[cycle(make)]
     fn test_argument(&mut self, test: &'q tree::Test, wanted: Wanted) -> Parsed<Argument>
-        ensures made { IfOk result (λ a. Made self.old self.new (λ kept. plan.argument_view kept a wanted)
+        ensures made { IfOk result (λ a. Made argument_is_rooted self.old self.new (λ kept. plan.argument_view kept a wanted)
             (syntax.test_argument (tree.test_view test.now))) }
         ensures memory { MemoryAlone result }
     {

@@ -1,11 +1,10 @@
 //! The numbers of constants. Equal ones have one, and what stands in them has its number already, so each is compared by
 //! itself.
-ghost use Rattle.std.specs.Prelude.{◌≡◌, IfOk, IfSome};
+ghost use Rattle.std.specs.Prelude.{◌≡◌, ◌&&◌, false, IfOk, IfSome};
 ghost use Rattle.jsonpath_rust.specs.documents.inner.Refusing.{MemoryAlone};
 ghost use Rattle.jsonpath_rust.specs.selection.inner.PlanMaking.{IsBeside, IsCompared, IsNumbered, IsNumberOf};
 ghost use Rattle.jsonpath_rust.specs.declared.selection.plan.Constant.TheVariants.{Comparison};
 
-use super::absolute::are_rooted_sides;
 use super::make::Maker;
 use super::{Constant, Filter, Side};
 use jsonpath_parser::errors::Parsed;
@@ -40,11 +39,7 @@ impl Nesting {
     /// That of a query from the root, where this is the greatest of the constants that stand in it.
     fn around(self) -> Nesting {
         Nesting {
-            run: if self.run < MOST_AT_ONCE - 1 {
-                self.run + 1
-            } else {
-                0
-            },
+            run: self.run.saturating_add(1) % MOST_AT_ONCE,
             whole: self.whole.saturating_add(1),
         }
     }
@@ -56,27 +51,60 @@ impl Nesting {
     }
 }
 
+/// What was met of a part of a query.
+#[derive(Clone, Copy)]
+pub struct Met {
+    /// The greatest nesting of the constants.
+    pub nesting: Nesting,
+    /// Whether no `@` was.
+    pub rooted: bool,
+}
+
+impl Met {
+    /// Nothing yet.
+    pub const NOTHING: Met = Met {
+        nesting: Nesting::NONE,
+        rooted: true,
+    };
+}
+
 impl<'q> Maker<'q> {
-    /// Begins a part: what is met from now on stands in it. The result is the greatest nesting that was met around it.
-    pub fn begin(&mut self) -> Nesting
-        ensures { IsBeside self.old self.new }
+    /// Begins a part: what is met from now on stands in it. The result is what was met around it.
+    pub fn begin(&mut self) -> Met
+        ensures { IsBeside self.new self.old result.rooted }
     {
-        mem::replace(&mut self.nesting, Nesting::NONE)
+        mem::replace(&mut self.met, Met::NOTHING)
     }
 
-    /// Ends a part that is no query.
-    pub fn end(&mut self, around: Nesting)
-        ensures { IsBeside self.old self.new }
+    /// Meets an `@`.
+    pub fn meet_current(&mut self)
+        ensures { IsBeside self.old self.new false }
     {
-        self.nesting = around.max(self.nesting);
+        self.met.rooted = false;
     }
 
-    /// Ends a query from the root. The result is its nesting.
-    pub fn end_query(&mut self, around: Nesting) -> Nesting
-        ensures { IsBeside self.old self.new }
+    /// Ends a part that is no query. The result tells whether it has no `@`.
+    pub fn end(&mut self, around: Met) -> bool
+        ensures beside { IsBeside self.old self.new (around.rooted && self.old.met.rooted) }
+        ensures rooted { result ≡ self.old.met.rooted }
     {
-        let nesting = self.nesting.around();
-        self.nesting = around.max(nesting);
+        let part = self.met;
+        self.met = Met {
+            nesting: around.nesting.max(part.nesting),
+            rooted: around.rooted && part.rooted,
+        };
+        part.rooted
+    }
+
+    /// Ends a query from the root, each `@` of which is in a filter of its own. The result is its nesting.
+    pub fn end_query(&mut self, around: Met) -> Nesting
+        ensures { IsBeside self.old self.new around.rooted }
+    {
+        let nesting = self.met.nesting.around();
+        self.met = Met {
+            nesting: around.nesting.max(nesting),
+            rooted: around.rooted,
+        };
         nesting
     }
 
@@ -99,14 +127,13 @@ impl<'q> Maker<'q> {
         &mut self,
         operator: Operator,
         sides: (Side, Side),
-        around: Nesting,
+        around: Met,
     ) -> Parsed<Filter>
-        ensures made { IfOk result (IsCompared self.old self.new (Comparison operator sides.0 sides.1)) }
+        ensures made { IfOk result (IsCompared around self.old self.new (Comparison operator sides.0 sides.1)) }
         ensures memory { MemoryAlone result }
     {
-        self.end(around);
         let (left, right) = sides;
-        if are_rooted_sides(&left, &right) {
+        if self.end(around) {
             let number = self.number(Constant::Comparison(operator, left, right))?;
             return Ok(Filter::Constant(number));
         }

@@ -6,6 +6,7 @@ ghost use Rattle.jsonpath_parser.specs.tree.View as tree;
 ghost use Rattle.jsonpath_rust.specs.documents.inner.Refusing.{MemoryAlone};
 ghost use Rattle.jsonpath_rust.specs.selection.inner.PlanViews as plan;
 ghost use Rattle.jsonpath_rust.specs.selection.inner.PlanMaking.{Made, IsBeside};
+ghost use Rattle.jsonpath_rust.specs.selection.inner.Rooted.{argument_is_rooted};
 ghost use Rattle.jsonpath_rust.specs.declared.selection.sink.Wanted.TheVariants.{Only};
 
 use super::Argument;
@@ -20,10 +21,8 @@ use std::collections::BTreeMap;
 /// The patterns of a query that have a number. Equal ones have the same.
 #[derive(Drop)]
 pub struct Numbers<'q> {
-    entire: BTreeMap<&'q str, usize>,
-    substring: BTreeMap<&'q str, usize>,
-    /// How many there are.
-    pub count: usize,
+    /// By whether the entire text has to match, and the pattern.
+    known: BTreeMap<(bool, &'q str), usize>,
     /// What they weigh together.
     weight: usize,
 }
@@ -32,42 +31,30 @@ impl<'q> Numbers<'q> {
     /// None yet.
     pub fn new(alloc: Global) -> Self {
         Numbers {
-            entire: BTreeMap::new(alloc),
-            substring: BTreeMap::new(alloc),
-            count: 0,
+            known: BTreeMap::new(alloc),
             weight: 0,
         }
     }
 
+    /// How many there are.
+    pub fn count(&self) -> usize {
+        self.known.len()
+    }
+
     /// The number of a pattern. One that would bring their weights above [`MOST_WEIGHT`] gets none.
     fn number(&mut self, alloc: Global, asked: Asked<'q>) -> Result<Option<usize>, AllocError> {
-        if let Some(number) = self.known(asked) {
-            return Ok(Some(number));
+        let key = (asked.extent.is_entire(), asked.pattern);
+        if let Some(number) = self.known.get(&key) {
+            return Ok(Some(*number));
         }
         let weight = asked.weight(alloc)?.saturating_add(self.weight);
         if weight > MOST_WEIGHT {
             return Ok(None);
         }
-        let number = self.count;
-        self.add(asked, number)?;
-        self.count = number.saturating_add(1);
+        let number = self.count();
+        self.known.insert(key, number)?;
         self.weight = weight;
         Ok(Some(number))
-    }
-
-    fn known(&self, asked: Asked<'_>) -> Option<usize> {
-        match asked.extent {
-            Extent::Entire => Some(*self.entire.get(asked.pattern)?),
-            Extent::Substring => Some(*self.substring.get(asked.pattern)?),
-        }
-    }
-
-    fn add(&mut self, asked: Asked<'q>, number: usize) -> Result<(), AllocError> {
-        match asked.extent {
-            Extent::Entire => drop(self.entire.insert(asked.pattern, number)?),
-            Extent::Substring => drop(self.substring.insert(asked.pattern, number)?),
-        }
-        Ok(())
     }
 }
 
@@ -78,7 +65,7 @@ impl<'q> Maker<'q> {
         literal: &'q tree::Literal,
         extent: Extent,
     ) -> Parsed<Argument>
-        ensures made { IfOk result (λ a. Made self.old self.new (λ kept. plan.argument_view kept a Only)
+        ensures made { IfOk result (λ a. Made argument_is_rooted self.old self.new (λ kept. plan.argument_view kept a Only)
             (syntax.literal_argument (tree.literal_view literal.now))) }
         ensures memory { MemoryAlone result }
     {
@@ -93,7 +80,7 @@ impl<'q> Maker<'q> {
 
     /// The number of a pattern, if it has one.
     fn pattern_number(&mut self, pattern: &'q str, extent: Extent) -> Parsed<Option<usize>>
-        ensures beside { OnOk result (IsBeside self.old self.new) }
+        ensures beside { OnOk result (IsBeside self.old self.new self.old.met.rooted) }
         ensures memory { MemoryAlone result }
     {
         let asked = Asked { pattern, extent };

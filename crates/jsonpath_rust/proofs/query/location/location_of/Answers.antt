@@ -1,12 +1,9 @@
-use Rattle.std.proofs.Common.{sym, ap, ◌∙◌, option_map}
-use Rattle.jsonpath_parser.proofs.laws.tree.ViewEquations.{query_view-segments}
-use Rattle.jsonpath_parser.specs.tree.View.{query_view}
-use Rattle.jsonpath_rust.specs.documents.inner.Parts.{segments_in}
-use Rattle.jsonpath_rust.proofs.laws.documents.Locating.{locations_read}
-use Rattle.jsonpath_base.specs.Steps.{location_view}
+use Rattle.std.proofs.Common.{arith}
+use Rattle.jsonpath_rust.proofs.laws.documents.Locating.{whole_location, no_location}
 use Rattle.jsonpath_rust.proofs.query.location.location_of.Goals as goal
 
-pub returns-clause-location : goal.returns-clause-location
-returns-clause-location c =
-    let q = c.args.query.now in
-    locations_read (λ o. option_map (λ v. location_view v.items) o) (query_view q) _ c.located.result (query_view-segments q ∙ ap segments_in (sym c.deref.ensures.value)) c.located.ensures.value
+pub returns-then-len-clause-location : goal.returns-then-len-clause-location
+returns-then-len-clause-location c = whole_location c.args.query.now c.in_ok-steps.steps.items c.in_ok-steps.ensures.steps (omega arith)
+
+pub returns-else-len-clause-location : goal.returns-else-len-clause-location
+returns-else-len-clause-location c = no_location c.args.query.now c.in_ok-steps.steps.items c.in_ok-steps.ensures.steps (λ same. omega (arith, same))

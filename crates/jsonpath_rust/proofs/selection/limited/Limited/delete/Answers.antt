@@ -6,7 +6,7 @@ use Rattle.jsonpath_rust.specs.documents.Document.{document_of}
 use Rattle.jsonpath_rust.specs.documents.Meaning.{selected}
 use Rattle.jsonpath_rust.specs.selection.Prepared.{limited_view}
 use Rattle.jsonpath_rust.specs.selection.inner.Sinks.{IsRemovalOf}
-use Rattle.jsonpath_rust.proofs.Withins.{of_done}
+use Rattle.jsonpath_rust.proofs.Withins.{of_done, of_spent}
 use Rattle.jsonpath_rust.proofs.selection.limited.Limited.delete.Goals as goal
 
 pub returns-in_ok-marked-in-Done-clause-deleted : goal.returns-in_ok-marked-in-Done-clause-deleted
@@ -17,3 +17,6 @@ returns-in_ok-marked-in-Done-clause-deleted c =
       removed = c.remove_from.ensures.removed ∙ ap (λ s. without s (value_tree c.args.value.now)) (c.in_ok-marked-in-Done.ensures.set ∙ all.set);
       counted = c.count.ensures ∙ c.in_ok-marked-in-Done.ensures.count ∙ all.count;
     }
+
+pub returns-in-Spent-clause-enough : goal.returns-in-Spent-clause-enough
+returns-in-Spent-clause-enough c singular = of_spent _ c.in-Spent.is (c.in_ok-within.ensures.enough singular)

@@ -3,7 +3,7 @@ use Rattle.jsonpath_rust.specs.documents.Document.{document_of}
 use Rattle.jsonpath_rust.specs.selection.Prepared.{limited_view}
 use Rattle.jsonpath_rust.specs.selection.inner.Sinks.{first_in}
 use Rattle.jsonpath_rust.proofs.laws.selection.Answers.{first_answered, none_answered}
-use Rattle.jsonpath_rust.proofs.Withins.{of_done}
+use Rattle.jsonpath_rust.proofs.Withins.{of_done, of_spent}
 use Rattle.jsonpath_rust.proofs.selection.limited.Limited.first.Goals as goal
 
 pub returns-in-Done-clause-first : goal.returns-in-Done-clause-first
@@ -17,3 +17,6 @@ returns-in-Done-clause-none g c =
     let tree = g.T.Queryable.tree in
     let doc = document_of tree g.T.Queryable.custom c.args.value.now in
     none_answered (λ r. (string_bytes r.path, tree r.val.now)) (limited_view c.args.self.now) doc _ (c.into_first.ensures.node ∙ ap first_in (of_done _ _ _ c.in-Done.is c.in_ok-within.ensures.gave))
+
+pub returns-in-Spent-clause-enough : goal.returns-in-Spent-clause-enough
+returns-in-Spent-clause-enough g c singular = of_spent _ c.in-Spent.is (c.in_ok-within.ensures.enough singular)

@@ -4,7 +4,7 @@ use Rattle.jsonpath_rust.specs.documents.Meaning.{nodelist}
 use Rattle.jsonpath_rust.specs.selection.Prepared.{limited_view}
 use Rattle.jsonpath_rust.proofs.laws.selection.Sinks.{given_nodes}
 use Rattle.jsonpath_rust.proofs.laws.selection.Answers.{nodes_answered}
-use Rattle.jsonpath_rust.proofs.Withins.{of_done}
+use Rattle.jsonpath_rust.proofs.Withins.{of_done, of_spent}
 use Rattle.jsonpath_rust.proofs.selection.limited.Limited.nodes.Goals as goal
 
 pub returns-in-Done-clause-nodes : goal.returns-in-Done-clause-nodes
@@ -13,3 +13,6 @@ returns-in-Done-clause-nodes g c =
     let q = limited_view c.args.self.now in
     let doc = document_of tree g.T.Queryable.custom c.args.value.now in
     nodes_answered q doc _ (g.met.T.Queryable.distinct c.args.value.now c.requires) (c.into_nodes.ensures.nodes ∙ given_nodes (λ r. (string_bytes r.path, tree r.val.now)) c.new.result.list.items _ (nodelist q doc) c.new.ensures (of_done _ _ _ c.in-Done.is c.in_ok-within.ensures.gave))
+
+pub returns-in-Spent-clause-enough : goal.returns-in-Spent-clause-enough
+returns-in-Spent-clause-enough g c singular = of_spent _ c.in-Spent.is (c.in_ok-within.ensures.enough singular)

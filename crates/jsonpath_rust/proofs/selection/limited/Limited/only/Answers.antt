@@ -3,7 +3,7 @@ use Rattle.jsonpath_rust.specs.documents.Document.{document_of}
 use Rattle.jsonpath_rust.specs.selection.Prepared.{limited_view}
 use Rattle.jsonpath_rust.specs.selection.inner.Only.{only_told}
 use Rattle.jsonpath_rust.proofs.laws.selection.Answers.{only_answered}
-use Rattle.jsonpath_rust.proofs.Withins.{of_done}
+use Rattle.jsonpath_rust.proofs.Withins.{of_done, of_spent}
 use Rattle.jsonpath_rust.proofs.selection.limited.Limited.only.Goals as goal
 
 pub returns-in-Done-clause-only : goal.returns-in-Done-clause-only
@@ -11,3 +11,6 @@ returns-in-Done-clause-only g c =
     let tree = g.T.Queryable.tree in
     let doc = document_of tree g.T.Queryable.custom c.args.value.now in
     only_answered tree (limited_view c.args.self.now) doc c.into_only.result (g.met.T.Queryable.distinct c.args.value.now c.requires) (c.into_only.ensures.only ∙ ap only_told (of_done _ _ _ c.in-Done.is c.in_ok-within.ensures.gave))
+
+pub returns-in-Spent-clause-enough : goal.returns-in-Spent-clause-enough
+returns-in-Spent-clause-enough g c singular = of_spent _ c.in-Spent.is (c.in_ok-within.ensures.enough singular)

@@ -5,7 +5,7 @@ use Rattle.jsonpath_rust.specs.documents.Document.{document_of}
 use Rattle.jsonpath_rust.specs.documents.Meaning.{nodelist}
 use Rattle.jsonpath_rust.specs.selection.Prepared.{limited_view}
 use Rattle.jsonpath_rust.proofs.laws.selection.Sinks.{removal_is, removal_there}
-use Rattle.jsonpath_rust.proofs.Withins.{of_done}
+use Rattle.jsonpath_rust.proofs.Withins.{of_done, of_spent}
 use Rattle.jsonpath_rust.proofs.selection.limited.Limited.removal.Goals as goal
 
 pub returns-in-Some-clause-removal : goal.returns-in-Some-clause-removal
@@ -18,3 +18,6 @@ pub returns-in-None-clause-removal : goal.returns-in-None-clause-removal
 returns-in-None-clause-removal g c =
     let begun = c.in_ok-new.field-0.value in let same = c.in_ok-new.ensures.ok in let d = document_of g.T.Queryable.tree g.T.Queryable.custom c.args.value.now in
     removal_there begun _ (nodelist (limited_view c.args.self.now) d) (λ l. ap (λ (r : Removal). removal_set r l) same ∙ c.new.ensures.none l) (ap (λ (r : Removal). removal_count r) same ∙ c.new.ensures.count) (of_done _ _ _ c.in-Done.is c.in_ok-within.ensures.gave) c.in-None.ensures
+
+pub returns-in-Spent-clause-enough : goal.returns-in-Spent-clause-enough
+returns-in-Spent-clause-enough g c singular = of_spent _ c.in-Spent.is (c.in_ok-within.ensures.enough singular)

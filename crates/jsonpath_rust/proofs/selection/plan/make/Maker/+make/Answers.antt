@@ -1,15 +1,17 @@
 -- The answers of the maker: each step as a lemma, with the equations of the two views.
 use Rattle.std.proofs.lemmas.Simd.{map-map}
 use Rattle.std.proofs.Common.{◌≡◌, ◌∙◌, ap, sym, refl, map, string_bytes, rules, w64, SFits}
+use Rattle.std.proofs.lemmas.Bool.{and_from}
 use Rattle.std.proofs.lemmas.Int.{to_z-of_z}
 use Rattle.std.proofs.lemmas.Result.{IfOk-weaker}
 use Rattle.jsonpath_parser.specs.tree.Syntax as syntax
 use Rattle.jsonpath_parser.specs.tree.View as tree
 use Rattle.jsonpath_parser.proofs.laws.tree.ViewEquations as source
-use Rattle.jsonpath_rust.specs.selection.inner.PlanViews.{segment_view, selector_view, filter_view, call_view, argument_view, step_segment, nodes, answered, compared, query_in, call_in}
-use Rattle.jsonpath_rust.specs.selection.inner.Rooted.{call_is_rooted}
+use Rattle.jsonpath_rust.specs.selection.inner.PlanMaking.{every}
+use Rattle.jsonpath_rust.specs.selection.inner.Rooted.{filter_is_rooted, argument_is_rooted}
+use Rattle.jsonpath_rust.specs.selection.inner.PlanViews.{segment_view, selector_view, filter_view, call_view, argument_view, step_segment, nodes, answered, compared, query_in, call_in, part_is_rooted}
 use Rattle.jsonpath_rust.specs.declared.selection.sink.Wanted.TheVariants.{Any, Values}
-use Rattle.jsonpath_rust.proofs.laws.selection.PlanLaws.{made_none, made_as, made_both, made_start, made_next, made_end, made_after, made_before, source_rooted, query_in-nodes}
+use Rattle.jsonpath_rust.proofs.laws.selection.PlanLaws.{made_none, made_as, made_both, made_start, made_next, made_end, made_around, made_ended, made_here, filters_rooted, arguments_rooted, query_in-nodes}
 use Rattle.jsonpath_rust.proofs.laws.selection.PlanEquations as plan
 use Rattle.std.specs.Borrow.{Bor}
 use Rattle.jsonpath_parser.specs.declared.tree.model.Comparable.{Comparable}
@@ -19,7 +21,7 @@ use Rattle.jsonpath_rust.proofs.selection.plan.make.Maker.+make.Goals.{compariso
 
 pub segments-segments-init : goal.segments-segments-init
 segments-segments-init t c =
-    made_start _ segment_view tree.segment_view _ c.args.segments.now (search rules)
+    made_start every segment_view tree.segment_view _ c.args.segments.now (search rules)
 
 pub segments-segments-preserved : goal.segments-segments-preserved
 segments-segments-preserved t c =
@@ -27,11 +29,11 @@ segments-segments-preserved t c =
 
 pub segments-returns-clause-made : goal.segments-returns-clause-made
 segments-returns-clause-made t c =
-    made_end _ tree.segment_view c.args.segments.now c.segments.segment-index c.segments-test.false c.segments.invariant
+    made_end every _ tree.segment_view c.args.segments.now c.segments.segment-index c.segments-test.false c.segments.invariant
 
 pub selectors-selectors-init : goal.selectors-selectors-init
 selectors-selectors-init t c =
-    made_start _ selector_view tree.selector_view _ c.args.selectors.now (search rules)
+    made_start every selector_view tree.selector_view _ c.args.selectors.now (search rules)
 
 pub selectors-selectors-preserved : goal.selectors-selectors-preserved
 selectors-selectors-preserved t c =
@@ -39,11 +41,11 @@ selectors-selectors-preserved t c =
 
 pub selectors-returns-clause-made : goal.selectors-returns-clause-made
 selectors-returns-clause-made t c =
-    made_end _ tree.selector_view c.args.selectors.now c.selectors.selector-index c.selectors-test.false c.selectors.invariant
+    made_end every _ tree.selector_view c.args.selectors.now c.selectors.selector-index c.selectors-test.false c.selectors.invariant
 
 pub filters-filters-init : goal.filters-filters-init
 filters-filters-init t c =
-    made_start _ filter_view tree.filter_view _ c.args.filters.now (search rules)
+    made_start filter_is_rooted filter_view tree.filter_view _ c.args.filters.now (search rules)
 
 pub filters-filters-preserved : goal.filters-filters-preserved
 filters-filters-preserved t c =
@@ -51,11 +53,11 @@ filters-filters-preserved t c =
 
 pub filters-returns-clause-made : goal.filters-returns-clause-made
 filters-returns-clause-made t c =
-    made_end _ tree.filter_view c.args.filters.now c.filters.filter-index c.filters-test.false c.filters.invariant
+    made_end filter_is_rooted _ tree.filter_view c.args.filters.now c.filters.filter-index c.filters-test.false c.filters.invariant
 
 pub arguments-arguments-init : goal.arguments-arguments-init
 arguments-arguments-init t c =
-    made_start _ (λ kept x. argument_view kept x Values) tree.argument_view _ c.args.arguments.now (search rules)
+    made_start argument_is_rooted (λ kept x. argument_view kept x Values) tree.argument_view _ c.args.arguments.now (search rules)
 
 pub arguments-arguments-preserved : goal.arguments-arguments-preserved
 arguments-arguments-preserved t c =
@@ -63,48 +65,48 @@ arguments-arguments-preserved t c =
 
 pub arguments-returns-clause-made : goal.arguments-returns-clause-made
 arguments-returns-clause-made t c =
-    made_end _ tree.argument_view c.args.arguments.now c.arguments.argument-index c.arguments-test.false c.arguments.invariant
+    made_end argument_is_rooted _ tree.argument_view c.args.arguments.now c.arguments.argument-index c.arguments-test.false c.arguments.invariant
 
 pub segment-returns-in_ok-new-in-Descendant-clause-made : goal.segment-returns-in_ok-new-in-Descendant-clause-made
 segment-returns-in_ok-new-in-Descendant-clause-made t c =
-    made_as syntax.descendant _ _ (λ kept. plan.segment_view-Descendant kept _ ∙ ap (λ x. syntax.descendant (segment_view kept x)) (search rules)) (ap tree.segment_view c.in-Descendant.is ∙ source.segment_view-Descendant c.in-Descendant.inner ∙ ap (λ x. syntax.descendant (tree.segment_view x)) (sym c.deref.ensures)) c.in_ok-inner-in-Descendant.ensures.made
+    made_as syntax.descendant _ _ (λ kept. plan.segment_view-Descendant kept _ ∙ ap (λ x. syntax.descendant (segment_view kept x)) (search rules)) (ap tree.segment_view c.in-Descendant.is ∙ source.segment_view-Descendant c.in-Descendant.inner ∙ ap (λ x. syntax.descendant (tree.segment_view x)) (sym c.deref.ensures)) (λ h. h) c.in_ok-inner-in-Descendant.ensures.made
 
 pub segment-returns-in_ok-selector-in-Selector-clause-made : goal.segment-returns-in_ok-selector-in-Selector-clause-made
 segment-returns-in_ok-selector-in-Selector-clause-made t c =
-    made_as syntax.one _ _ (λ kept. plan.segment_view-Selector kept _) (ap tree.segment_view c.in-Selector.is ∙ source.segment_view-Selector c.in-Selector.selector) c.in_ok-selector-in-Selector.ensures.made
+    made_as syntax.one _ _ (λ kept. plan.segment_view-Selector kept _) (ap tree.segment_view c.in-Selector.is ∙ source.segment_view-Selector c.in-Selector.selector) (λ h. h) c.in_ok-selector-in-Selector.ensures.made
 
 pub segment-returns-in_ok-selectors-in-Selectors-clause-made : goal.segment-returns-in_ok-selectors-in-Selectors-clause-made
 segment-returns-in_ok-selectors-in-Selectors-clause-made t c =
-    made_as (λ ss. syntax.several (tree.selectors_of ss)) _ _ (λ kept. plan.segment_view-Selectors kept _) (ap tree.segment_view c.in-Selectors.is ∙ source.segment_view-Selectors c.in-Selectors.several ∙ ap (λ xs. syntax.several (tree.selectors_of (map tree.selector_view xs))) (sym c.deref-in-Selectors.ensures.value)) c.in_ok-selectors-in-Selectors.ensures.made
+    made_as (λ ss. syntax.several (tree.selectors_of ss)) _ _ (λ kept. plan.segment_view-Selectors kept _) (ap tree.segment_view c.in-Selectors.is ∙ source.segment_view-Selectors c.in-Selectors.several ∙ ap (λ xs. syntax.several (tree.selectors_of (map tree.selector_view xs))) (sym c.deref-in-Selectors.ensures.value)) (λ h. refl) c.in_ok-selectors-in-Selectors.ensures.made
 
 pub selector-returns-in_ok-from_str-in-Name-clause-made : goal.selector-returns-in_ok-from_str-in-Name-clause-made
 selector-returns-in_ok-from_str-in-Name-clause-made t c =
-    made_none _ _ _ (λ kept. plan.selector_view-Name kept _ ∙ ap syntax.name (search rules) ∙ sym (ap tree.selector_view c.in-Name.is ∙ source.selector_view-Name c.in-Name.name))
+    made_none _ _ (λ kept. plan.selector_view-Name kept _ ∙ ap syntax.name (search rules)) (ap tree.selector_view c.in-Name.is ∙ source.selector_view-Name c.in-Name.name) refl
 
 pub selector-returns-in-Wildcard-clause-made : goal.selector-returns-in-Wildcard-clause-made
 selector-returns-in-Wildcard-clause-made t c =
-    made_none _ _ _ (λ kept. plan.selector_view-Wildcard kept ∙ sym (ap tree.selector_view c.in-Wildcard.is ∙ source.selector_view-Wildcard))
+    made_none _ _ (λ kept. plan.selector_view-Wildcard kept) (ap tree.selector_view c.in-Wildcard.is ∙ source.selector_view-Wildcard) refl
 
 pub selector-returns-in-Index-clause-made : goal.selector-returns-in-Index-clause-made
 selector-returns-in-Index-clause-made t c =
     let fits : SFits w64 c.in-Index.index = search rules in
-    made_none _ _ _ (λ kept. plan.selector_view-Index kept _ ∙ ap syntax.index (to_z-of_z w64 c.in-Index.index fits) ∙ sym (ap tree.selector_view c.in-Index.is ∙ source.selector_view-Index c.in-Index.index))
+    made_none _ _ (λ kept. plan.selector_view-Index kept _ ∙ ap syntax.index (to_z-of_z w64 c.in-Index.index fits)) (ap tree.selector_view c.in-Index.is ∙ source.selector_view-Index c.in-Index.index) refl
 
 pub selector-returns-in-Slice-clause-made : goal.selector-returns-in-Slice-clause-made
 selector-returns-in-Slice-clause-made t c =
-    made_none _ _ _ (λ kept. plan.selector_view-Slice kept _ _ _ ∙ sym (ap tree.selector_view c.in-Slice.is ∙ source.selector_view-Slice c.in-Slice.start c.in-Slice.end c.in-Slice.step))
+    made_none _ _ (λ kept. plan.selector_view-Slice kept _ _ _) (ap tree.selector_view c.in-Slice.is ∙ source.selector_view-Slice c.in-Slice.start c.in-Slice.end c.in-Slice.step) refl
 
 pub selector-returns-in_ok-filter-in-Filter-clause-made : goal.selector-returns-in_ok-filter-in-Filter-clause-made
 selector-returns-in_ok-filter-in-Filter-clause-made t c =
-    made_as syntax.filter _ _ (λ kept. plan.selector_view-Filter kept _) (ap tree.selector_view c.in-Filter.is ∙ source.selector_view-Filter c.in-Filter.filter) c.in_ok-filter-in-Filter.ensures.made
+    made_as syntax.filter _ _ (λ kept. plan.selector_view-Filter kept _) (ap tree.selector_view c.in-Filter.is ∙ source.selector_view-Filter c.in-Filter.filter) (λ h. refl) c.in_ok-filter-in-Filter.ensures.made
 
 pub filter-returns-in_ok-filters-in-Or-clause-made : goal.filter-returns-in_ok-filters-in-Or-clause-made
 filter-returns-in_ok-filters-in-Or-clause-made t c =
-    made_as (λ fs. syntax.or (tree.filters_of fs)) _ _ (λ kept. plan.filter_view-Or kept _) (ap tree.filter_view c.in-Or.is ∙ source.filter_view-Or c.in-Or.parts ∙ ap (λ xs. syntax.or (tree.filters_of (map tree.filter_view xs))) (sym c.deref.ensures.value)) c.in_ok-filters-in-Or.ensures.made
+    made_as (λ fs. syntax.or (tree.filters_of fs)) _ _ (λ kept. plan.filter_view-Or kept _) (ap tree.filter_view c.in-Or.is ∙ source.filter_view-Or c.in-Or.parts ∙ ap (λ xs. syntax.or (tree.filters_of (map tree.filter_view xs))) (sym c.deref.ensures.value)) (λ h. filters_rooted (map tree.filter_view c.deref.result.now) ∙ h) c.in_ok-filters-in-Or.ensures.made
 
 pub filter-returns-in_ok-filters-in-And-clause-made : goal.filter-returns-in_ok-filters-in-And-clause-made
 filter-returns-in_ok-filters-in-And-clause-made t c =
-    made_as (λ fs. syntax.and (tree.filters_of fs)) _ _ (λ kept. plan.filter_view-And kept _) (ap tree.filter_view c.in-And.is ∙ source.filter_view-And c.in-And.parts ∙ ap (λ xs. syntax.and (tree.filters_of (map tree.filter_view xs))) (sym c.deref-in-And.ensures.value)) c.in_ok-filters-in-And.ensures.made
+    made_as (λ fs. syntax.and (tree.filters_of fs)) _ _ (λ kept. plan.filter_view-And kept _) (ap tree.filter_view c.in-And.is ∙ source.filter_view-And c.in-And.parts ∙ ap (λ xs. syntax.and (tree.filters_of (map tree.filter_view xs))) (sym c.deref-in-And.ensures.value)) (λ h. filters_rooted (map tree.filter_view c.deref-in-And.result.now) ∙ h) c.in_ok-filters-in-And.ensures.made
 
 pub filter-returns-in-Atom-clause-made : goal.filter-returns-in-Atom-clause-made
 filter-returns-in-Atom-clause-made t c =
@@ -112,7 +114,7 @@ filter-returns-in-Atom-clause-made t c =
 
 pub atom-returns-in_ok-new-in-Filter-clause-made : goal.atom-returns-in_ok-new-in-Filter-clause-made
 atom-returns-in_ok-new-in-Filter-clause-made t c =
-    made_as (λ f. syntax.atom (syntax.group c.in-Filter.not f)) _ _ (λ kept. plan.filter_view-Group kept _ _ ∙ ap (λ x. syntax.atom (syntax.group c.in-Filter.not (filter_view kept x))) (search rules)) (ap syntax.atom (ap tree.atom_view c.in-Filter.is ∙ source.atom_view-Filter c.in-Filter.expr c.in-Filter.not ∙ ap (λ x. syntax.group c.in-Filter.not (tree.filter_view x)) (sym c.deref.ensures))) c.in_ok-inner-in-Filter.ensures.made
+    made_as (λ f. syntax.atom (syntax.group c.in-Filter.not f)) _ _ (λ kept. plan.filter_view-Group kept _ _ ∙ ap (λ x. syntax.atom (syntax.group c.in-Filter.not (filter_view kept x))) (search rules)) (ap syntax.atom (ap tree.atom_view c.in-Filter.is ∙ source.atom_view-Filter c.in-Filter.expr c.in-Filter.not ∙ ap (λ x. syntax.group c.in-Filter.not (tree.filter_view x)) (sym c.deref.ensures))) (λ h. h) c.in_ok-inner-in-Filter.ensures.made
 
 pub atom-returns-in-Test-clause-made : goal.atom-returns-in-Test-clause-made
 atom-returns-in-Test-clause-made t c =
@@ -122,21 +124,25 @@ pub atom-returns-in-Comparison-clause-made : goal.atom-returns-in-Comparison-cla
 atom-returns-in-Comparison-clause-made t c =
     rw (ap tree.atom_view c.in-Comparison.is ∙ source.atom_view-Comparison c.in-Comparison.comparison ∙ ap (λ x. syntax.comparison (tree.comparison_view x)) (sym c.deref-in-Comparison.ensures)) c.comparison.ensures.made
 
+pub test-returns-in-Some-clause-made : goal.test-returns-in-Some-clause-made
+test-returns-in-Some-clause-made t c =
+    made_here c.meet_current.ensures (made_none {test = every} _ _ (λ kept. plan.filter_view-HasChild kept _ _ ∙ ap (λ q. syntax.atom (syntax.Atom.test c.args.not (syntax.relative q))) (rw c.in-Some.is at c.in_ok-steps-in-RelQuery.ensures.same)) (ap (λ x. syntax.atom (syntax.Atom.test c.args.not x)) (ap tree.test_view c.in-RelQuery.is ∙ source.test_view-RelQuery c.in-RelQuery.segments ∙ ap (λ xs. syntax.relative (tree.segments_of (map tree.segment_view xs))) (sym c.deref.ensures.value))) refl)
+
 pub test-returns-in_ok-nodes-in-RelQuery-clause-made : goal.test-returns-in_ok-nodes-in-RelQuery-clause-made
 test-returns-in_ok-nodes-in-RelQuery-clause-made t c =
-    made_as (λ x. syntax.atom (syntax.Atom.test c.args.not x)) _ _ (λ kept. plan.filter_view-Exists kept _ _) (ap (λ x. syntax.atom (syntax.Atom.test c.args.not x)) (ap tree.test_view c.in-RelQuery.is ∙ source.test_view-RelQuery c.in-RelQuery.segments ∙ ap (λ xs. syntax.relative (tree.segments_of (map tree.segment_view xs))) (sym c.deref-in-RelQuery.ensures.value))) (c.in_ok-nodes-in-RelQuery.ensures.made Any)
+    made_as (λ x. syntax.atom (syntax.Atom.test c.args.not x)) _ _ (λ kept. plan.filter_view-Exists kept _ _) (ap (λ x. syntax.atom (syntax.Atom.test c.args.not x)) (ap tree.test_view c.in-RelQuery.is ∙ source.test_view-RelQuery c.in-RelQuery.segments ∙ ap (λ xs. syntax.relative (tree.segments_of (map tree.segment_view xs))) (sym c.deref-in-RelQuery.ensures.value))) (λ h. h) (c.in_ok-nodes-in-RelQuery.ensures.made Any)
 
 pub test-returns-in_ok-absolute-in-AbsQuery-clause-made : goal.test-returns-in_ok-absolute-in-AbsQuery-clause-made
 test-returns-in_ok-absolute-in-AbsQuery-clause-made t c =
-    made_as (λ q. syntax.atom (syntax.Atom.test c.args.not (syntax.absolute q))) _ _ (λ kept. plan.filter_view-Exists kept _ _ ∙ ap (λ x. syntax.atom (syntax.Atom.test c.args.not x)) (plan.nodes_view-Constant kept _ Any)) (ap (λ x. syntax.atom (syntax.Atom.test c.args.not x)) (ap tree.test_view c.in-AbsQuery.is ∙ source.test_view-AbsQuery c.in-AbsQuery.query)) c.in_ok-absolute-in-AbsQuery.ensures.made
+    made_as (λ q. syntax.atom (syntax.Atom.test c.args.not (syntax.absolute q))) _ _ (λ kept. plan.filter_view-Exists kept _ _ ∙ ap (λ x. syntax.atom (syntax.Atom.test c.args.not x)) (plan.nodes_view-Constant kept _ Any)) (ap (λ x. syntax.atom (syntax.Atom.test c.args.not x)) (ap tree.test_view c.in-AbsQuery.is ∙ source.test_view-AbsQuery c.in-AbsQuery.query)) (λ h. h) c.in_ok-absolute-in-AbsQuery.ensures.made
 
 pub test-returns-in_ok-call-in-Function-clause-made : goal.test-returns-in_ok-call-in-Function-clause-made
 test-returns-in_ok-call-in-Function-clause-made t c =
-    made_as (λ x. syntax.atom (syntax.Atom.test c.args.not (syntax.call x))) _ _ (λ kept. plan.filter_view-Call kept _ _) (ap (λ x. syntax.atom (syntax.Atom.test c.args.not x)) (ap tree.test_view c.in-Function.is ∙ source.test_view-Function c.in-Function.function ∙ ap (λ x. syntax.call (tree.call_view x)) (sym c.deref-in-Function.ensures))) c.in_ok-call-in-Function.ensures.made
+    made_as (λ x. syntax.atom (syntax.Atom.test c.args.not (syntax.call x))) _ _ (λ kept. plan.filter_view-Call kept _ _) (ap (λ x. syntax.atom (syntax.Atom.test c.args.not x)) (ap tree.test_view c.in-Function.is ∙ source.test_view-Function c.in-Function.function ∙ ap (λ x. syntax.call (tree.call_view x)) (sym c.deref-in-Function.ensures))) (λ h. h) c.in_ok-call-in-Function.ensures.made
 
 pub side-returns-in_ok-try_clone-in-Literal-clause-made : goal.side-returns-in_ok-try_clone-in-Literal-clause-made
 side-returns-in_ok-try_clone-in-Literal-clause-made t c =
-    made_none _ _ _ (λ kept. plan.side_view-Literal kept _ ∙ ap syntax.literal c.in_ok-try_clone-in-Literal.ensures.same ∙ sym (ap tree.comparable_view c.in-Literal.is ∙ source.comparable_view-Literal c.in-Literal.literal))
+    made_none _ _ (λ kept. plan.side_view-Literal kept _ ∙ ap syntax.literal c.in_ok-try_clone-in-Literal.ensures.same) (ap tree.comparable_view c.in-Literal.is ∙ source.comparable_view-Literal c.in-Literal.literal) refl
 
 pub side-returns-in-SingularQuery-clause-made : goal.side-returns-in-SingularQuery-clause-made
 side-returns-in-SingularQuery-clause-made t c =
@@ -144,57 +150,61 @@ side-returns-in-SingularQuery-clause-made t c =
 
 pub side-returns-in_ok-called-in-Function-clause-made : goal.side-returns-in_ok-called-in-Function-clause-made
 side-returns-in_ok-called-in-Function-clause-made t c =
-    made_as syntax.function _ _ (λ kept. plan.side_view-Call kept _) (ap tree.comparable_view c.in-Function.is ∙ source.comparable_view-Function c.in-Function.function) c.in_ok-called-in-Function.ensures.made
+    made_as syntax.function _ _ (λ kept. plan.side_view-Call kept _) (ap tree.comparable_view c.in-Function.is ∙ source.comparable_view-Function c.in-Function.function) (λ h. h) c.in_ok-called-in-Function.ensures.made
 
 pub relative-returns-in-Some-clause-made : goal.relative-returns-in-Some-clause-made
 relative-returns-in-Some-clause-made t c =
-    λ w. made_none _ _ _ (λ kept. plan.nodes_view-Lookup kept _ w ∙ ap (λ gs. syntax.relative (tree.segments_of gs)) (map-map step_segment tree.step_view c.in-Some.steps.items ∙ (rw c.in-Some.is at c.in_ok-steps.ensures.same)))
+    λ w. made_here c.meet_current.ensures (made_none {test = every} _ _ (λ kept. plan.nodes_view-Lookup kept _ w ∙ ap (λ gs. syntax.relative (tree.segments_of gs)) (map-map step_segment tree.step_view c.in-Some.steps.items ∙ (rw c.in-Some.is at c.in_ok-steps.ensures.same))) refl refl)
 
 pub relative-returns-in_ok-segments-in-None-clause-made : goal.relative-returns-in_ok-segments-in-None-clause-made
 relative-returns-in_ok-segments-in-None-clause-made t c = λ w.
-    made_as (λ gs. syntax.relative (tree.segments_of gs)) _ _ (λ kept. plan.nodes_view-Walk kept _ w) refl c.in_ok-segments-in-None.ensures.made
+    made_here c.meet_current.ensures (made_as {test = every} (λ gs. syntax.relative (tree.segments_of gs)) _ _ (λ kept. plan.nodes_view-Walk kept _ w) refl (λ h. refl) c.in_ok-segments-in-None.ensures.made)
 
 pub absolute-returns-clause-made : goal.absolute-returns-clause-made
 absolute-returns-clause-made t c =
     let of_query : tree.query_view c.args.query.now ≡ tree.segments_of (map tree.segment_view c.deref.result.now) = source.query_view-segments c.args.query.now ∙ ap (λ xs. tree.segments_of (map tree.segment_view xs)) (sym c.deref.ensures.value) in
-    let part = made_before c.end_query-nesting.ensures (made_after c.begin-around.ensures (made_as (λ gs. nodes c.args.wanted (tree.segments_of gs)) _ _ (λ kept. refl) (ap (nodes c.args.wanted) of_query) c.in_ok-segments.ensures.made)) in
-    IfOk-weaker c.number.result _ _ (λ n k. made_as (query_in c.args.wanted) _ _ (λ kept. refl) (sym (query_in-nodes c.args.wanted _)) (k.made part (λ r. refl))) c.number.ensures.numbered
+    let around = made_around {test = every} c.begin-around.ensures c.end_query-nesting.ensures (λ h. (h, refl)) c.in_ok-segments.ensures.made in
+    IfOk-weaker c.number.result _ _ (λ n k. made_as (query_in c.args.wanted) _ _ (λ kept. refl) (sym (query_in-nodes c.args.wanted _)) (λ h. refl) (k.made (made_as (λ gs. nodes c.args.wanted (tree.segments_of gs)) _ _ (λ kept. refl) (ap (nodes c.args.wanted) of_query) (λ h. refl) around) refl)) c.number.ensures.numbered
 
 pub call-returns-in_ok-argument-in-Length-clause-made : goal.call-returns-in_ok-argument-in-Length-clause-made
 call-returns-in_ok-argument-in-Length-clause-made t c =
-    made_as syntax.length_call _ _ (λ kept. plan.call_view-Length kept _) (ap tree.call_view c.in-Length.is ∙ source.call_view-Length c.in-Length.arg ∙ ap (λ x. syntax.length_call (tree.argument_view x)) (sym c.deref-in-Length.ensures)) c.in_ok-argument-in-Length.ensures.made
+    made_as syntax.length_call _ _ (λ kept. plan.call_view-Length kept _) (ap tree.call_view c.in-Length.is ∙ source.call_view-Length c.in-Length.arg ∙ ap (λ x. syntax.length_call (tree.argument_view x)) (sym c.deref-in-Length.ensures)) (λ h. h) c.in_ok-argument-in-Length.ensures.made
 
 pub call-returns-in_ok-argument-in-Value-clause-made : goal.call-returns-in_ok-argument-in-Value-clause-made
 call-returns-in_ok-argument-in-Value-clause-made t c =
-    made_as syntax.value_call _ _ (λ kept. plan.call_view-Value kept _) (ap tree.call_view c.in-Value.is ∙ source.call_view-Value c.in-Value.arg) c.in_ok-argument-in-Value.ensures.made
+    made_as syntax.value_call _ _ (λ kept. plan.call_view-Value kept _) (ap tree.call_view c.in-Value.is ∙ source.call_view-Value c.in-Value.arg) (λ h. h) c.in_ok-argument-in-Value.ensures.made
 
 pub call-returns-in-Count-clause-made : goal.call-returns-in-Count-clause-made
 call-returns-in-Count-clause-made t c =
     rw (ap tree.call_view c.in-Count.is ∙ source.call_view-Count c.in-Count.arg) c.count.ensures.made
 
+pub count-returns-in-Some-clause-made : goal.count-returns-in-Some-clause-made
+count-returns-in-Some-clause-made t c =
+    made_here c.meet_current.ensures (made_none {test = every} _ _ (λ kept. plan.call_view-CountChildren kept _ ∙ ap syntax.count_call (rw c.in-Some.is at c.in_ok-steps.ensures.same)) refl refl)
+
 pub count-returns-clause-made : goal.count-returns-clause-made
 count-returns-clause-made t c =
-    made_as syntax.count_call _ _ (λ kept. plan.call_view-Count kept _) refl c.in_ok-argument.ensures.made
+    made_as syntax.count_call _ _ (λ kept. plan.call_view-Count kept _) refl (λ h. h) c.in_ok-argument.ensures.made
 
 pub call-returns-in_ok-pattern-in-Search-clause-made : goal.call-returns-in_ok-pattern-in-Search-clause-made
 call-returns-in_ok-pattern-in-Search-clause-made t c =
-    made_both syntax.search_call _ _ (λ kept. plan.call_view-Search kept _ _) (ap tree.call_view c.in-Search.is ∙ source.call_view-Search c.in-Search.text c.in-Search.pattern) c.in_ok-text-in-Search.ensures.made c.in_ok-pattern-in-Search.ensures.made
+    made_both syntax.search_call _ _ (λ kept. plan.call_view-Search kept _ _) (ap tree.call_view c.in-Search.is ∙ source.call_view-Search c.in-Search.text c.in-Search.pattern) (and_from _ _) c.in_ok-text-in-Search.ensures.made c.in_ok-pattern-in-Search.ensures.made
 
 pub call-returns-in_ok-pattern-in-Match-clause-made : goal.call-returns-in_ok-pattern-in-Match-clause-made
 call-returns-in_ok-pattern-in-Match-clause-made t c =
-    made_both syntax.match_call _ _ (λ kept. plan.call_view-Match kept _ _) (ap tree.call_view c.in-Match.is ∙ source.call_view-Match c.in-Match.text c.in-Match.pattern) c.in_ok-text-in-Match.ensures.made c.in_ok-pattern-in-Match.ensures.made
+    made_both syntax.match_call _ _ (λ kept. plan.call_view-Match kept _ _) (ap tree.call_view c.in-Match.is ∙ source.call_view-Match c.in-Match.text c.in-Match.pattern) (and_from _ _) c.in_ok-text-in-Match.ensures.made c.in_ok-pattern-in-Match.ensures.made
 
 pub call-returns-in_ok-arguments-in-Custom-clause-made : goal.call-returns-in_ok-arguments-in-Custom-clause-made
 call-returns-in_ok-arguments-in-Custom-clause-made t c =
-    made_as (λ xs. syntax.custom_call (string_bytes c.in-Custom.name) (tree.arguments_of xs)) _ _ (λ kept. plan.call_view-Custom kept _ _ ∙ ap (λ s. syntax.custom_call s (tree.arguments_of (map (λ x. x Values) (map (argument_view kept) c.in_ok-arguments-in-Custom.field-0.items)))) (search rules) ∙ ap (λ xs. syntax.custom_call (string_bytes c.in-Custom.name) (tree.arguments_of xs)) (map-map (λ x. x Values) (argument_view kept) _)) (ap tree.call_view c.in-Custom.is ∙ source.call_view-Custom c.in-Custom.name c.in-Custom.args ∙ ap (λ xs. syntax.custom_call (string_bytes c.in-Custom.name) (tree.arguments_of (map tree.argument_view xs))) (sym c.deref-in-Custom.ensures.value)) c.in_ok-arguments-in-Custom.ensures.made
+    made_as (λ xs. syntax.custom_call (string_bytes c.in-Custom.name) (tree.arguments_of xs)) _ _ (λ kept. plan.call_view-Custom kept _ _ ∙ ap (λ s. syntax.custom_call s (tree.arguments_of (map (λ x. x Values) (map (argument_view kept) c.in_ok-arguments-in-Custom.field-0.items)))) (search rules) ∙ ap (λ xs. syntax.custom_call (string_bytes c.in-Custom.name) (tree.arguments_of xs)) (map-map (λ x. x Values) (argument_view kept) _)) (ap tree.call_view c.in-Custom.is ∙ source.call_view-Custom c.in-Custom.name c.in-Custom.args ∙ ap (λ xs. syntax.custom_call (string_bytes c.in-Custom.name) (tree.arguments_of (map tree.argument_view xs))) (sym c.deref-in-Custom.ensures.value)) (λ h. arguments_rooted (map tree.argument_view c.deref-in-Custom.result.now) ∙ h) c.in_ok-arguments-in-Custom.ensures.made
 
 pub argument-returns-in_ok-try_clone-in-Literal-clause-made : goal.argument-returns-in_ok-try_clone-in-Literal-clause-made
 argument-returns-in_ok-try_clone-in-Literal-clause-made t c =
-    made_none _ _ _ (λ kept. plan.argument_view-Literal kept _ c.args.wanted ∙ ap syntax.literal_argument c.in_ok-try_clone-in-Literal.ensures.same ∙ sym (ap tree.argument_view c.in-Literal.is ∙ source.argument_view-Literal c.in-Literal.literal))
+    made_none _ _ (λ kept. plan.argument_view-Literal kept _ c.args.wanted ∙ ap syntax.literal_argument c.in_ok-try_clone-in-Literal.ensures.same) (ap tree.argument_view c.in-Literal.is ∙ source.argument_view-Literal c.in-Literal.literal) refl
 
 pub argument-returns-in_ok-filter-in-Filter-clause-made : goal.argument-returns-in_ok-filter-in-Filter-clause-made
 argument-returns-in_ok-filter-in-Filter-clause-made t c =
-    made_as syntax.filter_argument _ _ (λ kept. plan.argument_view-Filter kept _ c.args.wanted) (ap tree.argument_view c.in-Filter.is ∙ source.argument_view-Filter c.in-Filter.filter) c.in_ok-filter-in-Filter.ensures.made
+    made_as syntax.filter_argument _ _ (λ kept. plan.argument_view-Filter kept _ c.args.wanted) (ap tree.argument_view c.in-Filter.is ∙ source.argument_view-Filter c.in-Filter.filter) (λ h. h) c.in_ok-filter-in-Filter.ensures.made
 
 pub argument-returns-in-Test-clause-made : goal.argument-returns-in-Test-clause-made
 argument-returns-in-Test-clause-made t c =
@@ -202,15 +212,15 @@ argument-returns-in-Test-clause-made t c =
 
 pub test_argument-returns-in_ok-relative-in-RelQuery-clause-made : goal.test_argument-returns-in_ok-relative-in-RelQuery-clause-made
 test_argument-returns-in_ok-relative-in-RelQuery-clause-made t c =
-    made_as syntax.test_argument _ _ (λ kept. plan.argument_view-Nodes kept _ c.args.wanted) (ap syntax.test_argument (ap tree.test_view c.in-RelQuery.is ∙ source.test_view-RelQuery c.in-RelQuery.segments ∙ ap (λ xs. syntax.relative (tree.segments_of (map tree.segment_view xs))) (sym c.deref.ensures.value))) (c.in_ok-relative-in-RelQuery.ensures.made c.args.wanted)
+    made_as syntax.test_argument _ _ (λ kept. plan.argument_view-Nodes kept _ c.args.wanted) (ap syntax.test_argument (ap tree.test_view c.in-RelQuery.is ∙ source.test_view-RelQuery c.in-RelQuery.segments ∙ ap (λ xs. syntax.relative (tree.segments_of (map tree.segment_view xs))) (sym c.deref.ensures.value))) (λ h. h) (c.in_ok-relative-in-RelQuery.ensures.made c.args.wanted)
 
 pub test_argument-returns-in_ok-number-in-AbsQuery-clause-made : goal.test_argument-returns-in_ok-number-in-AbsQuery-clause-made
 test_argument-returns-in_ok-number-in-AbsQuery-clause-made t c =
-    made_as (λ q. syntax.test_argument (syntax.absolute q)) _ _ (λ kept. plan.argument_view-Nodes kept _ c.args.wanted ∙ ap syntax.test_argument (plan.nodes_view-Constant kept _ c.args.wanted)) (ap syntax.test_argument (ap tree.test_view c.in-AbsQuery.is ∙ source.test_view-AbsQuery c.in-AbsQuery.query)) c.in_ok-number-in-AbsQuery.ensures.made
+    made_as (λ q. syntax.test_argument (syntax.absolute q)) _ _ (λ kept. plan.argument_view-Nodes kept _ c.args.wanted ∙ ap syntax.test_argument (plan.nodes_view-Constant kept _ c.args.wanted)) (ap syntax.test_argument (ap tree.test_view c.in-AbsQuery.is ∙ source.test_view-AbsQuery c.in-AbsQuery.query)) (λ h. h) c.in_ok-number-in-AbsQuery.ensures.made
 
 pub test_argument-returns-in_ok-called-in-Function-clause-made : goal.test_argument-returns-in_ok-called-in-Function-clause-made
 test_argument-returns-in_ok-called-in-Function-clause-made t c =
-    made_as (λ x. syntax.test_argument (syntax.call x)) _ _ (λ kept. plan.argument_view-Call kept _ c.args.wanted) (ap syntax.test_argument (ap tree.test_view c.in-Function.is ∙ source.test_view-Function c.in-Function.function ∙ ap (λ x. syntax.call (tree.call_view x)) (sym c.deref-in-Function.ensures))) c.in_ok-called-in-Function.ensures.made
+    made_as (λ x. syntax.test_argument (syntax.call x)) _ _ (λ kept. plan.argument_view-Call kept _ c.args.wanted) (ap syntax.test_argument (ap tree.test_view c.in-Function.is ∙ source.test_view-Function c.in-Function.function ∙ ap (λ x. syntax.call (tree.call_view x)) (sym c.deref-in-Function.ensures))) (λ h. h) c.in_ok-called-in-Function.ensures.made
 
 pub pattern-returns-in-Literal-clause-made : goal.pattern-returns-in-Literal-clause-made
 pattern-returns-in-Literal-clause-made t c =
@@ -228,15 +238,15 @@ comparison-returns-clause-made t c =
       | comparison-in-Lt w ↦ ap tree.comparison_view w.in-Lt.is ∙ source.comparison_view-Lt w.in-Lt.left w.in-Lt.right ∙ ap of (sym w.operator-is)
       | comparison-in-Lte w ↦ ap tree.comparison_view w.in-Lte.is ∙ source.comparison_view-Lte w.in-Lte.left w.in-Lte.right ∙ ap of (sym w.operator-is)
     ] in
-    let sides = made_after c.begin-around.ensures (made_both (λ a b. compared (syntax.compare (tree.operator_view p.0) a b)) _ _ (λ kept. refl) refl c.in_ok-side.ensures.made c.in_ok-side-2.ensures.made) in
-    rw same (IfOk-weaker c.compare.result _ _ (λ f k. k.made sides) c.compare.ensures.made)
+    let sides = made_both {test = part_is_rooted} (λ a b. compared (syntax.compare (tree.operator_view p.0) a b)) _ _ (λ kept. refl) refl (and_from _ _) c.in_ok-side.ensures.made c.in_ok-side-2.ensures.made in
+    rw same (IfOk-weaker c.compare.result _ _ (λ f k. k.made c.begin-around.ensures sides) c.compare.ensures.made)
 
-pub called-returns-then-is_rooted_call-clause-made : goal.called-returns-then-is_rooted_call-clause-made
-called-returns-then-is_rooted_call-clause-made t c =
-    let made = made_before c.end.ensures (made_after c.begin-around.ensures c.in_ok-made.ensures.made) in
-    let part = made_as answered _ _ (λ kept. refl) refl made in
-    made_as call_in _ _ (λ kept. plan.called_view-Constant kept _) refl (c.in_ok-number.ensures.numbered.made part (source_rooted call_is_rooted made (λ kept r. c.is_rooted_call.ensures c.if-is_rooted_call.true kept r)))
+pub called-returns-then-end-clause-made : goal.called-returns-then-end-clause-made
+called-returns-then-end-clause-made t c =
+    let made = made_ended c.begin-around.ensures c.end.ensures.beside c.in_ok-made.ensures.made in
+    let part = made_as {test = part_is_rooted} answered _ _ (λ kept. refl) refl (λ h. h) made in
+    made_as call_in _ _ (λ kept. plan.called_view-Constant kept _) refl (λ h. h) (c.in_ok-number.ensures.numbered.made part (c.in_ok-made.ensures.made.rooted (sym c.end.ensures.rooted ∙ c.if-end.true)).1)
 
 pub called-returns-clause-made : goal.called-returns-clause-made
 called-returns-clause-made t c =
-    made_before c.end.ensures (made_after c.begin-around.ensures (made_as (λ x. x) _ _ (λ kept. plan.called_view-Here kept _ ∙ ap (call_view kept) (search rules)) refl c.in_ok-made.ensures.made))
+    made_as (λ x. x) _ _ (λ kept. plan.called_view-Here kept _ ∙ ap (call_view kept) (search rules)) refl (λ h. h) (made_ended c.begin-around.ensures c.end.ensures.beside c.in_ok-made.ensures.made)

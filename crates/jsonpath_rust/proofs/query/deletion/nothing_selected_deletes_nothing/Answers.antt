@@ -1,5 +1,0 @@
-use Rattle.jsonpath_rust.proofs.Deleting.{nothing_selected_deletes_nothing}
-use Rattle.jsonpath_rust.proofs.query.deletion.nothing_selected_deletes_nothing.Goals as goal
-
-pub returns : goal.returns
-returns c = nothing_selected_deletes_nothing

@@ -1,5 +1,0 @@
-use Rattle.jsonpath_rust.proofs.laws.documents.Locating.{normalized_path_derives_its_steps}
-use Rattle.jsonpath_rust.proofs.query.location.normalized_path_derives_its_steps.Goals as goal
-
-pub returns : goal.returns
-returns c = normalized_path_derives_its_steps

@@ -1,5 +1,0 @@
-use Rattle.jsonpath_rust.proofs.laws.documents.Locating.{selected_is_there}
-use Rattle.jsonpath_rust.proofs.query.location.selected_is_there.Goals as goal
-
-pub returns : goal.returns
-returns c = selected_is_there

@@ -1,0 +1,25 @@
+use Rattle.std.proofs.Common.{option_map, sym, ◌∙◌, ap}
+use Rattle.jsonpath_rust.specs.documents.inner.Whole.{document_at}
+use Rattle.jsonpath_rust.specs.selection.Condition.{filter_of}
+use Rattle.jsonpath_rust.specs.selection.inner.PlanViews.{kept_view, filter_view, segments_meant}
+use Rattle.jsonpath_rust.specs.selection.inner.Planned.{plan_view}
+use Rattle.jsonpath_rust.specs.selection.inner.Walking.{node_of}
+use Rattle.jsonpath_rust.proofs.laws.selection.Conditions.{none_holds, held_as, refused_as}
+use Rattle.jsonpath_rust.proofs.selection.deciding.decide.Goals as goal
+
+pub returns-in-None-clause-holds : goal.returns-in-None-clause-holds
+returns-in-None-clause-holds g c =
+    let kept = kept_view c.args.request.plan.now.constants.items in
+    none_holds (plan_view c.args.request.plan.now) _ _ (sym (ap (option_map (λ f. filter_view kept f.now)) c.in-None.is) ∙ c.only_filter.ensures kept ∙ ap (λ gs. filter_of (segments_meant kept gs)) c.deref.ensures.value)
+
+pub returns-in-Ok-clause-holds : goal.returns-in-Ok-clause-holds
+returns-in-Ok-clause-holds g c =
+    let kept = kept_view c.args.request.plan.now.constants.items in
+    let found = sym (ap (option_map (λ f. filter_view kept f.now)) c.in-Some.is) ∙ c.only_filter.ensures kept ∙ ap (λ gs. filter_of (segments_meant kept gs)) c.deref.ensures.value in
+    held_as (filter_view kept c.in-Some.filter.now) (plan_view c.args.request.plan.now) (document_at c.args.root) _ _ _ found (ap (λ q. node_of q c.args.root) c.in-Ok.ensures.way) c.filter_holds-held.ensures.holds
+
+pub returns-in-Ok-clause-refused : goal.returns-in-Ok-clause-refused
+returns-in-Ok-clause-refused g c =
+    let kept = kept_view c.args.request.plan.now.constants.items in
+    let found = sym (ap (option_map (λ f. filter_view kept f.now)) c.in-Some.is) ∙ c.only_filter.ensures kept ∙ ap (λ gs. filter_of (segments_meant kept gs)) c.deref.ensures.value in
+    refused_as _ (filter_view kept c.in-Some.filter.now) (plan_view c.args.request.plan.now) (document_at c.args.root) _ found c.filter_holds-held.ensures.comes.halts
