@@ -1,5 +1,5 @@
-//! Rows on the functions of `jsonpath_base`, and on what a query can reach.
-use crate::{location, pattern, place, reach, slice, step, values};
+//! Rows on the functions of `jsonpath_base`, on what a query can reach, and on trees as texts.
+use crate::{location, pattern, place, reach, slice, step, values, written};
 use rows_common::Memory;
 use rows_common::members::{has_only, list_at, string_at};
 use serde_json::Value;
@@ -34,9 +34,10 @@ fn answers(memory: &Memory, name: &str, arguments: &[Value], answer: &Value) -> 
         "at" | "put_at" | "take_at" | "add_at" | "remove_all" | "replace_all" => {
             place::answers(memory, name, arguments, answer)
         }
-        "is_singular" | "is_local" | "calls_only" => {
+        "is_singular" | "is_local" | "calls_only" | "fixed_steps" => {
             reach::answers(memory, name, arguments, answer)
         }
+        "to_query_text" => written::answers(memory, arguments, answer),
         "found" => pattern::is_found(memory, arguments, answer),
         "found_each" => pattern::are_found_each(memory, arguments, answer),
         "pattern" => pattern::is_found_by_pattern(memory, arguments, answer),

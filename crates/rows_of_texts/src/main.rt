@@ -1,5 +1,5 @@
-//! Asks the rows on standard input that need no document: on texts and their trees, on trees made by hand, on what a query
-//! can reach, on errors, and on calls of `jsonpath_base`.
+//! Asks the rows on standard input that need no document: on texts and their trees, on trees made by hand, on trees as
+//! texts, on what a query can reach, on errors, and on calls of `jsonpath_base`.
 #![tactic(auto)]
 
 mod built;
@@ -17,6 +17,7 @@ mod slice;
 mod step;
 mod tree;
 mod values;
+mod written;
 
 use rows_common::ask_rows;
 use std::io;
