@@ -5,7 +5,7 @@ ghost use Rattle.jsonpath_base.specs.Values.{value_is_whole};
 use crate::checked::are_deleted_of_whole;
 use crate::doc::Doc;
 use crate::doc::document::{Document, are_equal};
-use crate::runs::{Deletion, is_deleted_by_runner};
+use crate::runs::{Change, is_deleted_by_runner};
 use jsonpath_rust::query::queryable::{Deletable, Queryable};
 use jsonpath_rust::query::{Queried, QueryPath, QueryRef, delete_within, js_path_path};
 use rows_common::Memory;
@@ -46,7 +46,7 @@ fn leaves(memory: &Memory, row: &Value, query: &str, document: &Value) -> bool {
         return false;
     };
     let deleted = deleted(memory, document, &mut left, query, depth);
-    let told = Deletion {
+    let told = Change {
         count: deleted,
         left: wanted,
     };

@@ -4,10 +4,11 @@ ghost use Rattle.jsonpath_base.specs.Values.{value_is_whole};
 
 use crate::agreement::{are_locations, are_paths, are_same, are_values, is_first, is_only};
 use crate::doc::document::are_equal;
-use crate::runs::{Deletion, deletes, prepared_of, runs};
+use crate::masking::masks;
+use crate::runs::{Change, deletes, prepared_of, runs};
 use jsonpath_parser::MAX_NESTING_DEPTH;
 use jsonpath_rust::query::queryable::Queryable;
-use jsonpath_rust::query::{Limited, Queried, QueryRef, Within, js_path, js_path_limited};
+use jsonpath_rust::query::{Limited, Queried, QueryRef, Runner, Within, js_path, js_path_limited};
 use rows_common::Memory;
 use rows_common::members::{has_only, size};
 use rows_common::memory::Met;
@@ -51,7 +52,7 @@ fn is_enough(memory: &Memory, query: &str, document: &Value, units: usize) -> bo
 }
 
 /// What was done, where the work was enough.
-fn done<T: Drop>(memory: &Memory, answer: Queried<Within<T>>) -> Option<T> {
+pub fn done<T: Drop>(memory: &Memory, answer: Queried<Within<T>>) -> Option<T> {
     match memory.ok(answer) {
         Some(Within::Done(value)) => Some(value),
         Some(Within::Spent) | None => None,
@@ -59,7 +60,7 @@ fn done<T: Drop>(memory: &Memory, answer: Queried<Within<T>>) -> Option<T> {
 }
 
 /// Whether the work was not enough.
-fn is_spent<T: Drop>(memory: &Memory, answer: Queried<Within<T>>) -> bool {
+pub fn is_spent<T: Drop>(memory: &Memory, answer: Queried<Within<T>>) -> bool {
     match memory.ok(answer) {
         Some(Within::Done(value)) => {
             drop(value);
@@ -89,24 +90,21 @@ fn is_enough_for_runner(
     if units > 0 && !is_spent(memory, less.nodes(memory.alloc, document)) {
         return false;
     }
-    if !is_kept(memory, &mut less, document) {
+    if !is_kept(memory, &mut less, document, None)
+        || !is_kept(memory, &mut less, document, Some(document))
+    {
         return false;
     }
     let mut limited = less.into_runner().limited(units);
-    if !answers(memory, &mut limited, document, nodes) {
+    let mut other = prepared.runner(memory.alloc);
+    if !answers(memory, &mut limited, document, nodes)
+        || !changes_as(memory, &mut limited, &mut other, document, None)
+        || !changes_as(memory, &mut limited, &mut other, document, Some(document))
+    {
         return false;
     }
-    let Some((count, left)) = left_by(memory, &mut limited, document) else {
-        return false;
-    };
     let mut runner = limited.into_runner();
-    let wanted = Deletion {
-        count: Some(count),
-        left: &left,
-    };
-    let deleted = deletes(memory, &mut runner, document, wanted);
-    drop(left);
-    deleted && runs(memory, &mut runner, document, nodes)
+    runs(memory, &mut runner, document, nodes)
 }
 
 /// Whether the runner answers these nodes by each of its calls.
@@ -157,25 +155,58 @@ fn are_answered(
     }
 }
 
-/// Whether a deletion for which the work is not enough leaves a copy of the document as it was.
-fn is_kept(memory: &Memory, runner: &mut Limited<'_>, document: &Value) -> bool {
+/// Whether the runner, for which the work is enough, deletes as the other one does, or masks as that does, by this value.
+fn changes_as(
+    memory: &Memory,
+    limited: &mut Limited<'_>,
+    other: &mut Runner<'_>,
+    document: &Value,
+    new: Option<&Value>,
+) -> bool {
+    let Some((count, left)) = left_by(memory, limited, document, new) else {
+        return false;
+    };
+    let wanted = Change {
+        count: Some(count),
+        left: &left,
+    };
+    let held = match new {
+        Some(new) => masks(memory, other, new, document, wanted),
+        None => deletes(memory, other, document, wanted),
+    };
+    drop(left);
+    held
+}
+
+/// Whether a deletion, or a masking by this value, for which the work is not enough leaves a copy of the document as it was.
+fn is_kept(
+    memory: &Memory,
+    runner: &mut Limited<'_>,
+    document: &Value,
+    new: Option<&Value>,
+) -> bool {
     let Some(mut copy) = memory.ok(document.clone()) else {
         return false;
     };
-    let deleted = deleted(memory, runner, &mut copy);
+    let count = changed(memory, runner, &mut copy, new);
     memory.note_kept(are_equal(&copy, document));
     let met = memory.met();
-    let held = matches!(met, Met::Enough) && (deleted.is_some() || are_equal(&copy, document));
+    let held = matches!(met, Met::Enough) && (count.is_some() || are_equal(&copy, document));
     drop(copy);
     held
 }
 
-/// What a deletion for which the work is enough answers, and leaves of a copy of the document.
-fn left_by(memory: &Memory, runner: &mut Limited<'_>, document: &Value) -> Option<(usize, Value)> {
+/// What a deletion, or a masking by this value, for which the work is enough answers, and leaves of a copy of the document.
+fn left_by(
+    memory: &Memory,
+    runner: &mut Limited<'_>,
+    document: &Value,
+    new: Option<&Value>,
+) -> Option<(usize, Value)> {
     let mut copy = memory.ok(document.clone())?;
-    let deleted = deleted(memory, runner, &mut copy);
+    let count = changed(memory, runner, &mut copy, new);
     memory.note_kept(are_equal(&copy, document));
-    match deleted {
+    match count {
         Some(count) => Some((count, copy)),
         None => {
             drop(copy);
@@ -184,10 +215,21 @@ fn left_by(memory: &Memory, runner: &mut Limited<'_>, document: &Value) -> Optio
     }
 }
 
-/// What the runner answers to a deletion in a whole document, where the work is enough.
-fn deleted(memory: &Memory, runner: &mut Limited<'_>, document: &mut Value) -> Option<usize> {
-    if document.is_whole() {
-        done(memory, runner.delete(memory.alloc, document))
+/// What the runner answers to a deletion in a whole document, or to a masking by this whole value, where the work is enough.
+fn changed(
+    memory: &Memory,
+    runner: &mut Limited<'_>,
+    document: &mut Value,
+    new: Option<&Value>,
+) -> Option<usize> {
+    if !document.is_whole() {
+        return None;
+    }
+    let Some(new) = new else {
+        return done(memory, runner.delete(memory.alloc, document));
+    };
+    if new.is_whole() {
+        done(memory, runner.replace(memory.alloc, document, new))
     } else {
         None
     }

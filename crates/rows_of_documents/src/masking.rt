@@ -1,8 +1,9 @@
 //! Rows on masking: `mask`, a query, and `by`, what is put at all that it selects; with `count` and `left`, or with `refused`.
 use crate::checked::is_masked_of_whole;
 use crate::doc::document::are_equal;
+use crate::runs::{Change, prepared_of};
 use jsonpath_rust::query::queryable::Queryable;
-use jsonpath_rust::query::replace_within;
+use jsonpath_rust::query::{Runner, replace_within};
 use rows_common::Memory;
 use rows_common::members::{depth_of, has_only, size, string_at};
 use rows_common::refusal::is_refused;
@@ -51,11 +52,65 @@ fn leaves(memory: &Memory, row: &Value, masking: Masking<'_>, document: &Value) 
     let Some(mut left) = memory.ok(document.clone()) else {
         return false;
     };
+    let told = Change {
+        count: Some(count),
+        left: wanted,
+    };
     let held = masked(memory, masking, document, &mut left) == Some(count)
         && are_equal(&left, wanted)
-        && is_masked_of_whole(memory, masking, document, count, wanted);
+        && is_masked_of_whole(memory, masking, document, count, wanted)
+        && is_masked_by_runner(memory, masking, document, told);
     drop(left);
     held
+}
+
+/// Whether a runner answers that count, leaves that document, and does so again.
+fn is_masked_by_runner(
+    memory: &Memory,
+    masking: Masking<'_>,
+    document: &Value,
+    wanted: Change<'_>,
+) -> bool {
+    let Some(prepared) = prepared_of(memory, masking.query, masking.depth) else {
+        return false;
+    };
+    let mut runner = prepared.runner(memory.alloc);
+    masks(memory, &mut runner, masking.new, document, wanted)
+        && masks(memory, &mut runner, masking.new, document, wanted)
+}
+
+/// Whether the runner masks so, by this value, in a copy of the document.
+pub fn masks(
+    memory: &Memory,
+    runner: &mut Runner<'_>,
+    new: &Value,
+    document: &Value,
+    wanted: Change<'_>,
+) -> bool {
+    let Some(mut copy) = memory.ok(document.clone()) else {
+        return false;
+    };
+    let masked = masked_by_runner(memory, runner, new, &mut copy);
+    memory.note_kept(are_equal(&copy, document));
+    let held = masked.is_some() && masked == wanted.count && are_equal(&copy, wanted.left);
+    drop(copy);
+    held
+}
+
+/// What the runner answers to a masking of a whole document by a whole value.
+fn masked_by_runner(
+    memory: &Memory,
+    runner: &mut Runner<'_>,
+    new: &Value,
+    document: &mut Value,
+) -> Option<usize> {
+    if !document.is_whole() {
+        return None;
+    }
+    if !new.is_whole() {
+        return None;
+    }
+    memory.ok(runner.replace(memory.alloc, document, new))
 }
 
 /// What masking answers, where it answers, asked of a copy of the document.

@@ -22,7 +22,20 @@ pub fn is_by_runner<T: Queryable>(
         return false;
     };
     let mut runner = prepared.runner(memory.alloc);
-    runs(memory, &mut runner, document, nodes) && runs(memory, &mut runner, document, nodes)
+    runs(memory, &mut runner, document, nodes)
+        && runs(memory, &mut runner, document, nodes)
+        && are_shown(memory, &prepared, &runner)
+}
+
+/// Whether both are shown as their names and the query.
+fn are_shown(memory: &Memory, prepared: &Prepared, runner: &Runner<'_>) -> bool {
+    let query = prepared.query();
+    let shown = memory.ok(format!(in memory.alloc; "{prepared:?}{runner:?}"));
+    let wanted = memory.ok(format!(in memory.alloc; "Prepared({query})Runner({query})"));
+    match (&shown, &wanted) {
+        (Some(shown), Some(wanted)) => shown.as_str() == wanted.as_str(),
+        _ => false,
+    }
 }
 
 /// The query of the text, prepared.
@@ -61,7 +74,7 @@ pub fn is_deleted_by_runner(
     query: &str,
     depth: usize,
     document: &Value,
-    wanted: Deletion<'_>,
+    wanted: Change<'_>,
 ) -> bool {
     let Some(prepared) = prepared_of(memory, query, depth) else {
         return false;
@@ -70,9 +83,9 @@ pub fn is_deleted_by_runner(
     deletes(memory, &mut runner, document, wanted) && deletes(memory, &mut runner, document, wanted)
 }
 
-/// What a deletion is to answer and to leave.
+/// What a change of a document is to answer and to leave.
 #[derive(Clone, Copy)]
-pub struct Deletion<'r> {
+pub struct Change<'r> {
     pub count: Option<usize>,
     pub left: &'r Value,
 }
@@ -82,7 +95,7 @@ pub fn deletes(
     memory: &Memory,
     runner: &mut Runner<'_>,
     document: &Value,
-    wanted: Deletion<'_>,
+    wanted: Change<'_>,
 ) -> bool {
     let Some(mut copy) = memory.ok(document.clone()) else {
         return false;
