@@ -1,9 +1,10 @@
--- What is known of the first of the nodes that are shown.
-use Rattle.std.proofs.Common.{◌≡◌, ℕ, ◌+◌, ◌<◌, ◌≤◌, List, [], ◌∷◌, All, map, length, take, get_or, Option, Some, None, IfSome, IfNone, option_map, refl, sym, ◌∙◌, ap, subst, arith, string_bytes}
+-- What is known of the first of the nodes that are shown, and of the first of a list that is so.
+use Rattle.std.proofs.Common.{◌≡◌, ℕ, zero, suc, ◌+◌, ◌<◌, ◌≤◌, Bool, not, cond, ltb, List, [], ◌∷◌, All, map, position, length, take, get_or, slice_get, Option, Some, None, IfSome, IfNone, IsTrue, IsFalse, false, option_map, refl, sym, ◌∙◌, ap, subst, arith, string_bytes}
+use Rattle.std.proofs.lemmas.Bool.{cond_above, cond_below}
 use Rattle.std.proofs.lemmas.List.{take_all, length-map, get_or-map}
-use Rattle.std.proofs.lemmas.List.Elements.{All-more}
-use Rattle.std.proofs.lemmas.Option.{slice_get_read, slice_get-map}
-use Rattle.std.specs.List.{AllZip}
+use Rattle.std.proofs.lemmas.List.Elements.{All-head, All-more, All-tail}
+use Rattle.std.proofs.lemmas.Option.{slice_get_read, slice_get_within, slice_get-map}
+use Rattle.std.specs.List.{AllZip, position_or_len}
 use Rattle.jsonpath_rust.specs.Location.{Location}
 use Rattle.jsonpath_rust.specs.Syntax.{Query}
 use Rattle.jsonpath_rust.specs.Tree.{Tree}
@@ -35,16 +36,48 @@ pub in_none : {X : Type 0} (P : Type 0) (o : Option X) → o ≡ None → IfNone
 in_none P (Some y) is h = absurd (cc)
 in_none P None is h = h
 
--- the query at the index is so, and none before it selects anything
-pub found_here : {X : Type 0} (view : X → Query) (xs : List X) (doc : Document) (i : ℕ) (x : X) (IsSo : Query → Type 0) → All (IsSilent doc) (take i (map view xs)) → i < length xs → x ≡ get_or xs i x → IsSo (view x) → IsFirst (map view xs) doc i IsSo
-found_here view xs doc i x IsSo before within is so = record { before = before; query = view x; there = slice_get-map view xs i ∙ ap (option_map view) (slice_get_read xs (length xs) i x refl within is); is_so = so }
+-- the element at the index is so, and those before it are passed over
+pub found_here : {X Y : Type 0} (view : X → Y) (xs : List X) (IsPassed : Y → Type 0) (i : ℕ) (x : X) (IsSo : Y → Type 0) → All IsPassed (take i (map view xs)) → i < length xs → x ≡ get_or xs i x → IsSo (view x) → IsFirst (map view xs) IsPassed i IsSo
+found_here view xs IsPassed i x IsSo before within is so = record { before = before; element = view x; there = slice_get-map view xs i ∙ ap (option_map view) (slice_get_read xs (length xs) i x refl within is); is_so = so }
 
--- it selects nothing either
-pub silent_next : {X : Type 0} (view : X → Query) (xs : List X) (doc : Document) (i : ℕ) (x : X) → All (IsSilent doc) (take i (map view xs)) → i < length xs → x ≡ get_or xs i x → IsSilent doc (view x) → All (IsSilent doc) (take (i + 1) (map view xs))
-silent_next view xs doc i x before within is so =
+-- it is passed over too
+pub passed_next : {X Y : Type 0} (view : X → Y) (xs : List X) (IsPassed : Y → Type 0) (i : ℕ) (x : X) → All IsPassed (take i (map view xs)) → i < length xs → x ≡ get_or xs i x → IsPassed (view x) → All IsPassed (take (i + 1) (map view xs))
+passed_next view xs IsPassed i x before within is so =
     let same : view x ≡ get_or (map view xs) i (view x) = ap view is ∙ sym (get_or-map view xs i x (view x) within) in
-    All-more (IsSilent doc) (map view xs) i (view x) (omega (arith, length-map xs view, within)) before (subst (IsSilent doc) same so)
+    All-more IsPassed (map view xs) i (view x) (omega (arith, length-map xs view, within)) before (subst IsPassed same so)
 
 -- all have been asked
-pub silent_all : {X : Type 0} (view : X → Query) (xs : List X) (doc : Document) (i : ℕ) → All (IsSilent doc) (take i (map view xs)) → length xs ≤ i → All (IsSilent doc) (map view xs)
-silent_all view xs doc i before past = subst (All (IsSilent doc)) (take_all i (map view xs) (omega (arith, length-map xs view, past))) before
+pub passed_all : {X Y : Type 0} (view : X → Y) (xs : List X) (IsPassed : Y → Type 0) (i : ℕ) → All IsPassed (take i (map view xs)) → length xs ≤ i → All IsPassed (map view xs)
+passed_all view xs IsPassed i before past = subst (All IsPassed) (take_all i (map view xs) (omega (arith, length-map xs view, past))) before
+
+-- the first that passes stands where each before it fails
+place_of : {Y : Type 0} (p : Y → Bool) (ys : List Y) (i : ℕ) (y : Y) → All (λ z. IsFalse (p z)) (take i ys) → slice_get ys i ≡ Some y → IsTrue (p y) → position_or_len p ys ≡ i
+place_of p [] i y before there so = absurd (cc)
+place_of p (z ∷ zs) zero y before there so =
+    let is : z ≡ y = cc in
+    ap (λ b. cond (not b) (1 + position_or_len p zs) 0) (ap p is ∙ so)
+place_of p (z ∷ zs) (suc i) y before there so =
+    let e : 1 + i ≡ suc i = omega arith in
+    let fails : p z ≡ false = All-head (λ w. IsFalse (p w)) z (take i zs) before in
+    let rest = place_of p zs i y (All-tail (λ w. IsFalse (p w)) z (take i zs) before) there so in
+    ap (λ b. cond (not b) (1 + position_or_len p zs) 0) fails ∙ ap (λ n. 1 + n) rest ∙ e
+
+pub position_here : {Y : Type 0} (p : Y → Bool) (ys : List Y) (i : ℕ) → IsFirst ys (λ z. IsFalse (p z)) i (λ z. IsTrue (p z)) → Some i ≡ position p ys
+position_here p ys i first =
+    cond_below i (length ys) (Some i) None (slice_get_within ys i first.element first.there)
+    ∙ ap (λ n. cond (ltb n (length ys)) (Some n) None) (sym (place_of p ys i first.element first.before first.there first.is_so))
+
+no_place : {Y : Type 0} (p : Y → Bool) (ys : List Y) → All (λ z. IsFalse (p z)) ys → position_or_len p ys ≡ length ys
+no_place p [] all = refl
+no_place p (z ∷ zs) all =
+    let e : 1 + length zs ≡ suc (length zs) = omega arith in
+    let fails : p z ≡ false = All-head (λ w. IsFalse (p w)) z zs all in
+    let rest = no_place p zs (All-tail (λ w. IsFalse (p w)) z zs all) in
+    ap (λ b. cond (not b) (1 + position_or_len p zs) 0) fails ∙ ap (λ n. 1 + n) rest ∙ e
+
+-- where each fails there is none
+pub position_nowhere : {Y : Type 0} (p : Y → Bool) (ys : List Y) → All (λ z. IsFalse (p z)) ys → None ≡ position p ys
+position_nowhere p ys all =
+    let ends : length ys ≤ length ys = omega arith in
+    cond_above (length ys) (length ys) (Some (length ys)) None None ends refl
+    ∙ ap (λ n. cond (ltb n (length ys)) (Some n) None) (sym (no_place p ys all))

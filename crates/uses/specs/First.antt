@@ -1,4 +1,4 @@
--- The first query of a list that selects something in a document.
+-- The first of a list that is so, and the first query that selects something in a document.
 use Rattle.std.specs.Prelude.{◌≡◌, ℕ, List, [], ◌∷◌, Some, All, take, slice_get}
 use Rattle.jsonpath_rust.specs.Location.{Location}
 use Rattle.jsonpath_rust.specs.Syntax.{Query}
@@ -12,16 +12,12 @@ use Rattle.jsonpath_rust.specs.Patterns.{IsStop}
 abbrev pub IsSilent : Document → Query → Type 0
 IsSilent doc q = selected q doc ≡ []
 
--- it selects something
-abbrev pub Selects : Document → Query → Type 0
-Selects doc q = IsSilent doc q → ⊥
-
--- The query at this index of the list is so, and those before it select nothing.
-pub record IsFirst (queries : List Query) (doc : Document) (index : ℕ) (IsSo : Query → Type 0) : Type 0 where
-  pub before : All (IsSilent doc) (take index queries)
-  pub query : Query
-  pub there : slice_get queries index ≡ Some query
-  pub is_so : IsSo query
+-- The element at this index of the list is so, and those before it are passed over.
+pub record IsFirst {A : Type 0} (xs : List A) (IsPassed : A → Type 0) (index : ℕ) (IsSo : A → Type 0) : Type 0 where
+  pub before : All IsPassed (take index xs)
+  pub element : A
+  pub there : slice_get xs index ≡ Some element
+  pub is_so : IsSo element
 
 -- the path is the Normalized Path of the first location that the query selects
 pub record IsFirstPath (doc : Document) (path : List ℕ) (q : Query) : Type 0 where
@@ -33,4 +29,4 @@ pub record IsFirstPath (doc : Document) (path : List ℕ) (q : Query) : Type 0 w
 -- A query is refused so, and those before it select nothing.
 pub record IsStopped (queries : List Query) (doc : Document) (e : JsonPathError) : Type 0 where
   pub index : ℕ
-  pub stop : IsFirst queries doc index (λ q. IsStop q doc e)
+  pub stop : IsFirst queries (IsSilent doc) index (λ q. IsStop q doc e)

@@ -1,6 +1,10 @@
 pub mod Again
+pub mod Changing
+pub mod Conditions
 pub mod Difference
 pub mod First
+pub mod Gateway
 pub mod Inbox
+pub mod Patch
 pub mod Redaction
 pub mod Script

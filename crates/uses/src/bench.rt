@@ -5,7 +5,7 @@
 //! - `route COUNT`: nanoseconds for each message that all of a table is asked of, by runners that stay, by runners made for it and
 //!   by `js_path_process`.
 //! - `calls COUNT`: nanoseconds for each call on a tiny document, by text and by tree, query.
-//! - `delete BYTES`: locations deleted, nanoseconds for each of these, query.
+//! - `delete BYTES`: locations deleted, nanoseconds for each of these, and for each where they are masked, query.
 //! - `units COUNT`: whether so many units of work are enough for the query that is the first line of standard input on the document
 //!   that is the second one, and nanoseconds.
 //! - `document BYTES`, `messages COUNT`: what was asked; before the messages stand the queries of the table.

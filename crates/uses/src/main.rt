@@ -3,11 +3,15 @@
 #![tactic(auto)]
 
 pub mod again;
+pub mod assertion;
 mod bench;
+pub mod changing;
 pub mod difference;
 pub mod first;
 pub mod first_steps;
+pub mod gateway;
 pub mod inbox;
+pub mod patch;
 pub mod policy;
 pub mod redaction;
 pub mod routing;

@@ -34,7 +34,7 @@ pub fn first_violation<T: Queryable>(
     document: WholeRef<'_, T>,
 ) -> Queried<Option<Violation>>
     ensures kept { IfOk result (λ o. IfNone o (All (IsSilent (document_of T.tree T.custom document.entry.value.now)) (map query_view policy.now))) }
-    ensures broken { IfOk result (λ o. IfSome o (λ v. IsFirst (map query_view policy.now) (document_of T.tree T.custom document.entry.value.now) v.rule
+    ensures broken { IfOk result (λ o. IfSome o (λ v. IsFirst (map query_view policy.now) (IsSilent (document_of T.tree T.custom document.entry.value.now)) v.rule
         (IsFirstPath (document_of T.tree T.custom document.entry.value.now) (string_bytes v.path)))) }
     ensures refused { IfErr result (IsStopped (map query_view policy.now) (document_of T.tree T.custom document.entry.value.now)) }
 {

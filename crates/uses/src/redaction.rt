@@ -1,20 +1,19 @@
 //! Redaction: what queries select in a document is masked.
-ghost use Rattle.std.specs.Prelude.{◌≡◌, IsTrue, IfOk, IfErr, OnOk, OnErr, map};
+ghost use Rattle.std.specs.Prelude.{◌≡◌, IfOk, IfErr, OnOk, OnErr, map};
+ghost use Rattle.jsonpath_rust.specs.Document.{value_document};
 ghost use Rattle.jsonpath_rust.specs.Location.{Location};
 ghost use Rattle.jsonpath_rust.specs.Overwritten.{overwritten};
 ghost use Rattle.jsonpath_rust.specs.Places.{at};
-ghost use Rattle.jsonpath_rust.specs.SetFunctions.{set_function};
 ghost use Rattle.jsonpath_rust.specs.Tree.{Tree};
 ghost use Rattle.jsonpath_rust.specs.Without.{is_among, distinct_count};
 ghost use Rattle.jsonpath_rust.specs.base.Steps.{location_view};
-ghost use Rattle.jsonpath_rust.specs.base.Values.{value_tree, value_is_whole};
-ghost use Rattle.jsonpath_rust.specs.Document.{document_of};
+ghost use Rattle.jsonpath_rust.specs.base.Values.{value_tree};
 ghost use Rattle.uses.specs.Redaction.{all_selected, AgreeBut, IsApart, IsRefusalOf, IsStopOf};
 
+use jsonpath_rust::Whole;
 use jsonpath_rust::parser::model::JpQuery;
-use jsonpath_rust::query::{
-    Queried, Step, overwritten_forgets, overwritten_is_seen, replace_all, selected_locations,
-};
+use jsonpath_rust::query::laws::{overwritten_forgets, overwritten_is_seen};
+use jsonpath_rust::query::{Queried, Step, selected_locations};
 use serde_json::Value;
 use std::alloc::Global;
 
@@ -27,30 +26,27 @@ use std::alloc::Global;
 ///
 /// Those of `selected_locations`, for any of the queries. The document is as it was then.
 ///
-/// The cost is that of `selected_locations` for each query, and of `replace_all`.
+/// The cost is that of `selected_locations` for each query, and of [`Whole::replace_all`].
 pub fn redact(
     alloc: Global,
     rules: &[JpQuery],
-    document: &mut Value,
-    mask: &Value,
+    document: &mut Whole<Value>,
+    mask: &Whole<Value>,
 ) -> Queried<usize>
-    requires whole_document { IsTrue (value_is_whole document.old) }
-    requires whole_mask { IsTrue (value_is_whole mask.now) }
-    ensures redacted { OnOk result (value_tree document.new ≡ overwritten (is_among (all_selected rules.now (document_of value_tree set_function document.old))) (value_tree mask.now) (value_tree document.old)) }
-    ensures count { IfOk result (λ n. n ≡ distinct_count (all_selected rules.now (document_of value_tree set_function document.old))) }
+    ensures redacted { OnOk result (value_tree document.new.value ≡ overwritten (is_among (all_selected rules.now (value_document document.old.value))) (value_tree mask.now.value) (value_tree document.old.value)) }
+    ensures count { IfOk result (λ n. n ≡ distinct_count (all_selected rules.now (value_document document.old.value))) }
 
     // The result tells nothing of what was masked: it is that of every document which differs from this one there alone.
-    ensures hidden { OnOk result ((other : Tree) → AgreeBut (all_selected rules.now (document_of value_tree set_function document.old)) (value_tree document.old) other
-        → value_tree document.new ≡ overwritten (is_among (all_selected rules.now (document_of value_tree set_function document.old))) (value_tree mask.now) other) }
+    ensures hidden { OnOk result ((other : Tree) → AgreeBut (all_selected rules.now (value_document document.old.value)) (value_tree document.old.value) other
+        → value_tree document.new.value ≡ overwritten (is_among (all_selected rules.now (value_document document.old.value))) (value_tree mask.now.value) other) }
 
     // What lies neither inside nor above a location that was selected is as it was.
-    ensures rest { OnOk result ((m : Location) → IsApart (all_selected rules.now (document_of value_tree set_function document.old)) m → at m (value_tree document.new) ≡ at m (value_tree document.old)) }
-    ensures whole { IsTrue (value_is_whole document.new) }
-    ensures kept { OnErr result (document.new ≡ document.old) }
-    ensures refused { IfErr result (IsRefusalOf rules.now (document_of value_tree set_function document.old)) }
+    ensures rest { OnOk result ((m : Location) → IsApart (all_selected rules.now (value_document document.old.value)) m → at m (value_tree document.new.value) ≡ at m (value_tree document.old.value)) }
+    ensures kept { OnErr result (document.new.value ≡ document.old.value) }
+    ensures refused { IfErr result (IsRefusalOf rules.now (value_document document.old.value)) }
 {
     let places = all_places(alloc, rules, document)?;
-    let count = replace_all(alloc, document, &places, mask)?;
+    let count = document.replace_all(alloc, &places, mask)?;
 
     // The laws of a replacement, which the proof cites.
     overwritten_is_seen();
@@ -59,14 +55,13 @@ pub fn redact(
 }
 
 /// The places that the queries select in a document.
-fn all_places(alloc: Global, rules: &[JpQuery], document: &Value) -> Queried<Vec<Vec<Step>>>
-    requires { IsTrue (value_is_whole document.now) }
-    ensures places { IfOk result (λ v. map (λ p. location_view p.items) v.items ≡ all_selected rules.now (document_of value_tree set_function document.now)) }
-    ensures refused { IfErr result (IsStopOf rules.now (document_of value_tree set_function document.now)) }
+fn all_places(alloc: Global, rules: &[JpQuery], document: &Whole<Value>) -> Queried<Vec<Vec<Step>>>
+    ensures places { IfOk result (λ v. map (λ p. location_view p.items) v.items ≡ all_selected rules.now (value_document document.now.value)) }
+    ensures refused { IfErr result (IsStopOf rules.now (value_document document.now.value)) }
 {
     let mut places = Vec::new(alloc);
     for query in rules {
-        let mut found = selected_locations(alloc, query, document)?;
+        let mut found = selected_locations(alloc, query, document.get())?;
         places.append(&mut found)?;
     }
     Ok(places)

@@ -1,48 +1,33 @@
-//! Routing: the first query of a table that selects something in a document.
-ghost use Rattle.std.specs.Prelude.{◌↔◌, All, IsFalse, IfOk, IfErr, IfSome, IfNone, map};
+//! Routing: the first condition of a table that holds of a document.
+ghost use Rattle.std.specs.Prelude.{◌≡◌, IfOk, IfErr, map, position};
+ghost use Rattle.jsonpath_rust.specs.Condition.{condition_view};
 ghost use Rattle.jsonpath_rust.specs.Document.{document_of};
-ghost use Rattle.jsonpath_rust.specs.Patterns.{IsStop};
-ghost use Rattle.jsonpath_rust.specs.Prepared.{prepared_view};
-ghost use Rattle.uses.specs.First.{IsSilent, Selects, IsFirst, IsStopped};
+ghost use Rattle.uses.specs.Conditions.{is_met, IsUnrouted};
 
-use jsonpath_rust::query::{Prepared, Queried};
-use jsonpath_rust::{Queryable, WholeRef};
+use jsonpath_rust::query::Queried;
+use jsonpath_rust::{Condition, Queryable, WholeRef};
 use std::alloc::Global;
 
-/// The index of the first query of a table that selects something in a document; None where none does.
+/// The index of the first condition of a table that holds of a document; None where none does.
 ///
 /// # Errors
 ///
-/// Those of `has_node`, for a query before which none selects anything. The queries behind the one that selects something
-/// are not asked.
+/// Those of [`Condition::holds`], for a condition before which none holds. The conditions behind the one that holds are not
+/// asked.
 ///
-/// The cost is that of `has_node` for each query that is asked. The table stays prepared for the next document.
+/// The cost is that of `holds` for each condition that is asked. The table stays prepared for the next document.
 pub fn route<T: Queryable>(
     alloc: Global,
-    table: &[Prepared],
+    table: &[Condition],
     document: WholeRef<'_, T>,
 ) -> Queried<Option<usize>>
-    ensures nowhere { IfOk result (λ o. IfNone o (All (IsSilent (document_of T.tree T.custom document.entry.value.now)) (map prepared_view table.now))) }
-    ensures routed { IfOk result (λ o. IfSome o (λ i. IsFirst (map prepared_view table.now) (document_of T.tree T.custom document.entry.value.now) i
-        (Selects (document_of T.tree T.custom document.entry.value.now)))) }
-    ensures refused { IfErr result (IsStopped (map prepared_view table.now) (document_of T.tree T.custom document.entry.value.now)) }
+    ensures routed { IfOk result (λ o. o ≡ position (is_met (document_of T.tree T.custom document.entry.value.now)) (map condition_view table.now)) }
+    ensures refused { IfErr result (IsUnrouted (map condition_view table.now) (document_of T.tree T.custom document.entry.value.now)) }
 {
-    for (index, query) in table.iter().enumerate() {
-        if selects(alloc, query, document)? {
+    for (index, condition) in table.iter().enumerate() {
+        if condition.holds(alloc, document.get())? {
             return Ok(Some(index));
         }
     }
     Ok(None)
-}
-
-/// Whether a query selects something in a document.
-fn selects<T: Queryable>(
-    alloc: Global,
-    query: &Prepared,
-    document: WholeRef<'_, T>,
-) -> Queried<bool>
-    ensures none { IfOk result (λ b. IsFalse b ↔ IsSilent (document_of T.tree T.custom document.entry.value.now) (prepared_view query.now)) }
-    ensures refused { IfErr result (IsStop (prepared_view query.now) (document_of T.tree T.custom document.entry.value.now)) }
-{
-    query.runner(alloc).has_node(alloc, document.get())
 }

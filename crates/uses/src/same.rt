@@ -2,7 +2,7 @@
 ghost use Rattle.std.specs.Prelude.{◌≡◌, ◌↔◌, IsTrue};
 ghost use Rattle.jsonpath_rust.specs.View.{query_view};
 
-use jsonpath_rust::parser::equal_parts_are_one_tree;
+use jsonpath_rust::query::laws::equal_parts_are_one_tree;
 use jsonpath_rust::parser::model::JpQuery;
 
 /// Whether two queries are the same tree, however each was spelled. The cost is linear in the shorter one.

@@ -1,10 +1,8 @@
-//! Calls that are made many times, on a small document, and deletions.
-ghost use Rattle.std.specs.Prelude.{IsTrue};
-ghost use Rattle.jsonpath_rust.specs.base.Values.{value_is_whole};
-
+//! Calls that are made many times, on a small document, and deletions and maskings.
 use crate::bench::timing::refused;
+use jsonpath_rust::Whole;
 use jsonpath_rust::parser::{let_go, parse_json_path};
-use jsonpath_rust::query::{Queried, delete_selected, js_path, selected_nodes};
+use jsonpath_rust::query::{Queried, js_path, selected_nodes};
 use serde_json::Value;
 use std::alloc::Global;
 use std::io;
@@ -14,21 +12,17 @@ use std::time::{Clock, Duration, Instant};
 pub fn reading_calls(
     rt: &(impl Clock + AllocGlobal),
     text: &str,
-    document: &Value,
+    document: &Whole<Value>,
     count: usize,
-) -> io::Result<Duration>
-    requires { IsTrue (value_is_whole document.now) }
-{
+) -> io::Result<Duration> {
     let start = Instant::now(rt)?;
     read_each(rt.alloc(), text, document, count).map_err(refused)?;
     Ok(start.elapsed(rt)?)
 }
 
-fn read_each(alloc: Global, text: &str, document: &Value, count: usize) -> Queried<()>
-    requires { IsTrue (value_is_whole document.now) }
-{
+fn read_each(alloc: Global, text: &str, document: &Whole<Value>, count: usize) -> Queried<()> {
     for _ in 0..count {
-        drop(js_path(alloc, text, document)?);
+        drop(js_path(alloc, text, document.get())?);
     }
     Ok(())
 }
@@ -37,22 +31,18 @@ fn read_each(alloc: Global, text: &str, document: &Value, count: usize) -> Queri
 pub fn walking_calls(
     rt: &(impl Clock + AllocGlobal),
     text: &str,
-    document: &Value,
+    document: &Whole<Value>,
     count: usize,
-) -> io::Result<Duration>
-    requires { IsTrue (value_is_whole document.now) }
-{
+) -> io::Result<Duration> {
     let start = Instant::now(rt)?;
     walk_each(rt.alloc(), text, document, count).map_err(refused)?;
     Ok(start.elapsed(rt)?)
 }
 
-fn walk_each(alloc: Global, text: &str, document: &Value, count: usize) -> Queried<()>
-    requires { IsTrue (value_is_whole document.now) }
-{
+fn walk_each(alloc: Global, text: &str, document: &Whole<Value>, count: usize) -> Queried<()> {
     let query = parse_json_path(alloc, text)?;
     for _ in 0..count {
-        drop(selected_nodes(alloc, &query, document)?);
+        drop(selected_nodes(alloc, &query, document.get())?);
     }
     let_go(query);
     Ok(())
@@ -62,14 +52,31 @@ fn walk_each(alloc: Global, text: &str, document: &Value, count: usize) -> Queri
 pub fn deletion(
     rt: &(impl Clock + AllocGlobal),
     text: &str,
-    document: &mut Value,
-) -> io::Result<(usize, Duration)>
-    requires { IsTrue (value_is_whole document.old) }
-{
+    document: &mut Whole<Value>,
+) -> io::Result<(usize, Duration)> {
     let query = parse_json_path(rt.alloc(), text).map_err(refused)?;
     let start = Instant::now(rt)?;
-    let deleted = delete_selected(rt.alloc(), document, &query).map_err(refused);
+    let deleted = document
+        .delete_selected(rt.alloc(), &query)
+        .map_err(refused);
     let taken = start.elapsed(rt)?;
     let_go(query);
     Ok((deleted?, taken))
+}
+
+/// How many locations a query masks, and how long that takes.
+pub fn masking(
+    rt: &(impl Clock + AllocGlobal),
+    text: &str,
+    document: &mut Whole<Value>,
+    mask: &Whole<Value>,
+) -> io::Result<(usize, Duration)> {
+    let query = parse_json_path(rt.alloc(), text).map_err(refused)?;
+    let start = Instant::now(rt)?;
+    let masked = document
+        .replace_selected(rt.alloc(), &query, mask)
+        .map_err(refused);
+    let taken = start.elapsed(rt)?;
+    let_go(query);
+    Ok((masked?, taken))
 }

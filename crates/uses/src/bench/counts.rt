@@ -1,11 +1,10 @@
 //! How many nodes the queries select.
-ghost use Rattle.std.specs.Prelude.{IsTrue};
-ghost use Rattle.jsonpath_rust.specs.base.Values.{value_is_whole};
 
 use crate::bench::documents::{bookstore, inbox, read};
 use crate::bench::queries::{QUERIES, TABLE};
 use crate::bench::routes::{counted, prepared};
 use crate::bench::timing::refused;
+use jsonpath_rust::Whole;
 use jsonpath_rust::parser::model::JpQuery;
 use jsonpath_rust::parser::{let_go, parse_json_path};
 use jsonpath_rust::query::{selected_nodes, selected_values};
@@ -37,9 +36,7 @@ pub fn all_counts(alloc: Global, bytes: usize) -> io::Result<Vec<Count>> {
     Ok(counts)
 }
 
-fn book_counts(alloc: Global, document: &Value) -> io::Result<Vec<Count>>
-    requires { IsTrue (value_is_whole document.now) }
-{
+fn book_counts(alloc: Global, document: &Whole<Value>) -> io::Result<Vec<Count>> {
     let mut counts = Vec::new(alloc);
     for query in QUERIES {
         let selected = selected_of(alloc, query, document)?;
@@ -48,9 +45,7 @@ fn book_counts(alloc: Global, document: &Value) -> io::Result<Vec<Count>>
     Ok(counts)
 }
 
-fn selected_of(alloc: Global, text: &str, document: &Value) -> io::Result<usize>
-    requires { IsTrue (value_is_whole document.now) }
-{
+fn selected_of(alloc: Global, text: &str, document: &Whole<Value>) -> io::Result<usize> {
     let query = parse_json_path(alloc, text).map_err(refused)?;
     let selected = selected_both_ways(alloc, &query, document);
     let_go(query);
@@ -58,11 +53,13 @@ fn selected_of(alloc: Global, text: &str, document: &Value) -> io::Result<usize>
 }
 
 /// How many nodes the query selects, by values alone and with paths.
-fn selected_both_ways(alloc: Global, query: &JpQuery, document: &Value) -> io::Result<usize>
-    requires { IsTrue (value_is_whole document.now) }
-{
-    let values = selected_values(alloc, query, document).map_err(refused)?;
-    let nodes = selected_nodes(alloc, query, document).map_err(refused)?;
+fn selected_both_ways(
+    alloc: Global,
+    query: &JpQuery,
+    document: &Whole<Value>,
+) -> io::Result<usize> {
+    let values = selected_values(alloc, query, document.get()).map_err(refused)?;
+    let nodes = selected_nodes(alloc, query, document.get()).map_err(refused)?;
     if values.len() == nodes.len() {
         Ok(nodes.len())
     } else {

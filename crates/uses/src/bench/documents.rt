@@ -1,8 +1,6 @@
 //! Documents and their texts: bookstores, and small messages. Each run makes the same ones.
-ghost use Rattle.std.specs.Prelude.{IsTrue, IfOk};
-ghost use Rattle.jsonpath_rust.specs.base.Values.{value_is_whole};
 
-use jsonpath_rust::query::queryable::Queryable;
+use jsonpath_rust::{ReadError, Whole};
 use serde_json::Value;
 use std::alloc::{AllocError, Global};
 use std::fmt::Write;
@@ -150,7 +148,7 @@ pub fn numbers(alloc: Global, count: usize) -> Result<String, AllocError> {
 }
 
 /// So many messages.
-pub fn inbox(alloc: Global, count: usize) -> io::Result<Vec<Value>> {
+pub fn inbox(alloc: Global, count: usize) -> io::Result<Vec<Whole<Value>>> {
     let mut messages = Vec::new(alloc);
     let mut dice = Dice::new(2);
     for _ in 0..count {
@@ -160,24 +158,15 @@ pub fn inbox(alloc: Global, count: usize) -> io::Result<Vec<Value>> {
 }
 
 /// The document of a text, whose numbers have to be whole.
-pub fn read(alloc: Global, text: String) -> io::Result<Value>
-    ensures { IfOk result (λ v. IsTrue (value_is_whole v)) }
-{
-    let document = Value::from_str(alloc, text.as_str()).map_err(unread)?;
-    if document.is_whole() {
-        Ok(document)
-    } else {
-        Err(ErrorKind::InvalidData.into())
-    }
+pub fn read(alloc: Global, text: String) -> io::Result<Whole<Value>> {
+    Whole::read(alloc, text.as_str()).map_err(unread)
 }
 
 /// Why a text is no document, as an error of this program.
-fn unread(error: serde_json::Error) -> io::Error {
-    let kind = if error.is_memory() {
-        ErrorKind::OutOfMemory
-    } else {
-        ErrorKind::InvalidData
+fn unread(error: ReadError) -> io::Error {
+    let kind = match error {
+        ReadError::Memory => ErrorKind::OutOfMemory,
+        ReadError::NotJson | ReadError::NotWhole => ErrorKind::InvalidData,
     };
-    drop(error);
     kind.into()
 }

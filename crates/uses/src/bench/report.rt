@@ -1,13 +1,12 @@
 //! What is printed of the queries.
-ghost use Rattle.std.specs.Prelude.{IsTrue};
-ghost use Rattle.jsonpath_rust.specs.base.Values.{value_is_whole};
 
-use crate::bench::calls::{deletion, reading_calls, walking_calls};
+use crate::bench::calls::{deletion, masking, reading_calls, walking_calls};
 use crate::bench::counts::{Count, all_counts};
 use crate::bench::documents::{Dice, bookstore, inbox, message, numbers, read};
 use crate::bench::queries::{QUERIES, TABLE};
 use crate::bench::routes::{prepared, routed};
 use crate::bench::timing::{fastest, reading, refused};
+use jsonpath_rust::Whole;
 use serde_json::Value;
 use std::io;
 use std::time::{Clock, Duration};
@@ -22,7 +21,10 @@ const TINY: &str = "{\"a\":[{\"b\":1,\"c\":\"x\"},{\"b\":11,\"c\":\"y\"}]}";
 
 const SHORT: [&str; 4] = ["$.a", "$.a[0].b", "$.a[*].c", "$.a[?@.b<10]"];
 
-/// What is deleted from a bookstore.
+/// What stands in the place of what is masked.
+const MASK: &str = "\"***\"";
+
+/// What is deleted from a bookstore, and masked in it.
 const DELETED: [&str; 3] = ["$..author", "$..*", "$.store.book[?@.price<10]"];
 
 /// How much each query selects.
@@ -46,11 +48,9 @@ pub fn times(rt: &(impl Print + Clock + AllocGlobal), bytes: usize) -> io::Resul
 
 fn book_times(
     rt: &(impl Print + Clock + AllocGlobal),
-    document: &Value,
+    document: &Whole<Value>,
     more: u32,
-) -> io::Result<()>
-    requires { IsTrue (value_is_whole document.now) }
-{
+) -> io::Result<()> {
     let below = fastest(rt, "$..*", document, 0)?.selected;
     let nodes = below.saturating_add(1);
     for text in QUERIES {
@@ -89,11 +89,9 @@ pub fn calls(rt: &(impl Print + Clock + AllocGlobal), count: usize) -> io::Resul
 
 fn tiny_calls(
     rt: &(impl Print + Clock + AllocGlobal),
-    document: &Value,
+    document: &Whole<Value>,
     count: usize,
-) -> io::Result<()>
-    requires { IsTrue (value_is_whole document.now) }
-{
+) -> io::Result<()> {
     for text in SHORT {
         let by_text = each(reading_calls(rt, text, document, count)?, count);
         let by_tree = each(walking_calls(rt, text, document, count)?, count);
@@ -102,22 +100,30 @@ fn tiny_calls(
     Ok(())
 }
 
-/// The times of deletions: of every second one of as many numbers as a twentieth of the bytes, and of parts of a bookstore.
+/// The times of deletions and of maskings: of every second one of as many numbers as a twentieth of the bytes, and of parts of a
+/// bookstore.
 pub fn deletions(rt: &(impl Print + Clock + AllocGlobal), bytes: usize) -> io::Result<()> {
     let list = numbers(rt.alloc(), bytes / 20)?;
-    deleted(rt, "$[::2]", list)?;
+    changed(rt, "$[::2]", &list)?;
+    let store = bookstore(rt.alloc(), bytes)?;
     for text in DELETED {
-        deleted(rt, text, bookstore(rt.alloc(), bytes)?)?;
+        changed(rt, text, &store)?;
     }
     Ok(())
 }
 
-fn deleted(rt: &(impl Print + Clock + AllocGlobal), text: &str, from: String) -> io::Result<()> {
-    let mut document = read(rt.alloc(), from)?;
+fn changed(rt: &(impl Print + Clock + AllocGlobal), text: &str, from: &str) -> io::Result<()> {
+    let mut document = read(rt.alloc(), String::from_str(rt.alloc(), from)?)?;
     let (count, taken) = deletion(rt, text, &mut document)?;
     drop(document);
-    let nanoseconds = each(taken, count);
-    println!(rt; "{count}\t{nanoseconds:.1}\t{text}")
+    let deleted = each(taken, count);
+    let mask = read(rt.alloc(), String::from_str(rt.alloc(), MASK)?)?;
+    let mut document = read(rt.alloc(), String::from_str(rt.alloc(), from)?)?;
+    let (count, taken) = masking(rt, text, &mut document, &mask)?;
+    drop(document);
+    drop(mask);
+    let masked = each(taken, count);
+    println!(rt; "{count}\t{deleted:.1}\t{masked:.1}\t{text}")
 }
 
 /// The text of the bookstore.

@@ -1,9 +1,7 @@
 //! A router's table, asked of each message: by runners that stay, by runners made for it, and by `js_path_process`.
-ghost use Rattle.std.specs.Prelude.{IsTrue};
-ghost use Rattle.jsonpath_rust.specs.base.Values.{value_is_whole};
 
 use crate::bench::timing::refused;
-use jsonpath_rust::query::queryable::Queryable;
+use jsonpath_rust::Whole;
 use jsonpath_rust::query::{Prepared, Queried, QueryRef, Runner, js_path_process};
 use serde_json::Value;
 use std::alloc::{AllocError, Global};
@@ -54,7 +52,7 @@ fn runners(alloc: Global, table: &[Prepared]) -> Result<Vec<Runner<'_>>, AllocEr
 pub fn routed(
     rt: &(impl Clock + AllocGlobal),
     table: &[Prepared],
-    messages: &[Value],
+    messages: &[Whole<Value>],
 ) -> io::Result<Journeys> {
     let mut runners = runners(rt.alloc(), table)?;
     let mut round = Journeys {
@@ -64,9 +62,6 @@ pub fn routed(
         processed: Duration::ZERO,
     };
     for message in messages {
-        if !message.is_whole() {
-            return Err(ErrorKind::InvalidData.into());
-        }
         let start = Instant::now(rt)?;
         let run = run(rt.alloc(), &mut runners, message).map_err(refused)?;
         round.runners = round.runners.saturating_add(start.elapsed(rt)?);
@@ -86,13 +81,10 @@ pub fn routed(
 }
 
 /// How often a query of the table selects something in a message, by runners, by runners made for it and by `js_path_process`.
-pub fn counted(alloc: Global, table: &[Prepared], messages: &[Value]) -> io::Result<usize> {
+pub fn counted(alloc: Global, table: &[Prepared], messages: &[Whole<Value>]) -> io::Result<usize> {
     let mut runners = runners(alloc, table)?;
     let mut selected = 0usize;
     for message in messages {
-        if !message.is_whole() {
-            return Err(ErrorKind::InvalidData.into());
-        }
         let run = run(alloc, &mut runners, message).map_err(refused)?;
         let found = found(alloc, table, message).map_err(refused)?;
         let lists = processed(alloc, table, message).map_err(refused)?;
@@ -107,12 +99,10 @@ pub fn counted(alloc: Global, table: &[Prepared], messages: &[Value]) -> io::Res
 }
 
 /// How many of the queries select something, by runners.
-fn run(alloc: Global, runners: &mut Vec<Runner<'_>>, message: &Value) -> Queried<usize>
-    requires { IsTrue (value_is_whole message.now) }
-{
+fn run(alloc: Global, runners: &mut Vec<Runner<'_>>, message: &Whole<Value>) -> Queried<usize> {
     let mut count = 0usize;
     for runner in runners.iter_mut() {
-        if runner.has_node(alloc, message)? {
+        if runner.has_node(alloc, message.get())? {
             count = count.saturating_add(1);
         }
     }
@@ -120,12 +110,10 @@ fn run(alloc: Global, runners: &mut Vec<Runner<'_>>, message: &Value) -> Queried
 }
 
 /// The same, by runners made for this message.
-fn found(alloc: Global, table: &[Prepared], message: &Value) -> Queried<usize>
-    requires { IsTrue (value_is_whole message.now) }
-{
+fn found(alloc: Global, table: &[Prepared], message: &Whole<Value>) -> Queried<usize> {
     let mut count = 0usize;
     for query in table {
-        if query.runner(alloc).has_node(alloc, message)? {
+        if query.runner(alloc).has_node(alloc, message.get())? {
             count = count.saturating_add(1);
         }
     }
@@ -136,13 +124,11 @@ fn found(alloc: Global, table: &[Prepared], message: &Value) -> Queried<usize>
 fn processed<'a>(
     alloc: Global,
     table: &[Prepared],
-    message: &'a Value,
-) -> Queried<Vec<Vec<QueryRef<'a, Value>>>>
-    requires { IsTrue (value_is_whole message.now) }
-{
+    message: &'a Whole<Value>,
+) -> Queried<Vec<Vec<QueryRef<'a, Value>>>> {
     let mut lists = Vec::new(alloc);
     for query in table {
-        lists.push(js_path_process(alloc, query.query(), message)?)?;
+        lists.push(js_path_process(alloc, query.query(), message.get())?)?;
     }
     Ok(lists)
 }

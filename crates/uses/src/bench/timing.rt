@@ -1,7 +1,6 @@
 //! How long queries of one document take, the least of several rounds. What is given back to memory is not counted.
-ghost use Rattle.std.specs.Prelude.{IsTrue};
-ghost use Rattle.jsonpath_rust.specs.base.Values.{value_is_whole};
 
+use jsonpath_rust::Whole;
 use jsonpath_rust::parser::errors::JsonPathError;
 use jsonpath_rust::parser::model::JpQuery;
 use jsonpath_rust::parser::{let_go, parse_json_path};
@@ -34,11 +33,9 @@ impl Round {
 pub fn fastest(
     rt: &(impl Clock + AllocGlobal),
     text: &str,
-    document: &Value,
+    document: &Whole<Value>,
     more: u32,
-) -> io::Result<Round>
-    requires { IsTrue (value_is_whole document.now) }
-{
+) -> io::Result<Round> {
     let query = parse_json_path(rt.alloc(), text).map_err(refused)?;
     let best = least_of(rt, &query, document, more);
     let_go(query);
@@ -48,11 +45,9 @@ pub fn fastest(
 fn least_of(
     rt: &(impl Clock + AllocGlobal),
     query: &JpQuery,
-    document: &Value,
+    document: &Whole<Value>,
     more: u32,
-) -> io::Result<Round>
-    requires { IsTrue (value_is_whole document.now) }
-{
+) -> io::Result<Round> {
     let mut best = one_round(rt, query, document)?;
     for _ in 0..more {
         best = best.least(one_round(rt, query, document)?);
@@ -63,17 +58,15 @@ fn least_of(
 fn one_round(
     rt: &(impl Clock + AllocGlobal),
     query: &JpQuery,
-    document: &Value,
-) -> io::Result<Round>
-    requires { IsTrue (value_is_whole document.now) }
-{
+    document: &Whole<Value>,
+) -> io::Result<Round> {
     let start = Instant::now(rt)?;
-    let values = selected_values(rt.alloc(), query, document).map_err(refused)?;
+    let values = selected_values(rt.alloc(), query, document.get()).map_err(refused)?;
     let lean = start.elapsed(rt)?;
     let count = values.len();
     drop(values);
     let start = Instant::now(rt)?;
-    let nodes = selected_nodes(rt.alloc(), query, document).map_err(refused)?;
+    let nodes = selected_nodes(rt.alloc(), query, document.get()).map_err(refused)?;
     let full = start.elapsed(rt)?;
     let selected = nodes.len();
     drop(nodes);

@@ -1,9 +1,8 @@
 //! How long units of work take: a query of a document under a limit, both from standard input.
-ghost use Rattle.std.specs.Prelude.{IsTrue};
-ghost use Rattle.jsonpath_rust.specs.base.Values.{value_is_whole};
 
 use crate::bench::documents::read;
 use crate::bench::timing::refused;
+use jsonpath_rust::Whole;
 use jsonpath_rust::query::{Within, js_path_limited};
 use serde_json::Value;
 use std::io;
@@ -29,12 +28,10 @@ fn one_call(
     rt: &(impl Clock + AllocGlobal),
     query: &str,
     units: usize,
-    document: &Value,
-) -> io::Result<(bool, Duration)>
-    requires { IsTrue (value_is_whole document.now) }
-{
+    document: &Whole<Value>,
+) -> io::Result<(bool, Duration)> {
     let start = Instant::now(rt)?;
-    let given = js_path_limited(rt.alloc(), query, units, document).map_err(refused)?;
+    let given = js_path_limited(rt.alloc(), query, units, document.get()).map_err(refused)?;
     let taken = start.elapsed(rt)?;
     let enough = match given {
         Within::Done(_nodes) => true,

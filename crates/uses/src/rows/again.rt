@@ -95,7 +95,7 @@ fn below<'v>(
 }
 
 /// The steps that a list of names and indexes spells; what is neither is the index 0.
-fn steps_of(alloc: Global, spelled: &[Value]) -> Queried<Vec<Step>> {
+pub fn steps_of(alloc: Global, spelled: &[Value]) -> Queried<Vec<Step>> {
     let mut steps = Vec::new(alloc);
     for step in spelled {
         match step.as_str() {

@@ -1,36 +1,76 @@
-//! Rows on the first steps: `delete_dear`, which is a store, and `answer`, how many books are deleted, or `refused`, `NotWhole`.
-//! What is left is `left`, and without that member the store as it was.
-use crate::first_steps::delete_dear;
-use crate::rows::wanted::{Wanted, is_count, refuses, wanted_of, whole_copy};
+//! Rows on the first steps: `without_dear`, the text of a store, with `answer`, how many books are deleted, and what is left; or
+//! `refused`: `NotJson`, `NotWhole`, `Closed`.
+use crate::first_steps::{StoreError, without_dear};
+use crate::rows::wanted::{Wanted, wanted_of};
+use jsonpath_rust::{ReadError, Whole};
 use rows_common::Memory;
-use rows_common::members::has_only;
+use rows_common::members::{has_only, list, size, string_at};
+use rows_common::memory::Refusal;
 use serde_json::Value;
+
+impl Refusal for StoreError {
+    fn is_for_memory(&self) -> bool {
+        match self {
+            StoreError::Read(error) => error.is_for_memory(),
+            StoreError::Query(error) => error.is_for_memory(),
+            StoreError::Closed => false,
+        }
+    }
+}
 
 /// Whether a row on the first steps holds.
 pub fn holds(memory: &Memory, row: &Value) -> bool {
-    match (row.get("delete_dear"), wanted_of(row)) {
-        (Some(store), Some(wanted)) => {
-            let left = row.get("left").unwrap_or(store);
-            has_only(row, &["delete_dear", "answer", "refused", "left"])
-                && leaves(memory, store, wanted, left)
+    match (string_at(row, "without_dear"), wanted_of(row)) {
+        (Some(text), Some(wanted)) => {
+            has_only(row, &["without_dear", "answer", "refused"]) && is_so(memory, text, wanted)
         }
         _ => false,
     }
 }
 
-/// Whether so many books are deleted, and that is left.
-fn leaves(memory: &Memory, store: &Value, wanted: Wanted<'_>, left: &Value) -> bool {
-    let Some(mut kept) = whole_copy(memory, store) else {
-        return matches!(wanted, Wanted::NoCall);
-    };
-    let deleted = delete_dear(memory.alloc, &mut kept);
-    let held = match wanted {
-        Wanted::Answer(count) => is_count(memory, deleted, count),
-        Wanted::Refused(kind) => refuses(memory, deleted, kind),
-        Wanted::NoCall => false,
-    };
-    let held = held && *kept.get() == *left;
-    memory.note_kept(*kept.get() == *store);
-    drop(kept);
-    held
+/// Whether the text gives what is wanted.
+fn is_so(memory: &Memory, text: &str, wanted: Wanted<'_>) -> bool {
+    let given = without_dear(memory.alloc, text);
+    match wanted {
+        Wanted::Answer(answer) => match memory.ok(given) {
+            Some((left, deleted)) => is_left(&left, deleted, answer),
+            None => false,
+        },
+        Wanted::Refused(kind) => is_refused(memory, given, kind),
+        Wanted::NoCall => is_refused(memory, given, "NotWhole"),
+    }
+}
+
+/// Whether so many books were deleted, and that is left.
+fn is_left(left: &Whole<Value>, deleted: usize, answer: &Value) -> bool {
+    match list(answer) {
+        Some([count, wanted]) => size(count) == Some(deleted) && *left.get() == *wanted,
+        _ => false,
+    }
+}
+
+/// Whether there is no store for that reason.
+fn is_refused(
+    memory: &Memory,
+    given: Result<(Whole<Value>, usize), StoreError>,
+    kind: &str,
+) -> bool {
+    match given.err() {
+        Some(error) => {
+            memory.note(&error);
+            let told = is_kind(&error, kind);
+            drop(error);
+            told
+        }
+        None => false,
+    }
+}
+
+fn is_kind(error: &StoreError, kind: &str) -> bool {
+    match error {
+        StoreError::Read(ReadError::NotJson) => kind == "NotJson",
+        StoreError::Read(ReadError::NotWhole) => kind == "NotWhole",
+        StoreError::Closed => kind == "Closed",
+        _ => false,
+    }
 }

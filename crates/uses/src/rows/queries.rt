@@ -1,6 +1,7 @@
-//! Lists of queries in rows, each query a text.
+//! Lists of queries in rows, and of conditions, each a text.
+use jsonpath_rust::Condition;
 use jsonpath_rust::parser::model::JpQuery;
-use jsonpath_rust::parser::{Parsed, parse_json_path};
+use jsonpath_rust::parser::{MAX_NESTING_DEPTH, Parsed, parse_json_path};
 use jsonpath_rust::query::{Prepared, Queried};
 use serde_json::Value;
 use std::alloc::Global;
@@ -30,4 +31,18 @@ pub fn prepared_of(alloc: Global, texts: &[Value]) -> Queried<Vec<Prepared>> {
         prepared.push(Prepared::new(alloc, query)?)?;
     }
     Ok(prepared)
+}
+
+/// The conditions of these texts, in order. What is no text is read as the empty one, which is no condition.
+///
+/// # Errors
+///
+/// Those of `Condition::read`, for the first text that it refuses.
+pub fn conditions_of(alloc: Global, texts: &[Value]) -> Queried<Vec<Condition>> {
+    let mut conditions = Vec::new(alloc);
+    for text in texts {
+        let text = text.as_str().unwrap_or("");
+        conditions.push(Condition::read(alloc, text, MAX_NESTING_DEPTH)?)?;
+    }
+    Ok(conditions)
 }

@@ -1,15 +1,12 @@
 //! Rows on redaction: `redact`, which is the queries, `by`, the mask, and `document`; with `answer`, how many locations are selected and
 //! what is left of the document, or `refused`.
-ghost use Rattle.std.specs.Prelude.{IsTrue};
-ghost use Rattle.jsonpath_rust.specs.base.Values.{value_is_whole};
-
 use crate::redaction::redact;
 use crate::rows::queries::queries_of;
-use crate::rows::wanted::{Wanted, refuses, wanted_of};
+use crate::rows::wanted::{Wanted, is_count, refuses, wanted_of, whole_copy};
+use jsonpath_rust::Whole;
 use jsonpath_rust::query::Queried;
-use jsonpath_rust::query::queryable::Queryable;
 use rows_common::Memory;
-use rows_common::members::{has_only, list, list_at, size};
+use rows_common::members::{has_only, list, list_at};
 use serde_json::Value;
 use std::alloc::Global;
 
@@ -36,43 +33,45 @@ struct Masks<'r> {
 
 /// Whether redaction leaves what is wanted; after a refusal that is the document as it was.
 fn leaves(memory: &Memory, masks: Masks<'_>, document: &Value, wanted: Wanted<'_>) -> bool {
-    let Some(mut left) = memory.ok(document.clone()) else {
-        return false;
+    let Some(mut left) = whole_copy(memory, document) else {
+        return matches!(wanted, Wanted::NoCall);
     };
-    let held = match wanted {
+    let held = match whole_copy(memory, masks.mask) {
+        Some(mask) => answers(memory, masks.rules, &mut left, &mask, wanted),
+        None => matches!(wanted, Wanted::NoCall),
+    };
+    let kept = *left.get() == *document;
+    memory.note_kept(kept);
+    drop(left);
+    held && (kept || matches!(wanted, Wanted::Answer(_)))
+}
+
+/// Whether redaction of the document answers so, and leaves what the answer tells.
+fn answers(
+    memory: &Memory,
+    rules: &[Value],
+    document: &mut Whole<Value>,
+    mask: &Whole<Value>,
+    wanted: Wanted<'_>,
+) -> bool {
+    let redacted = redacted(memory.alloc, rules, document, mask);
+    match wanted {
         Wanted::Answer(answer) => match list(answer) {
-            Some([count, wanted]) => {
-                size(count).is_some()
-                    && left.is_whole()
-                    && masks.mask.is_whole()
-                    && memory.ok(redacted(memory.alloc, masks.rules, &mut left, masks.mask))
-                        == size(count)
-                    && left == *wanted
-            }
+            Some([count, left]) => is_count(memory, redacted, count) && *document.get() == *left,
             _ => false,
         },
-        Wanted::Refused(kind) => {
-            left.is_whole()
-                && masks.mask.is_whole()
-                && refuses(
-                    memory,
-                    redacted(memory.alloc, masks.rules, &mut left, masks.mask),
-                    kind,
-                )
-                && left == *document
-        }
-        Wanted::NoCall => !left.is_whole(),
-    };
-    memory.note_kept(left == *document);
-    drop(left);
-    held
+        Wanted::Refused(kind) => refuses(memory, redacted, kind),
+        Wanted::NoCall => false,
+    }
 }
 
 /// Redacts a document by the queries that the texts spell. A refusal of a text leaves it as it was too.
-fn redacted(alloc: Global, rules: &[Value], document: &mut Value, mask: &Value) -> Queried<usize>
-    requires whole_document { IsTrue (value_is_whole document.old) }
-    requires whole_mask { IsTrue (value_is_whole mask.now) }
-{
+fn redacted(
+    alloc: Global,
+    rules: &[Value],
+    document: &mut Whole<Value>,
+    mask: &Whole<Value>,
+) -> Queried<usize> {
     let queries = queries_of(alloc, rules)?;
     let answer = redact(alloc, &queries, document, mask);
     drop(queries);

@@ -1,6 +1,6 @@
-//! Rows on routing: `route`, which is the queries, and `document`; with `answer`, the index of a query or null, or `refused`.
+//! Rows on routing: `route`, which is the conditions, and `document`; with `answer`, the index of a condition or null, or `refused`.
 use crate::routing::route;
-use crate::rows::queries::prepared_of;
+use crate::rows::queries::conditions_of;
 use crate::rows::wanted::{Wanted, is_index, refuses, wanted_of};
 use jsonpath_rust::WholeRef;
 use jsonpath_rust::query::Queried;
@@ -34,10 +34,10 @@ fn leads(memory: &Memory, table: &[Value], document: &Value, wanted: Wanted<'_>)
     }
 }
 
-/// Where the queries that the texts spell lead the document.
+/// Where the conditions of the texts lead the document.
 fn routed(alloc: Global, table: &[Value], document: WholeRef<'_, Value>) -> Queried<Option<usize>> {
-    let prepared = prepared_of(alloc, table)?;
-    let index = route(alloc, &prepared, document);
-    drop(prepared);
+    let conditions = conditions_of(alloc, table)?;
+    let index = route(alloc, &conditions, document);
+    drop(conditions);
     index
 }

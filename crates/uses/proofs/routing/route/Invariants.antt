@@ -1,9 +1,9 @@
-use Rattle.std.proofs.Common.{All, map, take}
+use Rattle.std.proofs.Common.{All, IsFalse, map, take}
+use Rattle.jsonpath_rust.specs.Condition.{condition_view}
 use Rattle.jsonpath_rust.specs.Document.{document_of}
-use Rattle.jsonpath_rust.specs.Prepared.{prepared_view}
-use Rattle.uses.specs.First.{IsSilent}
+use Rattle.uses.specs.Conditions.{is_met}
 use Rattle.uses.proofs.routing.route.Given as goal
 
--- the queries that were asked select nothing
+-- the conditions that were asked fail
 abbrev pub invariant-loop-index : goal.invariant-loop-index
-invariant-loop-index g l = All (IsSilent (document_of g.T.Queryable.tree g.T.Queryable.custom l.document.value.now)) (take l.index (map prepared_view l.table))
+invariant-loop-index g l = All (λ f. IsFalse (is_met (document_of g.T.Queryable.tree g.T.Queryable.custom l.document.value.now) f)) (take l.index (map condition_view l.table))
