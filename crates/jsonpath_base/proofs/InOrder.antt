@@ -15,7 +15,7 @@ use Rattle.std.specs.Map.{lookup, keys_of, values_of}
 use Rattle.std.specs.Ordering.{match_ordering, is_lt}
 use Rattle.jsonpath_parser.specs.Location.{Step, name, index, Location}
 use Rattle.jsonpath_base.specs.Without.{is_same_step, is_among, distinct_count}
-use Rattle.jsonpath_base.specs.inner.Marks.{to_member, is_key, keys_rise, in_order, level_in_order, listed, listed_in, marked, marked_in, marked_by, marks_count, marks_total, TestsSteps, IsSameSet, IsJoined, HoldsSame, HoldsAlso}
+use Rattle.jsonpath_base.specs.inner.Marks.{to_member, is_key, keys_rise, in_order, level_in_order, listed, listed_in, marked, marked_in, marked_by, marks_count, marks_total, TestsSteps, IsSameSet, IsJoined, HoldsAlso}
 use Rattle.jsonpath_base.specs.declared.marks.Marks.{Marks, the_lemmas}
 use Rattle.jsonpath_base.specs.declared.marks.Marks.TheViews.{out-Marks}
 use Rattle.jsonpath_base.proofs.Marking.{same_step, in_here, in_step, in_append, parts, parts_here, parts_member, parts_element, rolled, listed_out, listed_rolled, count_out, count_rolled, are_keys, AreKeys}
@@ -202,33 +202,6 @@ pub record Gathered {K : Type 0} (compare : K → K → Ordering) (all got rest 
   pub each : (to : K → Step) → TestsSteps to compare → (l : Location) → marked_in to all l ≡ (marked_in to got l || marked_in to rest l)
   pub fewer : marks_total got + marks_total rest ≤ marks_total all
 
-pub gathered_none : {K : Type 0} (compare : K → K → Ordering) (all got rest : List (K × Marks)) → got ≡ [] → rest ≡ all → Gathered compare all got rest
-gathered_none compare all got rest e f = record {
-  each = λ to test l. sym (ap₂ (λ x y. marked_in to x l || marked_in to y l) e f);
-  fewer = omega (arith, ap marks_total e, ap marks_total f);
-}
-
-pub gathered_next : {K : Type 0} (compare : K → K → Ordering) (all got new rest more : List (K × Marks)) (k : K) (m : Marks) → rest ≡ (k, m) ∷ more → HoldsAlso compare got k m new → marks_total new ≤ marks_total got + marks_count m → Gathered compare all got rest → Gathered compare all new more
-gathered_next compare all got new rest more k m e h le g = record {
-  each = λ to test l. g.each to test l ∙ ap (λ x. marked_in to got l || marked_in to x l) e ∙ ap (λ b. marked_in to got l || b) (in_append to ((k, m) ∷ []) more l)
-      ∙ other (marked_in to got l) (marked_in to ((k, m) ∷ []) l) (marked_in to more l) ∙ ap (λ b. b || marked_in to more l) (sym (h.each to test l));
-  fewer = omega (arith, le, g.fewer, ap marks_total e);
-}
-  where
-    other : (a b c : Bool) → (a || (b || c)) ≡ ((a || b) || c)
-    other true b c = refl
-    other false b c = refl
-
-pub gathered_all : {K : Type 0} (compare : K → K → Ordering) (all got rest : List (K × Marks)) → rest ≡ [] → Gathered compare all got rest → HoldsSame compare all got
-gathered_all compare all got rest e g = record { each = λ to test l. sym (g.each to test l ∙ ap (λ x. marked_in to got l || marked_in to x l) e ∙ none (marked_in to got l)) }
-  where
-    none : (b : Bool) → (b || false) ≡ b
-    none true = refl
-    none false = refl
-
-pub held_same : {K : Type 0} (compare : K → K → Ordering) (es fs : List (K × Marks)) → fs ≡ es → HoldsSame compare es fs
-held_same compare es fs e = record { each = λ to test l. ap (λ x. marked_in to x l) e }
-
 -- ---- the entries of a level, one after the other
 
 -- those in front are in order, and the others as they were
@@ -239,9 +212,6 @@ pub record Sofar {K : Type 0} (to : K → Step) (start now : List (K × Marks)) 
   pub ordered : list_all (λ e. in_order e.1) (take i now) ≡ true
   pub counted : count ≡ counts (take i now)
   pub rest : drop i now ≡ drop i start
-
-pub sofar_start : {K : Type 0} (to : K → Step) (start : List (K × Marks)) → Sofar to start start 0 0
-sofar_start to start = record { keys = refl; size = refl; same = record { each = λ l. refl }; ordered = refl; counted = refl; rest = refl }
 
 keys-set : {K : Type 0} (es : List (K × Marks)) (i : ℕ) (e : K × Marks) (w : Marks) → e ≡ get_or es i e → keys_of (set es i (e.0, w)) ≡ keys_of es
 keys-set [] i e w h = refl
@@ -314,9 +284,6 @@ sofar_counted to compare test start now i n past sorted h =
 
 pub same_then : (a b c : Location → Bool) → IsSameSet a b → IsSameSet b c → IsSameSet a c
 same_then a b c f g = record { each = λ l. g.each l ∙ f.each l }
-
-pub sofar_as : {K : Type 0} (to : K → Step) (start now next : List (K × Marks)) (i n m : ℕ) → next ≡ now → m ≡ n → Sofar to start now i n → Sofar to start next i m
-sofar_as to start now next i n m e f h = subst (λ xs. Sofar to start xs i m) (sym e) (subst (Sofar to start now i) (sym f) h)
 
 pub rolled_as : (a b : Bool) (ns ms : Vec (String Global × Marks) Global) (is : Vec (ℕ × Marks) Global) → a ≡ b → ns ≡ ms → rolled a ns is ≡ rolled b ms is
 rolled_as a b ns ms is e f = ap₂ (λ x y. rolled x y is) e f

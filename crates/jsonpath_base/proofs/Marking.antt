@@ -362,10 +362,6 @@ pub from_after : (j : ℕ) (m : Marks) (es : List (ℕ × Marks)) → IsStrictly
 unfolding IsStrictlySortedBy
 from_after j m es h = record { each = λ i lt. later_keys j es h.0 i (omega (arith, lt)) }
 
-pub rest_sorted : (e : ℕ × Marks) (es : List (ℕ × Marks)) → IsStrictlySortedBy nat_cmp (keys_of (e ∷ es)) → IsStrictlySortedBy nat_cmp (keys_of es)
-unfolding IsStrictlySortedBy
-rest_sorted e es h = h.1
-
 pub from_at_most : (j : ℕ) (m : Marks) (es : List (ℕ × Marks)) (next : ℕ) → IsFrom ((j, m) ∷ es) next → next ≤ j
 from_at_most j m es next h = pick (ltb j next) refl
   where

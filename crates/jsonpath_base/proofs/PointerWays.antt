@@ -53,13 +53,6 @@ mark_end all name out rest before lacks written = written ∙ ap (λ l. name ++ 
 
 -- ---- a step of the way
 
-pub leads_first : (text rest : List ℕ) (value : Value) (steps : List Step) → text ≡ 47 ∷ rest → steps ≡ [] → LeadsTo text value steps rest value
-leads_first text rest value steps is none = record {
-  pointed = ap (λ t. json_find.pointer t (view value)) is;
-  there = ap (λ l. places.at (location_view l) (value_tree value)) none;
-  meant = λ l h. subst (λ t. Means t (location_view steps ++ l)) (sym is) (subst (λ ss. Means (47 ∷ rest) (location_view ss ++ l)) (sym none) h);
-}
-
 behind_view : (old new : List Step) (s : Step) (l : Location) → new ≡ old ++ s ∷ [] → location_view new ++ l ≡ location_view old ++ (owned_step s ∷ l)
 behind_view old new s l e = ap (λ ss. location_view ss ++ l) e ∙ ap (λ ss. ss ++ l) (map-append owned_step old (s ∷ [])) ∙ append_assoc (location_view old) (owned_step s ∷ []) l
 
