@@ -30,6 +30,7 @@ pub mod OrderedMarks
 pub mod Filling
 pub mod Filled
 pub mod OverwrittenLaws
+pub mod Nowhere
 pub mod Loans
 pub mod LoanTies
 pub mod LoanWords

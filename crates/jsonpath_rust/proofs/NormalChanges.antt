@@ -5,6 +5,7 @@ use Rattle.jsonpath_parser.specs.tree.Steps.{steps_query}
 use Rattle.jsonpath_parser.specs.tree.Syntax.{Query}
 use Rattle.jsonpath_parser.specs.declared.errors.JsonPathError.{JsonPathError}
 use Rattle.jsonpath_parser.specs.declared.errors.JsonPathError.TheVariants.{OutOfMemory}
+use Rattle.jsonpath_base.proofs.Nowhere.{without_nowhere}
 use Rattle.jsonpath_base.proofs.OverwrittenLaws.{at_one_is_put, leaves_the_rest}
 use Rattle.jsonpath_base.proofs.PutLaws.{put_nowhere}
 use Rattle.jsonpath_base.proofs.WithoutLaws.{without_none}
@@ -20,7 +21,6 @@ use Rattle.jsonpath_rust.specs.documents.Meaning.{selected}
 use Rattle.jsonpath_rust.specs.documents.Patterns.{segments_patterns, IsStop}
 use Rattle.jsonpath_rust.proofs.NormalPaths.{steps_patterns}
 use Rattle.jsonpath_rust.proofs.laws.documents.NormalSteps.{selected-steps}
-use Rattle.jsonpath_rust.proofs.laws.documents.Nowhere.{without_nowhere}
 use Rattle.jsonpath_rust.proofs.laws.selection.HaltingLaws.{stop_is_memory}
 
 -- the query of a location's steps selects it where something is there

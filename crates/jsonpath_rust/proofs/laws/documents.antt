@@ -7,6 +7,5 @@ pub mod Made
 pub mod MemberCounts
 pub mod NodesAt
 pub mod NormalSteps
-pub mod Nowhere
 pub mod Parts
 pub mod Trees
