@@ -1,5 +1,5 @@
 -- JSON Pointer (RFC 6901): the text of a location, and the locations that a text may mean.
-use Rattle.std.specs.Prelude.{◌≡◌, ◌≢◌, ℕ, List, [], ◌∷◌, ◌++◌, ◌==◌, if◌then◌else◌, codes, Some, option_map, flat_map, All, IsSome}
+use Rattle.std.specs.Prelude.{◌≡◌, ◌≢◌, ℕ, List, [], ◌∷◌, ◌++◌, ◌==◌, if◌then◌else◌, codes, Option, Some, None, option_map, flat_map, All, IsSome}
 use Rattle.std.specs.Str.{byte}
 use Rattle.serde_json.specs.Find as json_find
 use Rattle.serde_json.specs.View.{view}
@@ -7,7 +7,7 @@ use Rattle.serde_json.specs.declared.value.Value.{Value}
 use Rattle.jsonpath_parser.specs.Location.{Step, name, index, Location}
 use Rattle.jsonpath_parser.specs.Normal.{index_digits}
 use Rattle.jsonpath_base.specs.Places.{at}
-use Rattle.jsonpath_base.specs.Tree.{Tree}
+use Rattle.jsonpath_base.specs.Tree.{Tree, list, object}
 use Rattle.jsonpath_base.specs.Values.{tree_of, value_tree}
 
 -- `~0` stands for `~`, and `~1` for `/` (section 3)
@@ -28,6 +28,12 @@ pointer (s ∷ l) = byte "/" ∷ (token s ++ pointer l)
 abbrev pub MeansStep : List ℕ → Step → Type 0
 MeansStep part (name k) = json_find.unescape part ≡ k
 MeansStep part (index i) = json_find.index_of part ≡ Some i
+
+-- The step that a part means in a value: in an object a name, in a list an index, digits without a leading zero (section 4).
+abbrev pub step_in : List ℕ → Tree → Option Step
+step_in part (object ms) = Some (name (json_find.unescape part))
+step_in part (list ts) = option_map index (json_find.index_of part)
+step_in part _ = None
 
 -- The text is a `/` and a part for each step.
 abbrev pub Means : List ℕ → Location → Type 0

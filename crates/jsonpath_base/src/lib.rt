@@ -29,7 +29,7 @@ pub use lending::at_mut;
 pub use location::{begins, fixed_steps, path_of};
 pub use pattern::{Extent, Finder, Pattern, found};
 pub use place::{at, put_at, take_at};
-pub use pointer::{location_by_pointer, pointer_of};
+pub use pointer::{location_by_pointer, pointer_of, step_by_token};
 pub use removal::{OrderedRemoval, Removal, remove_all, replace_all};
 pub use set_functions::set_function;
 pub use slice::{SlicePlaces, picked, slice_places};

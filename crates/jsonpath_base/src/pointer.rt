@@ -1,10 +1,12 @@
 //! Locations as JSON Pointers (RFC 6901).
-ghost use Rattle.std.specs.Prelude.{◌≡◌, ◌≤◌, ◌∷◌, ◌++◌, IfErr, IfOk, IfSome, MatchOption, None, OnOk, flat_map, length, option_and_then, string_bytes};
+ghost use Rattle.std.specs.Prelude.{◌≡◌, ◌≤◌, ◌∷◌, ◌++◌, IfErr, IfOk, IfSome, MatchOption, None, OnOk, flat_map, length, option_and_then, option_map, string_bytes};
 ghost use Rattle.serde_json.specs.Find.{pointer as points_to, step as one_step, index_of, unescape};
 ghost use Rattle.serde_json.specs.View.{view};
 ghost use Rattle.jsonpath_parser.specs.Normal.{index_digits};
-ghost use Rattle.jsonpath_base.specs.Pointer.{MeansStep, PointsTo, escaped, pointer, token};
+ghost use Rattle.jsonpath_base.specs.Pointer as pointers;
+ghost use Rattle.jsonpath_base.specs.Pointer.{MeansStep, PointsTo, escaped, pointer, step_in};
 ghost use Rattle.jsonpath_base.specs.Steps.{location_view, owned_step};
+ghost use Rattle.jsonpath_base.specs.Values.{value_tree};
 ghost use Rattle.jsonpath_base.specs.inner.Pointing.{GoesDown, data_child, tilde_escaped};
 
 use crate::place::child;
@@ -35,7 +37,7 @@ pub fn pointer_of(alloc: Global, steps: &[Step]) -> Parsed<String>
 
 /// Appends a step.
 fn push_step(text: &mut String, step: &Step) -> Result<(), AllocError>
-    ensures { OnOk result (string_bytes text.new ≡ string_bytes text.old ++ (47 ∷ token (owned_step step.now))) }
+    ensures { OnOk result (string_bytes text.new ≡ string_bytes text.old ++ (47 ∷ pointers.token (owned_step step.now))) }
 {
     text.push('/')?;
     match step {
@@ -133,8 +135,24 @@ fn go_down<'v>(
     Ok(Some(below))
 }
 
-/// The step that a part of a pointer means in a value, or None.
+/// The step that a reference token of a JSON Pointer means in a value (RFC 6901, 4): in an object a name, `~1` in it as `/` and
+/// `~0` as `~`; in a list an index, digits without a leading zero. None for any other token of a list, as `-`, and in any other
+/// value. Whether something is at the step is not asked, so the last token of a pointer tells where a value can be added. Time
+/// linear in the token.
+///
+/// # Errors
+///
+/// `OutOfMemory` where memory ran out.
+pub fn step_by_token(alloc: Global, value: &Value, token: &str) -> Parsed<Option<Step>>
+    ensures step { IfOk result (λ o. option_map owned_step o ≡ step_in token.now (value_tree value.now)) }
+    ensures memory { IfErr result (λ e. e ≡ JsonPathError.OutOfMemory) }
+{
+    step_by(alloc, value, token)
+}
+
+/// The step that a part of a pointer means in a value, or None: in the words of its tree, and in those of `Value::pointer`.
 fn step_by(alloc: Global, target: &Value, part: &str) -> Parsed<Option<Step>>
+    ensures tree { IfOk result (λ o. option_map owned_step o ≡ step_in part.now (value_tree target.now)) }
     ensures step { IfOk result (λ o. one_step part.now (view target.now) ≡ option_and_then (λ s. data_child (owned_step s) (view target.now)) o) }
     ensures means { IfOk result (λ o. IfSome o (λ s. MeansStep part.now (owned_step s))) }
     ensures memory { IfErr result (λ e. e ≡ JsonPathError.OutOfMemory) }

@@ -46,7 +46,7 @@ pub use crate::states::{Query, apply, selector, state};
 use crate::states::{processed_nodes, processed_values};
 pub use jsonpath_base::{
     Step, add_at, at, at_mut, begins, fixed_steps, location_by_pointer, path_of, pointer_of,
-    put_at, remove_all, replace_all, take_at,
+    put_at, remove_all, replace_all, step_by_token, take_at,
 };
 use jsonpath_parser::model::JpQuery;
 use jsonpath_parser::{
