@@ -5,9 +5,8 @@ use Rattle.std.specs.Borrow.{LendsSo, MutBor, Fml}
 use Rattle.serde_json.specs.contracts.value.Value.{the_row}
 use Rattle.serde_json.specs.declared.value.Value.{Value}
 use Rattle.jsonpath_parser.specs.declared.errors.JsonPathError.{JsonPathError}
-use Rattle.jsonpath_base.specs.SetFunctions.{set_function}
 use Rattle.jsonpath_base.specs.Values.{value_tree}
-use Rattle.jsonpath_rust.specs.documents.Document.{document_of}
+use Rattle.jsonpath_rust.specs.documents.Document.{value_document}
 use Rattle.jsonpath_rust.specs.documents.Referring.{IsReplaced}
 
 -- the reference in an answer, if one is there
@@ -17,4 +16,4 @@ lent_in (Err e) = None
 
 -- s ends with what is behind r at the end in the place of what stood at the location that the text means, and as it was at `None`
 abbrev pub LendsReferred : List ℕ → MutBor Value → Option (MutBor Value) → Fml
-LendsReferred text s r = LendsSo the_row the_row s r (λ n w. OnSome r (IsReplaced text (document_of value_tree set_function s.now) (value_tree w) true (value_tree n))) (λ n. n ≡ s.now)
+LendsReferred text s r = LendsSo the_row the_row s r (λ n w. OnSome r (IsReplaced text (value_document s.now) (value_tree w) true (value_tree n))) (λ n. n ≡ s.now)

@@ -3,10 +3,9 @@
 ghost use Rattle.std.specs.Prelude.{◌≡◌, Some, IsTrue, IfOk, IfErr, IfSome, is_some, option_map};
 ghost use Rattle.std.specs.Borrow.{sem};
 ghost use Rattle.jsonpath_parser.specs.declared.errors.JsonPathError.TheVariants.{OutOfMemory};
-ghost use Rattle.jsonpath_base.specs.SetFunctions.{set_function};
 ghost use Rattle.jsonpath_base.specs.Steps.{location_view};
 ghost use Rattle.jsonpath_base.specs.Values.{value_tree, value_is_whole};
-ghost use Rattle.jsonpath_rust.specs.documents.Document.{document_of};
+ghost use Rattle.jsonpath_rust.specs.documents.Document.{value_document};
 ghost use Rattle.jsonpath_rust.specs.documents.Lending.{LendsReferred, lent_in};
 ghost use Rattle.jsonpath_rust.specs.documents.Referring.{IsReference, IsReferred, tree_there};
 ghost use Rattle.jsonpath_rust.specs.documents.inner.Sought.{LendsThere, answer_of, place_in};
@@ -31,7 +30,7 @@ pub fn referred_mut<'v>(
     path: &str,
 ) -> Queried<Option<&'v mut Value>>
     ensures* writes_back { sem 𝓛 (LendsReferred path.now value.entry (lent_in result)) }
-    ensures value { IfOk result (λ o. IsReferred path.now (document_of value_tree set_function value.old) (option_map (λ v. value_tree v.now) o)) }
+    ensures value { IfOk result (λ o. IsReferred path.now (value_document value.old) (option_map (λ v. value_tree v.now) o)) }
     ensures whole { IsTrue (value_is_whole value.old) → IfOk result (λ o. IfSome o (λ v. IsTrue (value_is_whole v.now))) }
     ensures memory { IfErr result (λ e. e ≡ OutOfMemory) }
 {
@@ -42,7 +41,7 @@ pub fn referred_mut<'v>(
 
 /// What a text means.
 fn seek(alloc: Global, value: &Value, path: &str) -> Sought
-    ensures means { IfOk result.steps (λ o. IsReference path.now (document_of value_tree set_function value.now) (option_map (λ v. location_view v.items) o)) }
+    ensures means { IfOk result.steps (λ o. IsReference path.now (value_document value.now) (option_map (λ v. location_view v.items) o)) }
     ensures memory { IfErr result.steps (λ e. e ≡ OutOfMemory) }
 {
     Sought {

@@ -8,10 +8,9 @@ ghost use Rattle.jsonpath_parser.specs.tree.Steps.{HasIndexesInRange};
 ghost use Rattle.jsonpath_parser.specs.tree.View.{segment_view, selector_view};
 ghost use Rattle.jsonpath_parser.specs.declared.errors.JsonPathError.TheVariants.{OutOfMemory};
 ghost use Rattle.jsonpath_base.specs.Places as places;
-ghost use Rattle.jsonpath_base.specs.SetFunctions.{set_function};
 ghost use Rattle.jsonpath_base.specs.Steps.{location_view};
 ghost use Rattle.jsonpath_base.specs.Values.{value_tree, value_is_whole};
-ghost use Rattle.jsonpath_rust.specs.documents.Document.{document_of};
+ghost use Rattle.jsonpath_rust.specs.documents.Document.{value_document};
 ghost use Rattle.jsonpath_rust.specs.documents.Referring.{IsReference, IsReferred, IsReplaced, IsPut};
 ghost use Rattle.jsonpath_rust.specs.documents.inner.Following as following;
 ghost use Rattle.jsonpath_rust.specs.documents.inner.Following.{followed, step_to, child_view, referent_view};
@@ -46,7 +45,7 @@ struct Referent<'v> {
 ///
 /// The time is linear in the length of the path, with a search by name in each object on the way.
 pub fn replace_by_path(alloc: Global, value: &mut Value, path: &str, new: Value) -> Queried<bool>
-    ensures replaced { IfOk result (λ found. IsReplaced path.now (document_of value_tree set_function value.old) (value_tree new) found (value_tree value.new)) }
+    ensures replaced { IfOk result (λ found. IsReplaced path.now (value_document value.old) (value_tree new) found (value_tree value.new)) }
 
     // The Normalized Path of a location means that location, wherever something is there.
     ensures normal { (l : Location) → IsNormal l path.now → HasIndexesInRange l → IfOk result (λ found. IsPut l (value_tree value.old) (value_tree new) found (value_tree value.new)) }
@@ -62,7 +61,7 @@ pub fn replace_by_path(alloc: Global, value: &mut Value, path: &str, new: Value)
 
 /// The value at the one location that a path of names and indexes means, or None. It refuses by `OutOfMemory` alone.
 pub fn referred<'v>(alloc: Global, value: &'v Value, path: &str) -> Queried<Option<&'v Value>>
-    ensures value { IfOk result (λ o. IsReferred path.now (document_of value_tree set_function value.now) (option_map (λ v. value_tree v.now) o)) }
+    ensures value { IfOk result (λ o. IsReferred path.now (value_document value.now) (option_map (λ v. value_tree v.now) o)) }
     ensures whole { IsTrue (value_is_whole value.now) → IfOk result (λ o. IfSome o (λ v. IsTrue (value_is_whole v.now))) }
     ensures memory { IfErr result (λ e. e ≡ OutOfMemory) }
 {
@@ -77,7 +76,7 @@ pub fn referred<'v>(alloc: Global, value: &'v Value, path: &str) -> Queried<Opti
 ///
 /// The time is linear in the length of the path, with a search by name in each object on the way.
 pub fn referred_location(alloc: Global, value: &Value, path: &str) -> Queried<Option<Vec<Step>>>
-    ensures means { IfOk result (λ o. IsReference path.now (document_of value_tree set_function value.now) (option_map (λ v. location_view v.items) o)) }
+    ensures means { IfOk result (λ o. IsReference path.now (value_document value.now) (option_map (λ v. location_view v.items) o)) }
     ensures there { IfOk result (λ o. IfSome o (λ v. IsSome (places.at (location_view v.items) (value_tree value.now)))) }
 
     // The Normalized Path of a location means that location, wherever something is there.
@@ -92,7 +91,7 @@ pub fn referred_location(alloc: Global, value: &Value, path: &str) -> Queried<Op
 
 /// That value and the steps to it.
 fn referent_of<'v>(alloc: Global, value: &'v Value, path: &str) -> Queried<Option<Referent<'v>>>
-    ensures means { IfOk result (λ o. IsReference path.now (document_of value_tree set_function value.now) (option_map (λ p. location_view p.steps.items) o)) }
+    ensures means { IfOk result (λ o. IsReference path.now (value_document value.now) (option_map (λ p. location_view p.steps.items) o)) }
     ensures there { IfOk result (λ o. IfSome o (λ p. places.at (location_view p.steps.items) (value_tree value.now) ≡ Some (value_tree p.value.now))) }
     ensures whole { IsTrue (value_is_whole value.now) → IfOk result (λ o. IfSome o (λ p. IsTrue (value_is_whole p.value.now))) }
     ensures memory { IfErr result (λ e. e ≡ OutOfMemory) }

@@ -9,12 +9,11 @@ ghost use Rattle.jsonpath_parser.specs.tree.Syntax.{Query};
 ghost use Rattle.jsonpath_parser.specs.tree.Typing as typing;
 ghost use Rattle.jsonpath_parser.specs.tree.View.{query_view};
 ghost use Rattle.jsonpath_parser.specs.declared.errors.JsonPathError.TheVariants.{OutOfMemory};
-ghost use Rattle.jsonpath_base.specs.SetFunctions.{set_function};
 ghost use Rattle.jsonpath_base.specs.Values.{value_tree, value_is_whole};
 ghost use Rattle.jsonpath_base.specs.Without.{without, is_among, distinct_count};
 ghost use Rattle.jsonpath_rust.specs.Defaults.{IsUnsupported};
 ghost use Rattle.jsonpath_rust.specs.Deleting.{IsDeletion, IsDeletionAt, Deletes};
-ghost use Rattle.jsonpath_rust.specs.documents.Document.{document_of};
+ghost use Rattle.jsonpath_rust.specs.documents.Document.{value_document};
 ghost use Rattle.jsonpath_rust.specs.documents.Meaning.{selected};
 ghost use Rattle.jsonpath_rust.specs.documents.Patterns.{IsStop, IsQueryRefusal};
 ghost use Rattle.jsonpath_rust.specs.selection.Prepared.{runner_view, limited_view};
@@ -52,12 +51,12 @@ impl Deletable for Value {
     /// As [`delete_within`], which this is at a depth of 128.
     fn delete_by_path(&mut self, alloc: Global, path: &str) -> Queried<usize>
         requires { IsTrue (value_is_whole self.old) }
-        ensures deleted { IfOk result (Deletes MAX_NESTING_DEPTH path.now (document_of value_tree set_function self.old) (value_tree self.new)) }
+        ensures deleted { IfOk result (Deletes MAX_NESTING_DEPTH path.now (value_document self.old) (value_tree self.new)) }
 
         // Whatever query the text derives, what it selects is removed, unless memory ran out or a pattern was refused.
         ensures only { (q : Query) → Derives MAX_NESTING_DEPTH path.now q → MatchResult result
-            (IsDeletion q (document_of value_tree set_function self.old) (value_tree self.new))
-            (IsStop q (document_of value_tree set_function self.old)) }
+            (IsDeletion q (value_document self.old) (value_tree self.new))
+            (IsStop q (value_document self.old)) }
 
         // A Normalized Path is refused by `OutOfMemory` alone. Its location is removed, and nothing where nothing is there.
         ensures normal { (l : Location) → IsNormal l path.now → HasIndexesInRange l → MatchResult result
@@ -65,7 +64,7 @@ impl Deletable for Value {
             (λ e. e ≡ OutOfMemory) }
         ensures kept { OnErr result (self.new ≡ self.old) }
         ensures whole { IsTrue (value_is_whole self.new) }
-        ensures refused { IfErr result (IsQueryRefusal MAX_NESTING_DEPTH path.now (document_of value_tree set_function self.old)) }
+        ensures refused { IfErr result (IsQueryRefusal MAX_NESTING_DEPTH path.now (value_document self.old)) }
     {
         delete_within(alloc, self, path, MAX_NESTING_DEPTH)
     }
@@ -86,12 +85,12 @@ impl Deletable for Value {
 /// [`js_path_within`]: crate::query::js_path_within
 pub fn delete_within(alloc: Global, value: &mut Value, path: &str, depth: usize) -> Queried<usize>
     requires { IsTrue (value_is_whole value.old) }
-    ensures deleted { IfOk result (Deletes depth path.now (document_of value_tree set_function value.old) (value_tree value.new)) }
+    ensures deleted { IfOk result (Deletes depth path.now (value_document value.old) (value_tree value.new)) }
 
     // Whatever query the text derives, what it selects is removed, unless memory ran out or a pattern was refused.
     ensures only { (q : Query) → Derives depth path.now q → MatchResult result
-        (IsDeletion q (document_of value_tree set_function value.old) (value_tree value.new))
-        (IsStop q (document_of value_tree set_function value.old)) }
+        (IsDeletion q (value_document value.old) (value_tree value.new))
+        (IsStop q (value_document value.old)) }
 
     // A Normalized Path is refused by `OutOfMemory` alone. Its location is removed, and nothing where nothing is there.
     ensures normal { (l : Location) → IsNormal l path.now → HasIndexesInRange l → 1 ≤ depth → MatchResult result
@@ -99,7 +98,7 @@ pub fn delete_within(alloc: Global, value: &mut Value, path: &str, depth: usize)
         (λ e. e ≡ OutOfMemory) }
     ensures kept { OnErr result (value.new ≡ value.old) }
     ensures whole { IsTrue (value_is_whole value.new) }
-    ensures refused { IfErr result (IsQueryRefusal depth path.now (document_of value_tree set_function value.old)) }
+    ensures refused { IfErr result (IsQueryRefusal depth path.now (value_document value.old)) }
 {
     let query = parse_json_path_within(alloc, path, depth)?;
     let deleted = delete_selected(alloc, value, &query);
@@ -117,11 +116,11 @@ pub fn delete_within(alloc: Global, value: &mut Value, path: &str, depth: usize)
 /// [`js_path_process`]: crate::query::js_path_process
 pub fn delete_selected(alloc: Global, value: &mut Value, query: &JpQuery) -> Queried<usize>
     requires { IsTrue (value_is_whole value.old) }
-    ensures removed { OnOk result (value_tree value.new ≡ without (is_among (selected (query_view query.now) (document_of value_tree set_function value.old))) (value_tree value.old)) }
-    ensures count { IfOk result (λ n. n ≡ distinct_count (selected (query_view query.now) (document_of value_tree set_function value.old))) }
+    ensures removed { OnOk result (value_tree value.new ≡ without (is_among (selected (query_view query.now) (value_document value.old))) (value_tree value.old)) }
+    ensures count { IfOk result (λ n. n ≡ distinct_count (selected (query_view query.now) (value_document value.old))) }
     ensures kept { OnErr result (value.new ≡ value.old) }
     ensures whole { IsTrue (value_is_whole value.new) }
-    ensures refused { IfErr result (IsStop (query_view query.now) (document_of value_tree set_function value.old)) }
+    ensures refused { IfErr result (IsStop (query_view query.now) (value_document value.old)) }
 {
     let removal = selected_removal(alloc, query, value)?.ordered(alloc)?;
     removal.remove_from(value);
@@ -137,12 +136,12 @@ impl<'p> Runner<'p> {
     /// Those of [`delete_selected`]; after any of them the document is as it was.
     pub fn delete(&mut self, alloc: Global, value: &mut Value) -> Queried<usize>
         requires { IsTrue (value_is_whole value.old) }
-        ensures removed { OnOk result (value_tree value.new ≡ without (is_among (selected (runner_view self.old) (document_of value_tree set_function value.old))) (value_tree value.old)) }
-        ensures count { IfOk result (λ n. n ≡ distinct_count (selected (runner_view self.old) (document_of value_tree set_function value.old))) }
+        ensures removed { OnOk result (value_tree value.new ≡ without (is_among (selected (runner_view self.old) (value_document value.old))) (value_tree value.old)) }
+        ensures count { IfOk result (λ n. n ≡ distinct_count (selected (runner_view self.old) (value_document value.old))) }
         ensures kept { OnErr result (value.new ≡ value.old) }
         ensures whole { IsTrue (value_is_whole value.new) }
         ensures same { runner_view self.new ≡ runner_view self.old }
-        ensures refused { IfErr result (IsStop (runner_view self.old) (document_of value_tree set_function value.old)) }
+        ensures refused { IfErr result (IsStop (runner_view self.old) (value_document value.old)) }
     {
         let ordered = self.removal(alloc, value)?.ordered(alloc)?;
         ordered.remove_from(value);
@@ -158,13 +157,13 @@ impl<'p> Limited<'p> {
     /// Those of [`delete_selected`]; after any of them the document is as it was.
     pub fn delete(&mut self, alloc: Global, value: &mut Value) -> Queried<Within<usize>>
         requires { IsTrue (value_is_whole value.old) }
-        ensures deleted { IfOk result (λ w. IfDone w (λ n. IsDeletion (limited_view self.old) (document_of value_tree set_function value.old) (value_tree value.new) n)) }
+        ensures deleted { IfOk result (λ w. IfDone w (λ n. IsDeletion (limited_view self.old) (value_document value.old) (value_tree value.new) n)) }
         ensures spent { IfOk result (λ w. IfSpent w (value.new ≡ value.old)) }
         ensures kept { OnErr result (value.new ≡ value.old) }
         ensures whole { IsTrue (value_is_whole value.new) }
         ensures enough { IsTrue (typing.is_singular (limited_view self.old)) → IfOk result (λ w. IfSpent w ⊥) }
         ensures same { limited_view self.new ≡ limited_view self.old }
-        ensures refused { IfErr result (IsStop (limited_view self.old) (document_of value_tree set_function value.old)) }
+        ensures refused { IfErr result (IsStop (limited_view self.old) (value_document value.old)) }
     {
         let within = self.removal(alloc, value)?;
         match within {

@@ -9,11 +9,10 @@ ghost use Rattle.jsonpath_parser.specs.tree.Typing as typing;
 ghost use Rattle.jsonpath_parser.specs.tree.View.{query_view};
 ghost use Rattle.jsonpath_parser.specs.declared.errors.JsonPathError.TheVariants.{OutOfMemory};
 ghost use Rattle.jsonpath_base.specs.Overwritten.{overwritten};
-ghost use Rattle.jsonpath_base.specs.SetFunctions.{set_function};
 ghost use Rattle.jsonpath_base.specs.Values.{value_tree, value_is_whole};
 ghost use Rattle.jsonpath_base.specs.Without.{is_among, distinct_count};
 ghost use Rattle.jsonpath_rust.specs.Replacing.{IsReplacement, IsReplacementAt, Replaces};
-ghost use Rattle.jsonpath_rust.specs.documents.Document.{document_of};
+ghost use Rattle.jsonpath_rust.specs.documents.Document.{value_document};
 ghost use Rattle.jsonpath_rust.specs.documents.Meaning.{selected};
 ghost use Rattle.jsonpath_rust.specs.documents.Patterns.{IsStop, IsQueryRefusal};
 ghost use Rattle.jsonpath_rust.specs.selection.Prepared.{runner_view, limited_view};
@@ -47,12 +46,12 @@ pub fn replace_within(
 ) -> Queried<usize>
     requires value_whole { IsTrue (value_is_whole value.old) }
     requires new_whole { IsTrue (value_is_whole new.now) }
-    ensures replaced { IfOk result (Replaces depth path.now (value_tree new.now) (document_of value_tree set_function value.old) (value_tree value.new)) }
+    ensures replaced { IfOk result (Replaces depth path.now (value_tree new.now) (value_document value.old) (value_tree value.new)) }
 
     // Whatever query the text derives, what it selects is replaced, unless memory ran out or a pattern was refused.
     ensures only { (q : Query) → Derives depth path.now q → MatchResult result
-        (IsReplacement q (value_tree new.now) (document_of value_tree set_function value.old) (value_tree value.new))
-        (IsStop q (document_of value_tree set_function value.old)) }
+        (IsReplacement q (value_tree new.now) (value_document value.old) (value_tree value.new))
+        (IsStop q (value_document value.old)) }
 
     // A Normalized Path is refused by `OutOfMemory` alone. The copy stands at its location, and nowhere where nothing is there.
     ensures normal { (l : Location) → IsNormal l path.now → HasIndexesInRange l → 1 ≤ depth → MatchResult result
@@ -60,7 +59,7 @@ pub fn replace_within(
         (λ e. e ≡ OutOfMemory) }
     ensures kept { OnErr result (value.new ≡ value.old) }
     ensures whole { IsTrue (value_is_whole value.new) }
-    ensures refused { IfErr result (IsQueryRefusal depth path.now (document_of value_tree set_function value.old)) }
+    ensures refused { IfErr result (IsQueryRefusal depth path.now (value_document value.old)) }
 {
     let query = parse_json_path_within(alloc, path, depth)?;
     let replaced = replace_selected(alloc, value, &query, new);
@@ -84,11 +83,11 @@ pub fn replace_selected(
 ) -> Queried<usize>
     requires value_whole { IsTrue (value_is_whole value.old) }
     requires new_whole { IsTrue (value_is_whole new.now) }
-    ensures replaced { OnOk result (value_tree value.new ≡ overwritten (is_among (selected (query_view query.now) (document_of value_tree set_function value.old))) (value_tree new.now) (value_tree value.old)) }
-    ensures count { IfOk result (λ n. n ≡ distinct_count (selected (query_view query.now) (document_of value_tree set_function value.old))) }
+    ensures replaced { OnOk result (value_tree value.new ≡ overwritten (is_among (selected (query_view query.now) (value_document value.old))) (value_tree new.now) (value_tree value.old)) }
+    ensures count { IfOk result (λ n. n ≡ distinct_count (selected (query_view query.now) (value_document value.old))) }
     ensures kept { OnErr result (value.new ≡ value.old) }
     ensures whole { IsTrue (value_is_whole value.new) }
-    ensures refused { IfErr result (IsStop (query_view query.now) (document_of value_tree set_function value.old)) }
+    ensures refused { IfErr result (IsStop (query_view query.now) (value_document value.old)) }
 {
     let places = selected_removal(alloc, query, value)?.ordered(alloc)?;
     places.replace_in(alloc, value, new)?;
@@ -105,12 +104,12 @@ impl<'p> Runner<'p> {
     pub fn replace(&mut self, alloc: Global, value: &mut Value, new: &Value) -> Queried<usize>
         requires value_whole { IsTrue (value_is_whole value.old) }
         requires new_whole { IsTrue (value_is_whole new.now) }
-        ensures replaced { OnOk result (value_tree value.new ≡ overwritten (is_among (selected (runner_view self.old) (document_of value_tree set_function value.old))) (value_tree new.now) (value_tree value.old)) }
-        ensures count { IfOk result (λ n. n ≡ distinct_count (selected (runner_view self.old) (document_of value_tree set_function value.old))) }
+        ensures replaced { OnOk result (value_tree value.new ≡ overwritten (is_among (selected (runner_view self.old) (value_document value.old))) (value_tree new.now) (value_tree value.old)) }
+        ensures count { IfOk result (λ n. n ≡ distinct_count (selected (runner_view self.old) (value_document value.old))) }
         ensures kept { OnErr result (value.new ≡ value.old) }
         ensures whole { IsTrue (value_is_whole value.new) }
         ensures same { runner_view self.new ≡ runner_view self.old }
-        ensures refused { IfErr result (IsStop (runner_view self.old) (document_of value_tree set_function value.old)) }
+        ensures refused { IfErr result (IsStop (runner_view self.old) (value_document value.old)) }
     {
         let ordered = self.removal(alloc, value)?.ordered(alloc)?;
         ordered.replace_in(alloc, value, new)?;
@@ -133,13 +132,13 @@ impl<'p> Limited<'p> {
     ) -> Queried<Within<usize>>
         requires value_whole { IsTrue (value_is_whole value.old) }
         requires new_whole { IsTrue (value_is_whole new.now) }
-        ensures replaced { IfOk result (λ w. IfDone w (λ n. IsReplacement (limited_view self.old) (value_tree new.now) (document_of value_tree set_function value.old) (value_tree value.new) n)) }
+        ensures replaced { IfOk result (λ w. IfDone w (λ n. IsReplacement (limited_view self.old) (value_tree new.now) (value_document value.old) (value_tree value.new) n)) }
         ensures spent { IfOk result (λ w. IfSpent w (value.new ≡ value.old)) }
         ensures kept { OnErr result (value.new ≡ value.old) }
         ensures whole { IsTrue (value_is_whole value.new) }
         ensures enough { IsTrue (typing.is_singular (limited_view self.old)) → IfOk result (λ w. IfSpent w ⊥) }
         ensures same { limited_view self.new ≡ limited_view self.old }
-        ensures refused { IfErr result (IsStop (limited_view self.old) (document_of value_tree set_function value.old)) }
+        ensures refused { IfErr result (IsStop (limited_view self.old) (value_document value.old)) }
     {
         let within = self.removal(alloc, value)?;
         match within {

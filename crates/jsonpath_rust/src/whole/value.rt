@@ -10,13 +10,12 @@ ghost use Rattle.jsonpath_parser.specs.declared.errors.JsonPathError.TheVariants
 ghost use Rattle.jsonpath_base.specs.Overwritten.{overwritten};
 ghost use Rattle.jsonpath_base.specs.Places as places;
 ghost use Rattle.jsonpath_base.specs.Put.{put};
-ghost use Rattle.jsonpath_base.specs.SetFunctions.{set_function};
 ghost use Rattle.jsonpath_base.specs.Steps.{location_view};
 ghost use Rattle.jsonpath_base.specs.Values.{value_tree, value_is_whole};
 ghost use Rattle.jsonpath_base.specs.Without.{without, is_among, distinct_count};
 ghost use Rattle.jsonpath_rust.specs.Deleting.{IsDeletion, IsDeletionAt, Deletes};
 ghost use Rattle.jsonpath_rust.specs.Replacing.{IsReplacement, IsReplacementAt, Replaces};
-ghost use Rattle.jsonpath_rust.specs.documents.Document.{document_of};
+ghost use Rattle.jsonpath_rust.specs.documents.Document.{value_document};
 ghost use Rattle.jsonpath_rust.specs.documents.Meaning.{selected};
 ghost use Rattle.jsonpath_rust.specs.documents.Patterns.{IsStop, IsQueryRefusal};
 ghost use Rattle.jsonpath_rust.specs.documents.Referring.{IsReferred, IsReplaced, IsPut};
@@ -37,7 +36,7 @@ impl Whole<Value> {
     /// The value at the one location that a path of names and indexes means, as [`Queryable::reference`]. It refuses by `OutOfMemory`
     /// alone.
     pub fn reference(&self, alloc: Global, path: &str) -> Queried<Option<&Value>>
-        ensures value { IfOk result (λ o. IsReferred path.now (document_of value_tree set_function self.now.value) (option_map (λ v. value_tree v.now) o)) }
+        ensures value { IfOk result (λ o. IsReferred path.now (value_document self.now.value) (option_map (λ v. value_tree v.now) o)) }
 
         // The Normalized Path of a location gives what stands there.
         ensures normal { (l : Location) → IsNormal l path.now → HasIndexesInRange l → IfOk result (λ o. option_map (λ v. value_tree v.now) o ≡ places.at l (value_tree self.now.value)) }
@@ -49,7 +48,7 @@ impl Whole<Value> {
 
     /// Puts a value at the one location that a path of names and indexes means, as [`replace_by_path`].
     pub fn replace_by_path(&mut self, alloc: Global, path: &str, new: Whole<Value>) -> Queried<bool>
-        ensures replaced { IfOk result (λ found. IsReplaced path.now (document_of value_tree set_function self.old.value) (value_tree new.value) found (value_tree self.new.value)) }
+        ensures replaced { IfOk result (λ found. IsReplaced path.now (value_document self.old.value) (value_tree new.value) found (value_tree self.new.value)) }
 
         // The Normalized Path of a location means that location, wherever something is there.
         ensures normal { (l : Location) → IsNormal l path.now → HasIndexesInRange l → IfOk result (λ found. IsPut l (value_tree self.old.value) (value_tree new.value) found (value_tree self.new.value)) }
@@ -69,29 +68,29 @@ impl Whole<Value> {
 
     /// Removes all locations that a query text selects, at once, as [`delete_within`] at a depth of 128.
     pub fn delete_by_path(&mut self, alloc: Global, path: &str) -> Queried<usize>
-        ensures deleted { IfOk result (Deletes MAX_NESTING_DEPTH path.now (document_of value_tree set_function self.old.value) (value_tree self.new.value)) }
+        ensures deleted { IfOk result (Deletes MAX_NESTING_DEPTH path.now (value_document self.old.value) (value_tree self.new.value)) }
 
         // Whatever query the text derives, what it selects is removed, unless memory ran out or a pattern was refused.
         ensures only { (q : Query) → Derives MAX_NESTING_DEPTH path.now q → MatchResult result
-            (IsDeletion q (document_of value_tree set_function self.old.value) (value_tree self.new.value))
-            (IsStop q (document_of value_tree set_function self.old.value)) }
+            (IsDeletion q (value_document self.old.value) (value_tree self.new.value))
+            (IsStop q (value_document self.old.value)) }
 
         // A Normalized Path is refused by `OutOfMemory` alone. Its location is removed, and nothing where nothing is there.
         ensures normal { (l : Location) → IsNormal l path.now → HasIndexesInRange l → MatchResult result
             (IsDeletionAt l (value_tree self.old.value) (value_tree self.new.value))
             (λ e. e ≡ OutOfMemory) }
         ensures kept { OnErr result (self.new.value ≡ self.old.value) }
-        ensures refused { IfErr result (IsQueryRefusal MAX_NESTING_DEPTH path.now (document_of value_tree set_function self.old.value)) }
+        ensures refused { IfErr result (IsQueryRefusal MAX_NESTING_DEPTH path.now (value_document self.old.value)) }
     {
         delete_within(alloc, &mut self.value, path, MAX_NESTING_DEPTH)
     }
 
     /// Removes all locations that a query selects, as [`delete_selected`].
     pub fn delete_selected(&mut self, alloc: Global, query: &JpQuery) -> Queried<usize>
-        ensures removed { OnOk result (value_tree self.new.value ≡ without (is_among (selected (query_view query.now) (document_of value_tree set_function self.old.value))) (value_tree self.old.value)) }
-        ensures count { IfOk result (λ n. n ≡ distinct_count (selected (query_view query.now) (document_of value_tree set_function self.old.value))) }
+        ensures removed { OnOk result (value_tree self.new.value ≡ without (is_among (selected (query_view query.now) (value_document self.old.value))) (value_tree self.old.value)) }
+        ensures count { IfOk result (λ n. n ≡ distinct_count (selected (query_view query.now) (value_document self.old.value))) }
         ensures kept { OnErr result (self.new.value ≡ self.old.value) }
-        ensures refused { IfErr result (IsStop (query_view query.now) (document_of value_tree set_function self.old.value)) }
+        ensures refused { IfErr result (IsStop (query_view query.now) (value_document self.old.value)) }
     {
         delete_selected(alloc, &mut self.value, query)
     }
@@ -114,19 +113,19 @@ impl Whole<Value> {
         depth: usize,
         new: &Whole<Value>,
     ) -> Queried<usize>
-        ensures replaced { IfOk result (Replaces depth path.now (value_tree new.now.value) (document_of value_tree set_function self.old.value) (value_tree self.new.value)) }
+        ensures replaced { IfOk result (Replaces depth path.now (value_tree new.now.value) (value_document self.old.value) (value_tree self.new.value)) }
 
         // Whatever query the text derives, what it selects is replaced, unless memory ran out or a pattern was refused.
         ensures only { (q : Query) → Derives depth path.now q → MatchResult result
-            (IsReplacement q (value_tree new.now.value) (document_of value_tree set_function self.old.value) (value_tree self.new.value))
-            (IsStop q (document_of value_tree set_function self.old.value)) }
+            (IsReplacement q (value_tree new.now.value) (value_document self.old.value) (value_tree self.new.value))
+            (IsStop q (value_document self.old.value)) }
 
         // A Normalized Path is refused by `OutOfMemory` alone. The copy stands at its location, and nowhere where nothing is there.
         ensures normal { (l : Location) → IsNormal l path.now → HasIndexesInRange l → 1 ≤ depth → MatchResult result
             (IsReplacementAt l (value_tree new.now.value) (value_tree self.old.value) (value_tree self.new.value))
             (λ e. e ≡ OutOfMemory) }
         ensures kept { OnErr result (self.new.value ≡ self.old.value) }
-        ensures refused { IfErr result (IsQueryRefusal depth path.now (document_of value_tree set_function self.old.value)) }
+        ensures refused { IfErr result (IsQueryRefusal depth path.now (value_document self.old.value)) }
     {
         replace_within(alloc, &mut self.value, path, depth, &new.value)
     }
@@ -138,10 +137,10 @@ impl Whole<Value> {
         query: &JpQuery,
         new: &Whole<Value>,
     ) -> Queried<usize>
-        ensures replaced { OnOk result (value_tree self.new.value ≡ overwritten (is_among (selected (query_view query.now) (document_of value_tree set_function self.old.value))) (value_tree new.now.value) (value_tree self.old.value)) }
-        ensures count { IfOk result (λ n. n ≡ distinct_count (selected (query_view query.now) (document_of value_tree set_function self.old.value))) }
+        ensures replaced { OnOk result (value_tree self.new.value ≡ overwritten (is_among (selected (query_view query.now) (value_document self.old.value))) (value_tree new.now.value) (value_tree self.old.value)) }
+        ensures count { IfOk result (λ n. n ≡ distinct_count (selected (query_view query.now) (value_document self.old.value))) }
         ensures kept { OnErr result (self.new.value ≡ self.old.value) }
-        ensures refused { IfErr result (IsStop (query_view query.now) (document_of value_tree set_function self.old.value)) }
+        ensures refused { IfErr result (IsStop (query_view query.now) (value_document self.old.value)) }
     {
         replace_selected(alloc, &mut self.value, query, &new.value)
     }

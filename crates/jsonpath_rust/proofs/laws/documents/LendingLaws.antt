@@ -12,12 +12,11 @@ use Rattle.jsonpath_parser.specs.contracts.errors.JsonPathError.{the_row as E}
 use Rattle.jsonpath_parser.proofs.errors.JsonPathError.TheLaws.{the_row_laws as E-laws}
 use Rattle.jsonpath_parser.specs.declared.errors.JsonPathError.{JsonPathError}
 use Rattle.jsonpath_parser.specs.declared.errors.JsonPathError.TheVariants.{OutOfMemory}
-use Rattle.jsonpath_base.specs.SetFunctions.{set_function}
 use Rattle.jsonpath_base.specs.Steps.{location_view}
 use Rattle.jsonpath_base.specs.Tree.{Tree}
 use Rattle.jsonpath_base.specs.Values.{value_tree}
 use Rattle.jsonpath_base.specs.declared.step.Step.{Step}
-use Rattle.jsonpath_rust.specs.documents.Document.{document_of}
+use Rattle.jsonpath_rust.specs.documents.Document.{value_document}
 use Rattle.jsonpath_rust.specs.documents.Lending.{LendsReferred, lent_in}
 use Rattle.jsonpath_rust.specs.documents.Referring.{IsReference, IsReferred, IsReplaced, tree_there, put_there}
 use Rattle.jsonpath_rust.specs.documents.inner.Sought.{LendsThere, answer_of, place_in}
@@ -84,7 +83,7 @@ Seeking = Result (Option (Vec Step Global)) JsonPathError
 
 -- what a text means in a value, if reading it was not refused
 abbrev pub Means : List ℕ → Value → Seeking → Type 0
-Means text v s = IfOk s (λ o. IsReference text (document_of value_tree set_function v) (option_map (λ steps. location_view steps.items) o))
+Means text v s = IfOk s (λ o. IsReference text (value_document v) (option_map (λ steps. location_view steps.items) o))
 
 -- nothing is there where no location is meant
 pub no_place : (o : Option Location) (t : Tree) → is_some o ≡ false → None ≡ tree_there o t
@@ -97,14 +96,14 @@ lent_same (Err x) None t e = refl
 lent_same (Err x) (Some v) t e = absurd cc
 
 pub written : (text : List ℕ) (old : Value) (s : Seeking) (lent : Option (MutBor Value)) → Means text old s → option_map (λ v. value_tree v.now) lent ≡ tree_there (place_in s) (value_tree old) → (u n : Value)
-    → OnSome lent (value_tree n ≡ put_there (place_in s) (value_tree u) (value_tree old)) → OnSome lent (IsReplaced text (document_of value_tree set_function old) (value_tree u) true (value_tree n))
+    → OnSome lent (value_tree n ≡ put_there (place_in s) (value_tree u) (value_tree old)) → OnSome lent (IsReplaced text (value_document old) (value_tree u) true (value_tree n))
 written text old s None means there u n is = tt
 written text old (Ok (Some steps)) (Some v) means there u n is = record { reference = Some (location_view steps.items); means = means; replaced = is; found = refl }
 written text old (Ok None) (Some v) means there u n is = absurd cc
 written text old (Err x) (Some v) means there u n is = absurd cc
 
 pub referred_there : (text : List ℕ) (old : Value) (s : Seeking) (lent : Option (MutBor Value)) → Means text old s → option_map (λ v. value_tree v.now) lent ≡ tree_there (place_in s) (value_tree old)
-    → IfOk (answer_of s lent) (λ o. IsReferred text (document_of value_tree set_function old) (option_map (λ v. value_tree v.now) o))
+    → IfOk (answer_of s lent) (λ o. IsReferred text (value_document old) (option_map (λ v. value_tree v.now) o))
 referred_there text old (Ok o) lent means there = record { reference = option_map (λ steps. location_view steps.items) o; means = means; there = there }
 referred_there text old (Err x) lent means there = tt
 

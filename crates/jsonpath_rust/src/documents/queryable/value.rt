@@ -15,7 +15,7 @@ ghost use Rattle.jsonpath_parser.specs.Location.{Location};
 ghost use Rattle.jsonpath_parser.specs.Normal.{IsNormal};
 ghost use Rattle.jsonpath_parser.specs.tree.Steps.{HasIndexesInRange};
 ghost use Rattle.jsonpath_parser.specs.declared.errors.JsonPathError.TheVariants.{OutOfMemory};
-ghost use Rattle.jsonpath_rust.specs.documents.Document.{document_of};
+ghost use Rattle.jsonpath_rust.specs.documents.Document.{value_document};
 ghost use Rattle.jsonpath_rust.specs.documents.Lending.{LendsReferred, lent_in};
 ghost use Rattle.jsonpath_rust.specs.documents.Referring.{IsReferred};
 
@@ -138,7 +138,7 @@ impl Queryable for Value {
     /// The value at the one location that a path of names and indexes means. Each other text gives None, and so does one
     /// that is no query. The steps are followed down; the value is not walked.
     fn reference(&self, alloc: Global, path: &str) -> Queried<Option<&Value>>
-        ensures value { IfOk result (λ o. IsReferred path.now (document_of value_tree set_function self.now) (option_map (λ v. value_tree v.now) o)) }
+        ensures value { IfOk result (λ o. IsReferred path.now (value_document self.now) (option_map (λ v. value_tree v.now) o)) }
 
         // A Normalized Path leads to its own location, if something is there.
         ensures normal { (l : Location) → IsNormal l path.now → HasIndexesInRange l → IfOk result (λ o. option_map (λ v. value_tree v.now) o ≡ at l (value_tree self.now)) }
@@ -152,7 +152,7 @@ impl Queryable for Value {
     /// else has changed. None and a refusal leave the value as it was.
     fn reference_mut(&mut self, alloc: Global, path: &str) -> Queried<Option<&mut Value>>
         ensures* writes_back { sem 𝓛 (LendsReferred path.now self.entry (lent_in result)) }
-        ensures value { IfOk result (λ o. IsReferred path.now (document_of value_tree set_function self.old) (option_map (λ v. value_tree v.now) o)) }
+        ensures value { IfOk result (λ o. IsReferred path.now (value_document self.old) (option_map (λ v. value_tree v.now) o)) }
 
         // A Normalized Path leads to its own location, if something is there.
         ensures normal { (l : Location) → IsNormal l path.now → HasIndexesInRange l → IfOk result (λ o. option_map (λ v. value_tree v.now) o ≡ at l (value_tree self.old)) }

@@ -28,9 +28,8 @@ use Rattle.serde_json.specs.contracts.value.Value.{the_row as R}
 use Rattle.serde_json.proofs.value.Value.TheLaws.{the_row_laws as R-laws}
 use Rattle.jsonpath_parser.specs.contracts.errors.JsonPathError.{the_row as E}
 use Rattle.jsonpath_parser.specs.declared.errors.JsonPathError.TheVariants.{OutOfMemory}
-use Rattle.jsonpath_base.specs.SetFunctions.{set_function}
 use Rattle.jsonpath_base.specs.Values.{value_tree, value_is_whole}
-use Rattle.jsonpath_rust.specs.documents.Document.{document_of}
+use Rattle.jsonpath_rust.specs.documents.Document.{value_document}
 use Rattle.jsonpath_rust.specs.documents.Lending.{LendsReferred}
 use Rattle.jsonpath_rust.specs.documents.Referring.{IsReferred, tree_there}
 use Rattle.jsonpath_rust.specs.documents.inner.Sought.{LendsThere, answer_of, place_in}
@@ -62,7 +61,7 @@ referred_mut_spec 𝓤 𝓛 𝓜 𝓡 wired =
     let κ = κs.0 in let κp = κs.1.0 in let q = qs.0 in let qp = qs.1.0 in let alloc = a.0 in let value = a.1.0 in let path = a.1.1.0 in
     let b₀ = value.ref_ptr.0 in let o₀ = value.ref_ptr.1 in let γ = value.ghost_name in let x = value.now in
     let S = str-laws (second κp) in let alloc_vals = A-told.val alloc ∷ [] in let path_vals = S.val path ∷ [] in
-    let doc = document_of value_tree set_function x in
+    let doc = value_document x in
     let z : W.Ghost = ((κs, qs, bounds, a, (alloc_vals, (mut_vals value, (path_vals, tt)))), tt) in
     qed 𝓛 (((‵ (flft κ q) ⊛ ‵ (flft κp qp) ⊛ ‵ ftrue) ⊛ (‵ (A.own_val alloc alloc_vals) ⊛ ‵ ((MutRef (named 0) κ R).own_val value (mut_vals value)) ⊛ ‵ ((Str (named 1) κp).own_val path path_vals) ⊛ ‵ ftrue)) ∷ raw ((c κs a).requires tt) ∷ []) ∵
     split ! $ split ! $ move ! (1 ∷ []) $ split ! $ move ! (3 ∷ []) $ split ! $ move ! (1 ∷ []) $ split ! $ move ! (1 ∷ []) $ split ! $ keep ! (2 ∷ 0 ∷ 3 ∷ 6 ∷ 4 ∷ []) $

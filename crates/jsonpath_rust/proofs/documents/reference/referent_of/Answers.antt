@@ -1,9 +1,8 @@
 use Rattle.std.proofs.Common.{ap, sym, ◌∙◌}
 use Rattle.jsonpath_parser.proofs.laws.tree.ViewEquations.{query_view-segments}
 use Rattle.jsonpath_parser.specs.tree.View.{query_view}
-use Rattle.jsonpath_base.specs.SetFunctions.{set_function}
 use Rattle.jsonpath_base.specs.Values.{value_tree}
-use Rattle.jsonpath_rust.specs.documents.Document.{document_of}
+use Rattle.jsonpath_rust.specs.documents.Document.{value_document}
 use Rattle.jsonpath_rust.specs.documents.inner.Parts.{segments_in}
 use Rattle.jsonpath_rust.proofs.laws.documents.Following.{means_referent, stands_there}
 use Rattle.jsonpath_rust.proofs.documents.reference.referent_of.Goals as goal
@@ -11,7 +10,7 @@ use Rattle.jsonpath_rust.proofs.documents.reference.referent_of.Goals as goal
 pub returns-in-Ok-clause-means : goal.returns-in-Ok-clause-means
 returns-in-Ok-clause-means c =
     let q = c.in-Ok.query in
-    means_referent c.args.path.now (document_of value_tree set_function c.args.value.now) (query_view q) _ c.follow-referent.result (query_view-segments q ∙ ap segments_in (sym c.deref.ensures.value)) c.in-Ok.ensures.derived c.in-Ok.ensures.only c.follow-referent.ensures.value
+    means_referent c.args.path.now (value_document c.args.value.now) (query_view q) _ c.follow-referent.result (query_view-segments q ∙ ap segments_in (sym c.deref.ensures.value)) c.in-Ok.ensures.derived c.in-Ok.ensures.only c.follow-referent.ensures.value
 
 pub returns-in-Ok-clause-there : goal.returns-in-Ok-clause-there
 returns-in-Ok-clause-there c = stands_there _ (value_tree c.args.value.now) c.follow-referent.result c.follow-referent.ensures.value

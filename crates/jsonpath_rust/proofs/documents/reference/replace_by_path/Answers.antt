@@ -1,10 +1,9 @@
 use Rattle.std.proofs.Common.{◌≡◌, true, false, Some, None, is_some, IsSome, IfSome, option_map, refl, ap, ◌∙◌, subst}
 use Rattle.jsonpath_base.specs.Places as places
 use Rattle.jsonpath_base.specs.Put.{put}
-use Rattle.jsonpath_base.specs.SetFunctions.{set_function}
 use Rattle.jsonpath_base.specs.Steps.{location_view}
 use Rattle.jsonpath_base.specs.Values.{value_tree}
-use Rattle.jsonpath_rust.specs.documents.Document.{document_of}
+use Rattle.jsonpath_rust.specs.documents.Document.{value_document}
 use Rattle.jsonpath_rust.specs.documents.Referring.{IsReference}
 use Rattle.jsonpath_rust.proofs.laws.documents.NormalSteps.{normal_put}
 use Rattle.jsonpath_rust.proofs.documents.reference.replace_by_path.Goals as goal
@@ -12,7 +11,7 @@ use Rattle.jsonpath_rust.proofs.documents.reference.replace_by_path.Goals as goa
 pub returns-in-Some-clause-normal : goal.returns-in-Some-clause-normal
 returns-in-Some-clause-normal c l is small =
     let old = value_tree c.args.value.now in
-    let doc = document_of value_tree set_function c.args.value.now in
+    let doc = value_document c.args.value.now in
     let m = location_view c.in-Some.steps.items in
     let means = subst (λ o. IsReference c.args.path.now doc (option_map (λ v. location_view v.items) o)) c.in-Some.is c.in_ok-steps.ensures.means in
     let there : is_some (places.at m old) ≡ true = subst (λ o. IfSome o (λ v. IsSome (places.at (location_view v.items) old))) c.in-Some.is c.in_ok-steps.ensures.there in
@@ -22,6 +21,6 @@ returns-in-Some-clause-normal c l is small =
 
 pub returns-in-None-clause-normal : goal.returns-in-None-clause-normal
 returns-in-None-clause-normal c l is small =
-    let doc = document_of value_tree set_function c.args.value.now in
+    let doc = value_document c.args.value.now in
     let means = subst (λ o. IsReference c.args.path.now doc (option_map (λ v. location_view v.items) o)) c.in-None.is c.in_ok-steps.ensures.means in
     normal_put c.args.path.now l doc (value_tree c.args.new) (value_tree c.args.value.now) false None means refl refl is small

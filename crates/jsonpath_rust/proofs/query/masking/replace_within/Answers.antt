@@ -1,14 +1,13 @@
 use Rattle.jsonpath_parser.specs.tree.View.{query_view}
 use Rattle.jsonpath_base.proofs.Views.{whole_distinct}
-use Rattle.jsonpath_base.specs.SetFunctions.{set_function}
 use Rattle.jsonpath_base.specs.Values.{value_tree}
-use Rattle.jsonpath_rust.specs.documents.Document.{document_of}
+use Rattle.jsonpath_rust.specs.documents.Document.{value_document}
 use Rattle.jsonpath_rust.proofs.NormalChanges.{normal_replaced}
 use Rattle.jsonpath_rust.proofs.query.masking.replace_within.Goals as goal
 
 pub returns-clause-normal : goal.returns-clause-normal
 returns-clause-normal c l is small deep =
     let replaced = c.replace_selected-replaced in
-    let doc = document_of value_tree set_function c.args.value.now in
+    let doc = value_document c.args.value.now in
     normal_replaced l (query_view c.in_ok-query.query) doc (value_tree c.args.new.now) (value_tree replaced.new.value) replaced.result (whole_distinct c.args.value.now c.requires.value_whole) (c.in_ok-query.ensures.normal l is small deep)
     replaced.ensures.replaced replaced.ensures.count replaced.ensures.refused

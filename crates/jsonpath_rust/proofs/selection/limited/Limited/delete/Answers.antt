@@ -1,8 +1,7 @@
 use Rattle.std.proofs.Common.{ap, ◌∙◌}
 use Rattle.jsonpath_base.specs.Values.{value_tree}
 use Rattle.jsonpath_base.specs.Without.{without}
-use Rattle.jsonpath_base.specs.SetFunctions.{set_function}
-use Rattle.jsonpath_rust.specs.documents.Document.{document_of}
+use Rattle.jsonpath_rust.specs.documents.Document.{value_document}
 use Rattle.jsonpath_rust.specs.documents.Meaning.{selected}
 use Rattle.jsonpath_rust.specs.selection.Prepared.{limited_view}
 use Rattle.jsonpath_rust.specs.selection.inner.Sinks.{IsRemovalOf}
@@ -11,7 +10,7 @@ use Rattle.jsonpath_rust.proofs.selection.limited.Limited.delete.Goals as goal
 
 pub returns-in_ok-marked-in-Done-clause-deleted : goal.returns-in_ok-marked-in-Done-clause-deleted
 returns-in_ok-marked-in-Done-clause-deleted c =
-    let ls = selected (limited_view c.args.self.now) (document_of value_tree set_function c.args.value.now) in
+    let ls = selected (limited_view c.args.self.now) (value_document c.args.value.now) in
     let all : IsRemovalOf c.in-Done.removal ls = of_done _ _ _ c.in-Done.is c.in_ok-within.ensures.removal in
     record {
       removed = c.remove_from.ensures.removed ∙ ap (λ s. without s (value_tree c.args.value.now)) (c.in_ok-marked-in-Done.ensures.set ∙ all.set);

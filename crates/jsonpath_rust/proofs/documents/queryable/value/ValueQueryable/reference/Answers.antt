@@ -1,10 +1,9 @@
 use Rattle.std.proofs.Common.{Bor}
 use Rattle.serde_json.specs.declared.value.Value.{Value}
-use Rattle.jsonpath_base.specs.SetFunctions.{set_function}
 use Rattle.jsonpath_base.specs.Values.{value_tree}
-use Rattle.jsonpath_rust.specs.documents.Document.{document_of}
+use Rattle.jsonpath_rust.specs.documents.Document.{value_document}
 use Rattle.jsonpath_rust.proofs.laws.documents.NormalSteps.{normal_answered}
 use Rattle.jsonpath_rust.proofs.documents.queryable.value.ValueQueryable.reference.Goals as goal
 
 pub returns-clause-normal : goal.returns-clause-normal
-returns-clause-normal c l is small = normal_answered (λ (v : Bor Value). value_tree v.now) c.args.path.now l (document_of value_tree set_function c.args.self.now) c.referred.result is small c.referred.ensures.value
+returns-clause-normal c l is small = normal_answered (λ (v : Bor Value). value_tree v.now) c.args.path.now l (value_document c.args.self.now) c.referred.result is small c.referred.ensures.value

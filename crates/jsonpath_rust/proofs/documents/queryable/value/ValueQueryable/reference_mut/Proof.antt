@@ -15,14 +15,13 @@ use denote.Triple.Clauses.{Lasts}
 use Rattle.serde_json.specs.contracts.value.Value.{the_row as R}
 use Rattle.jsonpath_parser.specs.contracts.errors.JsonPathError.{the_row as E}
 use Rattle.jsonpath_parser.specs.declared.errors.JsonPathError.TheVariants.{OutOfMemory}
-use Rattle.jsonpath_base.specs.SetFunctions.{set_function}
 use Rattle.jsonpath_parser.specs.Location.{Location}
 use Rattle.jsonpath_parser.specs.Normal.{IsNormal}
 use Rattle.jsonpath_parser.specs.tree.Steps.{HasIndexesInRange}
 use Rattle.jsonpath_base.specs.Places.{at}
 use Rattle.jsonpath_base.specs.Values.{value_tree, value_is_whole}
 use Rattle.jsonpath_rust.proofs.laws.documents.NormalSteps.{normal_answered}
-use Rattle.jsonpath_rust.specs.documents.Document.{document_of}
+use Rattle.jsonpath_rust.specs.documents.Document.{value_document}
 use Rattle.jsonpath_rust.specs.documents.Lending.{LendsReferred, lent_in}
 use Rattle.jsonpath_rust.specs.documents.Referring.{IsReferred}
 use Rattle.jsonpath_rust.specs.contracts.documents.queryable.value.ValueQueryable.reference_mut as f
@@ -46,7 +45,7 @@ reference_mut_spec 𝓤 𝓛 𝓜 𝓡 wired =
     (λ κs. (mut_vals, ((λ x. A-told.val x ∷ []), ((λ x. (str-laws (second κs.1.0)).val x ∷ []), tt)))) (λ κs. (mut_Tells (named 0) κs.0 R, (A-told.tells, ((str-laws (second κs.1.0)).tells, tt)))) (λ κs qs bounds a _ are.
     let κ = κs.0 in let κp = κs.1.0 in let q = qs.0 in let qp = qs.1.0 in let value = a.0 in let alloc = a.1.0 in let path = a.1.1.0 in
     let S = str-laws (second κp) in let alloc_vals = A-told.val alloc ∷ [] in let path_vals = S.val path ∷ [] in
-    let doc = document_of value_tree set_function value.now in
+    let doc = value_document value.now in
     let z : W.Ghost = ((κs, qs, bounds, a, (mut_vals value, (alloc_vals, (path_vals, tt)))), tt) in
     qed 𝓛 (((‵ (flft κ q) ⊛ ‵ (flft κp qp) ⊛ ‵ ftrue) ⊛ (‵ ((MutRef (named 0) κ R).own_val value (mut_vals value)) ⊛ ‵ (A.own_val alloc alloc_vals) ⊛ ‵ ((Str (named 1) κp).own_val path path_vals) ⊛ ‵ ftrue)) ∷ raw ((c κs a).requires tt) ∷ []) ∵
     split ! $ split ! $ move ! (1 ∷ []) $ split ! $ move ! (3 ∷ []) $ split ! $ move ! (1 ∷ []) $ split ! $ move ! (1 ∷ []) $ split ! $ keep ! (3 ∷ 0 ∷ 2 ∷ 6 ∷ 4 ∷ []) $
