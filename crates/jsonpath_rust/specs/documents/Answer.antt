@@ -1,5 +1,6 @@
 -- What a query answers.
-use Rattle.std.specs.Prelude.{◌≡◌, ℕ, List, map, Some, option_to_list, string_bytes, String}
+use Rattle.std.specs.Prelude.{◌≡◌, ℕ, List, map, length, Some, option_to_list, string_bytes, String}
+use Rattle.std.specs.Borrow.{Bor}
 use Rattle.std.specs.List.{AllZip}
 use Rattle.jsonpath_parser.specs.Location.{Location}
 use Rattle.jsonpath_parser.specs.Normal.{IsNormal, IsOnlyPath}
@@ -41,3 +42,9 @@ pub record Lists {A : Type 0} (IsShownAt : Document → Location → A → Type 
   pub query : Query
   pub derived : Derives limit text query
   pub nodes : AllZip (IsShownAt doc) (selected query doc) answer
+
+-- Where a list has what is shown of each of these locations, as of those that a query selects, it has as many items: nodes, values or paths.
+pub record AsManyAreListed {A : Type 0} (tree : A → Tree) : Type 0 where
+  pub nodes : (doc : Document) (ls : List Location) (refs : List (QueryRef A)) → AllZip (IsNodeAt doc) ls (shown tree refs) → length refs ≡ length ls
+  pub values : (doc : Document) (ls : List Location) (values : List (Bor A)) → AllZip (IsValueAt doc) ls (map (λ v. tree v.now) values) → length values ≡ length ls
+  pub paths : (doc : Document) (ls : List Location) (paths : List (String Global)) → AllZip (IsPathAt doc) ls (paths_of paths) → length paths ≡ length ls

@@ -1,10 +1,12 @@
 //! Laws that proofs of callers cite: of query texts and trees, of locations, of what a query can reach, of both evaluators, of
 //! deletion and masking, and of what is written. Each function states laws and does nothing.
 ghost use Rattle.jsonpath_rust.specs.Deleting.{NothingSelectedDeletesNothing};
+ghost use Rattle.jsonpath_rust.specs.documents.Answer.{AsManyAreListed};
 ghost use Rattle.jsonpath_rust.specs.documents.Confining.{LocalIsConfined, SelectedBeginsWithFixedPart, SingularSelectsOneAtMost};
 ghost use Rattle.jsonpath_rust.specs.documents.Locating.{NormalizedPathDerivesItsSteps, SelectedIsThere, StepsSelectTheirLocation};
 ghost use Rattle.jsonpath_rust.specs.states.Processed.{ProcessGivesTheNodelist};
 
+use crate::documents::queryable::Queryable;
 pub use jsonpath_base::laws::{
     added_is_there, added_leaves_the_rest, equal_steps_are_one_step, overwritten_at_one_is_put,
     overwritten_forgets, overwritten_is_seen, pointer_finds_its_place, put_is_there,
@@ -30,6 +32,12 @@ pub fn steps_select_their_location()
 /// whole values.
 pub fn selected_is_there()
     ensures { SelectedIsThere }
+{}
+
+/// A list of nodes, of values or of paths that a call returns for a query has as many items as the query selects locations. It
+/// is cited for the document's type: `as_many_are_listed::<Value>()`.
+pub fn as_many_are_listed<T: Queryable>()
+    ensures { AsManyAreListed T.tree }
 {}
 
 /// A singular query, as [`is_singular`] tells it, selects nothing or one location (RFC 9535, 2.3.5.1).
