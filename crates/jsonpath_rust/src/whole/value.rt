@@ -1,5 +1,6 @@
 //! What is asked of a whole `Value` alone, and changed in it.
-ghost use Rattle.std.specs.Prelude.{◌≡◌, ◌≤◌, map, IsTrue, IfOk, IfErr, IfSome, OnOk, OnErr, MatchResult, option_map, is_some};
+ghost use Rattle.std.specs.Prelude.{◌≡◌, ◌≤◌, map, IsTrue, IfOk, IfErr, IfSome, OnOk, OnErr, MatchResult, option_map, is_some, false};
+ghost use Rattle.serde_json.specs.View.{view};
 ghost use Rattle.jsonpath_parser.specs.Derives.{Derives};
 ghost use Rattle.jsonpath_parser.specs.Location.{Location};
 ghost use Rattle.jsonpath_parser.specs.Normal.{IsNormal};
@@ -7,10 +8,12 @@ ghost use Rattle.jsonpath_parser.specs.tree.Steps.{HasIndexesInRange};
 ghost use Rattle.jsonpath_parser.specs.tree.Syntax.{Query};
 ghost use Rattle.jsonpath_parser.specs.tree.View.{query_view};
 ghost use Rattle.jsonpath_parser.specs.declared.errors.JsonPathError.TheVariants.{OutOfMemory};
+ghost use Rattle.jsonpath_base.specs.Added.{added, takes_at};
 ghost use Rattle.jsonpath_base.specs.Overwritten.{overwritten};
 ghost use Rattle.jsonpath_base.specs.Places as places;
 ghost use Rattle.jsonpath_base.specs.Put.{put};
-ghost use Rattle.jsonpath_base.specs.Steps.{location_view};
+ghost use Rattle.jsonpath_base.specs.Steps.{location_view, owned_step};
+ghost use Rattle.jsonpath_base.specs.Tree.{null};
 ghost use Rattle.jsonpath_base.specs.Values.{value_tree, value_is_whole};
 ghost use Rattle.jsonpath_base.specs.Without.{without, is_among, distinct_count};
 ghost use Rattle.jsonpath_rust.specs.Deleting.{IsDeletion, IsDeletionAt, Deletes};
@@ -26,7 +29,7 @@ use crate::documents::whole::Whole;
 use crate::query::{
     delete_selected, delete_within, replace_by_path, replace_selected, replace_within,
 };
-use jsonpath_base::{Step, put_at, remove_all, replace_all};
+use jsonpath_base::{Step, add_at, put_at, remove_all, replace_all, take_at};
 use jsonpath_parser::MAX_NESTING_DEPTH;
 use jsonpath_parser::model::JpQuery;
 use serde_json::Value;
@@ -66,6 +69,34 @@ impl Whole<Value> {
         put_at(&mut self.value, steps, new.value)
     }
 
+    /// Adds a value to the object or the list at the location `parent`, as [`add_at`].
+    pub fn add_at(
+        &mut self,
+        alloc: Global,
+        parent: &[Step],
+        step: Step,
+        new: Whole<Value>,
+    ) -> Queried<bool>
+        ensures value { OnOk result (value_tree self.new.value ≡ added (location_view parent.now) (owned_step step) (value_tree new.value) (value_tree self.old.value)) }
+        ensures found { IfOk result (λ b. b ≡ takes_at (location_view parent.now) (owned_step step) (value_tree self.old.value)) }
+        ensures unchanged { IfOk result (λ b. b ≡ false → view self.new.value ≡ view self.old.value) }
+        ensures kept { OnErr result (view self.new.value ≡ view self.old.value) }
+        ensures memory { IfErr result (λ e. e ≡ OutOfMemory) }
+    {
+        add_at(alloc, &mut self.value, parent, step, new.value)
+    }
+
+    /// Takes the value at the location of these steps, and leaves null there, as [`take_at`].
+    pub fn take_at(&mut self, place: &[Step]) -> Option<Whole<Value>>
+        ensures taken { option_map (λ w. value_tree w.value) result ≡ places.at (location_view place.now) (value_tree self.old.value) }
+        ensures left { value_tree self.new.value ≡ put (location_view place.now) null (value_tree self.old.value) }
+    {
+        match take_at(&mut self.value, place) {
+            Some(value) => Some(Whole { value }),
+            None => None,
+        }
+    }
+
     /// Removes all locations that a query text selects, at once, as [`delete_within`] at a depth of 128.
     pub fn delete_by_path(&mut self, alloc: Global, path: &str) -> Queried<usize>
         ensures deleted { IfOk result (Deletes MAX_NESTING_DEPTH path.now (value_document self.old.value) (value_tree self.new.value)) }
@@ -83,6 +114,25 @@ impl Whole<Value> {
         ensures refused { IfErr result (IsQueryRefusal MAX_NESTING_DEPTH path.now (value_document self.old.value)) }
     {
         delete_within(alloc, &mut self.value, path, MAX_NESTING_DEPTH)
+    }
+
+    /// Removes all locations that a query text selects, at once, as [`delete_within`].
+    pub fn delete_within(&mut self, alloc: Global, path: &str, depth: usize) -> Queried<usize>
+        ensures deleted { IfOk result (Deletes depth path.now (value_document self.old.value) (value_tree self.new.value)) }
+
+        // Whatever query the text derives, what it selects is removed, unless memory ran out or a pattern was refused.
+        ensures only { (q : Query) → Derives depth path.now q → MatchResult result
+            (IsDeletion q (value_document self.old.value) (value_tree self.new.value))
+            (IsStop q (value_document self.old.value)) }
+
+        // A Normalized Path is refused by `OutOfMemory` alone. Its location is removed, and nothing where nothing is there.
+        ensures normal { (l : Location) → IsNormal l path.now → HasIndexesInRange l → 1 ≤ depth → MatchResult result
+            (IsDeletionAt l (value_tree self.old.value) (value_tree self.new.value))
+            (λ e. e ≡ OutOfMemory) }
+        ensures kept { OnErr result (self.new.value ≡ self.old.value) }
+        ensures refused { IfErr result (IsQueryRefusal depth path.now (value_document self.old.value)) }
+    {
+        delete_within(alloc, &mut self.value, path, depth)
     }
 
     /// Removes all locations that a query selects, as [`delete_selected`].
