@@ -23,7 +23,7 @@ use std::alloc::Global;
 ///
 /// Each call selects the nodes of a query text, in order (RFC 9535, 2.1.2), and refuses as [`js_path`] does.
 pub trait JsonPath: Queryable {
-    /// The values of the nodes and their Normalized Paths.
+    /// The nodes that a query text selects: their values and their Normalized Paths.
     fn query_with_path(&self, alloc: Global, path: &str) -> Queried<Vec<QueryRef<'_, Self>>>
         requires { IsTrue (Self.is_whole self.now) }
         ensures answered { IfOk result (λ v. Lists IsNodeAt MAX_NESTING_DEPTH path.now (document_of Self.tree Self.custom self.now) (shown Self.tree v.items)) }
@@ -43,7 +43,7 @@ pub trait JsonPath: Queryable {
         js_path(alloc, path, self)
     }
 
-    /// The Normalized Paths of the nodes.
+    /// The Normalized Paths of the nodes that a query text selects.
     fn query_only_path(&self, alloc: Global, path: &str) -> Queried<Vec<QueryPath>>
         requires { IsTrue (Self.is_whole self.now) }
         ensures answered { IfOk result (λ v. Lists IsPathAt MAX_NESTING_DEPTH path.now (document_of Self.tree Self.custom self.now) (paths_of v.items)) }
@@ -57,7 +57,7 @@ pub trait JsonPath: Queryable {
         js_path_path(alloc, path, self)
     }
 
-    /// The values of the nodes. No path is made.
+    /// The values of the nodes that a query text selects. No path is made.
     fn query(&self, alloc: Global, path: &str) -> Queried<Vec<&Self>>
         requires { IsTrue (Self.is_whole self.now) }
         ensures answered { IfOk result (λ v. Lists IsValueAt MAX_NESTING_DEPTH path.now (document_of Self.tree Self.custom self.now) (map (λ x. Self.tree x.now) v.items)) }

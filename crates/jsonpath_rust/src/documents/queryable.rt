@@ -139,7 +139,7 @@ pub trait Queryable: Sized + Debug + Drop {
         ensures whole { IfOk result (λ v. IsTrue (is_whole v)) }
         ensures memory { IfErr result (λ e. e ≡ OutOfMemory) };
 
-    /// The value at the one location that a path means; by default None. It refuses by `OutOfMemory` alone.
+    /// The value at the one location that a path means, such as a Normalized Path; by default None. It refuses by `OutOfMemory` alone.
     fn reference(&self, _alloc: Global, _path: &str) -> Queried<Option<&Self>>
         ensures whole { IsTrue (is_whole self.now) → IfOk result (λ o. IfSome o (λ v. IsTrue (is_whole v.now))) }
         ensures nowhere { refers ≡ false → IfOk result (λ o. o ≡ None) }
@@ -148,7 +148,8 @@ pub trait Queryable: Sized + Debug + Drop {
         Ok(None)
     }
 
-    /// As [`Queryable::reference`], for writing; by default None. It refuses by `OutOfMemory` alone.
+    /// The value at the one location that a path means, as [`Queryable::reference`], for writing; by default None. It refuses by
+    /// `OutOfMemory` alone.
     fn reference_mut(&mut self, _alloc: Global, _path: &str) -> Queried<Option<&mut Self>>
         ensures nowhere { refers ≡ false → IfOk result (λ o. o ≡ None) }
         ensures memory { IfErr result (λ e. e ≡ OutOfMemory) }

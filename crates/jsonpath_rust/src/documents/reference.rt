@@ -39,9 +39,9 @@ struct Referent<'v> {
     value: &'v Value,
 }
 
-/// Puts a value at the one location that a path of names and indexes means, in the place of the one there, and returns
-/// true. Where the text means no location, as each other text does, it returns false and nothing is changed. It refuses
-/// by `OutOfMemory` alone, and then nothing is changed.
+/// Puts a value at the one location that a path of names and indexes means, such as a Normalized Path, in the place of the
+/// one there, and returns true. Where the text means no location, as each other text does, it returns false and nothing is
+/// changed. It refuses by `OutOfMemory` alone, and then nothing is changed.
 ///
 /// The time is linear in the length of the path, with a search by name in each object on the way.
 pub fn replace_by_path(alloc: Global, value: &mut Value, path: &str, new: Value) -> Queried<bool>
@@ -71,8 +71,8 @@ pub fn referred<'v>(alloc: Global, value: &'v Value, path: &str) -> Queried<Opti
     }
 }
 
-/// The location of that value: the steps to it from the root, an index below 0 counted from the end of its list. It refuses by
-/// `OutOfMemory` alone.
+/// The one location that a path of names and indexes means in a value, where something is: the steps to it from the root, an
+/// index below 0 counted from the end of its list; or None. It refuses by `OutOfMemory` alone.
 ///
 /// The time is linear in the length of the path, with a search by name in each object on the way.
 pub fn referred_location(alloc: Global, value: &Value, path: &str) -> Queried<Option<Vec<Step>>>

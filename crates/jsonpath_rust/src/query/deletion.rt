@@ -33,7 +33,7 @@ pub trait Deletable: Queryable {
     /// Whether `delete_by_path` removes anything. Where it does not, it refuses.
     ghost deletes: { Bool } = { false };
 
-    /// Removes all locations that a query selects, and returns how many distinct ones there were; by default it refuses
+    /// Removes all locations that a query text selects, and returns how many distinct ones there were; by default it refuses
     /// by `InvalidJsonPath`. After any refusal the value has the tree it had.
     fn delete_by_path(&mut self, alloc: Global, _path: &str) -> Queried<usize>
         requires { IsTrue (Self.is_whole self.old) }
@@ -48,7 +48,7 @@ pub trait Deletable: Queryable {
 impl Deletable for Value {
     ghost deletes = { true };
 
-    /// As [`delete_within`], which this is at a depth of 128.
+    /// Removes all locations that a query text selects, as [`delete_within`], which this is at a depth of 128.
     fn delete_by_path(&mut self, alloc: Global, path: &str) -> Queried<usize>
         requires { IsTrue (value_is_whole self.old) }
         ensures deleted { IfOk result (Deletes MAX_NESTING_DEPTH path.now (value_document self.old) (value_tree self.new)) }

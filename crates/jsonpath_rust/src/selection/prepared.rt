@@ -70,7 +70,7 @@ impl Prepared {
         Prepared::read_within(alloc, text, MAX_NESTING_DEPTH)
     }
 
-    /// The same, where no more than `depth` brackets stand open.
+    /// Reads a query text, in which no more than `depth` brackets stand open, and prepares it.
     ///
     /// # Errors
     ///

@@ -20,7 +20,7 @@ use jsonpath_parser::MAX_NESTING_DEPTH;
 use std::alloc::Global;
 
 impl<T: Queryable> Whole<T> {
-    /// The values of the nodes that a query text selects, and their Normalized Paths, as [`js_path`].
+    /// The nodes that a query text selects, their values and their Normalized Paths, as [`js_path`].
     pub fn query_with_path(&self, alloc: Global, path: &str) -> Queried<Vec<QueryRef<'_, T>>>
         ensures answered { IfOk result (λ v. Lists IsNodeAt MAX_NESTING_DEPTH path.now (document_of T.tree T.custom self.now.value) (shown T.tree v.items)) }
 
@@ -39,7 +39,7 @@ impl<T: Queryable> Whole<T> {
         js_path(alloc, path, &self.value)
     }
 
-    /// The Normalized Paths of these nodes, as [`js_path_path`].
+    /// The Normalized Paths of the nodes that a query text selects, as [`js_path_path`].
     pub fn query_only_path(&self, alloc: Global, path: &str) -> Queried<Vec<QueryPath>>
         ensures answered { IfOk result (λ v. Lists IsPathAt MAX_NESTING_DEPTH path.now (document_of T.tree T.custom self.now.value) (paths_of v.items)) }
 
@@ -52,7 +52,7 @@ impl<T: Queryable> Whole<T> {
         js_path_path(alloc, path, &self.value)
     }
 
-    /// The values of these nodes, as [`js_path_vals`]. No path is made.
+    /// The values of the nodes that a query text selects, as [`js_path_vals`]. No path is made.
     pub fn query(&self, alloc: Global, path: &str) -> Queried<Vec<&T>>
         ensures answered { IfOk result (λ v. Lists IsValueAt MAX_NESTING_DEPTH path.now (document_of T.tree T.custom self.now.value) (map (λ x. T.tree x.now) v.items)) }
 
@@ -68,7 +68,7 @@ impl<T: Queryable> Whole<T> {
 }
 
 impl<'a, T: Queryable> WholeRef<'a, T> {
-    /// The values of the nodes that a query text selects, and their Normalized Paths, as [`js_path`].
+    /// The nodes that a query text selects, their values and their Normalized Paths, as [`js_path`].
     pub fn query_with_path(self, alloc: Global, path: &str) -> Queried<Vec<QueryRef<'a, T>>>
         ensures answered { IfOk result (λ v. Lists IsNodeAt MAX_NESTING_DEPTH path.now (document_of T.tree T.custom self.entry.value.now) (shown T.tree v.items)) }
 
@@ -87,7 +87,7 @@ impl<'a, T: Queryable> WholeRef<'a, T> {
         js_path(alloc, path, self.value)
     }
 
-    /// The Normalized Paths of these nodes, as [`js_path_path`].
+    /// The Normalized Paths of the nodes that a query text selects, as [`js_path_path`].
     pub fn query_only_path(self, alloc: Global, path: &str) -> Queried<Vec<QueryPath>>
         ensures answered { IfOk result (λ v. Lists IsPathAt MAX_NESTING_DEPTH path.now (document_of T.tree T.custom self.entry.value.now) (paths_of v.items)) }
 
@@ -100,7 +100,7 @@ impl<'a, T: Queryable> WholeRef<'a, T> {
         js_path_path(alloc, path, self.value)
     }
 
-    /// The values of these nodes, as [`js_path_vals`]. No path is made.
+    /// The values of the nodes that a query text selects, as [`js_path_vals`]. No path is made.
     pub fn query(self, alloc: Global, path: &str) -> Queried<Vec<&'a T>>
         ensures answered { IfOk result (λ v. Lists IsValueAt MAX_NESTING_DEPTH path.now (document_of T.tree T.custom self.entry.value.now) (map (λ x. T.tree x.now) v.items)) }
 

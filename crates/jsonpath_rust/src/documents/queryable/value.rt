@@ -135,8 +135,8 @@ impl Queryable for Value {
         }
     }
 
-    /// The value at the one location that a path of names and indexes means. Each other text gives None, and so does one
-    /// that is no query. The steps are followed down; the value is not walked.
+    /// The value at the one location that a path of names and indexes means, such as a Normalized Path. Each other text gives
+    /// None, and so does one that is no query. The steps are followed down; the value is not walked.
     fn reference(&self, alloc: Global, path: &str) -> Queried<Option<&Value>>
         ensures value { IfOk result (λ o. IsReferred path.now (value_document self.now) (option_map (λ v. value_tree v.now) o)) }
 
@@ -148,8 +148,9 @@ impl Queryable for Value {
         referred(alloc, self, path)
     }
 
-    /// The value that `reference` returns, lent for writing. When the loan ends, what was written stands there, and nothing
-    /// else has changed. None and a refusal leave the value as it was.
+    /// The value at the one location that a path of names and indexes means, which `reference` returns, lent for writing. When
+    /// the loan ends, what was written stands there, and nothing else has changed. None and a refusal leave the value as it
+    /// was.
     fn reference_mut(&mut self, alloc: Global, path: &str) -> Queried<Option<&mut Value>>
         ensures* writes_back { sem 𝓛 (LendsReferred path.now self.entry (lent_in result)) }
         ensures value { IfOk result (λ o. IsReferred path.now (value_document self.old) (option_map (λ v. value_tree v.now) o)) }
