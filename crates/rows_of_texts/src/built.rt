@@ -1,101 +1,45 @@
-//! Rows on trees made by hand: a grammar function reads its text exactly as the tree that `jsonpath_build` makes for it.
+//! The call `built`: whether the tree that `jsonpath_build` makes for a text is written as the one that a grammar function reads of it.
 mod filters;
 mod queries;
 
-use jsonpath_rust::parser::errors::Parsed;
-use jsonpath_rust::parser::{
-    Cursor, child_segment, comp_expr, comparable, filter_atom, function_expr, jp_query, literal,
-    logical_expr, logical_expr_and, rel_query, segment, segments, selector, singular_query,
-    singular_query_segments, slice_selector, test,
-};
+use crate::production;
+use crate::tree::tree;
 use rows_common::Memory;
-use rows_common::members::{has_only, string_at};
-use rows_common::text::text_at;
+use rows_common::answers::are_same;
 use serde_json::Value;
+use std::slice;
 
-/// Whether the row's grammar function reads the whole text, and as the tree that is made.
-pub fn holds(memory: &Memory, row: &Value) -> bool {
-    let (Some(name), Some(text)) = (string_at(row, "built"), text_at(memory, row, "text")) else {
-        return false;
+/// Whether it is, for the grammar function of a name, and a text.
+pub fn answer(memory: &Memory, arguments: &[Value]) -> Option<Value> {
+    let [name, text] = arguments else {
+        return None;
     };
-    let mut cursor = Cursor::new(text.as_str());
-    has_only(row, &["built", "text"]) && is_as_made(memory, name, &mut cursor) && cursor.at_end()
+    let read = production::answer(memory, name.as_str()?, slice::from_ref(text))?;
+    let made = made(memory, name.as_str()?, text.as_str()?)?;
+    Some(Value::from(are_same(&read, &made)))
 }
 
-/// Whether the grammar function of that name reads the tree that is made for the text.
-fn is_as_made(memory: &Memory, name: &str, cursor: &mut Cursor<'_>) -> bool {
+/// The tree that is made for the text.
+fn made(memory: &Memory, name: &str, text: &str) -> Option<Value> {
     let alloc = memory.alloc;
-    let text = cursor.text();
     match name {
-        "jp_query" => are_same(memory, jp_query(alloc, cursor), queries::query(alloc)),
-        "rel_query" => are_same(memory, rel_query(alloc, cursor), queries::relative(alloc)),
-        "segments" => are_same(memory, segments(alloc, cursor), queries::segments(alloc)),
-        "child_segment" => are_same(memory, child_segment(alloc, cursor), queries::child(alloc)),
-        "segment" => are_same(memory, segment(alloc, cursor), queries::descendant(alloc)),
-        "singular_query_segments" => {
-            are_same(
-                memory,
-                singular_query_segments(alloc, cursor),
-                queries::steps(alloc),
-            )
-        }
-        "slice_selector" => are_same(
-            memory,
-            slice_selector(alloc, cursor),
-            Ok(queries::slice(text)),
-        ),
-        "singular_query" => are_same(
-            memory,
-            singular_query(alloc, cursor),
-            queries::singular(alloc),
-        ),
-        _ => is_part_as_made(memory, name, cursor),
+        "jp_query" => tree(memory, queries::query(alloc)),
+        "rel_query" => tree(memory, queries::relative(alloc)),
+        "segments" => tree(memory, queries::segments(alloc)),
+        "child_segment" => tree(memory, queries::child(alloc)),
+        "segment" => tree(memory, queries::descendant(alloc)),
+        "singular_query_segments" => tree(memory, queries::steps(alloc)),
+        "slice_selector" => tree(memory, Ok(queries::slice(text))),
+        "singular_query" => tree(memory, queries::singular(alloc)),
+        "selector" => tree(memory, filters::selector(alloc)),
+        "function_expr" => tree(memory, filters::call(alloc)),
+        "test" => tree(memory, filters::test(alloc)),
+        "logical_expr" => tree(memory, filters::some(alloc)),
+        "logical_expr_and" => tree(memory, filters::every(alloc)),
+        "comp_expr" => tree(memory, filters::comparison(alloc)),
+        "literal" => tree(memory, filters::literal(alloc, text)),
+        "filter_atom" => tree(memory, filters::atom(alloc, text)),
+        "comparable" => tree(memory, filters::side(alloc, text)),
+        _ => None,
     }
-}
-
-/// The same, for a selector and what stands in a filter.
-fn is_part_as_made(memory: &Memory, name: &str, cursor: &mut Cursor<'_>) -> bool {
-    let alloc = memory.alloc;
-    let text = cursor.text();
-    match name {
-        "selector" => are_same(memory, selector(alloc, cursor), filters::selector(alloc)),
-        "function_expr" => are_same(memory, function_expr(alloc, cursor), filters::call(alloc)),
-        "test" => are_same(memory, test(alloc, cursor), filters::test(alloc)),
-        "logical_expr" => are_same(memory, logical_expr(alloc, cursor), filters::some(alloc)),
-        "logical_expr_and" => are_same(
-            memory,
-            logical_expr_and(alloc, cursor),
-            filters::every(alloc),
-        ),
-        "comp_expr" => are_same(memory, comp_expr(alloc, cursor), filters::comparison(alloc)),
-        "literal" => are_same(
-            memory,
-            literal(alloc, cursor),
-            filters::literal(alloc, text),
-        ),
-        "filter_atom" => are_same(
-            memory,
-            filter_atom(alloc, cursor),
-            filters::atom(alloc, text),
-        ),
-        "comparable" => are_same(
-            memory,
-            comparable(alloc, cursor),
-            filters::side(alloc, text),
-        ),
-        _ => false,
-    }
-}
-
-/// Whether both are trees, and equal.
-fn are_same<T: PartialEq + Drop>(memory: &Memory, read: Parsed<T>, made: Parsed<T>) -> bool {
-    let read = memory.ok(read);
-    let made = memory.ok(made);
-    let same = match (&read, &made) {
-        (Some(read), Some(made)) => *read == *made,
-        _ => false,
-    };
-    drop(read);
-    drop(made);
-    same
 }

@@ -1,21 +1,30 @@
-//! Rows on errors: the `error` of that name has this `text`, and a copy of it is equal to it. The error is made by its maker
-//! where it has one; beside the thirteen variants there are the names of two makers, `from_text` and `bad_bool`.
+//! The call `error`: the text of the error of that name. It is made by its maker where it has one; beside the thirteen variants there
+//! are the names of two makers, `from_text` and `bad_bool`.
 use jsonpath_rust::parser::errors::JsonPathError;
 use rows_common::Memory;
-use rows_common::members::{has_only, string_at};
 use serde_json::Value;
 
-/// Whether a row on an error holds.
-pub fn holds(memory: &Memory, row: &Value) -> bool {
-    let (Some(name), Some(text)) = (string_at(row, "error"), string_at(row, "text")) else {
-        return false;
+/// The text of the error; None where a copy of it is another one.
+pub fn answer(memory: &Memory, arguments: &[Value]) -> Option<Value> {
+    let [Value::String(name)] = arguments else {
+        return None;
     };
-    let Some(error) = named(memory, name) else {
-        return false;
-    };
-    let held = has_text(memory, &error, text) && is_copied(memory, &error);
+    let error = named(memory, name.as_str())?;
+    let text = text_of(memory, &error);
     drop(error);
-    held && has_only(row, &["error", "text"])
+    text
+}
+
+fn text_of(memory: &Memory, error: &JsonPathError) -> Option<Value> {
+    let text = memory.ok(error.to_string(memory.alloc))?;
+    let copy = memory.ok(error.try_clone(memory.alloc))?;
+    let equal = copy == *error;
+    drop(copy);
+    if equal {
+        Some(Value::String(text))
+    } else {
+        None
+    }
 }
 
 /// The error of that name.
@@ -60,22 +69,4 @@ fn bad_int(memory: &Memory) -> Option<JsonPathError> {
 fn bad_bool(memory: &Memory) -> Option<JsonPathError> {
     let cause = "1.5".parse::<bool>().err()?;
     memory.ok(JsonPathError::bad_bool(memory.alloc, cause))
-}
-
-fn has_text(memory: &Memory, error: &JsonPathError, wanted: &str) -> bool {
-    match memory.ok(error.to_string(memory.alloc)) {
-        Some(text) => text.as_str() == wanted,
-        None => false,
-    }
-}
-
-fn is_copied(memory: &Memory, error: &JsonPathError) -> bool {
-    match memory.ok(error.try_clone(memory.alloc)) {
-        Some(copy) => {
-            let equal = copy == *error;
-            drop(copy);
-            equal
-        }
-        None => false,
-    }
 }

@@ -3,26 +3,25 @@
 #![tactic(auto)]
 
 mod built;
-mod call;
+mod calls;
 mod error;
 mod location;
 mod maker;
-mod parse;
 mod pattern;
 mod place;
 mod production;
 mod reach;
-mod row;
 mod slice;
 mod step;
+mod text;
 mod tree;
+mod unspelled;
 mod values;
-mod written;
 
-use rows_common::ask_rows;
+use rows_common::ask_calls;
 use std::io;
 
 fn main(rt: HostRuntime) -> io::Result<()> {
     let input = io::read_to_string(rt.alloc(), rt.reader())?;
-    ask_rows(&rt, input.as_str(), row::holds)
+    ask_calls(&rt, input.as_str(), calls::answer)
 }

@@ -1,84 +1,67 @@
-//! Rows on the makers of trees: a maker, what it takes, and the tree that it makes, also as it is `shown`, or its refusal; and
-//! on what an argument is.
-use crate::production::{Reading, beside, shown_beside};
+//! Calls of the makers of trees, by their names, and `kind`, which is what an argument is.
+use crate::tree::{shown, tree};
 use jsonpath_rust::build::{atom_test, cmp, comparable_lit, lit_int, test_rel};
-use jsonpath_rust::parser::errors::{JsonPathError, Parsed};
+use jsonpath_rust::parser::errors::Parsed;
 use jsonpath_rust::parser::model::{
     Comparable, Comparison, Filter, FilterAtom, FnArg, JpQuery, Literal, Segment, Test,
     TestFunction, slice_from,
 };
 use jsonpath_rust::parser::{Cursor, function_expr};
 use rows_common::Memory;
-use rows_common::members::{has_only, string_at};
 use serde_json::Value;
 use std::alloc::Global;
 
-/// Whether a row on a maker, or on the kind of an argument, holds.
-pub fn holds(memory: &Memory, row: &Value) -> bool {
-    match (
-        string_at(row, "maker"),
-        string_at(row, "of"),
-        string_at(row, "arguments"),
-    ) {
-        (Some("kind"), Some(argument), None) => {
-            has_only(row, &["maker", "of", "kind"])
-                && match (kind(memory, argument), string_at(row, "kind")) {
-                    (Some(kind), Some(wanted)) => kind == wanted,
-                    _ => false,
-                }
+/// What the call of that name makes, of an operator, or of a name and arguments as they are written, where it takes these.
+pub fn answer(memory: &Memory, name: &str, arguments: &[Value]) -> Option<Value> {
+    match (name, arguments) {
+        (_, []) => made(memory, name),
+        ("TestFunction::try_new", [Value::String(name), Value::String(text)]) => {
+            let arguments = arguments_of(memory, text.as_str())?;
+            tree(
+                memory,
+                TestFunction::try_new(memory.alloc, name.as_str(), arguments),
+            )
         }
-        (Some(maker), of, arguments) => {
-            has_only(
-                row,
-                &["maker", "of", "arguments", "tree", "shown", "refused"],
-            ) && match made(memory, row, (maker, of, arguments)) {
-                Reading::Tree => row.get("refused").is_none(),
-                Reading::Refusal => row.get("tree").is_none() && row.get("shown").is_none(),
-                Reading::Other => false,
-            }
-        }
-        _ => false,
+        ("kind", [Value::String(text)]) => kind(memory, text.as_str()),
+        (_, [Value::String(operator)]) => of_operator(memory, name, operator.as_str()),
+        _ => None,
     }
 }
 
-/// What the maker makes, of an operator, or of a name and arguments as they are written, where it takes these.
-fn made(memory: &Memory, row: &Value, maker: (&str, Option<&str>, Option<&str>)) -> Reading {
+/// What the maker makes of nothing.
+fn made(memory: &Memory, name: &str) -> Option<Value> {
     let alloc = memory.alloc;
-    match maker {
-        ("query", None, None) => shown_beside(memory, row, 0, query(alloc)),
-        ("slice", None, None) => {
-            shown_beside(memory, row, 0, Ok(slice_from((None, Some(2), Some(3)))))
-        }
-        ("group", None, None) => {
+    match name {
+        "JpQuery::new" => shown(memory, query(alloc)),
+        "slice_from" => shown(memory, Ok(slice_from((None, Some(2), Some(3))))),
+        "FilterAtom::filter" => {
             let negated = FilterAtom::filter(alloc, Filter::Or(Vec::new(alloc)), true);
-            shown_beside(memory, row, 0, negated)
+            shown(memory, negated)
         }
-        ("test", None, None) => {
+        "FilterAtom::test" => {
             let test = FilterAtom::test(alloc, Test::RelQuery(Vec::new(alloc)), false);
-            shown_beside(memory, row, 0, test)
+            shown(memory, test)
         }
-        ("atom_test", None, None) => {
-            shown_beside(memory, row, 0, atom_test(alloc, test_rel(Vec::new(alloc))))
+        "atom_test" => tree(memory, atom_test(alloc, test_rel(Vec::new(alloc)))),
+        _ => None,
+    }
+}
+
+/// What the maker makes of 1 and 2.
+fn of_operator(memory: &Memory, name: &str, operator: &str) -> Option<Value> {
+    let alloc = memory.alloc;
+    match name {
+        "cmp" => {
+            let (one, two) = (comparable_lit(lit_int(1)), comparable_lit(lit_int(2)));
+            tree(memory, cmp(alloc, one, operator, two))
         }
-        ("cmp", Some(operator), None) => shown_beside(memory, row, 0, compared(alloc, operator)),
-        ("atom", Some(operator), None) => shown_beside(memory, row, 0, atom(alloc, operator)),
-        ("comparison", Some(operator), None) => {
-            shown_beside(memory, row, 0, comparison(alloc, operator))
+        "Comparison::try_new" => shown(memory, comparison(alloc, operator)),
+        "Comparison::vals" => {
+            let comparison = memory.ok(comparison(alloc, operator))?;
+            tree(memory, Ok(comparison.vals()))
         }
-        // A pair has no `Display`.
-        ("sides", Some(operator), None) if row.get("shown").is_none() => {
-            sides(memory, row, operator)
-        }
-        ("call", Some(name), Some(text)) => match arguments(memory, text) {
-            Some(arguments) => shown_beside(
-                memory,
-                row,
-                0,
-                TestFunction::try_new(alloc, name, arguments),
-            ),
-            None => Reading::Other,
-        },
-        _ => Reading::Other,
+        "FilterAtom::cmp" => shown(memory, atom(alloc, operator)),
+        _ => None,
     }
 }
 
@@ -93,31 +76,13 @@ fn comparison(alloc: Global, operator: &str) -> Parsed<Comparison> {
     Comparison::try_new(alloc, operator, one, Comparable::Literal(Literal::Int(2)))
 }
 
-/// That comparison, made by `cmp`.
-fn compared(alloc: Global, operator: &str) -> Parsed<Comparison> {
-    cmp(
-        alloc,
-        comparable_lit(lit_int(1)),
-        operator,
-        comparable_lit(lit_int(2)),
-    )
-}
-
 /// That comparison as a basic expression.
 fn atom(alloc: Global, operator: &str) -> Parsed<FilterAtom> {
     Ok(FilterAtom::cmp(Box::new(alloc, comparison(alloc, operator)?)?))
 }
 
-/// Both sides of that comparison.
-fn sides(memory: &Memory, row: &Value, operator: &str) -> Reading {
-    match memory.ok(comparison(memory.alloc, operator)) {
-        Some(comparison) => beside(memory, row, 0, Ok(comparison.vals())),
-        None => Reading::Other,
-    }
-}
-
 /// The arguments that the text spells.
-fn arguments(memory: &Memory, text: &str) -> Option<Vec<FnArg>> {
+fn arguments_of(memory: &Memory, text: &str) -> Option<Vec<FnArg>> {
     let call = memory.ok(format!(in memory.alloc; "f({text})"))?;
     match memory.ok(function_expr(memory.alloc, &mut Cursor::new(call.as_str())))? {
         TestFunction::Custom(_, arguments) => Some(arguments),
@@ -129,12 +94,14 @@ fn arguments(memory: &Memory, text: &str) -> Option<Vec<FnArg>> {
 }
 
 /// What the argument of this text is, by its own calls and those of the test that it holds.
-fn kind(memory: &Memory, text: &str) -> Option<&'static str> {
-    let arguments = arguments(memory, text)?;
-    match arguments.first() {
+fn kind(memory: &Memory, text: &str) -> Option<Value> {
+    let arguments = arguments_of(memory, text)?;
+    let kind = match arguments.first() {
         Some(argument) => kind_of(argument),
         None => None,
-    }
+    };
+    drop(arguments);
+    memory.ok(Value::try_from_str(memory.alloc, kind?))
 }
 
 fn kind_of(argument: &FnArg) -> Option<&'static str> {

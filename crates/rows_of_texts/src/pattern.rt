@@ -1,15 +1,35 @@
-//! Rows on patterns: `found`, `found_each`, `pattern`, `finder`.
+//! Calls on patterns: `found`, `found_each`, `pattern`, `finder`.
 use jsonpath_base::{Extent, Pattern, found};
 use rows_common::Memory;
+use rows_common::answers::answered;
 use rows_common::members::list;
 use serde_json::Value;
 
-/// A text, a pattern, and whether the pattern has to match the whole text.
-#[derive(Clone, Copy)]
-struct Search<'r> {
-    text: &'r str,
-    pattern: &'r str,
-    whole: bool,
+/// What the call of that name answers. All but `finder` take a text, a pattern, and whether the pattern has to match the whole text, of
+/// `found_each` each search as a list; `pattern` asks a `Pattern` that was read before. One `finder` takes a pattern, whether it has to match
+/// whole texts, and a list of texts.
+pub fn answer(memory: &Memory, name: &str, arguments: &[Value]) -> Option<Value> {
+    match (name, arguments) {
+        ("found", search) => is_found(memory, search),
+        ("found_each", searches) => are_found_each(memory, searches),
+        ("pattern", [text, pattern, whole]) => {
+            is_found_by_pattern(memory, text.as_str()?, pattern.as_str()?, whole.as_bool()?)
+        }
+        ("finder", [pattern, whole, texts]) => {
+            let extent = extent_of(whole.as_bool()?);
+            let read = memory.ok(Pattern::new(memory.alloc, pattern.as_str()?, extent))?;
+            are_found(memory, &read, list(texts)?)
+        }
+        _ => None,
+    }
+}
+
+fn is_found(memory: &Memory, search: &[Value]) -> Option<Value> {
+    let [text, pattern, whole] = search else {
+        return None;
+    };
+    let (text, pattern, whole) = (text.as_str()?, pattern.as_str()?, whole.as_bool()?);
+    answered(memory, found(memory.alloc, text, pattern, whole))
 }
 
 /// What of a text has to match: where `whole`, the entire text.
@@ -21,101 +41,36 @@ fn extent_of(whole: bool) -> Extent {
     }
 }
 
-fn search_of(arguments: &[Value]) -> Option<Search<'_>> {
-    match arguments {
-        [text, pattern, whole] => Some(Search {
-            text: text.as_str()?,
-            pattern: pattern.as_str()?,
-            whole: whole.as_bool()?,
-        }),
-        _ => None,
+fn is_found_by_pattern(memory: &Memory, text: &str, pattern: &str, whole: bool) -> Option<Value> {
+    let extent = extent_of(whole);
+    let read = memory.ok(Pattern::new(memory.alloc, pattern, extent))?;
+    let tells_its_source = read.source() == pattern
+        && read.extent().is_entire() == whole
+        && read.is_of(pattern, extent)
+        && !read.is_of(pattern, extent_of(!whole));
+    if !tells_its_source {
+        return None;
     }
+    Some(Value::from(memory.ok(read.is_found(memory.alloc, text))?))
 }
 
-/// Whether `found` answers so.
-pub fn is_found(memory: &Memory, arguments: &[Value], answer: &Value) -> bool {
-    match search_of(arguments) {
-        Some(
-            Search {
-                text,
-                pattern,
-                whole,
-            },
-        ) => is_truth(answer, memory.ok(found(memory.alloc, text, pattern, whole))),
-        None => false,
+fn are_found_each(memory: &Memory, searches: &[Value]) -> Option<Value> {
+    let mut answers = Vec::new(memory.alloc);
+    for search in searches {
+        memory.ok(answers.push(is_found(memory, list(search)?)?))?;
     }
+    Some(Value::Array(answers))
 }
 
-/// Whether `found`, asked of each text and its pattern in turn, answers so.
-pub fn are_found_each(memory: &Memory, arguments: &[Value], answer: &Value) -> bool {
-    let Some(answers) = list(answer) else {
-        return false;
-    };
-    for (search, answer) in arguments.iter().zip(answers) {
-        let is_answered = match list(search) {
-            Some(search) => is_found(memory, search, answer),
-            None => false,
-        };
-        if !is_answered {
-            return false;
-        }
+fn are_found(memory: &Memory, read: &Pattern, texts: &[Value]) -> Option<Value> {
+    let mut finder = memory.ok(read.finder(memory.alloc))?;
+    let mut answers = Vec::new(memory.alloc);
+    for text in texts {
+        memory.ok(answers.push(Value::from(finder.is_found(text.as_str()?))))?;
     }
-    arguments.len() == answers.len()
-}
-
-/// Whether there is a truth, and it is the row's answer.
-fn is_truth(answer: &Value, truth: Option<bool>) -> bool {
-    truth.is_some() && answer.as_bool() == truth
-}
-
-/// Whether a `Pattern` that was read before answers so, and tells what it was read from.
-pub fn is_found_by_pattern(memory: &Memory, arguments: &[Value], answer: &Value) -> bool {
-    let Some(search) = search_of(arguments) else {
-        return false;
-    };
-    let extent = extent_of(search.whole);
-    let Some(read) = memory.ok(Pattern::new(memory.alloc, search.pattern, extent)) else {
-        return false;
-    };
-    read.source() == search.pattern
-        && read.extent().is_entire() == search.whole
-        && read.is_of(search.pattern, extent)
-        && !read.is_of(search.pattern, extent_of(!search.whole))
-        && is_truth(answer, memory.ok(read.is_found(memory.alloc, search.text)))
-}
-
-/// Whether one `Finder`, asked of each text, answers so.
-pub fn are_found(memory: &Memory, arguments: &[Value], answer: &Value) -> bool {
-    match (arguments, list(answer)) {
-        (
-            [
-                Value::String(pattern),
-                Value::Bool(whole),
-                Value::Array(texts),
-            ],
-            Some(answers),
-        ) => {
-            match memory.ok(Pattern::new(memory.alloc, pattern.as_str(), extent_of(*whole))) {
-                Some(read) => finds(memory, &read, texts.as_slice(), answers),
-                None => false,
-            }
-        }
-        _ => false,
+    if finder.is_of(read.source(), read.extent()) {
+        Some(Value::Array(answers))
+    } else {
+        None
     }
-}
-
-fn finds(memory: &Memory, read: &Pattern, texts: &[Value], answers: &[Value]) -> bool {
-    let Some(mut finder) = memory.ok(read.finder(memory.alloc)) else {
-        return false;
-    };
-    for (text, answer) in texts.iter().zip(answers) {
-        let found = match text.as_str() {
-            Some(text) => Some(finder.is_found(text)),
-            None => None,
-        };
-        if !is_truth(answer, found) {
-            return false;
-        }
-    }
-    texts.len() == answers.len() && finder.is_of(read.source(), read.extent())
 }

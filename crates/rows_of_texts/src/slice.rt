@@ -1,27 +1,19 @@
-//! Rows on slices: `picked`, `slice_places`.
-use jsonpath_base::{picked, slice_places};
+//! Calls on slices: `picked`, `slice_places`. They take the parts of a slice, null where one is left out, and the length of a list.
+use jsonpath_base::{SlicePlaces, picked, slice_places};
 use rows_common::Memory;
-use rows_common::members::{list, size};
-use serde_json::Value;
+use rows_common::answers::answered_list;
+use rows_common::members::size;
+use serde_json::{Value, json};
 
-/// A slice of a list of that length.
-#[derive(Clone, Copy)]
-struct Slice {
-    start: Option<i64>,
-    end: Option<i64>,
-    step: Option<i64>,
-    length: usize,
-}
-
-fn slice_of(arguments: &[Value]) -> Option<Slice> {
-    match arguments {
-        [start, end, step, length] => Some(Slice {
-            start: part(start)?,
-            end: part(end)?,
-            step: part(step)?,
-            length: size(length)?,
-        }),
-        _ => None,
+/// The places that `picked` answers; or of `slice_places` how many it tells before it gives them, and which it gives.
+pub fn answer(memory: &Memory, name: &str, arguments: &[Value]) -> Option<Value> {
+    let [start, end, step, length] = arguments else {
+        return None;
+    };
+    let (start, end, step, length) = (part(start)?, part(end)?, part(step)?, size(length)?);
+    match name {
+        "picked" => answered_list(memory, picked(memory.alloc, start, end, step, length)),
+        _ => told(memory, slice_places(start, end, step, length)),
     }
 }
 
@@ -33,45 +25,11 @@ fn part(value: &Value) -> Option<Option<i64>> {
     }
 }
 
-/// Whether `picked` answers these places.
-pub fn are_picked(memory: &Memory, arguments: &[Value], answer: &Value) -> bool {
-    let (Some(slice), Some(wanted)) = (slice_of(arguments), list(answer)) else {
-        return false;
-    };
-    let Some(places) = memory.ok(picked(
-        memory.alloc,
-        slice.start,
-        slice.end,
-        slice.step,
-        slice.length,
-    )) else {
-        return false;
-    };
-    for (place, wanted) in places.iter().zip(wanted) {
-        if size(wanted) != Some(*place) {
-            return false;
-        }
+fn told(memory: &Memory, places: SlicePlaces) -> Option<Value> {
+    let count = places.len();
+    let mut given = Vec::new(memory.alloc);
+    for place in places {
+        memory.ok(given.push(Value::from(place)))?;
     }
-    places.len() == wanted.len()
-}
-
-/// Whether `slice_places` tells their count before it gives them, gives these places, and then none.
-pub fn are_places(arguments: &[Value], answer: &Value) -> bool {
-    let (Some(slice), Some([count, places])) = (slice_of(arguments), list(answer)) else {
-        return false;
-    };
-    let Some(wanted) = list(places) else {
-        return false;
-    };
-    let mut found = slice_places(slice.start, slice.end, slice.step, slice.length);
-    if size(count) != Some(found.len()) {
-        return false;
-    }
-    for place in wanted {
-        let next = found.next();
-        if next.is_none() || next != size(place) {
-            return false;
-        }
-    }
-    found.next().is_none()
+    memory.ok(json!(in memory.alloc; [count, given]))
 }

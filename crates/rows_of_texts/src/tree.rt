@@ -1,48 +1,29 @@
-//! Rows on query trees: `same_as` and `differs_from`. One of the two trees is a copy, so the rows ask of copies too.
-use jsonpath_rust::parser::model::JpQuery;
-use jsonpath_rust::parser::{let_go, parse_json_path};
+//! Trees, as rows tell them.
+use jsonpath_rust::parser::errors::Parsed;
 use rows_common::Memory;
+use rows_common::answers::refusal;
+use serde_json::{Value, json};
+use std::fmt::{Debug, Display};
 
-/// How the trees of two texts compare.
-#[derive(Clone, Copy)]
-pub enum Comparison {
-    Same,
-    Different,
-    /// One of the texts is refused.
-    NoTree,
-}
-
-/// Compares a copy of the tree that a text spells with the tree that another spells.
-pub fn compare(memory: &Memory, text: &str, other: &str) -> Comparison {
-    match copied(memory, text) {
-        Some(tree) => {
-            let found = compare_with(memory, &tree, other);
-            let_go(tree);
-            found
+/// `{"tree": ..}`, as `Debug` writes it, or the refusal.
+pub fn tree<T: Debug + Drop>(memory: &Memory, tree: Parsed<T>) -> Option<Value> {
+    match tree {
+        Ok(tree) => {
+            let written = memory.ok(format!(in memory.alloc; "{tree:?}"))?;
+            memory.ok(json!(in memory.alloc; {"tree": written}))
         }
-        None => Comparison::NoTree,
+        Err(error) => refusal(memory, error),
     }
 }
 
-/// A copy of the tree that the text spells.
-fn copied(memory: &Memory, text: &str) -> Option<JpQuery> {
-    let tree = memory.ok(parse_json_path(memory.alloc, text))?;
-    let copy = memory.ok(tree.try_clone(memory.alloc));
-    let_go(tree);
-    copy
-}
-
-fn compare_with(memory: &Memory, tree: &JpQuery, other: &str) -> Comparison {
-    match memory.ok(parse_json_path(memory.alloc, other)) {
-        Some(other) => {
-            let same = *tree == other;
-            let_go(other);
-            if same {
-                Comparison::Same
-            } else {
-                Comparison::Different
-            }
+/// `{"tree": .., "shown": ..}`, the second as `Display` writes it, or the refusal.
+pub fn shown<T: Debug + Display + Drop>(memory: &Memory, tree: Parsed<T>) -> Option<Value> {
+    match tree {
+        Ok(tree) => {
+            let written = memory.ok(format!(in memory.alloc; "{tree:?}"))?;
+            let shown = memory.ok(format!(in memory.alloc; "{tree}"))?;
+            memory.ok(json!(in memory.alloc; {"tree": written, "shown": shown}))
         }
-        None => Comparison::NoTree,
+        Err(error) => refusal(memory, error),
     }
 }

@@ -1,29 +1,29 @@
-//! Rows on texts and values: `text_length`, `text_less`, `whole`, `same`, `set_function`.
+//! Calls on texts and values: `text_length`, `text_less`, `whole`, `same`, `set_function`.
 use jsonpath_base::{same, set_function, text_length, text_less, whole};
-use rows_common::members::size;
 use serde_json::Value;
 
-/// Whether the call of that name answers so; null stands for None.
-pub fn answers(name: &str, arguments: &[Value], answer: &Value) -> bool {
+/// What the call of that name answers; null stands for None.
+pub fn answer(name: &str, arguments: &[Value]) -> Option<Value> {
     match (name, arguments) {
-        ("text_length", [Value::String(text)]) => {
-            size(answer) == Some(text_length(text.as_str()))
-        }
+        ("text_length", [Value::String(text)]) => Some(Value::from(text_length(text.as_str()))),
         ("text_less", [Value::String(left), Value::String(right)]) => {
-            answer.as_bool() == Some(text_less(left.as_str(), right.as_str()))
+            Some(Value::from(text_less(left.as_str(), right.as_str())))
         }
-        ("whole", [value]) => answer.as_bool() == Some(whole(value)),
+        ("whole", [value]) => Some(Value::from(whole(value))),
         ("same", [left, right]) => {
-            whole(left) && whole(right) && answer.as_bool() == Some(same(left, right))
+            if whole(left) && whole(right) {
+                Some(Value::from(same(left, right)))
+            } else {
+                None
+            }
         }
         ("set_function", [Value::String(name), left, right]) => {
-            whole(left)
-                && whole(right)
-                && match set_function(name.as_str(), left, right) {
-                    Some(truth) => answer.as_bool() == Some(truth),
-                    None => answer.is_null(),
-                }
+            if whole(left) && whole(right) {
+                Some(Value::from(set_function(name.as_str(), left, right)))
+            } else {
+                None
+            }
         }
-        _ => false,
+        _ => None,
     }
 }
