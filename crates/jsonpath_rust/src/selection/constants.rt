@@ -130,7 +130,7 @@ impl<'a: 's, 's, T: Queryable> Task<'a, 's, T> {
         ensures holds { (n : Node) → IfOk result (λ b. b ≡ comparison_holds (comparison_at (kept_of self.now) number) (document self.now) n) }
         ensures comes { Comes self.now trail.old trail.new (comparison_patterns (comparison_at (kept_of self.now) number)) result }
     {
-        let Some((operator, left, right)) = self.plan.constant_comparison(number) else {
+        let Some(comparison) = self.plan.constant_comparison(number) else {
             return Ok(false);
         };
         if let Some(value) = self.kept(number, &trail.cache)? {
@@ -138,7 +138,7 @@ impl<'a: 's, 's, T: Queryable> Task<'a, 's, T> {
         }
         let root = Way::new(self.alloc);
         let here = mem::replace(&mut trail.way, root);
-        let held = self.comparison_holds(operator, (left, right), self.root, trail)?;
+        let held = self.comparison_holds(comparison, self.root, trail)?;
         trail.way = here;
         let truth = Operand::Plain(Scalar::Truth(held));
         trail.cache.keep(number, Given::Value(truth));

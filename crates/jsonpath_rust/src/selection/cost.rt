@@ -9,6 +9,7 @@ ghost use Rattle.jsonpath_rust.specs.declared.documents.halt.Halt.TheVariants.{M
 ghost use Rattle.jsonpath_rust.specs.declared.selection.budget.Limit.TheVariants.{Limited};
 
 use crate::documents::args::Args;
+use crate::documents::comparison::Side;
 use crate::documents::halt::Walked;
 use crate::documents::queryable::Queryable;
 use crate::documents::value::Operand;
@@ -28,16 +29,12 @@ const COPIED: usize = 64;
 impl Limit {
     /// What `length` costs: a unit for each byte of a text of the document, and for each member of an object.
     #[inline(always)]
-    pub fn length_cost<T: Queryable>(
-        self,
-        alloc: Global,
-        operand: &Operand<'_, '_, T>,
-    ) -> Walked<usize>
+    pub fn length_cost<T: Queryable>(self, alloc: Global, side: &Side<'_, '_, T>) -> Walked<usize>
         ensures memory { IfErr result (λ h. h ≡ Memory) }
     {
         match self {
             Limit::Unlimited => Ok(0),
-            Limit::Limited => cost_of_length(alloc, operand),
+            Limit::Limited => cost_of_length(alloc, side),
         }
     }
 
@@ -63,7 +60,7 @@ impl Limit {
     pub fn comparison_cost<T: Queryable>(
         self,
         alloc: Global,
-        sides: (&Operand<'_, '_, T>, &Operand<'_, '_, T>),
+        sides: (&Side<'_, '_, T>, &Side<'_, '_, T>),
         most: usize,
     ) -> Walked<usize>
         ensures cost { IfOk result (λ n. self ≡ Limited → n ≡ min (compared_cost (valued sides.entry.0.now) (valued sides.entry.1.now)) most) }
@@ -98,8 +95,8 @@ impl Limit {
 }
 
 /// How many bytes the text has, if it is one of the document.
-fn text_bytes<T: Queryable>(operand: &Operand<'_, '_, T>) -> usize {
-    match value_in(operand) {
+fn text_bytes<T: Queryable>(side: &Side<'_, '_, T>) -> usize {
+    match value_in(side) {
         Some(value) => match value.as_str() {
             Some(text) => text.len(),
             None => 0,
@@ -109,10 +106,11 @@ fn text_bytes<T: Queryable>(operand: &Operand<'_, '_, T>) -> usize {
 }
 
 /// How many bytes the text has, or how many members the object, if it is one of the document.
-fn cost_of_length<T: Queryable>(alloc: Global, operand: &Operand<'_, '_, T>) -> Walked<usize>
+#[inline(never)]
+fn cost_of_length<T: Queryable>(alloc: Global, side: &Side<'_, '_, T>) -> Walked<usize>
     ensures memory { IfErr result (λ h. h ≡ Memory) }
 {
-    match value_in(operand) {
+    match value_in(side) {
         Some(value) => match value.as_str() {
             Some(text) => Ok(text.len()),
             None => Ok(value.member_count(alloc)?.unwrap_or(0)),
@@ -171,7 +169,7 @@ fn cost_of_search<T: Queryable>(
 ) -> Walked<usize>
     ensures memory { IfErr result (λ h. h ≡ Memory) }
 {
-    let read = text_bytes(sides.0).saturating_add(text_bytes(sides.1));
+    let read = text_bytes(&sides.0.as_side()).saturating_add(text_bytes(&sides.1.as_side()));
     let (Some(text), Some(pattern)) = (sides.0.as_text(), sides.1.as_text()) else {
         return Ok(read);
     };
@@ -182,17 +180,17 @@ fn cost_of_search<T: Queryable>(
 }
 
 /// The value, if it is one of the document or one that a custom function made.
-fn value_in<'k, T: Queryable>(operand: &'k Operand<'_, '_, T>) -> Option<WholeRef<'k, T>>
-    ensures { option_map tree_of result ≡ valued operand.now }
+fn value_in<'k, T: Queryable>(side: &Side<'k, '_, T>) -> Option<WholeRef<'k, T>>
+    ensures { option_map tree_of result ≡ valued side.now }
 {
-    match operand {
-        Operand::Lent(value) => Some(*value),
-        Operand::Made(value) => Some(value.lent()),
+    match side {
+        Side::Lent(value) => Some(*value),
         _ => None,
     }
 }
 
 /// The size of the smaller of two values, or `most` where that is less. The time goes with that, not with the larger one.
+#[inline(never)]
 fn smaller_size<T: Queryable>(
     alloc: Global,
     left: WholeRef<'_, T>,

@@ -23,7 +23,7 @@ impl<'a: 's, 's, T: Queryable> Task<'a, 's, T> {
     pub fn count_children(
         &self,
         steps: &[SingularQuerySegment],
-        at: WholeRef<'a, T>,
+        at: WholeRef<'_, T>,
         budget: &mut Budget,
     ) -> Walked<usize>
         ensures count { (d : Document) (n : Node) → n.tree ≡ tree_of at.entry → IfOk result (λ k. k ≡ length (through (children_query (map step_view steps.now)) d n)) }
@@ -36,7 +36,7 @@ impl<'a: 's, 's, T: Queryable> Task<'a, 's, T> {
     }
 
     /// How many children a value has.
-    fn child_count(&self, parent: WholeRef<'a, T>, budget: &mut Budget) -> Walked<usize>
+    fn child_count(&self, parent: WholeRef<'_, T>, budget: &mut Budget) -> Walked<usize>
         ensures count { IfOk result (λ k. k ≡ length (children (root_node (tree_of parent.entry)))) }
         ensures halts { IfErr result (IsHalt self.now.limit [] (document self.now)) }
     {

@@ -1,110 +1,106 @@
-//! Functions of what is looked up (RFC 9535, 2.4): they are worked out from borrowed values, and nothing is made for them.
-ghost use Rattle.std.specs.Prelude.{◌≡◌, Some, map, IfSome};
+//! Functions of what is looked up (RFC 9535, 2.4): they take no walk, and nothing is made for them.
+ghost use Rattle.std.specs.Prelude.{◌≡◌, [], map, IfOk, IfErr, IfSome};
 ghost use Rattle.jsonpath_parser.specs.tree.Syntax.{relative, test_argument};
 ghost use Rattle.jsonpath_parser.specs.tree.View.{step_view};
 ghost use Rattle.jsonpath_rust.specs.documents.Document.{Document};
 ghost use Rattle.jsonpath_rust.specs.documents.Functions as functions;
-ghost use Rattle.jsonpath_rust.specs.documents.Functions.{as_nodes, as_truth, as_value, only_value};
+ghost use Rattle.jsonpath_rust.specs.documents.Functions.{as_truth};
+ghost use Rattle.jsonpath_rust.specs.documents.Meaning as meaning;
 ghost use Rattle.jsonpath_rust.specs.documents.Meaning.{answer, tested};
 ghost use Rattle.jsonpath_rust.specs.documents.Node.{Node};
 ghost use Rattle.jsonpath_rust.specs.documents.inner.Operands.{side_tree};
 ghost use Rattle.jsonpath_rust.specs.documents.inner.Whole.{tree_of};
-ghost use Rattle.jsonpath_rust.specs.selection.inner.PlanViews.{Constants, argument_view, call_view, children_query, nodes_view};
+ghost use Rattle.jsonpath_rust.specs.selection.inner.Halting.{IsHalt};
+ghost use Rattle.jsonpath_rust.specs.selection.inner.Keeping.{document};
+ghost use Rattle.jsonpath_rust.specs.selection.inner.PlanViews.{Constants, argument_view, call_view, nodes_view, steps_query};
 ghost use Rattle.jsonpath_rust.specs.declared.selection.sink.Wanted.{Wanted};
-ghost use Rattle.jsonpath_rust.specs.declared.selection.sink.Wanted.TheVariants.{Any, Only};
+ghost use Rattle.jsonpath_rust.specs.declared.selection.sink.Wanted.TheVariants.{Any};
 
 use crate::documents::comparison::Side;
+use crate::documents::halt::Walked;
 use crate::documents::queryable::Queryable;
-use crate::documents::value::count_scalar;
+use crate::documents::value::{count_scalar, length_of};
 use crate::documents::whole::WholeRef;
+use crate::selection::budget::Budget;
 use crate::selection::plan::{Argument, Call, Nodes};
 use crate::selection::singular::value_at;
-use jsonpath_base::text_length;
+use crate::selection::walk::Task;
 use jsonpath_parser::model::SingularQuerySegment;
 
-/// What a function of nodes that are looked up returns; None where that takes a walk, or memory.
-#[inline(always)]
-pub fn direct_answer<'k, 's, T: Queryable>(
-    call: &Call,
-    at: WholeRef<'k, T>,
-) -> Option<Side<'k, 's, T>>
-    ensures { (kept : Constants) (d : Document) (n : Node) → n.tree ≡ tree_of at.entry → IfSome result (λ s. side_tree s ≡ answer (call_view kept call.now) d n) }
-{
-    match call {
-        Call::Length(arg) => direct_length(nodes_of(arg)?, at),
-        Call::Value(arg) => direct_value(nodes_of(arg)?, at),
-        Call::CountChildren(steps) => count_elements(steps, at),
-        _ => None,
+impl<'a: 's, 's, T: Queryable> Task<'a, 's, T> {
+    /// What a function of nodes that are looked up returns; None where that takes a walk.
+    #[inline(always)]
+    pub fn direct_answer<'k>(
+        &self,
+        call: &Call,
+        at: WholeRef<'k, T>,
+        budget: &mut Budget,
+    ) -> Walked<Option<Side<'k, 's, T>>>
+        ensures value { (kept : Constants) (d : Document) (n : Node) → n.tree ≡ tree_of at.entry → IfOk result (λ o. IfSome o (λ s. side_tree s ≡ answer (call_view kept call.now) d n)) }
+        ensures halts { IfErr result (IsHalt self.now.limit [] (document self.now)) }
+    {
+        match call {
+            Call::Length(arg) => match lookup_in(arg) {
+                Some(steps) => Ok(Some(self.direct_length(steps, at, budget)?)),
+                None => Ok(None),
+            },
+            Call::Value(arg) => match lookup_in(arg) {
+                Some(steps) => Ok(Some(Side::lent(value_at(steps, at)))),
+                None => Ok(None),
+            },
+            Call::CountChildren(steps) => {
+                let count = self.count_children(steps, at, budget)?;
+                Ok(Some(Side::Plain(count_scalar(count))))
+            }
+            _ => Ok(None),
+        }
+    }
+
+    /// The length of the value that these steps lead to (2.4.4).
+    #[inline(always)]
+    fn direct_length<'k>(
+        &self,
+        steps: &[SingularQuerySegment],
+        at: WholeRef<'_, T>,
+        budget: &mut Budget,
+    ) -> Walked<Side<'k, 's, T>>
+        ensures value { IfOk result (λ s. side_tree s ≡ functions.length_of (meaning.value_at (map step_view steps.now) (tree_of at.entry))) }
+        ensures halts { IfErr result (IsHalt self.now.limit [] (document self.now)) }
+    {
+        let Some(value) = value_at(steps, at) else {
+            return Ok(Side::Absent);
+        };
+        let cost = self.limit.length_cost(self.alloc, &Side::Lent(value))?;
+        budget.spend(self.limit, cost)?;
+        match length_of(self.alloc, value)? {
+            Some(length) => Ok(Side::Plain(count_scalar(length))),
+            None => Ok(Side::Absent),
+        }
     }
 }
 
-/// The query that an argument is, if it is one.
+/// Whether a call is a function of nodes that are looked up.
 #[inline(always)]
-fn nodes_of(arg: &Argument) -> Option<&Nodes>
-    ensures { (kept : Constants) (w : Wanted) → IfSome result (λ ns. argument_view kept arg.now w ≡ test_argument (nodes_view kept ns.now w)) }
+pub fn is_direct(call: &Call) -> bool {
+    match call {
+        Call::Length(arg) => lookup_in(arg).is_some(),
+        Call::Value(arg) => lookup_in(arg).is_some(),
+        Call::CountChildren(_) => true,
+        _ => false,
+    }
+}
+
+/// The steps to the node that an argument is, if it is looked up.
+#[inline(always)]
+pub fn lookup_in(arg: &Argument) -> Option<&[SingularQuerySegment]>
+    ensures { (kept : Constants) (w : Wanted) → IfSome result (λ ss. argument_view kept arg.now w ≡ test_argument (relative (steps_query (map step_view ss.now)))) }
 {
     match arg {
-        Argument::Nodes(nodes) => Some(nodes),
-        _ => None,
-    }
-}
-
-/// The length of the value that is looked up, of a text or a list (2.4.4).
-#[inline(always)]
-fn direct_length<'k, 's, T: Queryable>(
-    nodes: &Nodes,
-    at: WholeRef<'k, T>,
-) -> Option<Side<'k, 's, T>>
-    ensures { (kept : Constants) (d : Document) (n : Node) → n.tree ≡ tree_of at.entry → IfSome result (λ s. side_tree s ≡ functions.length_of (as_value (tested (nodes_view kept nodes.now Only) d n))) }
-{
-    match nodes {
-        Nodes::Lookup(steps) => match value_at(steps, at) {
-            Some(value) => length_side(value),
-            None => Some(Side::Absent),
+        Argument::Nodes(nodes) => match nodes {
+            Nodes::Lookup(steps) => Some(steps),
+            _ => None,
         },
         _ => None,
-    }
-}
-
-/// The length of a text or a list.
-#[inline(always)]
-fn length_side<'k, 's, T: Queryable>(value: WholeRef<'_, T>) -> Option<Side<'k, 's, T>>
-    ensures { IfSome result (λ s. side_tree s ≡ functions.length_of (Some (tree_of value.entry))) }
-{
-    if let Some(text) = value.as_str() {
-        return Some(Side::Plain(count_scalar(text_length(text))));
-    }
-    match value.elements() {
-        Some(items) => Some(Side::Plain(count_scalar(items.len()))),
-        None => None,
-    }
-}
-
-/// The value that is looked up (2.4.8).
-#[inline(always)]
-fn direct_value<'k, 's, T: Queryable>(nodes: &Nodes, at: WholeRef<'k, T>) -> Option<Side<'k, 's, T>>
-    ensures { (kept : Constants) (d : Document) (n : Node) → n.tree ≡ tree_of at.entry → IfSome result (λ s. side_tree s ≡ only_value (as_nodes (tested (nodes_view kept nodes.now Only) d n))) }
-{
-    match nodes {
-        Nodes::Lookup(steps) => Some(Side::lent(value_at(steps, at))),
-        _ => None,
-    }
-}
-
-/// How many children the value has that is looked up, where it is a list, or there is none (2.4.5).
-#[inline(always)]
-fn count_elements<'k, 's, T: Queryable>(
-    steps: &[SingularQuerySegment],
-    at: WholeRef<'k, T>,
-) -> Option<Side<'k, 's, T>>
-    ensures { (d : Document) (n : Node) → n.tree ≡ tree_of at.entry → IfSome result (λ s. side_tree s ≡ functions.count_of (as_nodes (tested (relative (children_query (map step_view steps.now))) d n))) }
-{
-    match value_at(steps, at) {
-        Some(parent) => match parent.elements() {
-            Some(items) => Some(Side::Plain(count_scalar(items.len()))),
-            None => None,
-        },
-        None => Some(Side::Plain(count_scalar(0))),
     }
 }
 

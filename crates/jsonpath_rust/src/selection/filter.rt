@@ -12,18 +12,16 @@ ghost use Rattle.jsonpath_rust.specs.selection.inner.Standing.{Comes};
 ghost use Rattle.jsonpath_rust.specs.declared.selection.sink.Wanted.TheVariants.{Any};
 ghost use Rattle.jsonpath_rust.specs.selection.inner.AtHand.{StandsAt, here};
 
-use crate::documents::comparison::compares;
 use crate::documents::halt::Walked;
 use crate::documents::queryable::Queryable;
 use crate::documents::value::{Operand, scalar_of};
 use crate::documents::whole::WholeRef;
 use crate::selection::direct::is_there;
-use crate::selection::plan::{Filter, Nodes, Side};
+use crate::selection::plan::{Comparison, Filter, Nodes, Side};
 use crate::selection::singular::value_at;
 use crate::selection::sink::Wanted;
 use crate::selection::trail::Trail;
 use crate::selection::walk::Task;
-use jsonpath_parser::model::Operator;
 
 impl<'a: 's, 's, T: Queryable> Task<'a, 's, T> {
     /// Whether a filter holds at a value, to which the way leads.
@@ -49,7 +47,7 @@ impl<'a: 's, 's, T: Queryable> Task<'a, 's, T> {
             }
             Filter::Call { call, not } => Ok(self.called(call, at, trail)?.is_true() != *not),
             Filter::Comparison(operator, left, right) => {
-                self.comparison_holds(*operator, (left, right), at, trail)
+                self.comparison_holds((*operator, left, right), at, trail)
             }
             Filter::Constant(number) => self.constant_comparison(*number, trail),
         }
@@ -117,32 +115,52 @@ impl<'a: 's, 's, T: Queryable> Task<'a, 's, T> {
         Ok(gathered.has_any(&trail.cache))
     }
 
-    /// Whether two sides compare so.
+    /// Whether the sides of a comparison compare so. What takes no walk is compared where it stands, and nothing is made for it.
     #[cycle(walk)]
     pub fn comparison_holds(
         &self,
-        operator: Operator,
-        sides: (&'s Side, &'s Side),
+        comparison: Comparison<'s>,
         at: WholeRef<'a, T>,
         trail: &mut Trail<'a, 's, '_, T>,
     ) -> Walked<bool>
         requires { StandsAt self.now at trail.old }
-        ensures holds { IfOk result (λ b. b ≡ compares (operator_view operator)
-            (here self.now trail.old at.entry (value_of (side_view (kept_of self.now) sides.entry.0.now)))
-            (here self.now trail.old at.entry (value_of (side_view (kept_of self.now) sides.entry.1.now)))) }
+        ensures holds { IfOk result (λ b. b ≡ compares (operator_view comparison.entry.0)
+            (here self.now trail.old at.entry (value_of (side_view (kept_of self.now) comparison.entry.1.now)))
+            (here self.now trail.old at.entry (value_of (side_view (kept_of self.now) comparison.entry.2.now)))) }
         ensures comes { Comes self.now trail.old trail.new
-            (comparable_patterns (side_view (kept_of self.now) sides.entry.0.now) ++ comparable_patterns (side_view (kept_of self.now) sides.entry.1.now)) result }
+            (comparable_patterns (side_view (kept_of self.now) comparison.entry.1.now) ++ comparable_patterns (side_view (kept_of self.now) comparison.entry.2.now)) result }
     {
-        if let Some(held) = self.lent_compare(operator, sides, at, &trail.cache) {
+        if let Some(held) = self.lent_compare(comparison, at, &trail.cache, &mut trail.budget)? {
             return Ok(held);
         }
-        let left = self.side(sides.0, at, trail)?;
-        let right = self.side(sides.1, at, trail)?;
-        let most = trail.budget.left().saturating_add(1);
-        let both = (&left, &right);
-        let cost = self.limit.comparison_cost(self.alloc, both, most)?;
-        trail.budget.spend(self.limit, cost)?;
-        Ok(compares(operator, &left.as_side(), &right.as_side()))
+        self.walked_compare(comparison, at, trail)
+    }
+
+    /// The same, where a side takes a walk, or is a constant that is not worked out yet.
+    #[cycle(walk)]
+    #[inline(never)]
+    fn walked_compare(
+        &self,
+        comparison: Comparison<'s>,
+        at: WholeRef<'a, T>,
+        trail: &mut Trail<'a, 's, '_, T>,
+    ) -> Walked<bool>
+        requires { StandsAt self.now at trail.old }
+        ensures holds { IfOk result (λ b. b ≡ compares (operator_view comparison.entry.0)
+            (here self.now trail.old at.entry (value_of (side_view (kept_of self.now) comparison.entry.1.now)))
+            (here self.now trail.old at.entry (value_of (side_view (kept_of self.now) comparison.entry.2.now)))) }
+        ensures comes { Comes self.now trail.old trail.new
+            (comparable_patterns (side_view (kept_of self.now) comparison.entry.1.now) ++ comparable_patterns (side_view (kept_of self.now) comparison.entry.2.now)) result }
+    {
+        let left = self.side(comparison.1, at, trail)?;
+        let right = self.side(comparison.2, at, trail)?;
+        let held = self.paid_compare(
+            comparison.0,
+            left.as_side(),
+            right.as_side(),
+            &mut trail.budget,
+        )?;
+        Ok(held)
     }
 
     /// The value of a side of a comparison.

@@ -20,8 +20,10 @@ use crate::documents::queryable::Queryable;
 use crate::documents::value::{Operand, Scalar, count_scalar, scalar_of};
 use crate::documents::whole::{Whole, WholeRef};
 use crate::selection::argument::Argument;
+use crate::selection::direct::lookup_in;
 use crate::selection::plan;
 use crate::selection::plan::Call;
+use crate::selection::singular::value_at;
 use crate::selection::sink::Wanted;
 use crate::selection::trail::Trail;
 use crate::selection::walk::Task;
@@ -46,7 +48,7 @@ impl<'a: 's, 's, T: Queryable> Task<'a, 's, T> {
             Call::Custom(name, args) => self.custom(name, args, at, trail),
             Call::Length(arg) => {
                 let value = self.value(arg, at, trail)?;
-                let cost = self.limit.length_cost(self.alloc, &value)?;
+                let cost = self.limit.length_cost(self.alloc, &value.as_side())?;
                 trail.budget.spend(self.limit, cost)?;
                 value.length(self.alloc)
             }
@@ -142,6 +144,9 @@ impl<'a: 's, 's, T: Queryable> Task<'a, 's, T> {
         ensures value { IfOk result (λ o. operand_tree o ≡ as_value (here self.now trail.old at.entry (argued (argument_view (kept_of self.now) arg.now Only)))) }
         ensures comes { Comes self.now trail.old trail.new (argument_patterns (argument_view (kept_of self.now) arg.now Only)) result }
     {
+        if let Some(steps) = lookup_in(arg) {
+            return Ok(Operand::lent(value_at(steps, at)));
+        }
         let argument = self.argument(arg, Wanted::Only, at, trail)?;
         Ok(argument.value(&trail.cache))
     }

@@ -49,6 +49,9 @@ pub enum Constant {
     Comparison(Operator, Side, Side),
 }
 
+/// A comparison: the operator, and the sides.
+pub type Comparison<'s> = (Operator, &'s Side, &'s Side);
+
 /// A segment, which replaces each node by nodes below it (RFC 9535, 2.5).
 #[derive(Drop, PartialEq)]
 #[cycle(plan)]

@@ -2,10 +2,10 @@
 use Rattle.std.specs.Prelude.{ℕ, ◌+◌, ◌-◌, ◌/◌, ◌^◌, min, List, [], ◌∷◌, length, Option, Some, None}
 use Rattle.std.specs.declared.fmt.Debug as debug
 use Rattle.jsonpath_base.specs.Tree.{Tree, null, truth, number, text, list, object, Trees, no_trees, tree, Members, no_members, member}
-use Rattle.jsonpath_rust.specs.documents.inner.Whole.{tree_of, own_tree}
+use Rattle.jsonpath_rust.specs.documents.inner.Whole.{tree_of}
 use Rattle.jsonpath_rust.specs.declared.documents.queryable.Queryable.{Ghosts}
-use Rattle.jsonpath_rust.specs.declared.documents.value.Operand.{Operand}
-use Rattle.jsonpath_rust.specs.declared.documents.value.Operand.TheVariants as operand
+use Rattle.jsonpath_rust.specs.declared.documents.comparison.Side.{Side}
+use Rattle.jsonpath_rust.specs.declared.documents.comparison.Side.TheVariants as side
 
 -- one for each value in it, and for each 16 bytes of its texts and names
 abbrev mutual
@@ -40,11 +40,10 @@ abbrev pub smaller_cost : Tree → Tree → ℕ
 smaller_cost t u = min (min (cost t) (cost u)) (2 ^ 64 - 1)
 
 -- the tree of a side, if it is a value of the document or one that a custom function made
-abbrev pub valued : {A : Type 0} {R : Ghosts A} {D : debug.Ghosts A} → Operand A R D → Option Tree
-valued operand.Absent = None
-valued (operand.Lent v) = Some (tree_of v)
-valued (operand.Made v) = Some (own_tree v)
-valued (operand.Plain s) = None
+abbrev pub valued : {A : Type 0} {R : Ghosts A} {D : debug.Ghosts A} → Side A R D → Option Tree
+valued side.Absent = None
+valued (side.Lent v) = Some (tree_of v)
+valued (side.Plain s) = None
 
 -- of a comparison
 abbrev pub compared_cost : Option Tree → Option Tree → ℕ

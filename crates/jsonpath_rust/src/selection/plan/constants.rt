@@ -4,9 +4,9 @@ ghost use Rattle.jsonpath_parser.specs.tree.Syntax as tree;
 ghost use Rattle.jsonpath_parser.specs.tree.View.{operator_view, step_view};
 ghost use Rattle.jsonpath_rust.specs.selection.inner.PlanViews.{is_same_wanted, kept_view, part_at, nodes, value, answered, compared, constant_view, query_at, segments_meant, steps_at, call_at, call_view, comparison_at, side_view};
 
-use super::{Call, Constant, Plan, Segment, Side};
+use super::{Call, Comparison, Constant, Plan, Segment};
 use crate::selection::sink::Wanted;
-use jsonpath_parser::model::{Operator, SingularQuerySegment};
+use jsonpath_parser::model::SingularQuerySegment;
 
 impl Plan {
     /// The constant of this number.
@@ -64,7 +64,7 @@ impl Plan {
 
     /// The comparison that has this number.
     #[inline(always)]
-    pub fn constant_comparison(&self, number: usize) -> Option<(Operator, &Side, &Side)>
+    pub fn constant_comparison(&self, number: usize) -> Option<Comparison<'_>>
         ensures part { IfSome result (λ p. part_at (kept_view self.now.constants.items) number ≡ compared (tree.compare (operator_view p.0) (side_view (kept_view self.now.constants.items) p.1.now) (side_view (kept_view self.now.constants.items) p.2.now))) }
         ensures within { IfSome result (λ p. number < length (kept_view self.now.constants.items)) }
         ensures none { IfNone result (comparison_at (kept_view self.now.constants.items) number ≡ tree.compare tree.less (tree.literal tree.null) (tree.literal tree.null)) }

@@ -46,7 +46,7 @@ use Rattle.jsonpath_base.specs.Pattern.{is_entire}
 use Rattle.jsonpath_rust.specs.documents.inner.Operands.{operand_tree, side_tree, arg_trees}
 use Rattle.jsonpath_rust.specs.documents.Args.{arg_value}
 use Rattle.jsonpath_rust.specs.documents.inner.Whole.{tree_of}
-use Rattle.jsonpath_rust.proofs.laws.selection.DirectLaws.{query_count, query_there}
+use Rattle.jsonpath_rust.proofs.laws.selection.DirectLaws.{looked_up, query_count, query_there}
 use Rattle.jsonpath_rust.proofs.laws.selection.NodelistLaws.{through-applied, nodelist-through}
 use Rattle.jsonpath_base.specs.declared.step.StepRef.{StepRef}
 use Rattle.jsonpath_rust.specs.selection.inner.Arguing.{value, nodes, holding, value_held, only_held, count_held, trees_held, truth_held}
@@ -877,30 +877,40 @@ exists-returns-clause-holds g t c =
 pub comparison_holds-lent_compare-requires : goal.comparison_holds-lent_compare-requires
 comparison_holds-lent_compare-requires g t c = c.requires.ready
 
-pub comparison_holds-side-requires : goal.comparison_holds-side-requires
-comparison_holds-side-requires g t c κs within =
-    (down _ _ _ _ _ _ c.decreases (omega arith) (omega (arith, c.requires.within)), (within, c.requires))
-
-pub comparison_holds-side-requires-2 : goal.comparison_holds-side-requires-2
-comparison_holds-side-requires-2 g t c κs within =
-    (down _ _ _ _ _ _ c.decreases (omega arith) (omega (arith, c.requires.within)), (within, still c.requires c.in_ok-left.ensures.comes.back))
+pub comparison_holds-walked_compare-requires : goal.comparison_holds-walked_compare-requires
+comparison_holds-walked_compare-requires g t c κs within = (down_tree _ _ _ _ _ c.decreases (omega arith), (within, c.requires))
 
 pub comparison_holds-returns-in-Some-clause-holds : goal.comparison_holds-returns-in-Some-clause-holds
 comparison_holds-returns-in-Some-clause-holds g t c =
-    let n = node_of c.args.trail.now.way.steps.items c.args.at in
-    c.in-Some.ensures n refl
-
-pub comparison_holds-returns-clause-holds : goal.comparison_holds-returns-clause-holds
-comparison_holds-returns-clause-holds g t c =
     let kept = kept_of c.args.self.now in
     let d = document c.args.self.now in
     let n = node_of c.args.trail.now.way.steps.items c.args.at in
-    let op = operator_view c.args.operator in
-    let right = c.in_ok-right.ensures.value ∙ ap (λ q. value_of (side_view kept c.args.sides.1.now) d (node_of q c.args.at)) c.in_ok-left.ensures.comes.back.same in
-    c.compares.ensures ∙ ap (λ o. compares op o (side_tree c.as_side-2.result)) (c.as_side.ensures ∙ c.in_ok-left.ensures.value) ∙ ap (compares op (value_of (side_view kept c.args.sides.0.now) d n)) (c.as_side-2.ensures ∙ right)
+    let left = value_of (side_view kept c.args.comparison.1.now) d n in
+    let right = value_of (side_view kept c.args.comparison.2.now) d n in
+    of_some (λ b. b ≡ compares (operator_view c.args.comparison.0) left right) _ _ c.in-Some.is (c.in_ok-held.ensures.holds n refl)
 
 pub comparison_holds-returns-clause-comes : goal.comparison_holds-returns-clause-comes
-comparison_holds-returns-clause-comes g t c =
+comparison_holds-returns-clause-comes g t c = comes_after _ c.walked_compare.ensures.comes refl c.requires.ready (λ h. h)
+
+pub walked_compare-side-requires : goal.walked_compare-side-requires
+walked_compare-side-requires g t c κs within =
+    (down _ _ _ _ _ _ c.decreases (omega arith) (omega (arith, c.requires.within)), (within, c.requires))
+
+pub walked_compare-side-requires-2 : goal.walked_compare-side-requires-2
+walked_compare-side-requires-2 g t c κs within =
+    (down _ _ _ _ _ _ c.decreases (omega arith) (omega (arith, c.requires.within)), (within, still c.requires c.in_ok-left.ensures.comes.back))
+
+pub walked_compare-returns-clause-holds : goal.walked_compare-returns-clause-holds
+walked_compare-returns-clause-holds g t c =
+    let kept = kept_of c.args.self.now in
+    let d = document c.args.self.now in
+    let n = node_of c.args.trail.now.way.steps.items c.args.at in
+    let op = operator_view c.args.comparison.0 in
+    let right = c.in_ok-right.ensures.value ∙ ap (λ q. value_of (side_view kept c.args.comparison.2.now) d (node_of q c.args.at)) c.in_ok-left.ensures.comes.back.same in
+    c.in_ok-held.ensures.holds ∙ ap (λ o. compares op o (side_tree c.as_side-2.result)) (c.as_side.ensures ∙ c.in_ok-left.ensures.value) ∙ ap (compares op (value_of (side_view kept c.args.comparison.1.now) d n)) (c.as_side-2.ensures ∙ right)
+
+pub walked_compare-returns-clause-comes : goal.walked_compare-returns-clause-comes
+walked_compare-returns-clause-comes g t c =
     let back = on c.in_ok-left.ensures.comes.back c.in_ok-right.ensures.comes.back in
     record { back = record { same = back.same; ready = back.ready }; ready = tt; halts = tt }
 
@@ -1076,6 +1086,14 @@ match_or_search-returns-in_err-found-clause-comes g t c =
 
 pub value-argument-requires : goal.value-argument-requires
 value-argument-requires g t c κs within = (down_tree _ _ _ _ _ c.decreases (omega arith), (within, c.requires))
+
+pub value-returns-in-Some-clause-value : goal.value-returns-in-Some-clause-value
+value-returns-in-Some-clause-value g t c =
+    let d = document c.args.self.now in
+    let n = node_of c.args.trail.now.way.steps.items c.args.at in
+    let query = c.in-Some.ensures (kept_of c.args.self.now) Only in
+    let found = looked_up (map step_view c.in-Some.steps.now) d n n.tree refl in
+    c.lent.ensures ∙ c.value_at.ensures ∙ sym (ap (λ a. as_value (argued a d n)) query ∙ found)
 
 pub value-returns-clause-value : goal.value-returns-clause-value
 value-returns-clause-value g t c =
@@ -1362,15 +1380,15 @@ each_holds-returns-in_err-filter_holds-clause-comes g t c =
     let kept = kept_of c.args.self.now in
     comes_so _ _ c.from_residual-in_err-filter_holds.ensures.1 c.in_err-filter_holds.ensures.comes (λ h. asked_at (λ (x : Filter). filter_patterns (filter_view kept x)) (λ xs. filters_patterns (filters_meant kept xs)) (λ x xs. refl) c.args.parts.now c.loop-part.part-index c.part-item.result c.loop-part-test.true c.part-item.is h)
 
-pub comparison_holds-returns-in_err-left-clause-comes : goal.comparison_holds-returns-in_err-left-clause-comes
-comparison_holds-returns-in_err-left-clause-comes g t c =
+pub walked_compare-returns-in_err-left-clause-comes : goal.walked_compare-returns-in_err-left-clause-comes
+walked_compare-returns-in_err-left-clause-comes g t c =
     let kept = kept_of c.args.self.now in
-    comes_so _ _ c.from_residual.ensures.1 c.in_err-left.ensures.comes (λ h. asked_left (comparable_patterns (side_view kept c.args.sides.0.now)) (comparable_patterns (side_view kept c.args.sides.1.now)) h)
+    comes_so _ _ c.from_residual.ensures.1 c.in_err-left.ensures.comes (λ h. asked_left (comparable_patterns (side_view kept c.args.comparison.1.now)) (comparable_patterns (side_view kept c.args.comparison.2.now)) h)
 
-pub comparison_holds-returns-in_err-right-clause-comes : goal.comparison_holds-returns-in_err-right-clause-comes
-comparison_holds-returns-in_err-right-clause-comes g t c =
+pub walked_compare-returns-in_err-right-clause-comes : goal.walked_compare-returns-in_err-right-clause-comes
+walked_compare-returns-in_err-right-clause-comes g t c =
     let kept = kept_of c.args.self.now in
-    comes_so _ _ c.from_residual-in_err-right.ensures.1 c.in_err-right.ensures.comes (λ h. asked_right (comparable_patterns (side_view kept c.args.sides.0.now)) (comparable_patterns (side_view kept c.args.sides.1.now)) h)
+    comes_so _ _ c.from_residual-in_err-right.ensures.1 c.in_err-right.ensures.comes (λ h. asked_right (comparable_patterns (side_view kept c.args.comparison.1.now)) (comparable_patterns (side_view kept c.args.comparison.2.now)) h)
 
 pub answer-returns-in-Custom-clause-comes : goal.answer-returns-in-Custom-clause-comes
 answer-returns-in-Custom-clause-comes g t c =

@@ -88,7 +88,10 @@ abbrev pub decreases-exists : goal.decreases-exists
 decreases-exists g l = work (test_weight (nodes_view (kept_of l.self.now) l.nodes.now Any)) (size (tree_of l.self.now.root)) (5 * size (tree_of l.at) + 1)
 
 abbrev pub decreases-comparison_holds : goal.decreases-comparison_holds
-decreases-comparison_holds g l = work (comparable_weight (side_view (kept_of l.self.now) l.sides.0.now) + comparable_weight (side_view (kept_of l.self.now) l.sides.1.now) + 1) (size (tree_of l.self.now.root)) (5 * size (tree_of l.at))
+decreases-comparison_holds g l = work (comparable_weight (side_view (kept_of l.self.now) l.comparison.1.now) + comparable_weight (side_view (kept_of l.self.now) l.comparison.2.now) + 1) (size (tree_of l.self.now.root)) (5 * size (tree_of l.at) + 1)
+
+abbrev pub decreases-walked_compare : goal.decreases-walked_compare
+decreases-walked_compare g l = work (comparable_weight (side_view (kept_of l.self.now) l.comparison.1.now) + comparable_weight (side_view (kept_of l.self.now) l.comparison.2.now) + 1) (size (tree_of l.self.now.root)) (5 * size (tree_of l.at))
 
 abbrev pub decreases-side : goal.decreases-side
 decreases-side g l = work (comparable_weight (side_view (kept_of l.self.now) l.side.now)) (size (tree_of l.self.now.root)) (5 * size (tree_of l.at))

@@ -2,22 +2,24 @@ use Rattle.std.proofs.Common.{ap, sym, ◌∙◌}
 use Rattle.std.proofs.lemmas.Option.{IfSome_then}
 use Rattle.jsonpath_rust.specs.documents.Meaning.{answer}
 use Rattle.jsonpath_rust.specs.documents.Node.{root_node}
+use Rattle.jsonpath_rust.specs.documents.inner.Operands.{side_tree}
 use Rattle.jsonpath_rust.specs.selection.inner.Keeping.{document, kept_of, value_by}
 use Rattle.jsonpath_rust.specs.selection.inner.PlanViews.{call_in, call_view, called_view}
+use Rattle.jsonpath_rust.proofs.laws.selection.DirectLaws.{at_hand_as}
 use Rattle.jsonpath_rust.proofs.laws.selection.PlanEquations.{called_view-Here, called_view-Constant}
 use Rattle.jsonpath_rust.proofs.laws.selection.RootedLaws.{kept_call_same}
 use Rattle.jsonpath_rust.proofs.selection.walk.Task.lent_answer.Goals as goal
 
-pub returns-in-Some : goal.returns-in-Some
-returns-in-Some g c = λ n e.
+pub returns-in-Some-clause-value : goal.returns-in-Some-clause-value
+returns-in-Some-clause-value g c = λ n e.
     let kept = kept_of c.args.self.now in
     let d = document c.args.self.now in
     let is = ap (called_view kept) c.in-Constant.is ∙ called_view-Constant kept c.in-Constant.number in
     IfSome_then c.lent_value.result c.lent_value.ensures (λ s h. h ∙ ap (λ p. value_by p d) c.in-Some.ensures.part ∙ sym (ap (λ p. answer (call_in p) d (root_node d.root)) c.in-Some.ensures.part) ∙ kept_call_same kept c.in-Constant.number d (root_node d.root) n c.args.self.now.plan.now.rooted ∙ sym (ap (λ f. answer f d n) is))
 
-pub returns-in-Here : goal.returns-in-Here
-returns-in-Here g c = λ n e.
+pub returns-in-Here-clause-value : goal.returns-in-Here-clause-value
+returns-in-Here-clause-value g c = λ n e.
     let kept = kept_of c.args.self.now in
     let d = document c.args.self.now in
     let is = ap (called_view kept) c.in-Here.is ∙ called_view-Here kept c.in-Here.call ∙ ap (call_view kept) (sym c.deref.ensures) in
-    IfSome_then c.direct_answer.result (c.direct_answer.ensures kept d n e) (λ s h. h ∙ sym (ap (λ f. answer f d n) is))
+    at_hand_as side_tree c.direct_answer.result _ _ (c.direct_answer.ensures.value kept d n e) (sym (ap (λ f. answer f d n) is))

@@ -6,33 +6,35 @@ use Rattle.jsonpath_rust.specs.documents.Meaning.{value_at, value_of}
 use Rattle.jsonpath_rust.specs.selection.inner.Keeping.{document, kept_of, value_by}
 use Rattle.jsonpath_rust.specs.selection.inner.PlanViews.{side_view, steps_in}
 use Rattle.jsonpath_rust.proofs.laws.selection.PlanEquations.{side_view-Literal, side_view-Lookup, side_view-Constant, side_view-Call}
+use Rattle.jsonpath_rust.specs.documents.inner.Operands.{side_tree}
 use Rattle.jsonpath_rust.specs.documents.inner.Whole.{tree_of}
+use Rattle.jsonpath_rust.proofs.laws.selection.DirectLaws.{at_hand_as}
 use Rattle.jsonpath_rust.proofs.selection.walk.Task.lent_side.Goals as goal
 
-pub returns-in-Literal : goal.returns-in-Literal
-returns-in-Literal g c = λ n e.
+pub returns-in-Literal-clause-value : goal.returns-in-Literal-clause-value
+returns-in-Literal-clause-value g c = λ n e.
     let kept = kept_of c.args.self.now in
     let d = document c.args.self.now in
     let is = ap (side_view kept) c.in-Literal.is ∙ side_view-Literal kept c.in-Literal.literal in
     ap (λ x. Some x) c.scalar_of.ensures ∙ sym (ap (λ x. value_of x d n) is)
 
-pub returns-in-Lookup : goal.returns-in-Lookup
-returns-in-Lookup g c = λ n e.
+pub returns-in-Lookup-clause-value : goal.returns-in-Lookup-clause-value
+returns-in-Lookup-clause-value g c = λ n e.
     let kept = kept_of c.args.self.now in
     let d = document c.args.self.now in
     let is = ap (side_view kept) c.in-Lookup.is ∙ side_view-Lookup kept c.in-Lookup.steps in
     c.lent.ensures ∙ c.value_at.ensures ∙ ap (λ (ss : List SingularQuerySegment). value_at (map step_view ss) (tree_of c.args.at)) c.deref.ensures.value ∙ ap (value_at (map step_view c.in-Lookup.steps.items)) (sym e) ∙ sym (ap (λ x. value_of x d n) is)
 
-pub returns-in-Some : goal.returns-in-Some
-returns-in-Some g c = λ n e.
+pub returns-in-Some-clause-value : goal.returns-in-Some-clause-value
+returns-in-Some-clause-value g c = λ n e.
     let kept = kept_of c.args.self.now in
     let d = document c.args.self.now in
     let is = ap (side_view kept) c.in-Constant.is ∙ side_view-Constant kept c.in-Constant.number in
     IfSome_then c.lent_value.result c.lent_value.ensures (λ s h. h ∙ ap (λ p. value_by p d) c.in-Some.ensures.part ∙ sym (ap (λ p. value_at (steps_in p) d.root) c.in-Some.ensures.part) ∙ sym (ap (λ x. value_of x d n) is))
 
-pub returns-in-Call : goal.returns-in-Call
-returns-in-Call g c = λ n e.
+pub returns-in-Call-clause-value : goal.returns-in-Call-clause-value
+returns-in-Call-clause-value g c = λ n e.
     let kept = kept_of c.args.self.now in
     let d = document c.args.self.now in
     let is = ap (side_view kept) c.in-Call.is ∙ side_view-Call kept c.in-Call.call in
-    IfSome_then c.lent_answer.result (c.lent_answer.ensures n e) (λ s h. h ∙ sym (ap (λ x. value_of x d n) is))
+    at_hand_as side_tree c.lent_answer.result _ _ (c.lent_answer.ensures.value n e) (sym (ap (λ x. value_of x d n) is))

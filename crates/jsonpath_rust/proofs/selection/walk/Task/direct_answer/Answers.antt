@@ -1,0 +1,30 @@
+use Rattle.std.proofs.Common.{List, Some, map, ap, sym, ◌∙◌}
+use Rattle.jsonpath_parser.specs.tree.Syntax.{length_call, value_call, relative}
+use Rattle.jsonpath_parser.specs.tree.View.{step_view}
+use Rattle.jsonpath_parser.specs.declared.tree.model.SingularQuerySegment.{SingularQuerySegment}
+use Rattle.jsonpath_rust.specs.documents.Functions.{as_nodes, count_of, length_of}
+use Rattle.jsonpath_rust.specs.documents.Meaning.{answer, tested}
+use Rattle.jsonpath_rust.specs.documents.inner.Whole.{tree_of}
+use Rattle.jsonpath_rust.specs.selection.inner.PlanViews.{call_view, children_query}
+use Rattle.jsonpath_rust.specs.declared.selection.sink.Wanted.TheVariants.{Only}
+use Rattle.jsonpath_rust.proofs.laws.selection.DirectLaws.{looked_up, query_count}
+use Rattle.jsonpath_rust.proofs.laws.selection.PlanEquations.{call_view-Length, call_view-Value, call_view-CountChildren}
+use Rattle.jsonpath_rust.proofs.selection.walk.Task.direct_answer.Goals as goal
+
+pub returns-in_ok-direct_length-in-Some-clause-value : goal.returns-in_ok-direct_length-in-Some-clause-value
+returns-in_ok-direct_length-in-Some-clause-value g c = λ kept d n e.
+    let is = ap (call_view kept) c.in-Length.is ∙ call_view-Length kept c.in-Length.arg ∙ ap length_call (c.in-Some.ensures kept Only) in
+    let found = looked_up (map step_view c.in-Some.steps.now) d n (tree_of c.args.at) e in
+    c.in_ok-direct_length-in-Some.ensures.value ∙ sym (ap (λ f. answer f d n) is ∙ ap length_of found)
+
+pub returns-in-Some-lookup_in-clause-value : goal.returns-in-Some-lookup_in-clause-value
+returns-in-Some-lookup_in-clause-value g c = λ kept d n e.
+    let is = ap (call_view kept) c.in-Value.is ∙ call_view-Value kept c.in-Value.arg ∙ ap value_call (c.in-Some-lookup_in.ensures kept Only) in
+    let found = looked_up (map step_view c.in-Some-lookup_in.steps.now) d n (tree_of c.args.at) e in
+    c.lent.ensures ∙ c.value_at.ensures ∙ sym (ap (λ f. answer f d n) is ∙ found)
+
+pub returns-in_ok-count-in-CountChildren-clause-value : goal.returns-in_ok-count-in-CountChildren-clause-value
+returns-in_ok-count-in-CountChildren-clause-value g c = λ kept d n e.
+    let is = ap (call_view kept) c.in-CountChildren.is ∙ call_view-CountChildren kept c.in-CountChildren.steps in
+    let steps = ap (λ (ss : List SingularQuerySegment). children_query (map step_view ss)) c.deref.ensures.value in
+    ap Some c.count_scalar.ensures ∙ query_count _ d n _ (c.in_ok-count-in-CountChildren.ensures.count d n e) ∙ ap (λ q. count_of (as_nodes (tested (relative q) d n))) steps ∙ sym (ap (λ f. answer f d n) is)
