@@ -5,8 +5,9 @@ use Rattle.serde_json.specs.declared.value.Value.{Value, Array}
 use Rattle.serde_json.proofs.Views.{view-Array}
 use Rattle.jsonpath_rust.specs.Location.{Step, index, Location}
 use Rattle.jsonpath_rust.specs.Places.{at}
+use Rattle.jsonpath_rust.specs.Pointer.{step_in}
 use Rattle.jsonpath_rust.specs.Put.{put}
-use Rattle.jsonpath_rust.specs.Tree.{Tree, null, list, elements}
+use Rattle.jsonpath_rust.specs.Tree.{Tree, null, truth, number, text, list, object, elements}
 use Rattle.jsonpath_rust.specs.Without.{is_among, without}
 use Rattle.jsonpath_rust.specs.base.Values.{tree_of, trees_of, value_tree}
 use Rattle.std.specs.Path.{rsplit_once}
@@ -40,6 +41,15 @@ dash_step part v vs n dash is len =
     let tree : value_tree v ≡ list (trees_of (items_view vs.items)) = ap value_tree is ∙ ap tree_of (view-Array vs) in
     let here : new_step part (list (trees_of (items_view vs.items))) ≡ Some (index (length (elements (trees_of (items_view vs.items))))) = rw dash refl in
     ap (λ k. Some (index k)) (len ∙ sym (count vs.items)) ∙ sym here ∙ ap (new_step part) (sym tree)
+
+-- any other token
+pub plain_step : (part : List ℕ) (t : Tree) → bytes_eq part (codes "-") ≡ false → step_in part t ≡ new_step part t
+plain_step part null other = refl
+plain_step part (truth b) other = refl
+plain_step part (number n) other = refl
+plain_step part (text s) other = refl
+plain_step part (list ts) other = rw other refl
+plain_step part (object ms) other = refl
 
 pub target_is : (path parent token : List ℕ) (t p : Tree) (l : Location) (o : Option Step) → rsplit_once 47 path ≡ Some (parent, token) → location_in parent t ≡ Some l → at l t ≡ Some p → o ≡ new_step token p → option_map (λ s. (l, s)) o ≡ target_in path t
 target_is path parent token t p l o split leads there step = rw (split, leads, there, step) refl

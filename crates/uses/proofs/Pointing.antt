@@ -9,14 +9,14 @@ use Rattle.serde_json.specs.View.{view}
 use Rattle.serde_json.specs.declared.value.Value.{Value}
 use Rattle.jsonpath_rust.specs.Location.{Step, name, index, Location}
 use Rattle.jsonpath_rust.specs.Places.{at, child}
-use Rattle.jsonpath_rust.specs.Pointer.{Means, MeansStep, PointsTo}
+use Rattle.jsonpath_rust.specs.Pointer.{Means, MeansStep, PointsTo, step_in}
 use Rattle.jsonpath_rust.specs.Tree.{Tree, null, truth, number, text, list, object}
 use Rattle.jsonpath_rust.specs.base.Steps.{location_view}
 use Rattle.jsonpath_rust.specs.base.Values.{tree_of, tree_of_number, trees_of, value_tree}
 use Rattle.jsonpath_rust.specs.Step as owned
 use Rattle.jsonpath_base.proofs.Placing.{item_at-trees_of}
 use Rattle.jsonpath_base.proofs.Views.{find-members_of}
-use Rattle.uses.specs.Patch.{tokens_from, tokens, step_in, led, location_in, value_in}
+use Rattle.uses.specs.Patch.{tokens_from, tokens, led, location_in, value_in}
 
 -- ---- one token
 

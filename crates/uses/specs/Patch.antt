@@ -4,15 +4,15 @@ use Rattle.std.specs.List.{starts_with}
 use Rattle.std.specs.Path.{rsplit_once}
 use Rattle.std.specs.Str.{byte}
 use Rattle.serde_json.specs.Find as json_find
-use Rattle.serde_json.specs.Find.{unescape, index_of}
 use Rattle.serde_json.specs.View.{view}
 use Rattle.serde_json.specs.declared.value.Value.{Value}
-use Rattle.jsonpath_rust.specs.Location.{Step, name, index, Location}
+use Rattle.jsonpath_rust.specs.Location.{Step, index, Location}
 use Rattle.jsonpath_rust.specs.Added.{added, takes_at}
 use Rattle.jsonpath_rust.specs.Places.{at, child}
+use Rattle.jsonpath_rust.specs.Pointer.{step_in}
 use Rattle.jsonpath_rust.specs.Put.{put}
 use Rattle.jsonpath_rust.specs.Same.{same}
-use Rattle.jsonpath_rust.specs.Tree.{Tree, list, object, elements}
+use Rattle.jsonpath_rust.specs.Tree.{Tree, list, elements}
 use Rattle.jsonpath_rust.specs.Without.{without, is_among}
 use Rattle.jsonpath_rust.specs.base.Values.{tree_of, value_tree}
 use Rattle.uses.specs.declared.patch.Operation.{Operation}
@@ -29,12 +29,6 @@ tokens_from part (c ∷ rest) = if c == byte "/" then part ∷ tokens_from [] re
 abbrev pub tokens : List ℕ → Option (List (List ℕ))
 tokens [] = Some []
 tokens (c ∷ rest) = if c == byte "/" then Some (tokens_from [] rest) else None
-
--- what a token means in a value: of an object a name, of a list an index, digits without a leading zero (section 4)
-abbrev pub step_in : List ℕ → Tree → Option Step
-step_in part (object ms) = Some (name (unescape part))
-step_in part (list ts) = option_map index (index_of part)
-step_in part _ = None
 
 -- the location to which the tokens lead, one after the other, if something is there (section 4)
 abbrev pub led : List (List ℕ) → Tree → Option Location
@@ -56,7 +50,7 @@ PathsLeadAsPointers = (path : List ℕ) (v : Value) → value_in path (value_tre
 
 -- what a token means where a value is added: in a list `-` is the index behind the last element (RFC 6901, 4)
 abbrev pub new_step : List ℕ → Tree → Option Step
-new_step part (list ts) = if bytes_eq part (codes "-") then Some (index (length (elements ts))) else option_map index (index_of part)
+new_step part (list ts) = if bytes_eq part (codes "-") then Some (index (length (elements ts))) else step_in part (list ts)
 new_step part t = step_in part t
 
 -- The tokens up to the last `/` lead to an object or a list; what stands behind it means a member or an element of that.

@@ -6,7 +6,6 @@ ghost use Rattle.uses.specs.Patch.{FailsAt, PathsLeadAsPointers, all_patched, pa
 
 mod operations;
 mod place;
-mod token;
 
 use crate::patch::operations::{add, copy, move_value, remove, replace, test};
 use jsonpath_rust::query::Queried;

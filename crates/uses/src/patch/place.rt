@@ -5,9 +5,8 @@ ghost use Rattle.jsonpath_rust.specs.base.Steps.{location_view, owned_step};
 ghost use Rattle.jsonpath_rust.specs.base.Values.{value_tree, value_is_whole};
 ghost use Rattle.uses.specs.Patch.{is_inside, location_in, new_step, target_in, value_in};
 
-use crate::patch::token::{index_by, unescaped};
 use jsonpath_rust::Step;
-use jsonpath_rust::query::{Queried, at, location_by_pointer};
+use jsonpath_rust::query::{Queried, at, location_by_pointer, step_by_token};
 use serde_json::Value;
 use std::alloc::Global;
 
@@ -58,13 +57,8 @@ fn new_step(alloc: Global, target: &Value, token: &str) -> Queried<Option<Step>>
     ensures memory { IfErr result (λ e. e ≡ OutOfMemory) }
 {
     match target {
-        Value::Object(_) => Ok(Some(Step::Name(unescaped(alloc, token)?))),
         Value::Array(items) if token == "-" => Ok(Some(Step::Index(items.len()))),
-        Value::Array(_) => match index_by(token) {
-            Some(index) => Ok(Some(Step::Index(index))),
-            None => Ok(None),
-        },
-        _ => Ok(None),
+        _ => step_by_token(alloc, target, token),
     }
 }
 
