@@ -1,117 +1,67 @@
-//! Rows on conditions: `condition`, a text, with `holds`, whether it holds of `document`, and `enough`, how many units of work are just
-//! enough for that; or with `refused`, why it is none.
+//! Calls of conditions: `Condition::read`, `Condition::holds`, `Condition::enough`.
 ghost use Rattle.std.specs.Prelude.{IsTrue};
 ghost use Rattle.jsonpath_base.specs.Values.{value_is_whole};
 
-use crate::limits::{done, is_spent};
-use jsonpath_parser::MAX_NESTING_DEPTH;
+use crate::limits::{Search, done};
+use jsonpath_rust::Condition;
 use jsonpath_rust::query::queryable::Queryable;
-use jsonpath_rust::{Condition, ConditionRunner};
 use rows_common::Memory;
-use rows_common::members::{Depth, depth_of, has_only, size, string_at};
-use rows_common::refusal::is_refused;
-use rows_common::text::text_at;
-use serde_json::Value;
+use rows_common::answers::refusal;
+use rows_common::members::size;
+use serde_json::{Value, json};
 
-/// A condition, and the document that it is asked of.
-#[derive(Clone, Copy)]
-struct Asked<'r> {
-    text: &'r str,
-    depth: usize,
-    document: &'r Value,
-}
-
-/// Whether the row holds.
-pub fn holds(memory: &Memory, row: &Value) -> bool {
-    let Some(text) = text_at(memory, row, "condition") else {
-        return false;
+/// What the call of that name answers, of a text, a depth and a document: `Condition::read`, which takes no document, the `Debug` text;
+/// `Condition::holds`, whether it holds; `Condition::enough`, that, and with how many units of work at least it is told.
+pub fn answer(memory: &Memory, name: &str, arguments: &[Value]) -> Option<Value> {
+    let [Value::String(text), depth, rest @ ..] = arguments else {
+        return None;
     };
-    let depth = match depth_of(row) {
-        Some(Depth::Default) => MAX_NESTING_DEPTH,
-        Some(Depth::Limit(depth)) => depth,
-        None => return false,
+    let condition = match Condition::read(memory.alloc, text.as_str(), size(depth)?) {
+        Ok(condition) => condition,
+        Err(error) => return refusal(memory, error),
     };
-    let text = text.as_str();
-    match (
-        row.get("document"),
-        row.get("holds"),
-        string_at(row, "refused"),
-    ) {
-        (Some(document), Some(held), None) => {
-            let asked = Asked {
-                text,
-                depth,
-                document,
-            };
-            has_only(row, &["condition", "depth", "document", "holds", "enough"])
-                && match held.as_bool() {
-                    Some(held) => {
-                        is_so(memory, asked, held) && is_limited(memory, asked, held, row)
-                    }
-                    None => false,
-                }
+    match (name, rest) {
+        ("Condition::read", []) => {
+            let shown = memory.ok(format!(in memory.alloc; "{condition:?}"))?;
+            Some(Value::String(shown))
         }
-        (None, None, Some(kind)) => {
-            has_only(row, &["condition", "depth", "refused"])
-                && is_refused(
-                    memory,
-                    Condition::read(memory.alloc, text, depth),
-                    kind,
-                    text.len(),
-                )
-        }
-        _ => false,
+        ("Condition::holds", [document]) => holds(memory, &condition, document),
+        ("Condition::enough", [document]) => enough(memory, &condition, document),
+        _ => None,
     }
 }
 
-/// Whether the condition of the text holds of the document where it is to, asked once and by a runner twice.
-fn is_so(memory: &Memory, asked: Asked<'_>, held: bool) -> bool {
-    let document = asked.document;
-    let Some(condition) = memory.ok(Condition::read(memory.alloc, asked.text, asked.depth)) else {
-        return false;
-    };
+/// Whether the condition holds of the document, or None where a runner tells otherwise.
+fn holds(memory: &Memory, condition: &Condition, document: &Value) -> Option<Value> {
     if !document.is_whole() {
-        return false;
+        return None;
     }
     let mut runner = condition.runner(memory.alloc);
-    memory.ok(condition.holds(memory.alloc, document)) == Some(held)
-        && memory.ok(runner.holds(memory.alloc, document)) == Some(held)
-        && memory.ok(runner.holds(memory.alloc, document)) == Some(held)
+    let held = memory.ok(condition.holds(memory.alloc, document))?;
+    if memory.ok(runner.holds(memory.alloc, document))? == held {
+        Some(Value::from(held))
+    } else {
+        None
+    }
 }
 
-/// The same under a limit, where the row says how many units of work are just enough.
-fn is_limited(memory: &Memory, asked: Asked<'_>, held: bool, row: &Value) -> bool {
-    let Some(enough) = row.get("enough") else {
-        return true;
-    };
-    let Some(units) = size(enough) else {
-        return false;
-    };
-    let Some(condition) = memory.ok(Condition::read(memory.alloc, asked.text, asked.depth)) else {
-        return false;
-    };
-    let runner = condition.runner(memory.alloc);
-    asked.document.is_whole() && is_enough(memory, runner, asked.document, held, units)
+/// The same, and the least number of units with which a runner tells it.
+fn enough(memory: &Memory, condition: &Condition, document: &Value) -> Option<Value> {
+    if !document.is_whole() {
+        return None;
+    }
+    let held = memory.ok(condition.holds(memory.alloc, document))?;
+    let units = least(memory, condition, document)?;
+    memory.ok(json!(in memory.alloc; [held, units]))
 }
 
-/// The same of a runner, which is asked again after the work was not enough, and without a limit.
-fn is_enough(
-    memory: &Memory,
-    runner: ConditionRunner<'_>,
-    document: &Value,
-    held: bool,
-    units: usize,
-) -> bool
+fn least(memory: &Memory, condition: &Condition, document: &Value) -> Option<usize>
     requires { IsTrue (value_is_whole document.now) }
 {
-    let mut less = runner.limited(units.saturating_sub(1));
-    if units > 0 && !is_spent(memory, less.holds(memory.alloc, document)) {
-        return false;
+    let mut search = Search::new();
+    for _ in 0..Search::STEPS {
+        let mut runner = condition.runner(memory.alloc).limited(search.middle());
+        search.halve(done(memory, runner.holds(memory.alloc, document))?);
     }
-    let mut limited = less.into_runner().limited(units);
-    if done(memory, limited.holds(memory.alloc, document)) != Some(held) {
-        return false;
-    }
-    let mut runner = limited.into_runner();
-    memory.ok(runner.holds(memory.alloc, document)) == Some(held)
+    Some(search.least)
 }

@@ -1,96 +1,63 @@
-//! Rows on the calls of a document type: `equal`, `from_list`, `extension_custom`.
+//! Calls of a document type: `equal`, `from_list`, `extension_custom`, `not_a_reference`; and of nodes made by hand, `QueryRef::equal`.
 ghost use Rattle.std.specs.Prelude.{All, IsTrue};
 ghost use Rattle.jsonpath_rust.specs.documents.Args.{arg_value};
 
-use crate::doc::Doc;
-use crate::doc::document::{Document, document_of, is_value};
+use crate::doc::document::{Document, document_of};
 use jsonpath_rust::query::queryable::{Arg, Queryable};
+use jsonpath_rust::query::{QueryRef, not_a_reference};
 use rows_common::Memory;
-use rows_common::members::{Types, has_only, list_at, string_at, types_of};
+use rows_common::answers::refusal;
 use serde_json::Value;
 
-/// Whether a row on a call of a document type, by its name, holds.
-pub fn holds(memory: &Memory, row: &Value) -> bool {
-    match (
-        string_at(row, "call"),
-        list_at(row, "arguments"),
-        row.get("answer"),
-        types_of(row),
-    ) {
-        (Some(name), Some(arguments), Some(answer), Some(types)) => {
-            has_only(row, &["call", "arguments", "answer", "of"])
-                && answers(memory, types, name, arguments, answer)
-        }
-        _ => false,
-    }
-}
-
-/// Whether the call answers so, of each of these types.
-fn answers(memory: &Memory, types: Types, name: &str, arguments: &[Value], answer: &Value) -> bool {
-    match types {
-        Types::Value => answers_of::<Value>(memory, name, arguments, answer),
-        Types::Doc => answers_of::<Doc>(memory, name, arguments, answer),
-        Types::Both => {
-            answers_of::<Value>(memory, name, arguments, answer)
-                && answers_of::<Doc>(memory, name, arguments, answer)
-        }
-    }
-}
-
-fn answers_of<T: Document>(
-    memory: &Memory,
-    name: &str,
-    arguments: &[Value],
-    answer: &Value,
-) -> bool {
+/// What the call of that name answers.
+pub fn answer<T: Document>(memory: &Memory, name: &str, arguments: &[Value]) -> Option<Value> {
     match (name, arguments) {
-        ("equal", [left, right]) => are_equal_so::<T>(memory, left, right, answer),
-        ("from_list", values) => is_listed::<T>(memory, values, answer),
+        ("equal", [left, right]) => equal::<T>(memory, left, right),
+        ("from_list", values) => list::<T>(memory, values),
         ("extension_custom", [Value::String(name), values @ ..]) => {
-            answers_custom::<T>(memory, name.as_str(), values, answer)
+            custom::<T>(memory, name.as_str(), values)
         }
-        _ => false,
+        ("not_a_reference", [value]) => {
+            let value = document_of::<T>(memory, value)?;
+            let error = memory.ok(not_a_reference(memory.alloc, &value));
+            drop(value);
+            refusal(memory, error?)
+        }
+        ("QueryRef::equal", [left, right]) => equal_nodes::<T>(memory, left, right),
+        _ => None,
     }
 }
 
-fn are_equal_so<T: Document>(memory: &Memory, left: &Value, right: &Value, answer: &Value) -> bool {
-    if !left.is_whole() || !right.is_whole() {
-        return false;
+fn equal<T: Document>(memory: &Memory, left: &Value, right: &Value) -> Option<Value> {
+    let left = document_of::<T>(memory, left)?;
+    let right = document_of::<T>(memory, right)?;
+    if left.is_whole() && right.is_whole() {
+        Some(Value::from(left.equal(&right)))
+    } else {
+        None
     }
-    let Some(left) = memory.ok(T::made(memory.alloc, left)) else {
-        return false;
-    };
-    let Some(right) = memory.ok(T::made(memory.alloc, right)) else {
-        return false;
-    };
-    left.is_whole() && right.is_whole() && answer.as_bool() == Some(left.equal(&right))
 }
 
-fn is_listed<T: Document>(memory: &Memory, values: &[Value], answer: &Value) -> bool {
-    let Some(values) = values_of::<T>(memory, values) else {
-        return false;
-    };
-    are_whole(&values)
-        && match memory.ok(T::from_list(memory.alloc, values)) {
-            Some(list) => memory.holds(is_value(memory.alloc, &list, answer)),
-            None => false,
-        }
+fn list<T: Document>(memory: &Memory, values: &[Value]) -> Option<Value> {
+    let values = values_of::<T>(memory, values)?;
+    if !are_whole(&values) {
+        return None;
+    }
+    let list = memory.ok(T::from_list(memory.alloc, values))?;
+    let value = memory.ok(list.value(memory.alloc));
+    drop(list);
+    value
 }
 
-fn answers_custom<T: Document>(
-    memory: &Memory,
-    name: &str,
-    values: &[Value],
-    answer: &Value,
-) -> bool {
-    let Some(arguments) = arguments_of::<T>(memory, values) else {
-        return false;
-    };
-    are_whole_arguments(&arguments)
-        && match memory.ok(T::extension_custom(memory.alloc, name, &arguments)) {
-            Some(found) => memory.holds(is_value(memory.alloc, &found, answer)),
-            None => false,
-        }
+fn custom<T: Document>(memory: &Memory, name: &str, values: &[Value]) -> Option<Value> {
+    let arguments = arguments_of::<T>(memory, values)?;
+    if !are_whole_arguments(&arguments) {
+        return None;
+    }
+    let found = memory.ok(T::extension_custom(memory.alloc, name, &arguments))?;
+    let value = memory.ok(found.value(memory.alloc));
+    drop(found);
+    value
 }
 
 /// The documents of the values; None where one is not whole, or memory ran out.
@@ -121,4 +88,27 @@ fn are_whole_arguments<T: Queryable>(arguments: &[Arg<'_, T>]) -> bool
     ensures { IsTrue result → All (λ a. IsTrue (T.is_whole (arg_value a))) arguments.now }
 {
     arguments.iter().all(|argument| argument.get().is_whole())
+}
+
+/// Whether two nodes, each a list of a path and a value, are equal: a copy of the first, and one made of the parts of the second.
+fn equal_nodes<T: Document>(memory: &Memory, left: &Value, right: &Value) -> Option<Value> {
+    let (path, value) = parts_of::<T>(memory, left)?;
+    let (other_path, other_value) = parts_of::<T>(memory, right)?;
+    let node = memory.ok(QueryRef::from_str_path(memory.alloc, &value, path))?;
+    let other = memory.ok(QueryRef::from_str_path(memory.alloc, &other_value, other_path))?;
+    let copy = memory.ok(node.try_clone(memory.alloc))?;
+    let other = QueryRef::from((other.val, other.path()));
+    if copy.val.is_whole() && other.val.is_whole() {
+        Some(Value::from(copy.equal(&other)))
+    } else {
+        None
+    }
+}
+
+/// The path and the value of a node.
+fn parts_of<'r, T: Document>(memory: &Memory, node: &'r Value) -> Option<(&'r str, T)> {
+    match node.as_array()?.as_slice() {
+        [Value::String(path), value] => Some((path.as_str(), document_of(memory, value)?)),
+        _ => None,
+    }
 }

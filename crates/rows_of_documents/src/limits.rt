@@ -1,227 +1,113 @@
-//! What work is enough for a query: rows with `enough`.
+//! How much work is just enough: the call `enough`, of a query, and what others ask of a limit.
 ghost use Rattle.std.specs.Prelude.{IsTrue};
 ghost use Rattle.jsonpath_base.specs.Values.{value_is_whole};
 
-use crate::agreement::{are_locations, are_paths, are_same, are_values, is_first, is_only};
 use crate::doc::document::are_equal;
-use crate::masking::masks;
-use crate::runs::{Change, deletes, prepared_of, runs};
-use jsonpath_parser::MAX_NESTING_DEPTH;
 use jsonpath_rust::query::queryable::Queryable;
-use jsonpath_rust::query::{Limited, Queried, QueryRef, Runner, Within, js_path, js_path_limited};
+use jsonpath_rust::query::{Limited, Prepared, Queried, Within, js_path_limited};
 use rows_common::Memory;
-use rows_common::members::{has_only, size};
-use rows_common::memory::Met;
-use rows_common::text::text_at;
-use serde_json::Value;
+use rows_common::text::text_of;
+use serde_json::{Value, json};
 
-/// Whether so many units of work are just enough for the query of a row on its document.
-pub fn holds(memory: &Memory, row: &Value) -> bool {
-    let Some(query) = text_at(memory, row, "query") else {
-        return false;
-    };
-    has_only(row, &["query", "document", "enough"])
-        && match (row.get("document"), row.get("enough")) {
-            (Some(document), Some(enough)) => match size(enough) {
-                Some(units) => {
-                    document.is_whole() && is_enough(memory, query.as_str(), document, units)
-                }
-                None => false,
-            },
-            _ => false,
-        }
+/// A query, its text, and the document that it is asked of.
+#[derive(Clone, Copy)]
+struct Asked<'r> {
+    text: &'r str,
+    prepared: &'r Prepared,
+    document: &'r Value,
 }
 
-fn is_enough(memory: &Memory, query: &str, document: &Value, units: usize) -> bool
-    requires { IsTrue (value_is_whole document.now) }
+/// The least number of units with which `js_path_limited` returns nodes. With them each call of a `Limited` returns something too,
+/// and with one less its `nodes` return nothing.
+pub fn answer(memory: &Memory, arguments: &[Value]) -> Option<Value> {
+    let [query, document] = arguments else {
+        return None;
+    };
+    if !document.is_whole() {
+        return None;
+    }
+    let text = text_of(memory, query)?;
+    let prepared = memory.ok(Prepared::read(memory.alloc, text.as_str()))?;
+    let asked = Asked {
+        text: text.as_str(),
+        prepared: &prepared,
+        document,
+    };
+    enough_for_each(memory, asked)
+}
+
+fn enough_for_each(memory: &Memory, asked: Asked<'_>) -> Option<Value>
+    requires { IsTrue (value_is_whole asked.document.now) }
 {
-    let Some(nodes) = memory.ok(js_path(memory.alloc, query, document)) else {
-        return false;
-    };
-    let less = units.saturating_sub(1);
-    let answered = match done(
-        memory,
-        js_path_limited(memory.alloc, query, units, document),
-    ) {
-        Some(others) => are_same(memory, &nodes, Ok(others)),
-        None => false,
-    };
-    answered
-        && (units == 0 || is_spent(memory, js_path_limited(memory.alloc, query, less, document)))
-        && is_enough_for_runner(memory, query, document, units, &nodes)
-}
-
-/// What was done, where the work was enough.
-pub fn done<T: Drop>(memory: &Memory, answer: Queried<Within<T>>) -> Option<T> {
-    match memory.ok(answer) {
-        Some(Within::Done(value)) => Some(value),
-        Some(Within::Spent) | None => None,
+    let units = least(memory, asked)?;
+    if units > 0 && has_nodes(memory, asked, units.saturating_sub(1))? {
+        return memory.ok(json!(in memory.alloc; ["less for a runner than", units]));
     }
-}
-
-/// Whether the work was not enough.
-pub fn is_spent<T: Drop>(memory: &Memory, answer: Queried<Within<T>>) -> bool {
-    match memory.ok(answer) {
-        Some(Within::Done(value)) => {
-            drop(value);
-            false
-        }
-        Some(Within::Spent) => true,
-        None => false,
+    if !are_done(memory, asked, units) {
+        return memory.ok(json!(in memory.alloc; ["more for a runner than", units]));
     }
+    Some(Value::from(units))
 }
 
-/// The same of a runner, by each of its calls; and it is asked again after the work was not enough, and without a limit.
-fn is_enough_for_runner(
-    memory: &Memory,
-    query: &str,
-    document: &Value,
-    units: usize,
-    nodes: &[QueryRef<'_, Value>],
-) -> bool
-    requires { IsTrue (value_is_whole document.now) }
+/// The least number of units with which `js_path_limited` returns nodes.
+fn least(memory: &Memory, asked: Asked<'_>) -> Option<usize>
+    requires { IsTrue (value_is_whole asked.document.now) }
 {
-    let Some(prepared) = prepared_of(memory, query, MAX_NESTING_DEPTH) else {
-        return false;
-    };
-    let mut less = prepared
-        .runner(memory.alloc)
-        .limited(units.saturating_sub(1));
-    if units > 0 && !is_spent(memory, less.nodes(memory.alloc, document)) {
-        return false;
+    let mut search = Search::new();
+    for _ in 0..Search::STEPS {
+        let units = search.middle();
+        let nodes = js_path_limited(memory.alloc, asked.text, units, asked.document);
+        search.halve(done(memory, nodes)?);
     }
-    if !is_kept(memory, &mut less, document, None)
-        || !is_kept(memory, &mut less, document, Some(document))
-    {
-        return false;
-    }
-    let mut limited = less.into_runner().limited(units);
-    let mut other = prepared.runner(memory.alloc);
-    if !answers(memory, &mut limited, document, nodes)
-        || !changes_as(memory, &mut limited, &mut other, document, None)
-        || !changes_as(memory, &mut limited, &mut other, document, Some(document))
-    {
-        return false;
-    }
-    let mut runner = limited.into_runner();
-    runs(memory, &mut runner, document, nodes)
+    Some(search.least)
 }
 
-/// Whether the runner answers these nodes by each of its calls.
-fn answers(
-    memory: &Memory,
-    runner: &mut Limited<'_>,
-    document: &Value,
-    nodes: &[QueryRef<'_, Value>],
-) -> bool
-    requires { IsTrue (value_is_whole document.now) }
+/// Whether a runner returns nodes with so many units.
+fn has_nodes(memory: &Memory, asked: Asked<'_>, units: usize) -> Option<bool>
+    requires { IsTrue (value_is_whole asked.document.now) }
 {
-    are_answered(memory, runner, document, nodes)
-        && match done(memory, runner.first(memory.alloc, document)) {
-            Some(first) => is_first(nodes, first.as_ref()),
-            None => false,
-        }
-        && is_only(nodes, done(memory, runner.only(memory.alloc, document)))
-        && done(memory, runner.count(memory.alloc, document)) == Some(nodes.len())
-        && match done(memory, runner.has_node(memory.alloc, document)) {
-            Some(there) => there != nodes.is_empty(),
-            None => false,
-        }
+    let mut runner = asked.prepared.runner(memory.alloc).limited(units);
+    done(memory, runner.nodes(memory.alloc, asked.document))
 }
 
-/// The same of the calls that answer all of them.
-fn are_answered(
-    memory: &Memory,
-    runner: &mut Limited<'_>,
-    document: &Value,
-    nodes: &[QueryRef<'_, Value>],
-) -> bool
-    requires { IsTrue (value_is_whole document.now) }
+/// Whether each call of a runner returns something with so many units.
+fn are_done(memory: &Memory, asked: Asked<'_>, units: usize) -> bool
+    requires { IsTrue (value_is_whole asked.document.now) }
 {
-    let alloc = memory.alloc;
-    let same = match done(memory, runner.nodes(alloc, document)) {
-        Some(others) => are_same(memory, nodes, Ok(others)),
-        None => false,
-    };
-    same && match done(memory, runner.values(alloc, document)) {
-        Some(values) => are_values(memory, nodes, Ok(values)),
-        None => false,
-    } && match done(memory, runner.paths(alloc, document)) {
-        Some(paths) => are_paths(memory, nodes, Ok(paths)),
-        None => false,
-    } && match done(memory, runner.locations(alloc, document)) {
-        Some(locations) => are_locations(memory, nodes, Ok(locations)),
-        None => false,
-    }
+    let (alloc, document) = (memory.alloc, asked.document);
+    let mut runner = asked.prepared.runner(alloc).limited(units);
+    done(memory, runner.nodes(alloc, document)) == Some(true)
+        && done(memory, runner.values(alloc, document)) == Some(true)
+        && done(memory, runner.paths(alloc, document)) == Some(true)
+        && done(memory, runner.locations(alloc, document)) == Some(true)
+        && done(memory, runner.first(alloc, document)) == Some(true)
+        && done(memory, runner.only(alloc, document)) == Some(true)
+        && done(memory, runner.count(alloc, document)) == Some(true)
+        && done(memory, runner.has_node(alloc, document)) == Some(true)
+        && changes(memory, &mut runner, document, None) == Some(true)
+        && changes(memory, &mut runner, document, Some(document)) == Some(true)
 }
 
-/// Whether the runner, for which the work is enough, deletes as the other one does, or masks as that does, by this value.
-fn changes_as(
-    memory: &Memory,
-    limited: &mut Limited<'_>,
-    other: &mut Runner<'_>,
-    document: &Value,
-    new: Option<&Value>,
-) -> bool {
-    let Some((count, left)) = left_by(memory, limited, document, new) else {
-        return false;
-    };
-    let wanted = Change {
-        count: Some(count),
-        left: &left,
-    };
-    let held = match new {
-        Some(new) => masks(memory, other, new, document, wanted),
-        None => deletes(memory, other, document, wanted),
-    };
-    drop(left);
-    held
-}
-
-/// Whether a deletion, or a masking by this value, for which the work is not enough leaves a copy of the document as it was.
-fn is_kept(
+/// Whether the runner deletes in a copy of the document, or puts the new value there.
+fn changes(
     memory: &Memory,
     runner: &mut Limited<'_>,
     document: &Value,
     new: Option<&Value>,
-) -> bool {
-    let Some(mut copy) = memory.ok(document.clone()) else {
-        return false;
-    };
-    let count = changed(memory, runner, &mut copy, new);
-    memory.note_kept(are_equal(&copy, document));
-    let met = memory.met();
-    let held = matches!(met, Met::Enough) && (count.is_some() || are_equal(&copy, document));
-    drop(copy);
-    held
-}
-
-/// What a deletion, or a masking by this value, for which the work is enough answers, and leaves of a copy of the document.
-fn left_by(
-    memory: &Memory,
-    runner: &mut Limited<'_>,
-    document: &Value,
-    new: Option<&Value>,
-) -> Option<(usize, Value)> {
+) -> Option<bool> {
     let mut copy = memory.ok(document.clone())?;
-    let count = changed(memory, runner, &mut copy, new);
+    let is_done = changed(memory, runner, &mut copy, new);
     memory.note_kept(are_equal(&copy, document));
-    match count {
-        Some(count) => Some((count, copy)),
-        None => {
-            drop(copy);
-            None
-        }
-    }
+    drop(copy);
+    is_done
 }
 
-/// What the runner answers to a deletion in a whole document, or to a masking by this whole value, where the work is enough.
 fn changed(
     memory: &Memory,
     runner: &mut Limited<'_>,
     document: &mut Value,
     new: Option<&Value>,
-) -> Option<usize> {
+) -> Option<bool> {
     if !document.is_whole() {
         return None;
     }
@@ -232,5 +118,50 @@ fn changed(
         done(memory, runner.replace(memory.alloc, document, new))
     } else {
         None
+    }
+}
+
+/// Whether something was returned; None where the call was refused.
+pub fn done<T: Drop>(memory: &Memory, answer: Queried<Within<T>>) -> Option<bool> {
+    match memory.ok(answer)? {
+        Within::Done(value) => {
+            drop(value);
+            Some(true)
+        }
+        Within::Spent => Some(false),
+    }
+}
+
+/// A search for the least number of units that is enough. Each step halves where it may lie, which is below 2^16 at first.
+#[derive(Clone, Copy)]
+pub struct Search {
+    pub least: usize,
+    most: usize,
+}
+
+impl Search {
+    pub const STEPS: usize = 16;
+
+    pub fn new() -> Search {
+        Search {
+            least: 0,
+            most: 65535,
+        }
+    }
+
+    /// The number to be tried.
+    pub fn middle(&self) -> usize {
+        self.least
+            .saturating_add(self.most.saturating_sub(self.least) / 2)
+    }
+
+    /// Goes on where the number that was tried is enough, or is not.
+    pub fn halve(&mut self, is_enough: bool) {
+        let middle = self.middle();
+        if is_enough {
+            self.most = middle;
+        } else {
+            self.least = middle.saturating_add(1);
+        }
     }
 }

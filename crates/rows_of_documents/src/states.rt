@@ -1,16 +1,4 @@
-//! Rows that ask states, and parts of queries of them: what a row asks is told by its members.
-mod calls;
+//! Calls of states, and of parts of queries on them.
+pub mod calls;
 mod content;
-mod process;
-
-use rows_common::Memory;
-use serde_json::Value;
-
-/// Whether a row with `process` or `states` holds.
-pub fn holds(memory: &Memory, row: &Value) -> bool {
-    if row.get("process").is_some() {
-        process::holds(memory, row)
-    } else {
-        calls::holds(memory, row)
-    }
-}
+pub mod process;

@@ -1,27 +1,37 @@
 //! The types of documents that rows are asked of, each made of a value.
-use crate::doc::{Doc, of_value};
-use jsonpath_rust::JsonPath;
+use crate::doc::{Doc, of_value, to_value};
 use jsonpath_rust::query::Queried;
 use jsonpath_rust::query::queryable::Queryable;
 use rows_common::Memory;
 use serde_json::Value;
-use std::alloc::Global;
+use std::alloc::{AllocError, Global};
 
 /// A document that can be made of a value.
 pub trait Document: Queryable {
     /// The document of a value, whose numbers are whole.
     fn made(alloc: Global, value: &Value) -> Queried<Self>;
+
+    /// The value that it would be made of.
+    fn value(&self, alloc: Global) -> Result<Value, AllocError>;
 }
 
 impl Document for Value {
     fn made(_alloc: Global, value: &Value) -> Queried<Value> {
         Ok(value.clone()?)
     }
+
+    fn value(&self, _alloc: Global) -> Result<Value, AllocError> {
+        self.clone()
+    }
 }
 
 impl Document for Doc {
     fn made(alloc: Global, value: &Value) -> Queried<Doc> {
         Ok(of_value(alloc, value)?)
+    }
+
+    fn value(&self, alloc: Global) -> Result<Value, AllocError> {
+        to_value(alloc, self)
     }
 }
 
@@ -32,15 +42,6 @@ pub fn document_of<T: Document>(memory: &Memory, value: &Value) -> Option<T> {
     } else {
         None
     }
-}
-
-/// Whether the value in a document is this one.
-pub fn is_value<T: Document>(alloc: Global, found: &T, wanted: &Value) -> Queried<bool> {
-    if !wanted.is_whole() {
-        return Ok(false);
-    }
-    let made = T::made(alloc, wanted)?;
-    Ok(are_equal(found, &made))
 }
 
 /// Whether both are whole, and equal.

@@ -1,17 +1,48 @@
-//! What states hold, as rows write it: `"nothing"`, `{"value": V}`, `{"ref": [PATH, V]}`, or `{"refs": [[PATH, V], ..]}`.
+//! What states hold, as rows have it: `"nothing"`, `{"value": V}`, `{"ref": [PATH, V]}`, or `{"refs": [[PATH, V], ..]}`.
 ghost use Rattle.std.specs.Prelude.{IsTrue, IfSome};
 ghost use Rattle.jsonpath_rust.specs.states.State.{DataIsWhole, PointersAreWhole};
 
-use crate::doc::document::{Document, are_equal, is_value};
+use crate::doc::document::{Document, are_equal, document_of};
+use crate::found::node;
 use jsonpath_rust::query::queryable::Queryable;
 use jsonpath_rust::query::state::{Data, Pointer, State};
 use rows_common::Memory;
-use rows_common::members::{list, list_at};
-use rows_common::text::{spells, text_of};
-use serde_json::Value;
+use rows_common::members::{has_only, list};
+use rows_common::text::text_of;
+use serde_json::{Value, json};
 use std::slice;
 
-/// The nodes that the content writes, each a list of a path and a value. A value has none, and nothing has none.
+/// What a state is made of: its document, its content, or none for that of the root, and the values that its pointers borrow.
+#[derive(Drop)]
+pub struct Ground<'r, T> {
+    pub memory: &'r Memory,
+    pub document: T,
+    content: Option<&'r Value>,
+    values: Vec<T>,
+}
+
+/// The ground of a state; None where a value is not whole, or memory ran out.
+pub fn ground_of<'r, T: Document>(
+    memory: &'r Memory,
+    content: Option<&'r Value>,
+    document: &Value,
+) -> Option<Ground<'r, T>> {
+    let mut values = Vec::new(memory.alloc);
+    for node in nodes_of(content.unwrap_or(&Value::Null)) {
+        let [_, value] = list(node)? else {
+            return None;
+        };
+        memory.ok(values.push(document_of(memory, value)?))?;
+    }
+    Some(Ground {
+        memory,
+        document: document_of(memory, document)?,
+        content,
+        values,
+    })
+}
+
+/// The nodes that the content has, each a list of a path and a value. A value has none, and nothing has none.
 fn nodes_of(content: &Value) -> &[Value] {
     match (content.get("ref"), content.get("refs")) {
         (Some(node), None) => slice::from_ref(node),
@@ -20,70 +51,70 @@ fn nodes_of(content: &Value) -> &[Value] {
     }
 }
 
-/// The values of the nodes that the content writes, in order, for pointers to borrow.
-pub fn values_of<T: Document>(memory: &Memory, content: &Value) -> Option<Vec<T>> {
-    let mut values = Vec::new(memory.alloc);
-    for node in nodes_of(content) {
-        let [_, value] = list(node)? else {
-            return None;
-        };
-        let value = memory.ok(T::made(memory.alloc, value))?;
-        memory.ok(values.push(value))?;
-    }
-    Some(values)
-}
-
-/// The content, whose pointers borrow the values of its nodes.
-pub fn data_of<'d, T: Document>(
-    memory: &Memory,
-    content: &Value,
-    values: &'d [T],
-) -> Option<Data<'d, T>> {
+/// The content, whose pointers borrow the values of the ground.
+pub fn data_of<'d, T: Document>(ground: &'d Ground<'_, T>) -> Option<Data<'d, T>> {
+    let content = ground.content?;
     if content.as_str() == Some("nothing") {
         return Some(Data::Nothing);
     }
-    if let Some(value) = content.get("value") {
-        return Some(Data::Value(memory.ok(T::made(memory.alloc, value))?));
+    if !has_only(content, &["value", "ref", "refs"]) {
+        return None;
     }
-    let mut pointers = pointers_of(memory, nodes_of(content), values)?;
-    match (content.get("ref"), content.get("refs")) {
-        (Some(_), None) => Some(Data::new_ref(pointers.pop()?)),
-        (None, Some(_)) => Some(Data::new_refs(pointers)),
-        _ => None,
+    if let Some(value) = content.get("value") {
+        return Some(Data::Value(document_of(ground.memory, value)?));
+    }
+    let mut pointers = pointers_of(ground, nodes_of(content))?;
+    match content.get("refs") {
+        Some(_) => Some(Data::new_refs(pointers)),
+        None => Some(Data::new_ref(pointers.pop()?)),
     }
 }
 
 fn pointers_of<'d, T: Document>(
-    memory: &Memory,
+    ground: &'d Ground<'_, T>,
     nodes: &[Value],
-    values: &'d [T],
 ) -> Option<Vec<Pointer<'d, T>>> {
+    let memory = ground.memory;
     let mut pointers = Vec::new(memory.alloc);
-    for (node, value) in nodes.iter().zip(values) {
-        let [path, _] = list(node)? else {
-            return None;
-        };
-        memory.ok(pointers.push(Pointer::new(value, text_of(memory, path)?)))?;
+    for (node, value) in nodes.iter().zip(&ground.values) {
+        let path = text_of(memory, list(node)?.first()?)?;
+        memory.ok(pointers.push(Pointer::new(value, path)))?;
     }
     Some(pointers)
 }
 
-/// The state of that content in the document; None where a value of it is not whole.
-pub fn state_of<'d, T: Document>(
-    memory: &Memory,
-    document: &'d T,
-    content: &Value,
-    values: &'d [T],
-) -> Option<State<'d, T>>
+/// The state; None where a value of it is not whole, or memory ran out.
+pub fn state_of<'d, T: Document>(ground: &'d Ground<'_, T>) -> Option<State<'d, T>>
     ensures content { IfSome result (λ s. DataIsWhole T.is_whole s.content) }
     ensures root { IfSome result (λ s. IsTrue (T.is_whole s.root.now)) }
 {
-    let content = data_of(memory, content, values)?;
-    if document.is_whole() && is_whole(&content) {
-        Some(State::data(document, content))
+    if !ground.document.is_whole() {
+        return None;
+    }
+    if ground.content.is_none() {
+        return root_of(ground);
+    }
+    let content = data_of(ground)?;
+    if is_whole(&content) {
+        Some(State::data(&ground.document, content))
     } else {
         drop(content);
         None
+    }
+}
+
+fn root_of<'d, T: Document>(ground: &'d Ground<'_, T>) -> Option<State<'d, T>>
+    requires { IsTrue (T.is_whole ground.now.document) }
+    ensures content { IfSome result (λ s. DataIsWhole T.is_whole s.content) }
+    ensures root { IfSome result (λ s. IsTrue (T.is_whole s.root.now)) }
+{
+    match State::root(ground.memory.alloc, &ground.document) {
+        Ok(state) => Some(state),
+        Err(error) => {
+            ground.memory.note(&error);
+            drop(error);
+            None
+        }
     }
 }
 
@@ -105,65 +136,48 @@ fn are_whole<T: Queryable>(pointers: &[Pointer<'_, T>]) -> bool
     pointers.iter().all(|pointer| pointer.inner.is_whole())
 }
 
-/// Whether the state, and a copy of it, is that content in that document.
-pub fn is_state<T: Document>(
+/// The content of a copy of the state; None where that is in another document.
+pub fn content_of<T: Document>(
     memory: &Memory,
-    state: &State<'_, T>,
     document: &T,
-    content: &Value,
-) -> bool {
-    is_data(memory, &state.content, content)
-        && are_equal(state.root, document)
-        && match memory.ok(state.try_clone(memory.alloc)) {
-            Some(copy) => {
-                let held = is_data(memory, &copy.content, content)
-                    && are_equal(copy.root, document);
-                drop(copy);
-                held
-            }
-            None => false,
-        }
+    state: State<'_, T>,
+) -> Option<Value> {
+    let copy = memory.ok(state.try_clone(memory.alloc));
+    drop(state);
+    let copy = copy?;
+    let content = if are_equal(copy.root, document) {
+        value_of(memory, &copy.content)
+    } else {
+        None
+    };
+    drop(copy);
+    content
 }
 
-/// Whether the data is what the row writes.
-fn is_data<T: Document>(memory: &Memory, data: &Data<'_, T>, wanted: &Value) -> bool {
+fn value_of<T: Document>(memory: &Memory, data: &Data<'_, T>) -> Option<Value> {
+    let alloc = memory.alloc;
     match data {
-        Data::Ref(pointer) => match wanted.get("ref") {
-            Some(node) => is_pointer(memory, pointer, node),
-            None => false,
-        },
-        Data::Refs(pointers) => match list_at(wanted, "refs") {
-            Some(nodes) => are_pointers(memory, pointers, nodes),
-            None => false,
-        },
-        Data::Value(value) => match wanted.get("value") {
-            Some(wanted) => memory.holds(is_value(memory.alloc, value, wanted)),
-            None => false,
-        },
-        Data::Nothing => wanted.as_str() == Some("nothing"),
+        Data::Ref(pointer) => {
+            let node = node(memory, pointer.path.as_str(), pointer.inner)?;
+            memory.ok(json!(in alloc; {"ref": node}))
+        }
+        Data::Refs(pointers) => {
+            let nodes = nodes(memory, pointers)?;
+            memory.ok(json!(in alloc; {"refs": nodes}))
+        }
+        Data::Value(value) => {
+            let value = memory.ok(value.value(alloc))?;
+            memory.ok(json!(in alloc; {"value": value}))
+        }
+        Data::Nothing => memory.ok(Value::try_from_str(alloc, "nothing")),
     }
 }
 
-/// Whether the pointers are these nodes, in order.
-pub fn are_pointers<T: Document>(
-    memory: &Memory,
-    pointers: &[Pointer<'_, T>],
-    nodes: &[Value],
-) -> bool {
-    for (pointer, node) in pointers.iter().zip(nodes) {
-        if !is_pointer(memory, pointer, node) {
-            return false;
-        }
+/// A list of these nodes.
+pub fn nodes<T: Document>(memory: &Memory, pointers: &[Pointer<'_, T>]) -> Option<Value> {
+    let mut list = Vec::new(memory.alloc);
+    for pointer in pointers {
+        memory.ok(list.push(node(memory, pointer.path.as_str(), pointer.inner)?))?;
     }
-    pointers.len() == nodes.len()
-}
-
-fn is_pointer<T: Document>(memory: &Memory, pointer: &Pointer<'_, T>, node: &Value) -> bool {
-    match list(node) {
-        Some([path, value]) => {
-            spells(memory, path, pointer.path.as_str())
-                && memory.holds(is_value(memory.alloc, pointer.inner, value))
-        }
-        _ => false,
-    }
+    Some(Value::Array(list))
 }

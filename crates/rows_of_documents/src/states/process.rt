@@ -1,14 +1,10 @@
-//! Rows on `process`: a part of a query, which is read or made of a text, and what it answers on a state.
-ghost use Rattle.std.specs.Prelude.{IsTrue, IfSome};
-ghost use Rattle.jsonpath_rust.specs.states.State.{DataIsWhole};
-
+//! The calls `process`, of a part of a query that is read or made of a text, and `js_path_process`, of a query that is made of one.
 mod picks;
 mod untyped;
 
-use crate::doc::Doc;
-use crate::doc::document::Document;
-use crate::doc::processed::is_by_process;
-use crate::states::content::{is_state, state_of, values_of};
+use crate::doc::document::{Document, document_of};
+use crate::found::answered;
+use crate::states::content::{Ground, content_of, ground_of, state_of};
 use jsonpath_build::{and, or, segment_many};
 use jsonpath_parser::errors::Parsed;
 use jsonpath_parser::model::{FnArg, JpQuery, SingularQuerySegment, TestFunction};
@@ -18,153 +14,105 @@ use jsonpath_parser::{
     test,
 };
 use jsonpath_rust::query::queryable::Queryable;
-use jsonpath_rust::query::state::State;
 use jsonpath_rust::query::{Query, apply, js_path_process};
 use rows_common::Memory;
-use rows_common::members::{Types, has_only, string_at, types_of};
-use rows_common::text::text_at;
+use rows_common::text::text_of;
 use serde_json::Value;
 
-/// Whether a row on what a part of a query answers holds.
-pub fn holds(memory: &Memory, row: &Value) -> bool {
-    has_only(
-        row,
-        &["process", "text", "document", "state", "answer", "of"],
-    ) && match types_of(row) {
-        Some(Types::Value) => holds_of::<Value>(memory, row),
-        Some(Types::Doc) => holds_of::<Doc>(memory, row),
-        Some(Types::Both) => holds_of::<Value>(memory, row) && holds_of::<Doc>(memory, row),
-        None => false,
+/// What the state comes to: that of the content, or else of the root.
+pub fn answer<T: Document>(memory: &Memory, arguments: &[Value]) -> Option<Value> {
+    let [Value::String(part), text, document, content @ ..] = arguments else {
+        return None;
+    };
+    if content.len() > 1 {
+        return None;
+    }
+    let text = text_of(memory, text)?;
+    let ground = ground_of::<T>(memory, content.first(), document)?;
+    let answer = of_text(&ground, part.as_str(), text.as_str());
+    drop(ground);
+    answer
+}
+
+/// The nodes of the query that is made of the text, each a list of its path and its value.
+pub fn found<T: Document>(memory: &Memory, arguments: &[Value]) -> Option<Value> {
+    let [Value::String(part), Value::String(text), document] = arguments else {
+        return None;
+    };
+    let document = document_of::<T>(memory, document)?;
+    let query = query_of(memory, part.as_str(), text.as_str())?;
+    let answer = found_by(memory, &query, &document);
+    let_go(query);
+    answer
+}
+
+fn found_by<T: Document>(memory: &Memory, query: &JpQuery, document: &T) -> Option<Value> {
+    if document.is_whole() {
+        answered(memory, js_path_process(memory.alloc, query, document))
+    } else {
+        None
     }
 }
 
-/// A row, with its document and the values of its state's nodes.
-#[derive(Drop)]
-struct Asked<'r, T> {
-    row: &'r Value,
-    document: &'r T,
-    values: &'r [T],
-}
-
-fn holds_of<T: Document>(memory: &Memory, row: &Value) -> bool {
-    let Some(document) = row.get("document") else {
-        return false;
-    };
-    if !document.is_whole() {
-        return false;
-    }
-    let Some(document) = memory.ok(T::made(memory.alloc, document)) else {
-        return false;
-    };
-    let values = match row.get("state") {
-        Some(state) => values_of::<T>(memory, state),
-        None => Some(Vec::new(memory.alloc)),
-    };
-    let Some(values) = values else {
-        return false;
-    };
-    let asked = Asked {
-        row,
-        document: &document,
-        values: &values,
-    };
-    match (string_at(row, "process"), text_at(memory, row, "text")) {
-        (Some(part), Some(text)) => is_answered(memory, part, text.as_str(), &asked),
-        _ => false,
-    }
-}
-
-/// Whether the part that is read or made of the text answers as the row tells.
-fn is_answered<T: Document>(memory: &Memory, part: &str, text: &str, asked: &Asked<'_, T>) -> bool {
+/// The query that is made of the text; None where it is not made, but read.
+fn query_of(memory: &Memory, part: &str, text: &str) -> Option<JpQuery> {
     match part {
-        "index" => is_answered_by_query(memory, picks::index(memory, text), asked),
-        "slice" => is_answered_by_query(memory, picks::slice(memory, text), asked),
-        "query_of_no_selectors" => is_answered_by_query(memory, picks::nothing(memory), asked),
-        "untyped_call" => is_answered_by(memory, untyped::call(memory, text), asked),
-        "untyped_comparison" => is_answered_by_query(
-            memory,
-            untyped::compared(memory, text),
-            asked,
-        ),
-        "untyped_test" => is_answered_by_query(memory, untyped::tested(memory, text), asked),
-        "no_selectors" => is_answered_by(memory, Some(segment_many(Vec::new(memory.alloc))), asked),
-        "and_of_nothing" => is_answered_by(memory, Some(and(Vec::new(memory.alloc))), asked),
-        "or_of_nothing" => is_answered_by(memory, Some(or(Vec::new(memory.alloc))), asked),
-        _ => {
-            let mut cursor = Cursor::new(text);
-            is_read_and_answered(memory, part, &mut cursor, asked) && cursor.at_end()
-        }
+        "index" => picks::index(memory, text),
+        "slice" => picks::slice(memory, text),
+        "query_of_no_selectors" => picks::nothing(memory),
+        "untyped_comparison" => untyped::compared(memory, text),
+        "untyped_test" => untyped::tested(memory, text),
+        _ => None,
     }
 }
 
-/// Whether the part that the grammar function of that name reads answers as the row tells.
-fn is_read_and_answered<T: Document>(
-    memory: &Memory,
+/// What the part that is made of the text answers, or the one that is read of it.
+fn of_text<T: Document>(ground: &Ground<'_, T>, part: &str, text: &str) -> Option<Value> {
+    let memory = ground.memory;
+    let alloc = memory.alloc;
+    match part {
+        "untyped_call" => by(ground, untyped::call(memory, text)),
+        "no_selectors" => by(ground, Some(segment_many(Vec::new(alloc)))),
+        "and_of_nothing" => by(ground, Some(and(Vec::new(alloc)))),
+        "or_of_nothing" => by(ground, Some(or(Vec::new(alloc)))),
+        _ => match query_of(memory, part, text) {
+            Some(query) => by_query(ground, query),
+            None => {
+                let mut cursor = Cursor::new(text);
+                let answer = of_front(ground, part, &mut cursor);
+                if cursor.at_end() { answer } else { None }
+            }
+        },
+    }
+}
+
+/// What the part that the grammar function of that name reads answers.
+fn of_front<T: Document>(
+    ground: &Ground<'_, T>,
     part: &str,
     cursor: &mut Cursor<'_>,
-    asked: &Asked<'_, T>,
-) -> bool {
+) -> Option<Value> {
+    let memory = ground.memory;
+    let alloc = memory.alloc;
     match part {
-        "jp_query" => is_answered_by_query(
-            memory,
-            memory.ok(jp_query(memory.alloc, cursor)),
-            asked,
-        ),
-        "rel_query" => is_answered_by(memory, memory.ok(rel_query(memory.alloc, cursor)), asked),
-        "child_segment" => is_answered_by(
-            memory,
-            memory.ok(child_segment(memory.alloc, cursor)),
-            asked,
-        ),
-        "segment" => is_answered_by(memory, memory.ok(segment(memory.alloc, cursor)), asked),
-        "selector" => is_answered_by(memory, memory.ok(selector(memory.alloc, cursor)), asked),
-        "singular_query" => is_answered_by(
-            memory,
-            memory.ok(singular_query(memory.alloc, cursor)),
-            asked,
-        ),
-        "singular_query_segments" => {
-            is_answered_by(
-                memory,
-                memory.ok(singular_query_segments(memory.alloc, cursor)),
-                asked,
-            )
-        }
-        "step" => is_answered_by(memory, step(memory, cursor), asked),
-        _ => is_filter_read_and_answered(memory, part, cursor, asked),
-    }
-}
-
-/// The same, for what stands in a filter.
-fn is_filter_read_and_answered<T: Document>(
-    memory: &Memory,
-    part: &str,
-    cursor: &mut Cursor<'_>,
-    asked: &Asked<'_, T>,
-) -> bool {
-    match part {
-        "logical_expr" => is_answered_by(
-            memory,
-            memory.ok(logical_expr(memory.alloc, cursor)),
-            asked,
-        ),
-        "filter_atom" => is_answered_by(
-            memory,
-            memory.ok(filter_atom(memory.alloc, cursor)),
-            asked,
-        ),
-        "comp_expr" => is_answered_by(memory, memory.ok(comp_expr(memory.alloc, cursor)), asked),
-        "comparable" => is_answered_by(memory, memory.ok(comparable(memory.alloc, cursor)), asked),
-        "literal" => is_answered_by(memory, memory.ok(literal(memory.alloc, cursor)), asked),
-        "test" => is_answered_by(memory, memory.ok(test(memory.alloc, cursor)), asked),
-        "function_expr" => is_answered_by(
-            memory,
-            memory.ok(function_expr(memory.alloc, cursor)),
-            asked,
-        ),
-        "apply" => is_applied(memory, function_expr(memory.alloc, cursor), asked),
-        "argument" => is_answered_by(memory, argument(memory, cursor), asked),
-        _ => false,
+        "jp_query" => by_query(ground, memory.ok(jp_query(alloc, cursor))?),
+        "rel_query" => read(ground, rel_query(alloc, cursor)),
+        "child_segment" => read(ground, child_segment(alloc, cursor)),
+        "segment" => read(ground, segment(alloc, cursor)),
+        "selector" => read(ground, selector(alloc, cursor)),
+        "singular_query" => read(ground, singular_query(alloc, cursor)),
+        "singular_query_segments" => read(ground, singular_query_segments(alloc, cursor)),
+        "step" => by(ground, step(memory, cursor)),
+        "logical_expr" => read(ground, logical_expr(alloc, cursor)),
+        "filter_atom" => read(ground, filter_atom(alloc, cursor)),
+        "comp_expr" => read(ground, comp_expr(alloc, cursor)),
+        "comparable" => read(ground, comparable(alloc, cursor)),
+        "literal" => read(ground, literal(alloc, cursor)),
+        "test" => read(ground, test(alloc, cursor)),
+        "function_expr" => read(ground, function_expr(alloc, cursor)),
+        "apply" => applied(ground, memory.ok(function_expr(alloc, cursor))?),
+        "argument" => by(ground, argument(memory, cursor)),
+        _ => None,
     }
 }
 
@@ -186,106 +134,38 @@ fn argument(memory: &Memory, cursor: &mut Cursor<'_>) -> Option<FnArg> {
     }
 }
 
-/// The state that the row asks of, that of the root where it tells none; None where a value of it is not whole.
-fn asked_state<'r, T: Document>(memory: &Memory, asked: &Asked<'r, T>) -> Option<State<'r, T>>
-    ensures content { IfSome result (λ s. DataIsWhole T.is_whole s.content) }
-    ensures root { IfSome result (λ s. IsTrue (T.is_whole s.root.now)) }
-{
-    match asked.row.get("state") {
-        Some(content) => state_of(memory, asked.document, content, asked.values),
-        None if asked.document.is_whole() => root_state(memory, asked.document),
-        None => None,
-    }
+/// What the part that was read answers.
+fn read<Q: Query + Drop, T: Document>(ground: &Ground<'_, T>, part: Parsed<Q>) -> Option<Value> {
+    by(ground, ground.memory.ok(part))
 }
 
-/// The state of the root; None where memory ran out.
-fn root_state<'r, T: Document>(memory: &Memory, document: &'r T) -> Option<State<'r, T>>
-    requires { IsTrue (T.is_whole document.now) }
-    ensures content { IfSome result (λ s. DataIsWhole T.is_whole s.content) }
-    ensures root { IfSome result (λ s. IsTrue (T.is_whole s.root.now)) }
-{
-    match State::root(memory.alloc, document) {
-        Ok(state) => Some(state),
-        Err(error) => {
-            memory.note(&error);
-            drop(error);
-            None
-        }
-    }
-}
-
-/// Whether the part answers as the row tells.
-fn is_answered_by<Q: Query + Drop, T: Document>(
-    memory: &Memory,
-    part: Option<Q>,
-    asked: &Asked<'_, T>,
-) -> bool {
-    let Some(part) = part else {
-        return false;
-    };
-    let held = is_answered_so(memory, &part, asked);
+fn by<Q: Query + Drop, T: Document>(ground: &Ground<'_, T>, part: Option<Q>) -> Option<Value> {
+    let part = part?;
+    let answer = processed(ground, &part);
     drop(part);
-    held
+    answer
 }
 
-/// Whether this part answers as the row tells.
-fn is_answered_so<Q: Query, T: Document>(memory: &Memory, part: &Q, asked: &Asked<'_, T>) -> bool {
-    match asked_state(memory, asked) {
-        Some(state) => is_told(memory, memory.ok(part.process(memory.alloc, state)), asked),
-        None => false,
-    }
+fn by_query<T: Document>(ground: &Ground<'_, T>, query: JpQuery) -> Option<Value> {
+    let answer = processed(ground, &query);
+    let_go(query);
+    answer
 }
 
-/// Whether the call answers as the row tells, by `apply`.
-fn is_applied<T: Document>(
-    memory: &Memory,
-    call: Parsed<TestFunction>,
-    asked: &Asked<'_, T>,
-) -> bool {
-    let Some(call) = memory.ok(call) else {
-        return false;
-    };
-    let held = match asked_state(memory, asked) {
-        Some(state) => is_told(memory, memory.ok(apply(memory.alloc, &call, state)), asked),
-        None => false,
+fn processed<Q: Query, T: Document>(ground: &Ground<'_, T>, part: &Q) -> Option<Value> {
+    let memory = ground.memory;
+    let state = state_of(ground)?;
+    let answer = memory.ok(part.process(memory.alloc, state))?;
+    content_of(memory, &ground.document, answer)
+}
+
+/// What the call answers, by `apply`.
+fn applied<T: Document>(ground: &Ground<'_, T>, call: TestFunction) -> Option<Value> {
+    let memory = ground.memory;
+    let answer = match state_of(ground) {
+        Some(state) => memory.ok(apply(memory.alloc, &call, state)),
+        None => None,
     };
     drop(call);
-    held
-}
-
-/// Whether the query answers as the row tells, and from the root the nodes of `js_path_process`.
-fn is_answered_by_query<T: Document>(
-    memory: &Memory,
-    query: Option<JpQuery>,
-    asked: &Asked<'_, T>,
-) -> bool {
-    let Some(query) = query else {
-        return false;
-    };
-    let document = asked.document;
-    let agrees = document.is_whole()
-        && match memory.ok(js_path_process(memory.alloc, &query, document)) {
-            Some(nodes) => memory.holds(is_by_process(memory.alloc, &query, document, &nodes)),
-            None => false,
-        };
-    let held = agrees && is_answered_so(memory, &query, asked);
-    let_go(query);
-    held
-}
-
-/// Whether the answer is what the row tells.
-fn is_told<T: Document>(
-    memory: &Memory,
-    answer: Option<State<'_, T>>,
-    asked: &Asked<'_, T>,
-) -> bool {
-    let Some(answer) = answer else {
-        return false;
-    };
-    let held = match asked.row.get("answer") {
-        Some(wanted) => is_state(memory, &answer, asked.document, wanted),
-        None => false,
-    };
-    drop(answer);
-    held
+    content_of(memory, &ground.document, answer?)
 }

@@ -1,22 +1,26 @@
-//! `flat_map`, by closures that no row writes: the `argument` is `doubled`, and the answer what it makes of the state; or it is
-//! `refused`, and the answer whether the refusal of the closure is returned.
-use super::{Asked, given};
+//! `State::flat_map`, by closures that no row has: `doubled`, of which the answer is the content, and `refused`, of which it is whether
+//! the refusal of the closure is returned.
 use crate::doc::document::Document;
-use crate::states::content::is_state;
+use crate::states::content::{Ground, content_of, state_of};
 use jsonpath_parser::errors::JsonPathError;
 use jsonpath_rust::query::Queried;
-use jsonpath_rust::query::state::{Data, Pointer};
+use jsonpath_rust::query::state::{Data, Pointer, State};
 use rows_common::Memory;
-use rows_common::members::string_at;
 use serde_json::Value;
 use std::alloc::Global;
 
-/// Whether `flat_map` by the closure of the row answers as it tells.
-pub fn is_answered<T: Document>(memory: &Memory, asked: &Asked<'_, T>, wanted: &Value) -> bool {
-    match string_at(asked.row, "argument") {
-        Some("doubled") => is_doubled(memory, asked, wanted),
-        Some("refused") => is_refused(memory, asked, wanted),
-        _ => false,
+/// What `flat_map` by the closure of that name answers.
+pub fn answer<T: Document>(ground: &Ground<'_, T>, closure: &str) -> Option<Value> {
+    let memory = ground.memory;
+    let alloc = memory.alloc;
+    let state = state_of(ground)?;
+    match closure {
+        "doubled" => {
+            let answer = memory.ok(state.flat_map(alloc, |pointer| doubled(alloc, pointer)))?;
+            content_of(memory, &ground.document, answer)
+        }
+        "refused" => Some(Value::from(is_refused(memory, state))),
+        _ => None,
     }
 }
 
@@ -29,27 +33,9 @@ fn doubled<T: Document>(alloc: Global, pointer: Pointer<'_, T>) -> Queried<Data<
     Ok(Data::new_refs(pointers))
 }
 
-fn is_doubled<T: Document>(memory: &Memory, asked: &Asked<'_, T>, wanted: &Value) -> bool {
-    let Some(state) = given(memory, asked) else {
-        return false;
-    };
-    let alloc = memory.alloc;
-    match memory.ok(state.flat_map(alloc, |pointer| doubled(alloc, pointer))) {
-        Some(answer) => {
-            let held = is_state(memory, &answer, asked.document, wanted);
-            drop(answer);
-            held
-        }
-        None => false,
-    }
-}
-
-fn is_refused<T: Document>(memory: &Memory, asked: &Asked<'_, T>, wanted: &Value) -> bool {
-    let Some(state) = given(memory, asked) else {
-        return false;
-    };
+fn is_refused<T: Document>(memory: &Memory, state: State<'_, T>) -> bool {
     let answer = state.flat_map(memory.alloc, |_pointer| Err(JsonPathError::NoRulePath));
-    let refused = match answer.err() {
+    match answer.err() {
         Some(error) => {
             memory.note(&error);
             let refused = matches!(&error, JsonPathError::NoRulePath);
@@ -57,6 +43,5 @@ fn is_refused<T: Document>(memory: &Memory, asked: &Asked<'_, T>, wanted: &Value
             refused
         }
         None => false,
-    };
-    wanted.as_bool() == Some(refused)
+    }
 }
