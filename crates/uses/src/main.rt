@@ -19,7 +19,7 @@ mod rows;
 pub mod same;
 pub mod script;
 
-use rows_common::ask_rows;
+use rows_common::ask_calls;
 use std::io::ErrorKind;
 use std::{env, io};
 
@@ -31,7 +31,7 @@ fn main(rt: HostRuntime) -> io::Result<()> {
     match words.as_slice() {
         [] => {
             let input = io::read_to_string(rt.alloc(), rt.reader())?;
-            ask_rows(&rt, input.as_str(), rows::holds)
+            ask_calls(&rt, input.as_str(), rows::answer)
         }
         [word, size] => bench::run(&rt, word.as_str(), size.as_str()),
         _ => Err(ErrorKind::InvalidInput.into()),

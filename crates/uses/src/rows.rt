@@ -1,55 +1,39 @@
-//! One row: what it asks is told by its members. One with another member, or without one that it needs, does not hold.
-mod again;
-mod assertion;
+//! The calls that rows name: callers, each by its function. `NotWhole` is the refusal of an argument with a number that is not whole,
+//! before any call.
+mod asking;
 mod changing;
-mod counts;
-mod difference;
 mod first_steps;
-mod gateway;
-mod inbox;
-mod patch;
-mod policy;
-mod queries;
-mod redaction;
-mod routing;
-mod same;
-mod script;
-mod wanted;
+mod texts;
 
+use jsonpath_rust::{Whole, WholeRef};
 use rows_common::Memory;
+use rows_common::answers::refused;
 use serde_json::Value;
 
-/// Whether the row holds.
-pub fn holds(memory: &Memory, row: &Value) -> bool {
-    if row.get("redact").is_some() {
-        redaction::holds(memory, row)
-    } else if row.get("policy").is_some() {
-        policy::holds(memory, row)
-    } else if row.get("script").is_some() {
-        script::holds(memory, row)
-    } else if row.get("patch").is_some() {
-        patch::holds(memory, row)
-    } else if row.get("route").is_some() {
-        routing::holds(memory, row)
-    } else if row.get("assert").is_some() {
-        assertion::holds(memory, row)
-    } else if row.get("put_each").is_some() {
-        changing::holds(memory, row)
-    } else if row.get("add_one").is_some() {
-        changing::holds_of_each(memory, row)
-    } else if row.get("inbox").is_some() {
-        inbox::holds(memory, row)
-    } else if row.get("again").is_some() {
-        again::holds(memory, row)
-    } else if row.get("gateway").is_some() {
-        gateway::holds(memory, row)
-    } else if row.get("same").is_some() {
-        same::holds(memory, row)
-    } else if row.get("counts").is_some() {
-        counts::holds(memory, row)
-    } else if row.get("difference").is_some() {
-        difference::holds(memory, row)
-    } else {
-        first_steps::holds(memory, row)
+/// What the call of that name answers; None where there is none, or it takes no such arguments, or memory ran out.
+pub fn answer(memory: &Memory, name: &str, arguments: &[Value]) -> Option<Value> {
+    if !are_whole(arguments) {
+        return refused(memory, "NotWhole");
     }
+    match name {
+        "without_dear" => first_steps::answer(memory, arguments),
+        "redact" | "apply_edits" | "apply_patch" | "add_one" | "put_each" => {
+            changing::answer(memory, name, arguments)
+        }
+        _ => asking::answer(memory, name, arguments),
+    }
+}
+
+fn are_whole(values: &[Value]) -> bool {
+    for value in values {
+        if WholeRef::new(value).is_none() {
+            return false;
+        }
+    }
+    true
+}
+
+/// A copy of a value, checked; None where it is not whole, or memory ran out.
+fn whole_copy(memory: &Memory, value: &Value) -> Option<Whole<Value>> {
+    Whole::new(memory.ok(value.clone())?).ok()
 }

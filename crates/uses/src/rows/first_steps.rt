@@ -1,12 +1,10 @@
-//! Rows on the first steps: `without_dear`, the text of a store, with `answer`, how many books are deleted, and what is left; or
-//! `refused`: `NotJson`, `NotWhole`, `Closed`.
+//! The call `without_dear`, of README's first steps: how many books of a store, which is a text, are deleted, and what is left.
 use crate::first_steps::{StoreError, without_dear};
-use crate::rows::wanted::{Wanted, wanted_of};
-use jsonpath_rust::{ReadError, Whole};
+use jsonpath_rust::ReadError;
 use rows_common::Memory;
-use rows_common::members::{has_only, list, size, string_at};
+use rows_common::answers::refused;
 use rows_common::memory::Refusal;
-use serde_json::Value;
+use serde_json::{Value, json};
 
 impl Refusal for StoreError {
     fn is_for_memory(&self) -> bool {
@@ -18,59 +16,28 @@ impl Refusal for StoreError {
     }
 }
 
-/// Whether a row on the first steps holds.
-pub fn holds(memory: &Memory, row: &Value) -> bool {
-    match (string_at(row, "without_dear"), wanted_of(row)) {
-        (Some(text), Some(wanted)) => {
-            has_only(row, &["without_dear", "answer", "refused"]) && is_so(memory, text, wanted)
-        }
-        _ => false,
-    }
-}
-
-/// Whether the text gives what is wanted.
-fn is_so(memory: &Memory, text: &str, wanted: Wanted<'_>) -> bool {
-    let given = without_dear(memory.alloc, text);
-    match wanted {
-        Wanted::Answer(answer) => match memory.ok(given) {
-            Some((left, deleted)) => is_left(&left, deleted, answer),
-            None => false,
-        },
-        Wanted::Refused(kind) => is_refused(memory, given, kind),
-        Wanted::NoCall => is_refused(memory, given, "NotWhole"),
-    }
-}
-
-/// Whether so many books were deleted, and that is left.
-fn is_left(left: &Whole<Value>, deleted: usize, answer: &Value) -> bool {
-    match list(answer) {
-        Some([count, wanted]) => size(count) == Some(deleted) && *left.get() == *wanted,
-        _ => false,
-    }
-}
-
-/// Whether there is no store for that reason.
-fn is_refused(
-    memory: &Memory,
-    given: Result<(Whole<Value>, usize), StoreError>,
-    kind: &str,
-) -> bool {
-    match given.err() {
-        Some(error) => {
+/// What the text gives.
+pub fn answer(memory: &Memory, arguments: &[Value]) -> Option<Value> {
+    let [Value::String(text)] = arguments else {
+        return None;
+    };
+    match without_dear(memory.alloc, text.as_str()) {
+        Ok((left, deleted)) => memory.ok(json!(in memory.alloc; [deleted, left.into_inner()])),
+        Err(error) => {
             memory.note(&error);
-            let told = is_kind(&error, kind);
+            let kind = kind_of(&error);
             drop(error);
-            told
+            refused(memory, kind?)
         }
-        None => false,
     }
 }
 
-fn is_kind(error: &StoreError, kind: &str) -> bool {
+/// Why there is no store.
+fn kind_of(error: &StoreError) -> Option<&'static str> {
     match error {
-        StoreError::Read(ReadError::NotJson) => kind == "NotJson",
-        StoreError::Read(ReadError::NotWhole) => kind == "NotWhole",
-        StoreError::Closed => kind == "Closed",
-        _ => false,
+        StoreError::Read(ReadError::NotJson) => Some("NotJson"),
+        StoreError::Read(ReadError::NotWhole) => Some("NotWhole"),
+        StoreError::Closed => Some("Closed"),
+        _ => None,
     }
 }
