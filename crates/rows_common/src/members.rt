@@ -1,8 +1,4 @@
 //! The members of a row.
-ghost use Rattle.std.specs.Prelude.{◌≡◌};
-ghost use Rattle.rows_common.specs.Reading.{limit_of};
-
-use jsonpath_rust::parser::MAX_NESTING_DEPTH;
 use serde_json::Value;
 
 /// The text of that member.
@@ -52,44 +48,4 @@ fn is_among(name: &str, names: &[&str]) -> bool {
 pub enum Depth {
     Default,
     Limit(usize),
-}
-
-impl Depth {
-    /// As a limit.
-    pub fn limit(self) -> usize
-        ensures { result ≡ limit_of self }
-    {
-        match self {
-            Depth::Default => MAX_NESTING_DEPTH,
-            Depth::Limit(depth) => depth,
-        }
-    }
-}
-
-/// The row's member `depth`, or None where that is no count.
-pub fn depth_of(row: &Value) -> Option<Depth> {
-    match row.get("depth") {
-        Some(depth) => Some(Depth::Limit(size(depth)?)),
-        None => Some(Depth::Default),
-    }
-}
-
-/// The types of documents that a row is asked of.
-#[derive(Clone, Copy)]
-pub enum Types {
-    Value,
-    Doc,
-    Both,
-}
-
-/// The row's member `of`, or None where that names no type.
-pub fn types_of(row: &Value) -> Option<Types> {
-    let Some(of) = row.get("of") else {
-        return Some(Types::Both);
-    };
-    match of.as_str()? {
-        "value" => Some(Types::Value),
-        "doc" => Some(Types::Doc),
-        _ => None,
-    }
 }
