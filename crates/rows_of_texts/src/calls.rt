@@ -1,6 +1,7 @@
 //! The calls that rows name.
 use crate::{
     built, error, location, maker, pattern, place, production, reach, slice, step, text, values,
+    whole,
 };
 use rows_common::Memory;
 use serde_json::Value;
@@ -21,11 +22,17 @@ pub fn answer(memory: &Memory, name: &str, arguments: &[Value]) -> Option<Value>
         }
         "add_name" | "add_index" => step::answer(memory, name, arguments),
         "picked" | "slice_places" => slice::answer(memory, name, arguments),
-        "try_clone" | "begins" | "path_of" | "pointer_of" | "location_by_pointer" => {
-            location::answer(memory, name, arguments)
-        }
+        "try_clone"
+        | "begins"
+        | "path_of"
+        | "pointer_of"
+        | "location_by_pointer"
+        | "step_by_token" => location::answer(memory, name, arguments),
         "at" | "put_at" | "take_at" | "add_at" | "remove_all" | "replace_all" => {
             place::answer(memory, name, arguments)
+        }
+        "Whole::add_at" | "Whole::take_at" | "Whole::delete_within" => {
+            whole::answer(memory, name, arguments)
         }
         "found" | "found_each" | "pattern" | "finder" => pattern::answer(memory, name, arguments),
         "JpQuery::new"

@@ -1,11 +1,13 @@
-//! Calls on locations as values: `try_clone` and `==` of steps, `begins`, `path_of`, `pointer_of`, `location_by_pointer`.
-use jsonpath_base::{begins, location_by_pointer, path_of, pointer_of};
+//! Calls on locations as values: `try_clone` and `==` of steps, `begins`, `path_of`, `pointer_of`, `location_by_pointer`,
+//! `step_by_token`.
+use jsonpath_base::{begins, location_by_pointer, path_of, pointer_of, step_by_token};
 use rows_common::Memory;
 use rows_common::answers::{answered, location, optional, step_of, steps_of};
 use serde_json::Value;
 
 /// What the call of that name answers. A location is a list of names and indexes. What `try_clone` answers is whether the copy of the
-/// first step is the second; what `location_by_pointer` answers is a list of the location, empty for None.
+/// first step is the second; what `location_by_pointer` answers is a list of the location, empty for None, and what `step_by_token`
+/// answers a list of the step.
 pub fn answer(memory: &Memory, name: &str, arguments: &[Value]) -> Option<Value> {
     match (name, arguments) {
         ("try_clone", [step, other]) => is_copy(memory, step, other),
@@ -22,6 +24,7 @@ pub fn answer(memory: &Memory, name: &str, arguments: &[Value]) -> Option<Value>
             answered(memory, pointer_of(memory.alloc, steps.as_slice()))
         }
         ("location_by_pointer", [value, text]) => pointed(memory, value, text.as_str()?),
+        ("step_by_token", [value, token]) => stepped(memory, value, token.as_str()?),
         _ => None,
     }
 }
@@ -42,4 +45,12 @@ fn pointed(memory: &Memory, value: &Value, text: &str) -> Option<Value> {
         Some(steps) => optional(memory, Some(location(memory, steps.as_slice())?)),
         None => optional(memory, None::<Value>),
     }
+}
+
+fn stepped(memory: &Memory, value: &Value, token: &str) -> Option<Value> {
+    let mut steps = Vec::new(memory.alloc);
+    if let Some(step) = memory.ok(step_by_token(memory.alloc, value, token))? {
+        memory.ok(steps.push(step))?;
+    }
+    location(memory, steps.as_slice())
 }

@@ -1,5 +1,5 @@
 //! Asks the rows on standard input that need no document: on texts and their trees, on trees made by hand, on trees as
-//! texts, on what a query can reach, on errors, and on calls of `jsonpath_base`.
+//! texts, on what a query can reach, on errors, on calls of `jsonpath_base`, and on changes of a whole document.
 #![tactic(auto)]
 
 mod built;
@@ -17,6 +17,7 @@ mod text;
 mod tree;
 mod unspelled;
 mod values;
+mod whole;
 
 use rows_common::ask_calls;
 use std::io;
