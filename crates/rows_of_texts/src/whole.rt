@@ -12,16 +12,30 @@ pub fn answer(memory: &Memory, name: &str, arguments: &[Value]) -> Option<Value>
     };
     let mut document = whole_of(memory, value)?;
     let answer = match (name, change) {
-        ("Whole::add_at", [location, new]) => add(memory, &mut document, location, new),
         ("Whole::take_at", [location]) => take(memory, &mut document, location),
+        _ => changed(memory, &mut document, name, value, change),
+    };
+    let answer = answer?;
+    memory.ok(json!(in memory.alloc; [answer, document.into_inner()]))
+}
+
+/// What a call that may run out of memory answers. Where it does, the document has to be as it was.
+fn changed(
+    memory: &Memory,
+    document: &mut Whole<Value>,
+    name: &str,
+    value: &Value,
+    change: &[Value],
+) -> Option<Value> {
+    let answer = match (name, change) {
+        ("Whole::add_at", [location, new]) => add(memory, document, location, new),
         ("Whole::delete_within", [Value::String(query), depth]) => {
-            delete(memory, &mut document, query.as_str(), depth)
+            delete(memory, document, query.as_str(), depth)
         }
         _ => None,
     };
     memory.note_kept(are_same(document.get(), value));
-    let answer = answer?;
-    memory.ok(json!(in memory.alloc; [answer, document.into_inner()]))
+    answer
 }
 
 /// A copy of the value, if that is whole.
