@@ -1,10 +1,10 @@
 -- One step of a pattern's translation, at a place in the list, and the text that is wrapped.
-use Rattle.std.proofs.Common.{◌≡◌, ℕ, ◌+◌, ◌<◌, Bool, true, false, List, [], ◌∷◌, ◌++◌, length, get_or, drop, sym, ap, ◌∙◌, refl, codes, encode_utf8_all, if◌then◌else◌}
+use Rattle.std.proofs.Common.{◌≡◌, ℕ, ◌+◌, ◌<◌, Bool, true, false, ◌==◌, List, [], ◌∷◌, ◌++◌, length, get_or, drop, sym, ap, ◌∙◌, refl, codes, encode_utf8_all, if◌then◌else◌}
 use Rattle.std.proofs.lemmas.Bool.{eqb-true}
 use Rattle.std.proofs.lemmas.List.{at_drop_more}
 use Rattle.std.proofs.lemmas.Str.{encodes-append, chars-append, IsUtf8-append}
-use Rattle.std.specs.Str.{chars, IsUtf8}
-use Rattle.jsonpath_base.specs.Pattern.{is_char, translated, behind_backslash, wrapped}
+use Rattle.std.specs.Str.{byte, chars, IsUtf8}
+use Rattle.jsonpath_base.specs.Pattern.{translated, behind_backslash, wrapped}
 use Rattle.jsonpath_base.specs.inner.PatternParts.{written, inside_after, escaped_after}
 
 -- what the rest of a pattern becomes, in a state
@@ -15,7 +15,7 @@ rest inside escaped cs = if escaped then behind_backslash inside cs else transla
 abbrev pub left : Bool → Bool → List ℕ → List ℕ
 left inside escaped cs = encode_utf8_all (rest inside escaped cs)
 
-rest-plain : (i slash dot : Bool) (c : ℕ) (cs : List ℕ) → slash ≡ is_char (codes "\\") c → dot ≡ is_char (codes ".") c →
+rest-plain : (i slash dot : Bool) (c : ℕ) (cs : List ℕ) → slash ≡ (c == byte "\\") → dot ≡ (c == byte ".") →
     rest i false (c ∷ cs) ≡ written i false c ++ rest (inside_after i false c) (escaped_after false c) cs
 unfolding translated
 rest-plain true true dot c cs s d = rw (eqb-true c 92 (sym s)) refl

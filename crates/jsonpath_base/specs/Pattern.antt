@@ -1,5 +1,6 @@
 -- What `match` and `search` find (RFC 9535, 2.4.6 and 2.4.7). A pattern is the list of its characters, a text that of its bytes in UTF-8.
 use Rattle.std.specs.Prelude.{ℕ, Bool, true, false, not, ◌&&◌, ◌==◌, nat_le, List, [], ◌∷◌, ◌++◌, Option, None, Some, IsSome, is_some, option_and_then, codes, chars, ⊤, if◌then◌else◌}
+use Rattle.std.specs.Str.{byte}
 use Rattle.regex.specs.Patterns.{Re, find_str, default_config}
 use Rattle.regex_syntax.specs.Grammar.{read}
 use Rattle.jsonpath_parser.specs.declared.errors.JsonPathError.{JsonPathError}
@@ -9,14 +10,9 @@ use Rattle.jsonpath_base.specs.declared.pattern.Extent.TheVariants.{Entire, Subs
 use Rattle.jsonpath_base.specs.declared.pattern.unbuilt.Unbuilt.{Unbuilt}
 use Rattle.jsonpath_base.specs.declared.pattern.unbuilt.Unbuilt.TheVariants.{Memory, TooLarge}
 
--- the character is the one of this text
-abbrev pub is_char : List ℕ → ℕ → Bool
-is_char (d ∷ []) c = c == d
-is_char _ c = false
-
 -- whether a character behind this one stands in a class: `[` opens one, `]` closes it
 abbrev pub is_inside : Bool → ℕ → Bool
-is_inside inside c = if inside then not (is_char (codes "]") c) else is_char (codes "[") c
+is_inside inside c = if inside then not (c == byte "]") else c == byte "["
 
 -- From an I-Regexp to what `regex` reads (RFC 9485, 5.3), inside a class or not: outside one `.` stands for each character but a line feed
 -- and a carriage return. A backslash and the character behind it are copied, as is all else.
@@ -24,8 +20,8 @@ unfoldable mutual
   pub translated : Bool → List ℕ → List ℕ
   translated inside [] = []
   translated inside (c ∷ cs) =
-      if is_char (codes "\\") c then c ∷ behind_backslash inside cs
-      else (if is_char (codes ".") c && not inside then codes "[^\\n\\r]" ++ translated inside cs
+      if c == byte "\\" then c ∷ behind_backslash inside cs
+      else (if c == byte "." && not inside then codes "[^\\n\\r]" ++ translated inside cs
       else c ∷ translated (is_inside inside c) cs)
 
   pub behind_backslash : Bool → List ℕ → List ℕ

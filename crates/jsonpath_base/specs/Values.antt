@@ -32,12 +32,10 @@ abbrev mutual
 -- each number is a whole number of 64 bits
 abbrev mutual
   pub has_whole_numbers : Data → Bool
-  has_whole_numbers json.null = true
-  has_whole_numbers (json.boolean b) = true
   has_whole_numbers (json.number n) = is_some (as_i64 n)
-  has_whole_numbers (json.string s) = true
   has_whole_numbers (json.array ds) = items_whole ds
   has_whole_numbers (json.object ms) = members_whole ms
+  has_whole_numbers _ = true
 
   pub items_whole : Items → Bool
   items_whole json.no_items = true

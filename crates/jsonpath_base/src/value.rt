@@ -9,6 +9,7 @@ use serde_json::{Map, Value};
 /// Whether every number in a value is a whole number of 64 bits. A value that passes is one tree: each of its
 /// objects has a name once, since its map keeps them in order.
 #[cycle(whole)]
+#[inline(always)]
 pub fn whole(value: &Value) -> bool
     ensures numbers { result ≡ has_whole_numbers (view value.now) }
     ensures whole { result ≡ value_is_whole value.now }

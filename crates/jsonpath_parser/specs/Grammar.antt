@@ -167,9 +167,8 @@ module _ (Number : Option ℤ → List ℕ → Type 0) where
 
     -- an operand of `&&`
     pub SpellsOperand : Filter → List ℕ → Type 0
-    SpellsOperand (or fs) text = ⊥
-    SpellsOperand (and fs) text = ⊥
     SpellsOperand (atom a) text = SpellsBasic a text
+    SpellsOperand _ text = ⊥
 
     pub SpellsOr : Filters → List ℕ → Type 0
     SpellsOr no_filters text = ⊥

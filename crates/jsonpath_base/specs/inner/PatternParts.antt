@@ -1,21 +1,22 @@
 -- What the helpers behind `Pattern` do.
-use Rattle.std.specs.Prelude.{◌≡◌, ℕ, ◌<◌, Bool, false, not, ◌&&◌, List, [], ◌∷◌, Option, None, Some, is_some, get_or, codes, if◌then◌else◌}
+use Rattle.std.specs.Prelude.{◌≡◌, ℕ, ◌<◌, Bool, false, not, ◌&&◌, ◌==◌, List, [], ◌∷◌, Option, None, Some, is_some, get_or, codes, if◌then◌else◌}
+use Rattle.std.specs.Str.{byte}
 use Rattle.regex.specs.Patterns.{Re, find_str}
 use Rattle.regex.specs.Strings.{regex_pattern, matcher_pattern}
 use Rattle.regex.specs.declared.string.regex.Regex.{Regex}
 use Rattle.regex.specs.declared.string.matcher.Matcher.{Matcher}
-use Rattle.jsonpath_base.specs.Pattern.{is_char, is_inside, is_found}
+use Rattle.jsonpath_base.specs.Pattern.{is_inside, is_found}
 
 -- what one character of a pattern becomes, inside a class or not, behind a backslash that counts or not
 abbrev pub written : Bool → Bool → ℕ → List ℕ
-written inside escaped c = if not escaped && not inside && is_char (codes ".") c then codes "[^\\n\\r]" else c ∷ []
+written inside escaped c = if not escaped && not inside && c == byte "." then codes "[^\\n\\r]" else c ∷ []
 
 -- whether the next character stands inside a class, and behind such a backslash
 abbrev pub inside_after : Bool → Bool → ℕ → Bool
-inside_after inside escaped c = if escaped then inside else (if is_char (codes "\\") c then inside else is_inside inside c)
+inside_after inside escaped c = if escaped then inside else (if c == byte "\\" then inside else is_inside inside c)
 
 abbrev pub escaped_after : Bool → ℕ → Bool
-escaped_after escaped c = not escaped && is_char (codes "\\") c
+escaped_after escaped c = not escaped && c == byte "\\"
 
 -- what the built regex finds
 abbrev pub is_found_by : Option Regex → List ℕ → Bool

@@ -1,6 +1,6 @@
 -- How deep brackets nest in the text that the code writes for a tree. The laws of proofs/ join it to the depth of any text that spells the tree.
 use Rattle.std.specs.Prelude.{ℕ, suc, max, List, [], ◌∷◌}
-use Rattle.jsonpath_parser.specs.tree.Syntax.{SingularStep, SingularQuery, current, root, Selector, name, wildcard, index, slice, filter, Selectors, no_selectors, selector, Segment, one, several, descendant, no_segments, segment, Filter, or, and, atom, Filters, no_filters, filter_then, Atom, group, test, comparison, Comparison, compare, Comparable, literal, function, singular, Test, relative, absolute, call, Call, custom_call, length_call, value_call, count_call, search_call, match_call, Argument, literal_argument, test_argument, filter_argument, Arguments, no_arguments, argument, Query}
+use Rattle.jsonpath_parser.specs.tree.Syntax.{SingularStep, SingularQuery, current, root, Selector, filter, Selectors, no_selectors, selector, Segment, one, several, descendant, no_segments, segment, Filter, or, and, atom, Filters, no_filters, filter_then, Atom, group, test, comparison, Comparison, compare, Comparable, literal, function, singular, Test, relative, absolute, call, Call, custom_call, length_call, value_call, count_call, search_call, match_call, Argument, literal_argument, test_argument, filter_argument, Arguments, no_arguments, argument, Query}
 
 -- each step stands in brackets
 abbrev pub steps_nesting : List SingularStep → ℕ
@@ -22,11 +22,8 @@ abbrev mutual
   segment_nesting (descendant g) = segment_nesting g
 
   pub selector_nesting : Selector → ℕ
-  selector_nesting (name n) = 0
-  selector_nesting wildcard = 0
-  selector_nesting (index i) = 0
-  selector_nesting (slice start end step) = 0
   selector_nesting (filter f) = filter_nesting f
+  selector_nesting _ = 0
 
   pub selectors_nesting : Selectors → ℕ
   selectors_nesting no_selectors = 0

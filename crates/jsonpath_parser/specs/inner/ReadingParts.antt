@@ -5,7 +5,7 @@ use Rattle.std.specs.Str.{IsCharBoundary}
 use Rattle.jsonpath_parser.specs.Parts.{text_of, rest_of}
 use Rattle.jsonpath_parser.specs.words.inner.Reading.{Read, ◌>>=◌, first}
 use Rattle.jsonpath_parser.specs.inner.ReadingGrammar.{number_reading, comparable_of, filter_of, shorthand_at, selection_at, operand_at, basic_at, conjunction_at, all_segments_at, segment_at, selector_at, logical_at, argument_at}
-use Rattle.jsonpath_parser.specs.tree.Syntax.{Literal, SingularQuery, Selector, slice, Segment, one, Segments, Filter, atom, Atom, comparison, Comparison, Comparable, literal, function, singular, Test, relative, absolute, call, Call, Argument, literal_argument, test_argument, filter_argument, Query}
+use Rattle.jsonpath_parser.specs.tree.Syntax.{Literal, SingularQuery, Selector, slice, Segment, one, Segments, Filter, atom, Atom, comparison, Comparison, Comparable, function, singular, Test, relative, absolute, call, Call, Argument, literal_argument, test_argument, Query}
 use Rattle.jsonpath_parser.specs.Valueless.{IsValuelessIn}
 use Rattle.jsonpath_parser.specs.declared.errors.JsonPathError.{JsonPathError}
 use Rattle.jsonpath_parser.specs.declared.errors.JsonPathError.TheVariants.{PestError, InvalidNumber, OutOfMemory}
@@ -19,65 +19,48 @@ use Rattle.jsonpath_parser.specs.declared.words.stop.Stop.TheVariants.{Memory}
 
 abbrev pub literal_in : Argument → Option Literal
 literal_in (literal_argument l) = Some l
-literal_in (test_argument t) = None
-literal_in (filter_argument f) = None
+literal_in _ = None
 
 abbrev pub test_in : Argument → Option Test
-test_in (literal_argument l) = None
 test_in (test_argument t) = Some t
-test_in (filter_argument f) = None
+test_in _ = None
 
 abbrev pub call_in : Argument → Option Call
-call_in (literal_argument l) = None
-call_in (test_argument (relative gs)) = None
-call_in (test_argument (absolute gs)) = None
 call_in (test_argument (call c)) = Some c
-call_in (filter_argument f) = None
+call_in _ = None
 
 abbrev pub relative_in : Argument → Option Segments
-relative_in (literal_argument l) = None
 relative_in (test_argument (relative gs)) = Some gs
-relative_in (test_argument (absolute gs)) = None
-relative_in (test_argument (call c)) = None
-relative_in (filter_argument f) = None
+relative_in _ = None
 
 abbrev pub query_in : Argument → Option Query
-query_in (literal_argument l) = None
-query_in (test_argument (relative gs)) = None
 query_in (test_argument (absolute gs)) = Some gs
-query_in (test_argument (call c)) = None
-query_in (filter_argument f) = None
+query_in _ = None
 
 abbrev pub singular_of : Comparable → Option SingularQuery
-singular_of (literal l) = None
-singular_of (function c) = None
 singular_of (singular q) = Some q
+singular_of _ = None
 
 abbrev pub singular_in : Argument → Option SingularQuery
 singular_in x = comparable_of x >>= singular_of
 
 abbrev pub atom_of : Filter → Option Atom
-atom_of (Filter.or fs) = None
-atom_of (Filter.and fs) = None
 atom_of (atom a) = Some a
+atom_of _ = None
 
 abbrev pub atom_in : Argument → Option Atom
 atom_in x = filter_of x >>= atom_of
 
 abbrev pub comparison_of_atom : Atom → Option Comparison
-comparison_of_atom (Atom.group negated f) = None
-comparison_of_atom (Atom.test negated t) = None
 comparison_of_atom (comparison c) = Some c
+comparison_of_atom _ = None
 
 abbrev pub comparison_in : Argument → Option Comparison
 comparison_in x = atom_in x >>= comparison_of_atom
 
 abbrev pub slice_in : Selector → Option (Option ℤ × Option ℤ × Option ℤ)
-slice_in (Selector.name n) = None
-slice_in Selector.wildcard = None
-slice_in (Selector.index i) = None
 slice_in (slice start end step) = Some (start, end, step)
-slice_in (Selector.filter f) = None
+slice_in _ = None
 
 -- ---- what is read at the front
 

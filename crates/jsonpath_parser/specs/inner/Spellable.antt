@@ -4,7 +4,7 @@ use Rattle.std.specs.Int.Signed.{le_z}
 use Rattle.std.specs.List.{list_all}
 use Rattle.jsonpath_parser.specs.words.Lexical.{is_function_first, is_function_byte}
 use Rattle.jsonpath_parser.specs.tree.Typing.{is_table_name}
-use Rattle.jsonpath_parser.specs.tree.Syntax.{Literal, number, string, bool, null, SingularStep, name_step, index_step, SingularQuery, current, root, Selector, name, wildcard, index, slice, filter, Selectors, no_selectors, selector, Segment, one, several, descendant, no_segments, segment, Query, Filter, or, and, atom, Filters, no_filters, filter_then, Atom, group, test, comparison, Comparison, compare, Comparable, literal, function, singular, Test, relative, absolute, call, Call, custom_call, length_call, value_call, count_call, search_call, match_call, Argument, literal_argument, test_argument, filter_argument, Arguments, no_arguments, argument}
+use Rattle.jsonpath_parser.specs.tree.Syntax.{Literal, number, SingularStep, name_step, index_step, SingularQuery, current, root, Selector, name, wildcard, index, slice, filter, Selectors, no_selectors, selector, Segment, one, several, descendant, no_segments, segment, Query, Filter, or, and, atom, Filters, no_filters, filter_then, Atom, group, test, comparison, Comparison, compare, Comparable, literal, function, singular, Test, relative, absolute, call, Call, custom_call, length_call, value_call, count_call, search_call, match_call, Argument, literal_argument, test_argument, filter_argument, Arguments, no_arguments, argument}
 
 -- from -(2^53 - 1) to 2^53 - 1 (2.1)
 abbrev pub is_in_range : ℤ → Bool
@@ -29,9 +29,7 @@ is_custom_name n = is_function_name n && not (is_table_name n)
 abbrev pub is_spelled_literal : Literal → Bool
 is_spelled_literal (number None) = false
 is_spelled_literal (number (Some v)) = is_long v
-is_spelled_literal (string s) = true
-is_spelled_literal (bool b) = true
-is_spelled_literal null = true
+is_spelled_literal _ = true
 
 abbrev pub is_spelled_step : SingularStep → Bool
 is_spelled_step (name_step n) = true
@@ -43,43 +41,36 @@ is_spelled_singular (root ss) = list_all is_spelled_step ss
 
 -- two or more
 abbrev pub are_several_selectors : Selectors → Bool
-are_several_selectors no_selectors = false
-are_several_selectors (selector s no_selectors) = false
 are_several_selectors (selector s (selector t ss)) = true
+are_several_selectors _ = false
 
 abbrev pub are_several_filters : Filters → Bool
-are_several_filters no_filters = false
-are_several_filters (filter_then f no_filters) = false
 are_several_filters (filter_then f (filter_then g fs)) = true
+are_several_filters _ = false
 
 -- what may stand behind `..`
 abbrev pub is_child : Segment → Bool
-is_child (one s) = true
-is_child (several ss) = true
 is_child (descendant g) = false
+is_child _ = true
 
 -- what may be an operand of `||`
 abbrev pub is_conjunction : Filter → Bool
 is_conjunction (or fs) = false
-is_conjunction (and fs) = true
-is_conjunction (atom a) = true
+is_conjunction _ = true
 
 -- what may be an operand of `&&`
 abbrev pub is_operand : Filter → Bool
-is_operand (or fs) = false
-is_operand (and fs) = false
 is_operand (atom a) = true
+is_operand _ = false
 
 -- a test without `!`
 abbrev pub is_bare_test : Atom → Bool
-is_bare_test (group negated f) = false
 is_bare_test (test negated t) = not negated
-is_bare_test (comparison c) = false
+is_bare_test _ = false
 
 abbrev pub is_no_bare_test : Filter → Bool
-is_no_bare_test (or fs) = true
-is_no_bare_test (and fs) = true
 is_no_bare_test (atom a) = not (is_bare_test a)
+is_no_bare_test _ = true
 
 abbrev mutual
   pub is_spelled : Query → Bool

@@ -1,6 +1,6 @@
 -- What the makers of trees answer.
 use Rattle.std.specs.Prelude.{◌≡◌, ℕ, Bool, true, false, not, List, Option, Some, None, Result, MatchResult, ⊤, is_none, bytes_eq, codes, option_map, option_and_then, if◌then◌else◌}
-use Rattle.jsonpath_parser.specs.tree.Syntax.{Operator, equal, not_equal, greater, greater_or_equal, less, less_or_equal, Comparable, Comparison, compare, Test, relative, absolute, call, Call, Argument, literal_argument, test_argument, filter_argument, Arguments}
+use Rattle.jsonpath_parser.specs.tree.Syntax.{Operator, equal, not_equal, greater, greater_or_equal, less, less_or_equal, Comparable, Comparison, compare, Test, call, Call, Argument, literal_argument, filter_argument, Arguments}
 use Rattle.jsonpath_parser.specs.tree.Typing.{call_of, gives_value, takes}
 use Rattle.jsonpath_parser.specs.declared.errors.JsonPathError.{JsonPathError}
 use Rattle.jsonpath_parser.specs.declared.errors.JsonPathError.TheVariants.{InvalidJsonPath, OutOfMemory}
@@ -40,16 +40,13 @@ sides (compare op left right) = (left, right)
 
 -- a call that gives a truth
 abbrev pub is_truth_call : Test → Bool
-is_truth_call (relative gs) = false
-is_truth_call (absolute gs) = false
 is_truth_call (call c) = not (gives_value c)
+is_truth_call _ = false
 
 abbrev pub is_literal_argument : Argument → Bool
 is_literal_argument (literal_argument l) = true
-is_literal_argument (test_argument t) = false
-is_literal_argument (filter_argument f) = false
+is_literal_argument _ = false
 
 abbrev pub is_filter_argument : Argument → Bool
-is_filter_argument (literal_argument l) = false
-is_filter_argument (test_argument t) = false
 is_filter_argument (filter_argument f) = true
+is_filter_argument _ = false

@@ -2,7 +2,7 @@
 use Rattle.std.specs.Prelude.{ℕ, Bool, true, false, ◌&&◌, bytes_eq, List}
 use Rattle.std.specs.Borrow.{Bor}
 use Rattle.std.specs.List.{list_any}
-use Rattle.jsonpath_parser.specs.tree.Syntax.{SingularQuery, current, root, Selector, name, wildcard, index, slice, filter, Selectors, no_selectors, selector, Segment, one, several, descendant, no_segments, segment, Query, Filter, or, and, atom, Filters, no_filters, filter_then, Atom, group, test, comparison, Comparison, compare, Comparable, literal, function, singular, Test, relative, absolute, call, Call, custom_call, length_call, value_call, count_call, search_call, match_call, Argument, literal_argument, test_argument, filter_argument, Arguments, no_arguments, argument}
+use Rattle.jsonpath_parser.specs.tree.Syntax.{SingularQuery, current, root, Selector, name, filter, Selectors, no_selectors, selector, Segment, one, several, descendant, no_segments, segment, Query, Filter, or, and, atom, Filters, no_filters, filter_then, Atom, group, test, comparison, Comparison, compare, Comparable, literal, function, singular, Test, relative, absolute, call, Call, custom_call, length_call, value_call, count_call, search_call, match_call, Argument, literal_argument, test_argument, filter_argument, Arguments, no_arguments, argument}
 
 -- it begins at the current node (RFC 9535, 2.3.5.1)
 abbrev pub is_relative : SingularQuery → Bool
@@ -21,11 +21,8 @@ abbrev mutual
   is_local_segment (descendant g) = is_local_segment g
 
   pub is_local_selector : Selector → Bool
-  is_local_selector (name n) = true
-  is_local_selector wildcard = true
-  is_local_selector (index i) = true
-  is_local_selector (slice start end step) = true
   is_local_selector (filter f) = is_local_filter f
+  is_local_selector _ = true
 
   pub are_local_selectors : Selectors → Bool
   are_local_selectors no_selectors = true
@@ -91,11 +88,8 @@ abbrev mutual
   segment_calls_only known (descendant g) = segment_calls_only known g
 
   pub selector_calls_only : (List ℕ → Bool) → Selector → Bool
-  selector_calls_only known (name n) = true
-  selector_calls_only known wildcard = true
-  selector_calls_only known (index i) = true
-  selector_calls_only known (slice start end step) = true
   selector_calls_only known (filter f) = filter_calls_only known f
+  selector_calls_only known _ = true
 
   pub selectors_call_only : (List ℕ → Bool) → Selectors → Bool
   selectors_call_only known no_selectors = true
@@ -119,9 +113,8 @@ abbrev mutual
   comparison_calls_only known (compare op left right) = comparable_calls_only known left && comparable_calls_only known right
 
   pub comparable_calls_only : (List ℕ → Bool) → Comparable → Bool
-  comparable_calls_only known (literal l) = true
   comparable_calls_only known (function c) = call_calls_only known c
-  comparable_calls_only known (singular q) = true
+  comparable_calls_only known _ = true
 
   pub test_calls_only : (List ℕ → Bool) → Test → Bool
   test_calls_only known (relative gs) = calls_only known gs

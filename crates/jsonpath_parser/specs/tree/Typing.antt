@@ -1,25 +1,19 @@
 -- Which function takes which arguments, and what it gives (RFC 9535, 2.4.1 to 2.4.3).
 use Rattle.std.specs.Prelude.{◌≡◌, ℕ, Bool, true, false, ◌&&◌, ◌||◌, not, bytes_eq, codes, List, Option, Some, None, option_map, if◌then◌else◌}
-use Rattle.jsonpath_parser.specs.tree.Syntax.{Selector, name, wildcard, index, slice, filter, Selectors, no_selectors, selector, Segment, one, several, descendant, Segments, no_segments, segment, Query, Filter, or, and, atom, Filters, no_filters, filter_then, Atom, group, test, comparison, Comparison, compare, Comparable, literal, function, singular, Test, relative, absolute, call, Call, custom_call, length_call, value_call, count_call, search_call, match_call, Argument, literal_argument, test_argument, filter_argument, Arguments, no_arguments, argument}
+use Rattle.jsonpath_parser.specs.tree.Syntax.{Selector, name, index, filter, Selectors, no_selectors, selector, Segment, one, several, descendant, Segments, no_segments, segment, Query, Filter, or, and, atom, Filters, no_filters, filter_then, Atom, group, test, comparison, Comparison, compare, Comparable, literal, function, singular, Test, relative, absolute, call, Call, custom_call, length_call, value_call, count_call, search_call, match_call, Argument, literal_argument, test_argument, filter_argument, Arguments, no_arguments, argument}
 
 -- `length`, `value` and `count` give a value, each other function a truth
 abbrev pub gives_value : Call → Bool
-gives_value (custom_call n xs) = false
 gives_value (length_call x) = true
 gives_value (value_call x) = true
 gives_value (count_call x) = true
-gives_value (search_call x y) = false
-gives_value (match_call x y) = false
+gives_value _ = false
 
 -- a segment of one name or one index
 abbrev pub is_step : Segment → Bool
 is_step (one (name n)) = true
 is_step (one (index i)) = true
-is_step (one wildcard) = false
-is_step (one (slice start end step)) = false
-is_step (one (filter f)) = false
-is_step (several ss) = false
-is_step (descendant g) = false
+is_step _ = false
 
 -- the segments of a singular query: it selects at most one node (2.3.5.1)
 abbrev pub is_singular : Segments → Bool
@@ -34,15 +28,13 @@ is_value_test (call c) = gives_value c
 
 -- what gives nodes: a query
 abbrev pub is_query_test : Test → Bool
-is_query_test (relative gs) = true
-is_query_test (absolute gs) = true
 is_query_test (call c) = false
+is_query_test _ = true
 
 -- what gives a truth, or is asked for existence
 abbrev pub is_truth_test : Test → Bool
-is_truth_test (relative gs) = true
-is_truth_test (absolute gs) = true
 is_truth_test (call c) = not (gives_value c)
+is_truth_test _ = true
 
 -- a value, where a function wants one: a literal, a singular query, or a call that gives a value
 abbrev pub is_value_argument : Argument → Bool
@@ -52,9 +44,8 @@ is_value_argument (filter_argument f) = false
 
 -- the nodes of a query, where a function wants them
 abbrev pub is_query_argument : Argument → Bool
-is_query_argument (literal_argument l) = false
 is_query_argument (test_argument t) = is_query_test t
-is_query_argument (filter_argument f) = false
+is_query_argument _ = false
 
 -- the function takes these arguments
 abbrev pub takes : Call → Bool
@@ -77,11 +68,8 @@ abbrev mutual
   is_typed_segment (descendant g) = is_typed_segment g
 
   pub is_typed_selector : Selector → Bool
-  is_typed_selector (name n) = true
-  is_typed_selector wildcard = true
-  is_typed_selector (index i) = true
-  is_typed_selector (slice start end step) = true
   is_typed_selector (filter f) = is_typed_filter f
+  is_typed_selector _ = true
 
   pub are_typed_selectors : Selectors → Bool
   are_typed_selectors no_selectors = true
@@ -105,9 +93,8 @@ abbrev mutual
   is_typed_comparison (compare op left right) = is_typed_comparable left && is_typed_comparable right
 
   pub is_typed_comparable : Comparable → Bool
-  is_typed_comparable (literal l) = true
   is_typed_comparable (function c) = gives_value c && is_typed_call c
-  is_typed_comparable (singular q) = true
+  is_typed_comparable _ = true
 
   -- what stands in it; as an argument it may give a value too
   pub is_typed_test : Test → Bool
@@ -142,16 +129,13 @@ Typed q = is_typed q ≡ true
 
 -- the one argument, where there is exactly one
 abbrev pub one_argument : Arguments → Option Argument
-one_argument no_arguments = None
 one_argument (argument x no_arguments) = Some x
-one_argument (argument x (argument y more)) = None
+one_argument _ = None
 
 -- the two arguments, where there are exactly two
 abbrev pub two_arguments : Arguments → Option (Argument × Argument)
-two_arguments no_arguments = None
-two_arguments (argument x no_arguments) = None
 two_arguments (argument x (argument y no_arguments)) = Some (x, y)
-two_arguments (argument x (argument y (argument z more))) = None
+two_arguments _ = None
 
 -- The call of a function by its name: each of the five names has its own call, of one number of arguments, and each other name has a custom call.
 abbrev pub call_of : List ℕ → Arguments → Option Call

@@ -25,8 +25,7 @@ next_place (escaped q) b = inside q
 -- how many brackets stand open
 abbrev pub next_open : Place → ℕ → ℕ → ℕ
 next_open outside open_ b = if opens b then open_ + 1 else (if closes b then open_ - 1 else open_)
-next_open (inside q) open_ b = open_
-next_open (escaped q) open_ b = open_
+next_open _ open_ b = open_
 
 -- the most that stand open from here on
 abbrev pub depth_from : Place → ℕ → List ℕ → ℕ

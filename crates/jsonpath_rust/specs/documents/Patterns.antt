@@ -2,7 +2,7 @@
 use Rattle.std.specs.Prelude.{◌≡◌, ℕ, List, [], ◌∷◌, ◌++◌, ◌⊎◌, Bool, true, false, Option, Some, IsSome}
 use Rattle.std.specs.List.{Contains}
 use Rattle.jsonpath_parser.specs.tree.Syntax as syntax
-use Rattle.jsonpath_parser.specs.tree.Syntax.{Selector, wildcard, slice, Selectors, no_selectors, selector, Segment, one, several, descendant, Segments, no_segments, segment, Filter, or, and, atom, Filters, no_filters, filter_then, Atom, group, test, comparison, Comparison, compare, Comparable, literal, function, singular, Test, relative, absolute, call, Call, custom_call, length_call, value_call, count_call, search_call, match_call, Argument, literal_argument, test_argument, filter_argument, Arguments, no_arguments, argument, Query}
+use Rattle.jsonpath_parser.specs.tree.Syntax.{Selector, Selectors, no_selectors, selector, Segment, one, several, descendant, Segments, no_segments, segment, Filter, or, and, atom, Filters, no_filters, filter_then, Atom, group, test, comparison, Comparison, compare, Comparable, function, Test, relative, absolute, call, Call, custom_call, length_call, value_call, count_call, search_call, match_call, Argument, literal_argument, test_argument, filter_argument, Arguments, no_arguments, argument, Query}
 use Rattle.jsonpath_parser.specs.Derives.{Derives, IsRefusal}
 use Rattle.jsonpath_parser.specs.declared.errors.JsonPathError.{JsonPathError}
 use Rattle.jsonpath_parser.specs.declared.errors.JsonPathError.TheVariants.{OutOfMemory}
@@ -18,11 +18,8 @@ use Rattle.jsonpath_rust.specs.documents.Node.{Node}
 -- the patterns that stand in a part of a query: the second operand of each call of `match`, with true, and of `search`, with false
 abbrev mutual
   pub selector_patterns : Selector → List (Bool × Argument)
-  selector_patterns (syntax.Selector.name k) = []
-  selector_patterns wildcard = []
-  selector_patterns (syntax.Selector.index i) = []
-  selector_patterns (slice start end step) = []
   selector_patterns (syntax.Selector.filter f) = filter_patterns f
+  selector_patterns _ = []
 
   pub selectors_patterns : Selectors → List (Bool × Argument)
   selectors_patterns no_selectors = []
@@ -55,9 +52,8 @@ abbrev mutual
   comparison_patterns (compare op a b) = comparable_patterns a ++ comparable_patterns b
 
   pub comparable_patterns : Comparable → List (Bool × Argument)
-  comparable_patterns (literal l) = []
   comparable_patterns (function f) = call_patterns f
-  comparable_patterns (singular q) = []
+  comparable_patterns _ = []
 
   pub test_patterns : Test → List (Bool × Argument)
   test_patterns (relative gs) = segments_patterns gs

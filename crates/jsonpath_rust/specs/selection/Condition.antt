@@ -3,7 +3,7 @@ use Rattle.std.specs.Prelude.{ℕ, List, ◌++◌, Option, Some, None, ⊤, unwr
 use Rattle.std.specs.Str.{IsCharBoundary}
 use Rattle.jsonpath_parser.specs.Derives.{SpellsTyped, IsRefusal}
 use Rattle.jsonpath_parser.specs.tree.Syntax as syntax
-use Rattle.jsonpath_parser.specs.tree.Syntax.{Segment, one, several, descendant, no_segments, segment, Filter, or, no_filters, Query}
+use Rattle.jsonpath_parser.specs.tree.Syntax.{Segment, one, no_segments, segment, Filter, or, no_filters, Query}
 use Rattle.jsonpath_parser.specs.declared.errors.JsonPathError.{JsonPathError}
 use Rattle.jsonpath_parser.specs.declared.errors.JsonPathError.TheVariants.{PestError, OutOfMemory}
 use Rattle.jsonpath_rust.specs.selection.Prepared.{prepared_view}
@@ -21,18 +21,12 @@ in_filter text = codes "$[?" ++ text ++ codes "]"
 
 abbrev pub segment_filter : Segment → Option Filter
 segment_filter (one (syntax.Selector.filter f)) = Some f
-segment_filter (one (syntax.Selector.name k)) = None
-segment_filter (one syntax.Selector.wildcard) = None
-segment_filter (one (syntax.Selector.index i)) = None
-segment_filter (one (syntax.Selector.slice start end step)) = None
-segment_filter (several ss) = None
-segment_filter (descendant g) = None
+segment_filter _ = None
 
 -- the expression of a query `$[?e]`, and none of another
 abbrev pub filter_of : Query → Option Filter
-filter_of no_segments = None
 filter_of (segment g no_segments) = segment_filter g
-filter_of (segment g (segment h hs)) = None
+filter_of _ = None
 
 -- the same, and for others one that never holds
 abbrev pub expression_of : Query → Filter

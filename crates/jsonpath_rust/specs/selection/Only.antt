@@ -19,9 +19,8 @@ IsOnly tree q doc Several = (l m : Location) × (rest : List Location) × (selec
 
 -- the value, where there is one node alone
 abbrev pub sole_value : {A : Type 0} → Only A → Option A
-sole_value Nothing = None
 sole_value (One v) = Some v.now
-sole_value Several = None
+sole_value _ = None
 
 -- how many nodes the query selects, up to the greatest whole number of 64 bits
 abbrev pub node_count : Query → Document → ℕ

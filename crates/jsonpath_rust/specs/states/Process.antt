@@ -16,8 +16,7 @@ use Rattle.jsonpath_rust.specs.states.State.{Target, Content, ref, refs, value, 
 abbrev pub plain : Content → Option Tree
 plain (ref p) = Some p.tree
 plain (value t) = Some t
-plain (refs ps) = None
-plain nothing = None
+plain _ = None
 
 -- ---- comparisons (2.3.5.2.2)
 

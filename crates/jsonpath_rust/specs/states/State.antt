@@ -51,28 +51,23 @@ DataIsWhole whole Nothing = Unit {0}
 abbrev pub targets : Content → List Target
 targets (ref p) = p ∷ []
 targets (refs ps) = ps
-targets (value t) = []
-targets nothing = []
+targets _ = []
 
 abbrev pub pointers : {A : Type 0} → Data A → List (Pointer A)
 pointers (Ref p) = p ∷ []
 pointers (Refs ps) = ps.items
-pointers (Value v) = []
-pointers Nothing = []
+pointers _ = []
 
 -- as a list, where it is a node or nodes
 abbrev pub ok_refs : {A : Type 0} → Data A → Option (List (Pointer A))
 ok_refs (Ref p) = Some (p ∷ [])
 ok_refs (Refs ps) = Some ps.items
-ok_refs (Value v) = None
-ok_refs Nothing = None
+ok_refs _ = None
 
 -- its value of its own
 abbrev pub ok_value : {A : Type 0} → Data A → Option A
-ok_value (Ref p) = None
-ok_value (Refs ps) = None
 ok_value (Value v) = Some v
-ok_value Nothing = None
+ok_value _ = None
 
 -- ---- equality: of one kind, with values that are the same and paths of equal text
 
@@ -93,20 +88,15 @@ contents_same _ _ = false
 abbrev pub mapped : (Target → Content) → Content → Content
 mapped f (ref p) = f p
 mapped f (refs ps) = refs (flat_map (λ p. targets (f p)) ps)
-mapped f (value t) = nothing
-mapped f nothing = nothing
+mapped f _ = nothing
 
 abbrev pub AreRefs : {A : Type 0} → Data A → List (Pointer A) → Type 0
 AreRefs (Refs ps) qs = ps.items ≡ qs
-AreRefs (Ref p) qs = ⊥
-AreRefs (Value v) qs = ⊥
-AreRefs Nothing qs = ⊥
+AreRefs _ qs = ⊥
 
 abbrev pub HasNothing : {A : Type 0} → Data A → Type 0
 HasNothing Nothing = Unit {0}
-HasNothing (Ref p) = ⊥
-HasNothing (Refs ps) = ⊥
-HasNothing (Value v) = ⊥
+HasNothing _ = ⊥
 
 -- The same of any closure: Gives p d says that d is what it answered at p.
 abbrev pub Made : {A : Type 0} → (Pointer A → Data A → Type 0) → Data A → Data A → Type 0

@@ -3,7 +3,7 @@
 use Rattle.std.specs.Prelude.{ℤ, [], ◌∷◌, ◌++◌, length, Option, Some, None, option_map, option_and_then}
 use Rattle.jsonpath_parser.specs.Location.{Step, name, index, Location}
 use Rattle.jsonpath_parser.specs.tree.Syntax as syntax
-use Rattle.jsonpath_parser.specs.tree.Syntax.{Selector, Segment, one, several, descendant, Segments, no_segments, segment}
+use Rattle.jsonpath_parser.specs.tree.Syntax.{Selector, Segment, one, Segments, no_segments, segment}
 use Rattle.jsonpath_base.specs.Places.{child}
 use Rattle.jsonpath_base.specs.Steps.{owned_step, location_view}
 use Rattle.jsonpath_base.specs.Tree.{Tree, as_list}
@@ -22,14 +22,11 @@ element_step i t = option_and_then (λ k. step_to (index k) t) (option_and_then 
 abbrev pub selector_child : Selector → Tree → Option (Step × Tree)
 selector_child (syntax.Selector.name k) t = step_to (name k) t
 selector_child (syntax.Selector.index i) t = element_step i t
-selector_child syntax.Selector.wildcard t = None
-selector_child (syntax.Selector.slice start end step) t = None
-selector_child (syntax.Selector.filter f) t = None
+selector_child _ t = None
 
 abbrev pub segment_child : Segment → Tree → Option (Step × Tree)
 segment_child (one s) t = selector_child s t
-segment_child (several ss) t = None
-segment_child (descendant g) t = None
+segment_child _ t = None
 
 -- where the segments lead from a location and the tree there
 abbrev pub followed : Segments → Location → Tree → Option (Location × Tree)

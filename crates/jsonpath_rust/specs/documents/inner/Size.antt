@@ -1,15 +1,12 @@
 -- How large a tree is, for the measures of the walk alone: the definitions here are no part of what a query means.
 use Rattle.std.specs.Prelude.{ℕ, ◌+◌}
-use Rattle.jsonpath_base.specs.Tree.{Tree, null, truth, number, text, list, object, Trees, no_trees, tree, Members, no_members, member}
+use Rattle.jsonpath_base.specs.Tree.{Tree, list, object, Trees, no_trees, tree, Members, no_members, member}
 
 abbrev mutual
   pub size : Tree → ℕ
-  size null = 1
-  size (truth b) = 1
-  size (number n) = 1
-  size (text s) = 1
   size (list ts) = trees_size ts + 1
   size (object ms) = members_size ms + 1
+  size _ = 1
 
   pub trees_size : Trees → ℕ
   trees_size no_trees = 0

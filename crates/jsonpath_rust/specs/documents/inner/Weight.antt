@@ -1,16 +1,14 @@
 -- How much work a part of a query is, for the measures of the walk and of the plain evaluator.
 use Rattle.std.specs.Prelude.{ℕ, ◌+◌}
 use Rattle.jsonpath_parser.specs.tree.Syntax as syntax
-use Rattle.jsonpath_parser.specs.tree.Syntax.{Selector, wildcard, slice, Selectors, no_selectors, selector, Segment, one, several, descendant, Segments, no_segments, segment, Filter, or, and, atom, Filters, no_filters, filter_then, Atom, group, test, comparison, Comparison, compare, Comparable, literal, function, singular, Test, relative, absolute, call, Call, custom_call, length_call, value_call, count_call, search_call, match_call, Argument, literal_argument, test_argument, filter_argument, Arguments, no_arguments, argument}
+use Rattle.jsonpath_parser.specs.tree.Syntax.{Selector, slice, Selectors, no_selectors, selector, Segment, one, several, descendant, Segments, no_segments, segment, Filter, or, and, atom, Filters, no_filters, filter_then, Atom, group, test, comparison, Comparison, compare, Comparable, function, Test, relative, absolute, call, Call, custom_call, length_call, value_call, count_call, search_call, match_call, Argument, literal_argument, test_argument, filter_argument, Arguments, no_arguments, argument}
 
 -- every part is less than the whole
 abbrev mutual
   pub selector_weight : Selector → ℕ
-  selector_weight (syntax.Selector.name k) = 3
-  selector_weight wildcard = 3
-  selector_weight (syntax.Selector.index i) = 3
   selector_weight (slice start end step) = 4
   selector_weight (syntax.Selector.filter f) = filter_weight f + 3
+  selector_weight _ = 3
 
   pub selectors_weight : Selectors → ℕ
   selectors_weight no_selectors = 0
@@ -43,9 +41,8 @@ abbrev mutual
   comparison_weight (compare op a b) = comparable_weight a + comparable_weight b + 1
 
   pub comparable_weight : Comparable → ℕ
-  comparable_weight (literal l) = 1
   comparable_weight (function f) = call_weight f + 1
-  comparable_weight (singular q) = 1
+  comparable_weight _ = 1
 
   pub test_weight : Test → ℕ
   test_weight (relative gs) = segments_weight gs + 4

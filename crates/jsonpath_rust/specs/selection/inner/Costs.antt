@@ -1,7 +1,7 @@
 -- What a value costs where the work of a walk is limited, for the contracts of the walk alone: the definitions here are no part of what a query means.
 use Rattle.std.specs.Prelude.{ℕ, ◌+◌, ◌-◌, ◌/◌, ◌^◌, min, List, [], ◌∷◌, length, Option, Some, None}
 use Rattle.std.specs.declared.fmt.Debug as debug
-use Rattle.jsonpath_base.specs.Tree.{Tree, null, truth, number, text, list, object, Trees, no_trees, tree, Members, no_members, member}
+use Rattle.jsonpath_base.specs.Tree.{Tree, number, text, list, object, Trees, no_trees, tree, Members, no_members, member}
 use Rattle.jsonpath_rust.specs.documents.inner.Whole.{tree_of}
 use Rattle.jsonpath_rust.specs.declared.documents.queryable.Queryable.{Ghosts}
 use Rattle.jsonpath_rust.specs.declared.documents.comparison.Side.{Side}
@@ -10,12 +10,10 @@ use Rattle.jsonpath_rust.specs.declared.documents.comparison.Side.TheVariants as
 -- one for each value in it, and for each 16 bytes of its texts and names
 abbrev mutual
   pub cost : Tree → ℕ
-  cost null = 1
-  cost (truth b) = 1
-  cost (number n) = 1
   cost (text s) = length s / 16 + 1
   cost (list ts) = trees_cost ts + 1
   cost (object ms) = members_cost ms + 1
+  cost _ = 1
 
   pub trees_cost : Trees → ℕ
   trees_cost no_trees = 0

@@ -89,14 +89,7 @@ abbrev pub full : Seen → Bool
 full (any b) = b
 full several = true
 full (first o) = is_some o
-full (nodes ns) = false
-full (paths ps) = false
-full (values ts) = false
-full (locations ls) = false
-full (removal set k) = false
-full (count k) = false
-full nothing = false
-full (one t) = false
+full _ = false
 
 -- ---- what it has
 
