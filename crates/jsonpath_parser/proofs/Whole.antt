@@ -83,13 +83,16 @@ read_written text some = by_answer (whole_query (number_reading Any) text) refl 
         by_typing true h some = let (t, spelled, alike) = query_again IsAny SpellsNumber from_any q text (sound_any q text e) in (t, (spelled, alike ∙ h))
         by_typing false h some = absurd (cc)
 
+none_or_some : (o : Option Query) (t : Query) → o ≡ None → o ≡ Some t → ⊥
+none_or_some None t none some = absurd (cc)
+none_or_some (Some q) t none some = absurd (cc)
+
 -- and what is spelled as it is written is read with any number literals
 pub unread_written : (text : List ℕ) (t : Query) → typed_query Any text ≡ None → SpellsTyped text t → ⊥
 unfolding typed_query
 unread_written text t none h =
     let (u, spelled, alike) = query_again SpellsNumber IsAny as_any t text h.0 in
-    let same = typed_back (whole_query (number_reading Any) text) u (complete_any u text spelled) (alike ∙ h.1) in
-    cc
+    none_or_some (typed_query Any text) u none (typed_back (whole_query (number_reading Any) text) u (complete_any u text spelled) (alike ∙ h.1))
 
 -- where nothing is read by values, what is spelled has a number literal without one
 pub written_valueless : (limit : ℕ) (text : List ℕ) → depth text ≤ limit → typed_query Valued text ≡ None → (t : Query) × SpellsTyped text t → (t : Query) × SpellsValueless text t
