@@ -6,10 +6,9 @@ use Rattle.serde_json.specs.View.{view}
 use Rattle.serde_json.specs.declared.value.Value.{Value}
 use Rattle.jsonpath_parser.specs.Derives.{Derives}
 use Rattle.jsonpath_parser.specs.tree.Syntax as syntax
-use Rattle.jsonpath_base.specs.SetFunctions.{set_function}
 use Rattle.jsonpath_base.specs.Values.{value_tree, value_is_whole, has_whole_numbers}
 use Rattle.jsonpath_base.specs.Tree.{has_distinct_names}
-use Rattle.jsonpath_rust.specs.documents.Document.{document_of}
+use Rattle.jsonpath_rust.specs.documents.Document.{value_document}
 use Rattle.jpath.specs.Words.{Asked, asked_by}
 use Rattle.jpath.specs.Output.{IsJson, IsWholeJson, IsOutput, AppendsFront, IsFaultOf, printed}
 use Rattle.jpath.specs.Refused.{IsNoAnswer}
@@ -23,14 +22,14 @@ whole_numbers v h = (and_parts (has_whole_numbers (view v)) (has_distinct_names 
 -- the output of the words and the bytes
 is_output : (words : List (List ℕ)) (a : Asked) (q : syntax.Query) (v : Value) (bytes out : List ℕ)
     → asked_by words ≡ Some a → Derives a.depth a.query q → IsJson bytes (view v) → IsTrue (value_is_whole v)
-    → out ≡ printed a.command q (document_of value_tree set_function v) → IsOutput words bytes out
+    → out ≡ printed a.command q (value_document v) → IsOutput words bytes out
 is_output words a q v bytes out asked derived json whole text =
     record { asked = a; by_words = asked; query = q; derived = derived; document = view v; json = json; whole = whole_numbers v whole; written = text }
 
 -- all of it was written
 pub told : {E : Type 0} (r : Result (Unit {0}) E) (words : List (List ℕ)) (input old new : Option (List ℕ)) (a : Asked) (q : syntax.Query) (v : Value) (out : List ℕ)
     → asked_by words ≡ Some a → Derives a.depth a.query q → IfSome input (λ bytes. IsJson bytes (view v)) → IsTrue (value_is_whole v)
-    → out ≡ printed a.command q (document_of value_tree set_function v) → OnOk r (Appends old new out)
+    → out ≡ printed a.command q (value_document v) → OnOk r (Appends old new out)
     → OnOk r (IfSome input (λ bytes. (x : List ℕ) × IsOutput words bytes x × Appends old new x))
 told (Err e) words input old new a q v out asked derived json whole text wrote = tt
 told (Ok u) words None old new a q v out asked derived json whole text wrote = tt
@@ -39,7 +38,7 @@ told (Ok u) words (Some bytes) old new a q v out asked derived json whole text w
 -- or a beginning of it
 pub told_front : (words : List (List ℕ)) (input old new : Option (List ℕ)) (a : Asked) (q : syntax.Query) (v : Value) (out : List ℕ)
     → asked_by words ≡ Some a → Derives a.depth a.query q → IfSome input (λ bytes. IsJson bytes (view v)) → IsTrue (value_is_whole v)
-    → out ≡ printed a.command q (document_of value_tree set_function v) → AppendsFront old new out
+    → out ≡ printed a.command q (value_document v) → AppendsFront old new out
     → IfSome input (λ bytes. (x : List ℕ) × IsOutput words bytes x × AppendsFront old new x)
 told_front words None old new a q v out asked derived json whole text wrote = tt
 told_front words (Some bytes) old new a q v out asked derived json whole text wrote = (out, is_output words a q v bytes out asked derived json whole text, wrote)
@@ -52,7 +51,7 @@ whole_json (Some bytes) v json whole = (json, whole_numbers v whole)
 -- no answer is a fault of the words and the input
 pub no_answer : (words : List (List ℕ)) (input : Option (List ℕ)) (a : Asked) (q : syntax.Query) (v : Value) (f : Fault)
     → asked_by words ≡ Some a → Derives a.depth a.query q → IfSome input (λ bytes. IsJson bytes (view v)) → IsTrue (value_is_whole v)
-    → IsNoAnswer q (document_of value_tree set_function v) f → IsFaultOf words input f
+    → IsNoAnswer q (value_document v) f → IsFaultOf words input f
 no_answer words input a q v (Query e) asked derived json whole h = inr (h.0, (a, q, view v, asked, derived, whole_json input v json whole, h.1))
 no_answer words input a q v Memory asked derived json whole h = rw asked refl
 no_answer words input a q v _ asked derived json whole h = absurd h

@@ -2,9 +2,8 @@
 ghost use Rattle.std.specs.Prelude.{◌≡◌, ◌++◌, map, codes, decimal, All, IsTrue, IfOk, IfErr, OnOk, string_bytes};
 ghost use Rattle.std.specs.List.{flat_map};
 ghost use Rattle.jsonpath_parser.specs.tree.View.{query_view};
-ghost use Rattle.jsonpath_base.specs.SetFunctions.{set_function};
 ghost use Rattle.jsonpath_base.specs.Values.{value_tree, value_is_whole};
-ghost use Rattle.jsonpath_rust.specs.documents.Document.{document_of};
+ghost use Rattle.jsonpath_rust.specs.documents.Document.{value_document};
 ghost use Rattle.jsonpath_rust.specs.documents.Answer.{shown};
 ghost use Rattle.jpath.specs.Json.{json_text};
 ghost use Rattle.jpath.specs.Output as output;
@@ -28,8 +27,8 @@ pub fn printed(
     document: &mut Value,
 ) -> Result<String, Fault>
     requires { IsTrue (value_is_whole document.now) }
-    ensures text { IfOk result (λ text. string_bytes text ≡ output.printed command (query_view query.now) (document_of value_tree set_function document.old)) }
-    ensures refused { IfErr result (IsNoAnswer (query_view query.now) (document_of value_tree set_function document.old)) }
+    ensures text { IfOk result (λ text. string_bytes text ≡ output.printed command (query_view query.now) (value_document document.old)) }
+    ensures refused { IfErr result (IsNoAnswer (query_view query.now) (value_document document.old)) }
 {
     match command {
         Command::Print(Listing::Values) => values_printed(alloc, query, document),
@@ -46,8 +45,8 @@ fn nodes_printed(
     document: &Value,
 ) -> Result<String, Fault>
     requires { IsTrue (value_is_whole document.now) }
-    ensures text { IfOk result (λ text. string_bytes text ≡ listed listing (query_view query.now) (document_of value_tree set_function document.now)) }
-    ensures refused { IfErr result (IsNoAnswer (query_view query.now) (document_of value_tree set_function document.now)) }
+    ensures text { IfOk result (λ text. string_bytes text ≡ listed listing (query_view query.now) (value_document document.now)) }
+    ensures refused { IfErr result (IsNoAnswer (query_view query.now) (value_document document.now)) }
 {
     let nodes = selected_nodes(alloc, query, document)?;
     Ok(nodes_text(alloc, listing, nodes.as_slice())?)
@@ -56,8 +55,8 @@ fn nodes_printed(
 /// The values alone, for which no path is made.
 fn values_printed(alloc: Global, query: &JpQuery, document: &Value) -> Result<String, Fault>
     requires { IsTrue (value_is_whole document.now) }
-    ensures text { IfOk result (λ text. string_bytes text ≡ listed Listing.Values (query_view query.now) (document_of value_tree set_function document.now)) }
-    ensures refused { IfErr result (IsNoAnswer (query_view query.now) (document_of value_tree set_function document.now)) }
+    ensures text { IfOk result (λ text. string_bytes text ≡ listed Listing.Values (query_view query.now) (value_document document.now)) }
+    ensures refused { IfErr result (IsNoAnswer (query_view query.now) (value_document document.now)) }
 {
     let values = selected_values(alloc, query, document)?;
     Ok(values_text(alloc, values.as_slice())?)
@@ -66,8 +65,8 @@ fn values_printed(alloc: Global, query: &JpQuery, document: &Value) -> Result<St
 /// How many locations were deleted, and the document that is left.
 fn deletion_printed(alloc: Global, query: &JpQuery, document: &mut Value) -> Result<String, Fault>
     requires { IsTrue (value_is_whole document.now) }
-    ensures text { IfOk result (λ text. string_bytes text ≡ output.printed Command.Delete (query_view query.now) (document_of value_tree set_function document.old)) }
-    ensures refused { IfErr result (IsNoAnswer (query_view query.now) (document_of value_tree set_function document.old)) }
+    ensures text { IfOk result (λ text. string_bytes text ≡ output.printed Command.Delete (query_view query.now) (value_document document.old)) }
+    ensures refused { IfErr result (IsNoAnswer (query_view query.now) (value_document document.old)) }
 {
     let count = delete_selected(alloc, document, query)?;
     Ok(rest_text(alloc, count, document)?)
