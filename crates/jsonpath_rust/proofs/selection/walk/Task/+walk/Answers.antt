@@ -36,7 +36,7 @@ use Rattle.jsonpath_rust.proofs.laws.selection.Walks.{down, down_tree, down_same
 use Rattle.jsonpath_rust.proofs.laws.selection.Leading.{leads_below, leads_indexed}
 use Rattle.jsonpath_rust.proofs.laws.documents.NodesAt.{member_there}
 use Rattle.jsonpath_rust.proofs.laws.selection.HaltingLaws.{asked_as, asked_left, asked_right, asked_rest, asked_at, asked_at_or, pattern_asked}
-use Rattle.jsonpath_rust.proofs.laws.documents.Trees.{child_there, element_size, pair_size, member_size, element_at, sliced-list, named_some, named_none}
+use Rattle.jsonpath_rust.proofs.laws.documents.Trees.{all_at, child_there, element_size, pair_size, member_size, element_at, sliced-list, named_some, named_none}
 use Rattle.jsonpath_rust.proofs.laws.documents.Parts.{part_of, kept_true, kept_false, some_found, some_next, each_failed, each_next, parts_end, ok_as, ok_through, differs, joined_next}
 use Rattle.jsonpath_rust.proofs.laws.selection.Kept.{kept_query, of_some}
 use Rattle.jsonpath_rust.proofs.laws.selection.RootedLaws.{answer_as, answer_kept, comparison_as, comparison_kept, kept_call_same, kept_comparison_same}
@@ -553,6 +553,14 @@ pick_slice-index-requires g t c =
     let P : ℕ → Type 0 = λ i. i < length items in
     let inside : position < length items = All-head P position _ (subst (All P) steps inv.below) in
     omega (arith, inside, c.in-Some.items.now.ok.0)
+
+pub pick_slice-invariant_of-value : goal.pick_slice-invariant_of-value
+pick_slice-invariant_of-value g t c =
+    let items = c.in-Some.items.now.items in
+    let position = c.in-Some-position.position in
+    let P : ℕ → Type 0 = λ i. i < length items in
+    let inside : position < length items = All-head P position _ (subst (All P) c.in-Some-position.ensures.steps c.loop-position.invariant.below) in
+    record { whole = all_at (λ x. IsTrue (g.T.Queryable.is_whole x)) items position c.index.result.now c.in-Some.ensures.whole inside c.index.ensures }
 
 pub pick_slice-returns-then-not-branch-clause-gave : goal.pick_slice-returns-then-not-branch-clause-gave
 pick_slice-returns-then-not-branch-clause-gave g t c =
@@ -1215,6 +1223,16 @@ pub constant_nodes-returns-in_default-clause-given : goal.constant_nodes-returns
 constant_nodes-returns-in_default-clause-given g t c =
     let d = document c.args.self.now in
     c.in_ok-of_one.ensures.given ∙ sym (ap (λ q. give (start c.args.wanted) (nodelist q d)) c.in_default.ensures.none)
+
+pub constant_nodes-returns-in_err-has_nodes-clause-comes : goal.constant_nodes-returns-in_err-has_nodes-clause-comes
+constant_nodes-returns-in_err-has_nodes-clause-comes g t c =
+    let kept = kept_of c.args.self.now in
+    let d = document c.args.self.now in
+    let limit = c.args.self.now.limit in
+    let q = c.in-Some.ensures.part in
+    let e = c.in_err-has_nodes.field-0.0 in
+    let why = subst (λ x. IsHalt limit (segments_patterns x) d e) (sym (kept_query kept c.args.number c.args.wanted _ q)) (c.in_err-has_nodes.ensures.refused kept d c.args.wanted _ limit c.requires q) in
+    comes_halt _ _ c.from_residual-in_err-has_nodes.ensures.1 c.requires why (λ h. h)
 
 pub constant_nodes-returns-then-branch-clause-given : goal.constant_nodes-returns-then-branch-clause-given
 constant_nodes-returns-then-branch-clause-given g t c =
