@@ -8,6 +8,7 @@ use crate::documents::whole::{Whole, WholeRef};
 mod asking;
 mod lent;
 mod read;
+mod runner;
 mod value;
 
 pub use crate::whole::read::ReadError;

@@ -3,6 +3,7 @@
 mod asking;
 mod changing;
 mod first_steps;
+mod running;
 mod texts;
 
 use jsonpath_rust::{Whole, WholeRef};
@@ -20,6 +21,10 @@ pub fn answer(memory: &Memory, name: &str, arguments: &[Value]) -> Option<Value>
         "redact" | "apply_edits" | "apply_patch" | "add_one" | "put_each" => {
             changing::answer(memory, name, arguments)
         }
+        "Whole::delete_by_runner"
+        | "Whole::replace_by_runner"
+        | "Whole::delete_limited"
+        | "Whole::replace_limited" => running::answer(memory, name, arguments),
         _ => asking::answer(memory, name, arguments),
     }
 }

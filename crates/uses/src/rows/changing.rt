@@ -49,7 +49,7 @@ pub fn answer(memory: &Memory, name: &str, arguments: &[Value]) -> Option<Value>
 }
 
 /// What a call answered, and left of the document; a refusal only where that is as it was.
-fn changed<T: Into<Value> + Drop>(
+pub fn changed<T: Into<Value> + Drop>(
     memory: &Memory,
     answer: Queried<T>,
     left: Whole<Value>,

@@ -1,0 +1,82 @@
+//! What a runner, or one under a limit, changes in a whole `Value`.
+ghost use Rattle.std.specs.Prelude.{◌≡◌, IsTrue, IfOk, IfErr, OnOk, OnErr};
+ghost use Rattle.jsonpath_parser.specs.tree.Typing as typing;
+ghost use Rattle.jsonpath_base.specs.Overwritten.{overwritten};
+ghost use Rattle.jsonpath_base.specs.Values.{value_tree};
+ghost use Rattle.jsonpath_base.specs.Without.{without, is_among, distinct_count};
+ghost use Rattle.jsonpath_rust.specs.Deleting.{IsDeletion};
+ghost use Rattle.jsonpath_rust.specs.Replacing.{IsReplacement};
+ghost use Rattle.jsonpath_rust.specs.documents.Document.{value_document};
+ghost use Rattle.jsonpath_rust.specs.documents.Meaning.{selected};
+ghost use Rattle.jsonpath_rust.specs.documents.Patterns.{IsStop};
+ghost use Rattle.jsonpath_rust.specs.selection.Prepared.{runner_view, limited_view};
+ghost use Rattle.jsonpath_rust.specs.selection.Within.{IfDone, IfSpent};
+
+use crate::documents::Queried;
+use crate::documents::whole::Whole;
+use crate::selection::{Limited, Runner, Within};
+use serde_json::Value;
+use std::alloc::Global;
+
+impl Whole<Value> {
+    /// Removes all locations that the runner's query selects, as [`Runner::delete`].
+    pub fn delete_by_runner(&mut self, alloc: Global, runner: &mut Runner<'_>) -> Queried<usize>
+        ensures removed { OnOk result (value_tree self.new.value ≡ without (is_among (selected (runner_view runner.old) (value_document self.old.value))) (value_tree self.old.value)) }
+        ensures count { IfOk result (λ n. n ≡ distinct_count (selected (runner_view runner.old) (value_document self.old.value))) }
+        ensures kept { OnErr result (self.new.value ≡ self.old.value) }
+        ensures same { runner_view runner.new ≡ runner_view runner.old }
+        ensures refused { IfErr result (IsStop (runner_view runner.old) (value_document self.old.value)) }
+    {
+        runner.delete(alloc, &mut self.value)
+    }
+
+    /// Puts a copy of `new` at all locations that the runner's query selects, as [`Runner::replace`].
+    pub fn replace_by_runner(
+        &mut self,
+        alloc: Global,
+        runner: &mut Runner<'_>,
+        new: &Whole<Value>,
+    ) -> Queried<usize>
+        ensures replaced { OnOk result (value_tree self.new.value ≡ overwritten (is_among (selected (runner_view runner.old) (value_document self.old.value))) (value_tree new.now.value) (value_tree self.old.value)) }
+        ensures count { IfOk result (λ n. n ≡ distinct_count (selected (runner_view runner.old) (value_document self.old.value))) }
+        ensures kept { OnErr result (self.new.value ≡ self.old.value) }
+        ensures same { runner_view runner.new ≡ runner_view runner.old }
+        ensures refused { IfErr result (IsStop (runner_view runner.old) (value_document self.old.value)) }
+    {
+        runner.replace(alloc, &mut self.value, &new.value)
+    }
+
+    /// The same as `delete_by_runner` under a limit, as [`Limited::delete`]. Where the units are not enough, the document is as it was.
+    pub fn delete_limited(
+        &mut self,
+        alloc: Global,
+        limited: &mut Limited<'_>,
+    ) -> Queried<Within<usize>>
+        ensures deleted { IfOk result (λ w. IfDone w (λ n. IsDeletion (limited_view limited.old) (value_document self.old.value) (value_tree self.new.value) n)) }
+        ensures spent { IfOk result (λ w. IfSpent w (self.new.value ≡ self.old.value)) }
+        ensures kept { OnErr result (self.new.value ≡ self.old.value) }
+        ensures enough { IsTrue (typing.is_singular (limited_view limited.old)) → IfOk result (λ w. IfSpent w ⊥) }
+        ensures same { limited_view limited.new ≡ limited_view limited.old }
+        ensures refused { IfErr result (IsStop (limited_view limited.old) (value_document self.old.value)) }
+    {
+        limited.delete(alloc, &mut self.value)
+    }
+
+    /// The same as `replace_by_runner` under a limit, as [`Limited::replace`]. Where the units are not enough, the document is as it
+    /// was.
+    pub fn replace_limited(
+        &mut self,
+        alloc: Global,
+        limited: &mut Limited<'_>,
+        new: &Whole<Value>,
+    ) -> Queried<Within<usize>>
+        ensures replaced { IfOk result (λ w. IfDone w (λ n. IsReplacement (limited_view limited.old) (value_tree new.now.value) (value_document self.old.value) (value_tree self.new.value) n)) }
+        ensures spent { IfOk result (λ w. IfSpent w (self.new.value ≡ self.old.value)) }
+        ensures kept { OnErr result (self.new.value ≡ self.old.value) }
+        ensures enough { IsTrue (typing.is_singular (limited_view limited.old)) → IfOk result (λ w. IfSpent w ⊥) }
+        ensures same { limited_view limited.new ≡ limited_view limited.old }
+        ensures refused { IfErr result (IsStop (limited_view limited.old) (value_document self.old.value)) }
+    {
+        limited.replace(alloc, &mut self.value, &new.value)
+    }
+}
