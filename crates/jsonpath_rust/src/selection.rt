@@ -6,7 +6,6 @@
 //! what is kept of the root (`cache`, `constants`, `early`) and of patterns (`engine` of `jsonpath_base`). The nodes go to a sink
 //! (`sink`) with the way that leads to them (`Way` there).
 mod action;
-mod argument;
 mod budget;
 mod cache;
 mod children;

@@ -1,6 +1,5 @@
 pub mod Along
 pub mod Answers
-pub mod Arguing
 pub mod Conditions
 pub mod Constants
 pub mod CostLaws
@@ -20,4 +19,5 @@ pub mod Sinks
 pub mod Standing
 pub mod StepLaws
 pub mod Walks
+pub mod Wanting
 pub mod Work

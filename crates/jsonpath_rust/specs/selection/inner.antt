@@ -1,5 +1,4 @@
 -- What the crate's own contracts and proofs say. Nothing here is part of what a query means.
-pub mod Arguing
 pub mod AtHand
 pub mod Costs
 pub mod Halting
@@ -13,3 +12,4 @@ pub mod Rooted
 pub mod Sinks
 pub mod Standing
 pub mod Walking
+pub mod Wanting

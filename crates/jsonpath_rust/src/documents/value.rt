@@ -73,6 +73,20 @@ impl<'a, 's, T: Queryable> Operand<'a, 's, T> {
         }
     }
 
+    /// The same value: a copy, where a custom function made it.
+    #[inline(always)]
+    pub fn try_clone(&self, alloc: Global) -> Walked<Self>
+        ensures value { IfOk result (λ o. operand_tree o ≡ operand_tree self.now) }
+        ensures memory { IfErr result (λ h. h ≡ Memory) }
+    {
+        match self {
+            Operand::Absent => Ok(Operand::Absent),
+            Operand::Lent(value) => Ok(Operand::Lent(*value)),
+            Operand::Made(value) => Ok(Operand::Made(value.try_clone(alloc)?)),
+            Operand::Plain(scalar) => Ok(Operand::Plain(*scalar)),
+        }
+    }
+
     /// The text, where it is one.
     #[inline(always)]
     pub fn as_text(&self) -> Option<&str>

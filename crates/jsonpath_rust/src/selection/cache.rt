@@ -1,23 +1,20 @@
 //! What one call of the evaluator keeps: what was worked out once, by the number of its constant.
-ghost use Rattle.std.specs.Prelude.{◌≡◌, ◌<◌, ℕ, length, None, Some, option_map, IsTrue, IfOk, IfErr};
+ghost use Rattle.std.specs.Prelude.{◌≡◌, ◌<◌, ◌++◌, length, None, Some, option_map, IsTrue, IfOk, IfErr, OnOk};
 ghost use Rattle.jsonpath_rust.specs.documents.Document.{Document};
-ghost use Rattle.jsonpath_parser.specs.tree.Syntax.{Query};
-ghost use Rattle.jsonpath_rust.specs.documents.Meaning.{nodelist};
-ghost use Rattle.jsonpath_rust.specs.documents.Patterns.{segments_patterns};
-ghost use Rattle.jsonpath_rust.specs.documents.inner.Whole.{tree_of};
+ghost use Rattle.jsonpath_rust.specs.declared.documents.halt.Halt.TheVariants.{Memory};
+ghost use Rattle.jsonpath_rust.specs.documents.inner.Operands.{operand_tree, arg_trees};
 ghost use Rattle.jsonpath_rust.specs.declared.selection.budget.Limit.{Limit};
-ghost use Rattle.jsonpath_rust.specs.declared.selection.sink.Wanted.{Wanted};
 ghost use Rattle.jsonpath_rust.specs.selection.inner.Halting.{IsHalt};
-ghost use Rattle.jsonpath_rust.specs.selection.inner.Keeping.{AreEmpty, Keeps, IsGiven, gathered, gave, nodes, nodes_or_none, part_patterns, slots_of, slot_at};
-ghost use Rattle.jsonpath_rust.specs.selection.inner.PlanViews as plan;
+ghost use Rattle.jsonpath_rust.specs.selection.inner.Keeping.{AreEmpty, Keeps, IsGiven, given_by, part_patterns, slots_of, slot_at};
 ghost use Rattle.jsonpath_rust.specs.selection.inner.PlanViews.{Constants, part_at};
-ghost use Rattle.jsonpath_rust.specs.selection.inner.Sinks.{seen, start, give, any_in, count_in, only_in};
+ghost use Rattle.jsonpath_rust.specs.selection.inner.Wanting.{gave, given_value, given_values};
 
+use crate::documents::args::Args;
 use crate::documents::halt::{Halt, Walked};
+use crate::documents::nodes::WholeValues;
 use crate::documents::queryable::Queryable;
 use crate::documents::value::Operand;
 use crate::documents::whole::WholeRef;
-use crate::selection::sink::Sink;
 use std::alloc::{AllocError, Global};
 
 /// What is kept for one call.
@@ -27,15 +24,44 @@ pub struct Cache<'a, 's, T: Queryable> {
     pub slots: Vec<Option<Given<'a, 's, T>>>,
 }
 
-/// What a constant gave.
+/// What a constant gave, or what was wanted of nodes.
 #[derive(Drop)]
 pub enum Given<'a, 's, T: Queryable> {
-    /// What was wanted of nodes.
-    Nodes(Sink<'a, T>),
     /// A value, if there is one.
     Value(Operand<'a, 's, T>),
+    /// All values of nodes.
+    Values(WholeValues<'a, T>),
     /// Nothing, for a pattern in it is too large.
     Refused,
+}
+
+impl<'a, 's, T: Queryable> Given<'a, 's, T> {
+    /// The value, where that is given.
+    #[inline(always)]
+    pub fn into_value(self) -> Operand<'a, 's, T>
+        ensures { operand_tree result ≡ given_value (Some (gave self.entry)) }
+    {
+        match self {
+            Given::Value(value) => value,
+            other => {
+                drop(other);
+                Operand::Absent
+            }
+        }
+    }
+
+    /// Follows the arguments of a custom function by the values, where these are given.
+    pub fn push_to(&self, args: &mut Args<'a, T>) -> Walked<()>
+        ensures value { OnOk result (arg_trees args.new ≡ arg_trees args.old ++ given_values (Some (gave self.now))) }
+        ensures memory { IfErr result (λ h. h ≡ Memory) }
+    {
+        if let Given::Values(values) = self {
+            for value in &values.list {
+                args.push_lent(WholeRef { value: *value })?;
+            }
+        }
+        Ok(())
+    }
 }
 
 impl<'a, 's, T: Queryable> Cache<'a, 's, T> {
@@ -66,18 +92,42 @@ impl<'a, 's, T: Queryable> Cache<'a, 's, T> {
         }
     }
 
-    /// Whether the nodes of the constant of this number are worked out. Where a pattern in it is too large, the walk halts.
+    /// Whether the constant of this number is worked out. Where a pattern in it is too large, the walk halts.
     #[inline(always)]
-    pub fn has_nodes(&self, number: usize) -> Walked<bool>
-        ensures nodes { (kept : Constants) (doc : Document) (wanted : Wanted) (query : Query) → Keeps kept doc self.now → part_at kept number ≡ plan.nodes wanted query →
-            IfOk result (λ b. IsTrue b → nodes_or_none (slot_at (slots_of self.now) number) ≡ give (start wanted) (nodelist query doc)) }
-        ensures refused { (kept : Constants) (doc : Document) (wanted : Wanted) (query : Query) (limit : Limit) → Keeps kept doc self.now → part_at kept number ≡ plan.nodes wanted query →
-            IfErr result (IsHalt limit (segments_patterns query) doc) }
+    pub fn has(&self, number: usize) -> Walked<bool>
+        ensures given { (kept : Constants) (doc : Document) → Keeps kept doc self.now →
+            IfOk result (λ b. IsTrue b → slot_at (slots_of self.now) number ≡ Some (given_by (part_at kept number) doc)) }
+        ensures refused { (kept : Constants) (doc : Document) (limit : Limit) → Keeps kept doc self.now →
+            IfErr result (IsHalt limit (part_patterns (part_at kept number)) doc) }
     {
         match self.get(number) {
-            Some(Given::Nodes(_nodes)) => Ok(true),
+            Some(Given::Value(_value)) => Ok(true),
+            Some(Given::Values(_values)) => Ok(true),
             Some(Given::Refused) => Err(Halt::Pattern),
-            _ => Ok(false),
+            None => Ok(false),
+        }
+    }
+
+    /// The value that the constant of this number gave, where it gave one.
+    #[inline(always)]
+    pub fn value(&self, alloc: Global, number: usize) -> Walked<Operand<'a, 's, T>>
+        ensures value { IfOk result (λ o. operand_tree o ≡ given_value (slot_at (slots_of self.now) number)) }
+        ensures memory { IfErr result (λ h. h ≡ Memory) }
+    {
+        match self.get(number) {
+            Some(Given::Value(value)) => value.try_clone(alloc),
+            _ => Ok(Operand::Absent),
+        }
+    }
+
+    /// Follows the arguments of a custom function by the values that the constant of this number gave, where it gave these.
+    pub fn push_to(&self, number: usize, args: &mut Args<'a, T>) -> Walked<()>
+        ensures value { OnOk result (arg_trees args.new ≡ arg_trees args.old ++ given_values (slot_at (slots_of self.now) number)) }
+        ensures memory { IfErr result (λ h. h ≡ Memory) }
+    {
+        match self.get(number) {
+            Some(given) => given.push_to(args),
+            None => Ok(()),
         }
     }
 
@@ -120,60 +170,4 @@ fn empty_slots<'a, 's, T: Queryable>(
         slots.push(None)?;
     }
     Ok(slots)
-}
-
-/// What the nodes of a query gave to a sink: one of its own, or that of a constant.
-#[derive(Drop)]
-pub enum Gathered<'a, T: Queryable> {
-    Own(Sink<'a, T>),
-    Constant(usize),
-}
-
-impl<'a, T: Queryable> Gathered<'a, T> {
-    /// The sink that the nodes were given to.
-    #[inline(always)]
-    pub fn sink<'k, 's>(&'k self, cache: &'k Cache<'a, 's, T>) -> Option<&'k Sink<'a, T>>
-        ensures { nodes_or_none (option_map (λ s. nodes (seen s.now)) result) ≡ gathered cache.now self.now }
-    {
-        match self {
-            Gathered::Own(sink) => Some(sink),
-            Gathered::Constant(number) => match cache.get(*number) {
-                Some(Given::Nodes(sink)) => Some(sink),
-                _ => None,
-            },
-        }
-    }
-
-    /// Whether there is a node, where that is wanted.
-    #[inline(always)]
-    pub fn has_any<'s>(&self, cache: &Cache<'a, 's, T>) -> bool
-        ensures { result ≡ any_in (gathered cache.now self.now) }
-    {
-        match self.sink(cache) {
-            Some(sink) => sink.has_any(),
-            None => false,
-        }
-    }
-
-    /// How many nodes there are, where that is wanted.
-    #[inline(always)]
-    pub fn counted<'s>(&self, cache: &Cache<'a, 's, T>) -> usize
-        ensures { result ≡ count_in (gathered cache.now self.now) }
-    {
-        match self.sink(cache) {
-            Some(sink) => sink.counted(),
-            None => 0,
-        }
-    }
-
-    /// The value of the only node, where that is wanted.
-    #[inline(always)]
-    pub fn only<'s>(&self, cache: &Cache<'a, 's, T>) -> Option<WholeRef<'a, T>>
-        ensures { option_map tree_of result ≡ only_in (gathered cache.now self.now) }
-    {
-        match self.sink(cache) {
-            Some(sink) => sink.only(),
-            None => None,
-        }
-    }
 }

@@ -21,24 +21,7 @@ use crate::selection::singular::value_at;
 use crate::selection::trail::Trail;
 use crate::selection::walk::Task;
 use jsonpath_base::engine::Way;
-use std::alloc::Global;
 use std::mem;
-
-/// The same value: a copy, where a custom function made it.
-fn again<'a, 's, T: Queryable>(
-    alloc: Global,
-    value: &Operand<'a, 's, T>,
-) -> Walked<Operand<'a, 's, T>>
-    ensures value { IfOk result (λ o. operand_tree o ≡ operand_tree value.now) }
-    ensures memory { IfErr result (λ h. h ≡ Memory) }
-{
-    match value {
-        Operand::Absent => Ok(Operand::Absent),
-        Operand::Lent(value) => Ok(Operand::Lent(*value)),
-        Operand::Made(value) => Ok(Operand::Made(value.try_clone(alloc)?)),
-        Operand::Plain(scalar) => Ok(Operand::Plain(*scalar)),
-    }
-}
 
 impl<'a: 's, 's, T: Queryable> Task<'a, 's, T> {
     /// The value of the constant of this number, if it is worked out.
@@ -48,7 +31,7 @@ impl<'a: 's, 's, T: Queryable> Task<'a, 's, T> {
         ensures memory { IfErr result (λ h. h ≡ Memory) }
     {
         match cache.get(number) {
-            Some(Given::Value(value)) => Ok(Some(again(self.alloc, value)?)),
+            Some(Given::Value(value)) => Ok(Some(value.try_clone(self.alloc)?)),
             _ => Ok(None),
         }
     }
@@ -114,7 +97,7 @@ impl<'a: 's, 's, T: Queryable> Task<'a, 's, T> {
         let here = mem::replace(&mut trail.way, root);
         let given = self.answer(call, self.root, trail)?;
         trail.way = here;
-        let first = again(self.alloc, &given)?;
+        let first = given.try_clone(self.alloc)?;
         trail.cache.keep(number, Given::Value(given));
         Ok(first)
     }

@@ -111,8 +111,7 @@ impl<'a: 's, 's, T: Queryable> Task<'a, 's, T> {
         if let Some(there) = is_there(nodes, at) {
             return Ok(there);
         }
-        let gathered = self.nodes(nodes, Wanted::Any, at, trail)?;
-        Ok(gathered.has_any(&trail.cache))
+        Ok(self.nodes(nodes, Wanted::Any, at, trail)?.is_true())
     }
 
     /// Whether the sides of a comparison compare so. What takes no walk is compared where it stands, and nothing is made for it.

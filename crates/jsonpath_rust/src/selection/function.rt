@@ -1,28 +1,28 @@
 //! Functions and their arguments (RFC 9535, 2.4).
-ghost use Rattle.std.specs.Prelude.{◌≡◌, ◌∷◌, ◌++◌, Some, string_bytes, IfOk, IfErr};
+ghost use Rattle.std.specs.Prelude.{◌≡◌, ◌∷◌, ◌++◌, Some, string_bytes, IfOk, IfErr, IfSome, IfNone, OnOk};
+ghost use Rattle.jsonpath_parser.specs.tree.Syntax.{test_argument};
 ghost use Rattle.jsonpath_base.specs.Tree.{truth};
-ghost use Rattle.jsonpath_rust.specs.documents.Functions.{is_matched, as_value};
+ghost use Rattle.jsonpath_rust.specs.documents.Functions.{is_matched, as_trees, as_value};
 ghost use Rattle.jsonpath_rust.specs.documents.Meaning.{answer, argued, all_trees};
 ghost use Rattle.jsonpath_rust.specs.documents.Patterns.{IsPattern, call_patterns, argument_patterns, arguments_patterns};
 ghost use Rattle.jsonpath_base.specs.Pattern.{is_entire};
-ghost use Rattle.jsonpath_rust.specs.documents.inner.Operands.{operand_tree};
+ghost use Rattle.jsonpath_rust.specs.documents.inner.Operands.{operand_tree, arg_trees};
 ghost use Rattle.jsonpath_rust.specs.selection.inner.AtHand.{StandsAt, here};
-ghost use Rattle.jsonpath_rust.specs.selection.inner.Arguing.{held, holding};
 ghost use Rattle.jsonpath_rust.specs.selection.inner.Keeping.{document, kept_of};
-ghost use Rattle.jsonpath_rust.specs.selection.inner.PlanViews.{argument_view, arguments_meant, call_view};
+ghost use Rattle.jsonpath_rust.specs.selection.inner.PlanViews.{Constants, argument_view, arguments_meant, call_view, nodes_view};
 ghost use Rattle.jsonpath_rust.specs.selection.inner.Standing.{Comes};
+ghost use Rattle.jsonpath_rust.specs.selection.inner.Wanting.{IsValue};
 ghost use Rattle.jsonpath_rust.specs.declared.documents.halt.Halt.TheVariants.{Memory};
-ghost use Rattle.jsonpath_rust.specs.declared.selection.sink.Wanted.TheVariants.{Only};
+ghost use Rattle.jsonpath_rust.specs.declared.selection.sink.Wanted.{Wanted};
+ghost use Rattle.jsonpath_rust.specs.declared.selection.sink.Wanted.TheVariants.{Only, Values};
 
 use crate::documents::args::Args;
 use crate::documents::halt::Walked;
 use crate::documents::queryable::Queryable;
 use crate::documents::value::{Operand, Scalar, count_scalar, scalar_of};
 use crate::documents::whole::{Whole, WholeRef};
-use crate::selection::argument::Argument;
 use crate::selection::direct::lookup_in;
-use crate::selection::plan;
-use crate::selection::plan::Call;
+use crate::selection::plan::{Argument, Call, Nodes};
 use crate::selection::singular::value_at;
 use crate::selection::sink::Wanted;
 use crate::selection::trail::Trail;
@@ -52,18 +52,14 @@ impl<'a: 's, 's, T: Queryable> Task<'a, 's, T> {
                 trail.budget.spend(self.limit, cost)?;
                 value.length(self.alloc)
             }
-            Call::Value(arg) => {
-                Ok(
-                    self.argument(arg, Wanted::Only, at, trail)?
-                        .only(&trail.cache),
-                )
-            }
-            Call::Count(arg) => {
-                Ok(
-                    self.argument(arg, Wanted::Count, at, trail)?
-                        .count(&trail.cache),
-                )
-            }
+            Call::Value(arg) => match nodes_in(arg) {
+                Some(nodes) => self.nodes(nodes, Wanted::Only, at, trail),
+                None => Ok(Operand::Absent),
+            },
+            Call::Count(arg) => match nodes_in(arg) {
+                Some(nodes) => self.nodes(nodes, Wanted::Count, at, trail),
+                None => Ok(Operand::Plain(count_scalar(0))),
+            },
             Call::CountChildren(steps) => {
                 let count = self.count_children(steps, at, &mut trail.budget)?;
                 Ok(Operand::Plain(count_scalar(count)))
@@ -82,7 +78,7 @@ impl<'a: 's, 's, T: Queryable> Task<'a, 's, T> {
     #[cycle(walk)]
     fn match_or_search(
         &self,
-        args: (&'s plan::Argument, &'s plan::Argument),
+        args: (&'s Argument, &'s Argument),
         extent: Extent,
         at: WholeRef<'a, T>,
         trail: &mut Trail<'a, 's, '_, T>,
@@ -112,7 +108,7 @@ impl<'a: 's, 's, T: Queryable> Task<'a, 's, T> {
     fn custom(
         &self,
         name: &'s String,
-        args: &'s [plan::Argument],
+        args: &'s [Argument],
         at: WholeRef<'a, T>,
         trail: &mut Trail<'a, 's, '_, T>,
     ) -> Walked<Operand<'a, 's, T>>
@@ -122,8 +118,7 @@ impl<'a: 's, 's, T: Queryable> Task<'a, 's, T> {
     {
         let mut values = Args::new(self.alloc);
         for arg in args {
-            let argument = self.argument(arg, Wanted::Values, at, trail)?;
-            argument.push_to(self.alloc, &trail.cache, &mut values)?;
+            self.push_argument(arg, at, trail, &mut values)?;
         }
         let most = trail.budget.left().saturating_add(1);
         let cost = self.limit.custom_cost(self.alloc, &values, most)?;
@@ -132,11 +127,35 @@ impl<'a: 's, 's, T: Queryable> Task<'a, 's, T> {
         Ok(Operand::Made(Whole { value }))
     }
 
+    /// Follows the arguments of a custom function by this one (RFC 9535, 2.4.1): the values of the nodes of a query, or the
+    /// value, if it is not absent.
+    #[cycle(walk)]
+    fn push_argument(
+        &self,
+        arg: &'s Argument,
+        at: WholeRef<'a, T>,
+        trail: &mut Trail<'a, 's, '_, T>,
+        args: &mut Args<'a, T>,
+    ) -> Walked<()>
+        requires { StandsAt self.now at trail.old }
+        ensures value { OnOk result (arg_trees args.new ≡ arg_trees args.old ++ as_trees (here self.now trail.old at.entry (argued (argument_view (kept_of self.now) arg.now Values)))) }
+        ensures comes { Comes self.now trail.old trail.new (argument_patterns (argument_view (kept_of self.now) arg.now Values)) result }
+    {
+        match nodes_in(arg) {
+            Some(nodes) => self.push_nodes(nodes, at, trail, args),
+            None => {
+                let value = self.value(arg, at, trail)?;
+                value.push_to(self.alloc, args)?;
+                Ok(())
+            }
+        }
+    }
+
     /// An argument as a value (RFC 9535, 2.4.2).
     #[cycle(walk)]
     fn value(
         &self,
-        arg: &'s plan::Argument,
+        arg: &'s Argument,
         at: WholeRef<'a, T>,
         trail: &mut Trail<'a, 's, '_, T>,
     ) -> Walked<Operand<'a, 's, T>>
@@ -147,51 +166,39 @@ impl<'a: 's, 's, T: Queryable> Task<'a, 's, T> {
         if let Some(steps) = lookup_in(arg) {
             return Ok(Operand::lent(value_at(steps, at)));
         }
-        let argument = self.argument(arg, Wanted::Only, at, trail)?;
-        Ok(argument.value(&trail.cache))
-    }
-
-    /// An argument: a value, or what is wanted of the nodes of a query (RFC 9535, 2.4.1).
-    #[cycle(walk)]
-    fn argument(
-        &self,
-        arg: &'s plan::Argument,
-        wanted: Wanted,
-        at: WholeRef<'a, T>,
-        trail: &mut Trail<'a, 's, '_, T>,
-    ) -> Walked<Argument<'a, 's, T>>
-        requires { StandsAt self.now at trail.old }
-        ensures held { IfOk result (λ a. held trail.new.cache a ≡ holding wanted (here self.now trail.old at.entry (argued (argument_view (kept_of self.now) arg.now wanted)))) }
-        ensures comes { Comes self.now trail.old trail.new (argument_patterns (argument_view (kept_of self.now) arg.now wanted)) result }
-    {
         match arg {
-            plan::Argument::Literal(literal) => {
-                Ok(Argument::Value(Operand::Plain(scalar_of(literal))))
-            }
-            plan::Argument::Pattern(text, _number) => {
-                Ok(Argument::Value(Operand::Plain(Scalar::Text(text))))
-            }
-            plan::Argument::Nodes(nodes) => {
-                let gathered = self.nodes(nodes, wanted, at, trail)?;
-                Ok(Argument::Nodes(gathered))
-            }
-            plan::Argument::Call(call) => {
-                let value = self.called(call, at, trail)?;
-                Ok(Argument::Value(value))
-            }
-            plan::Argument::Filter(filter) => {
+            Argument::Literal(literal) => Ok(Operand::Plain(scalar_of(literal))),
+            Argument::Pattern(text, _number) => Ok(Operand::Plain(Scalar::Text(text))),
+            Argument::Nodes(nodes) => self.nodes(nodes, Wanted::Only, at, trail),
+            Argument::Call(call) => self.called(call, at, trail),
+            Argument::Filter(filter) => {
                 let truth = self.filter_holds(filter, at, trail)?;
-                Ok(Argument::Value(Operand::Plain(Scalar::Truth(truth))))
+                Ok(Operand::Plain(Scalar::Truth(truth)))
             }
         }
     }
 }
 
+/// The query that an argument is, if it is one. Any other is a value, whatever is wanted.
+#[inline(always)]
+fn nodes_in(arg: &Argument) -> Option<&Nodes>
+    ensures nodes { (kept : Constants) (w : Wanted) → IfSome result (λ ns. argument_view kept arg.now w ≡ test_argument (nodes_view kept ns.now w)) }
+    ensures value { (kept : Constants) → IfNone result (IsValue kept arg.now) }
+{
+    match arg {
+        Argument::Literal(_literal) => None,
+        Argument::Pattern(_text, _number) => None,
+        Argument::Nodes(nodes) => Some(nodes),
+        Argument::Call(_call) => None,
+        Argument::Filter(_filter) => None,
+    }
+}
+
 /// Where the pattern that this argument gives comes from.
 #[inline(always)]
-fn origin_of(arg: &plan::Argument) -> Origin {
+fn origin_of(arg: &Argument) -> Origin {
     match arg {
-        plan::Argument::Pattern(_text, number) => Origin::Query(*number),
+        Argument::Pattern(_text, number) => Origin::Query(*number),
         _ => Origin::Document,
     }
 }

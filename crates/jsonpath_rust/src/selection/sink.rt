@@ -1,23 +1,26 @@
 //! What is done with the nodes that a walk meets.
-ghost use Rattle.std.specs.Prelude.{◌≡◌, suc, min, ◌∷◌, [], map, option_map, All, IsTrue, false, IfOk, IfErr, IfSome, OnOk, string_bytes};
+ghost use Rattle.std.specs.Prelude.{◌≡◌, suc, min, ◌∷◌, [], map, option_map, option_to_list, All, IsTrue, false, IfErr, IfSome, OnOk, string_bytes};
 ghost use Rattle.jsonpath_base.specs.Steps.{location_view};
 ghost use Rattle.jsonpath_base.specs.RemovalViews.{removal_set, removal_count};
 ghost use Rattle.jsonpath_rust.specs.declared.documents.halt.Halt.TheVariants.{Memory};
 ghost use Rattle.jsonpath_rust.specs.documents.Answer.{shown, paths_of};
-ghost use Rattle.jsonpath_rust.specs.documents.Functions.{greatest_count};
+ghost use Rattle.jsonpath_rust.specs.documents.Functions.{greatest_count, of_nodes};
 ghost use Rattle.jsonpath_rust.specs.documents.Node.{Node, root_node};
+ghost use Rattle.jsonpath_rust.specs.documents.inner.Operands.{operand_tree};
 ghost use Rattle.jsonpath_rust.specs.documents.inner.Whole.{tree_of};
 ghost use Rattle.jsonpath_rust.specs.selection.Only.{sole_value};
 ghost use Rattle.jsonpath_rust.specs.selection.inner.Only.{only_seen, only_told};
-ghost use Rattle.jsonpath_rust.specs.selection.inner.Sinks.{Took, TakesAlong, seen, seen_only, seen_first, start, add, any_in, count_in, only_in, first_in, nodes_in, values_in, paths_in, locations_in, removal_in};
+ghost use Rattle.jsonpath_rust.specs.selection.inner.Sinks.{Took, TakesAlong, seen, seen_only, seen_first, start, any_in, count_in, first_in, nodes_in, values_in, paths_in, locations_in, removal_in};
 ghost use Rattle.jsonpath_rust.specs.selection.inner.Walking.{node_of};
+ghost use Rattle.jsonpath_rust.specs.selection.inner.Wanting.{gave, finished, wanted_of};
 
 use crate::documents::halt::Walked;
 use crate::documents::nodes::{WholeNode, WholeNodes, WholeValues};
 use crate::documents::queryable::Queryable;
-use crate::documents::value::GREATEST_COUNT;
+use crate::documents::value::{GREATEST_COUNT, Operand, Scalar, count_scalar};
 use crate::documents::whole::WholeRef;
 use crate::documents::{QueryPath, QueryRef};
+use crate::selection::cache::Given;
 use crate::selection::only::Only as OnlyNode;
 use jsonpath_base::engine::Way;
 use jsonpath_base::{Removal, Step};
@@ -58,6 +61,24 @@ pub enum Wanted {
     Values,
 }
 
+impl Wanted {
+    /// That of one node, of this value, or of none.
+    #[inline(always)]
+    pub fn of<'a, 's, T: Queryable>(self, value: Option<WholeRef<'a, T>>) -> Operand<'a, 's, T>
+        ensures { operand_tree result ≡ wanted_of self (of_nodes (map root_node (option_to_list (option_map tree_of value.entry)))) }
+    {
+        match self {
+            Wanted::Any => Operand::Plain(Scalar::Truth(value.is_some())),
+            Wanted::Count => match value {
+                Some(_value) => Operand::Plain(count_scalar(1)),
+                None => Operand::Plain(count_scalar(0)),
+            },
+            Wanted::Only => Operand::lent(value),
+            Wanted::Values => Operand::Absent,
+        }
+    }
+}
+
 /// Takes the nodes of a walk in their order.
 #[derive(Drop)]
 pub enum Sink<'a, T: Queryable> {
@@ -92,23 +113,6 @@ impl<'a, T: Queryable> Sink<'a, T> {
             Wanted::Count => Sink::Count(0),
             Wanted::Only => Sink::Only(Only::Nothing),
             Wanted::Values => Sink::Values(WholeValues::new(alloc)),
-        }
-    }
-
-    /// A sink for what is wanted, that was given one node, of this value.
-    pub fn of_one(alloc: Global, wanted: Wanted, value: WholeRef<'a, T>) -> Walked<Self>
-        ensures given { IfOk result (λ s. seen s ≡ add (start wanted) (root_node (tree_of value.entry))) }
-        ensures memory { IfErr result (λ h. h ≡ Memory) }
-    {
-        match wanted {
-            Wanted::Any => Ok(Sink::Any(true)),
-            Wanted::Count => Ok(Sink::Count(1)),
-            Wanted::Only => Ok(Sink::Only(Only::One(value))),
-            Wanted::Values => {
-                let mut values = WholeValues::new(alloc);
-                values.push(value)?;
-                Ok(Sink::Values(values))
-            }
         }
     }
 
@@ -160,14 +164,20 @@ impl<'a, T: Queryable> Sink<'a, T> {
         }
     }
 
-    /// Whether an `Any` was given a node.
+    /// What was wanted of the nodes that it was given. The sink is freed.
     #[inline(always)]
-    pub fn has_any(&self) -> bool
-        ensures { result ≡ any_in (seen self.now) }
+    pub fn finish<'s>(self) -> Given<'a, 's, T>
+        ensures { gave result ≡ finished (seen self.entry) }
     {
         match self {
-            Sink::Any(any) => *any,
-            _ => false,
+            Sink::Any(any) => Given::Value(Operand::Plain(Scalar::Truth(any))),
+            Sink::Count(count) => Given::Value(Operand::Plain(count_scalar(count))),
+            Sink::Only(Only::One(value)) => Given::Value(Operand::Lent(value)),
+            Sink::Values(values) => Given::Values(values),
+            other => {
+                drop(other);
+                Given::Value(Operand::Absent)
+            }
         }
     }
 
@@ -175,30 +185,12 @@ impl<'a, T: Queryable> Sink<'a, T> {
     pub fn into_any(self) -> bool
         ensures { result ≡ any_in (seen self.entry) }
     {
-        let any = self.has_any();
-        drop(self);
-        any
-    }
-
-    /// How many nodes a `Count` was given.
-    #[inline(always)]
-    pub fn counted(&self) -> usize
-        ensures { result ≡ count_in (seen self.now) }
-    {
         match self {
-            Sink::Count(count) => *count,
-            _ => 0,
-        }
-    }
-
-    /// The value of the only node that an `Only` was given.
-    #[inline(always)]
-    pub fn only(&self) -> Option<WholeRef<'a, T>>
-        ensures { option_map tree_of result ≡ only_in (seen self.now) }
-    {
-        match self {
-            Sink::Only(Only::One(value)) => Some(*value),
-            _ => None,
+            Sink::Any(any) => any,
+            other => {
+                drop(other);
+                false
+            }
         }
     }
 
@@ -206,9 +198,13 @@ impl<'a, T: Queryable> Sink<'a, T> {
     pub fn into_count(self) -> usize
         ensures { result ≡ count_in (seen self.entry) }
     {
-        let count = self.counted();
-        drop(self);
-        count
+        match self {
+            Sink::Count(count) => count,
+            other => {
+                drop(other);
+                0
+            }
+        }
     }
 
     /// What a caller is told of the only node that an `Only` was given.

@@ -1,22 +1,26 @@
 //! Queries inside filters, from a value on and from the root.
-ghost use Rattle.std.specs.Prelude.{◌≡◌, IfOk};
+ghost use Rattle.std.specs.Prelude.{◌≡◌, ◌++◌, Some, IsFalse, IsTrue, IfOk, OnOk};
+ghost use Rattle.jsonpath_parser.specs.tree.Syntax.{no_segments};
+ghost use Rattle.jsonpath_rust.specs.documents.Functions.{as_trees, of_nodes};
 ghost use Rattle.jsonpath_rust.specs.documents.Meaning.{nodelist, tested};
 ghost use Rattle.jsonpath_rust.specs.documents.Patterns.{segments_patterns, test_patterns};
-ghost use Rattle.jsonpath_rust.specs.selection.inner.Arguing as held;
+ghost use Rattle.jsonpath_rust.specs.documents.inner.Operands.{operand_tree, arg_trees};
 ghost use Rattle.jsonpath_rust.specs.selection.inner.AtHand.{StandsAt, here};
-ghost use Rattle.jsonpath_rust.specs.selection.inner.Arguing.{holding};
-ghost use Rattle.jsonpath_rust.specs.selection.inner.Keeping.{IsReady, document, gathered, kept_of};
+ghost use Rattle.jsonpath_rust.specs.selection.inner.Keeping.{IsReady, document, kept_of, slot_at, slots_of};
 ghost use Rattle.jsonpath_rust.specs.selection.inner.PlanViews.{nodes_view, query_at, segments_meant};
-ghost use Rattle.jsonpath_rust.specs.selection.inner.Sinks.{seen, start, give};
 ghost use Rattle.jsonpath_rust.specs.selection.inner.Standing.{Comes};
 ghost use Rattle.jsonpath_rust.specs.selection.inner.Walking.{through};
+ghost use Rattle.jsonpath_rust.specs.selection.inner.Wanting.{gave, given_of, wanted_of};
+ghost use Rattle.jsonpath_rust.specs.declared.selection.sink.Wanted.TheVariants.{Values};
 
+use crate::documents::args::Args;
 use crate::documents::halt::Walked;
 use crate::documents::queryable::Queryable;
+use crate::documents::value::Operand;
 use crate::documents::whole::WholeRef;
-use crate::selection::cache::{Gathered, Given};
+use crate::selection::cache::Given;
 use crate::selection::plan::{Nodes, Segment};
-use crate::selection::singular::looked_up;
+use crate::selection::singular::value_at;
 use crate::selection::sink::{Sink, Wanted};
 use crate::selection::trail::Trail;
 use crate::selection::walk::Task;
@@ -24,7 +28,7 @@ use jsonpath_base::engine::Way;
 use std::mem;
 
 impl<'a: 's, 's, T: Queryable> Task<'a, 's, T> {
-    /// What the nodes of a query inside a filter give of what is wanted.
+    /// What is wanted of the nodes of a query inside a filter, as a value.
     #[cycle(walk)]
     pub fn nodes(
         &self,
@@ -32,21 +36,63 @@ impl<'a: 's, 's, T: Queryable> Task<'a, 's, T> {
         wanted: Wanted,
         at: WholeRef<'a, T>,
         trail: &mut Trail<'a, 's, '_, T>,
-    ) -> Walked<Gathered<'a, T>>
+    ) -> Walked<Operand<'a, 's, T>>
         requires { StandsAt self.now at trail.old }
-        ensures held { IfOk result (λ g. held.nodes (gathered trail.new.cache g) ≡ holding wanted (here self.now trail.old at.entry (tested (nodes_view (kept_of self.now) nodes.now wanted)))) }
+        ensures value { IfOk result (λ o. operand_tree o ≡ wanted_of wanted (here self.now trail.old at.entry (tested (nodes_view (kept_of self.now) nodes.now wanted)))) }
         ensures comes { Comes self.now trail.old trail.new (test_patterns (nodes_view (kept_of self.now) nodes.now wanted)) result }
     {
         match nodes {
-            Nodes::Lookup(steps) => { Ok(Gathered::Own(looked_up(self.alloc, steps, wanted, at)?)) }
+            Nodes::Lookup(steps) => Ok(wanted.of(value_at(steps, at))),
             Nodes::Walk(segments) => {
-                Ok(Gathered::Own(self.gather(segments, wanted, at, trail)?))
+                let given = self.gather(segments, wanted, at, trail)?;
+                Ok(given.into_value())
             }
-            Nodes::Constant(number) => self.constant_nodes(*number, wanted, trail),
+            Nodes::Constant(number) => {
+                if self.keep_nodes(*number, wanted, trail)? {
+                    Ok(trail.cache.value(self.alloc, *number)?)
+                } else {
+                    Ok(wanted.of(Some(self.root)))
+                }
+            }
         }
     }
 
-    /// What the nodes of these segments, from a value on, give to a sink.
+    /// Follows the arguments of a custom function by the values of the nodes of a query (RFC 9535, 2.4.1).
+    #[cycle(walk)]
+    pub fn push_nodes(
+        &self,
+        nodes: &'s Nodes,
+        at: WholeRef<'a, T>,
+        trail: &mut Trail<'a, 's, '_, T>,
+        args: &mut Args<'a, T>,
+    ) -> Walked<()>
+        requires { StandsAt self.now at trail.old }
+        ensures value { OnOk result (arg_trees args.new ≡ arg_trees args.old ++ as_trees (here self.now trail.old at.entry (tested (nodes_view (kept_of self.now) nodes.now Values)))) }
+        ensures comes { Comes self.now trail.old trail.new (test_patterns (nodes_view (kept_of self.now) nodes.now Values)) result }
+    {
+        match nodes {
+            Nodes::Lookup(steps) => {
+                let value = Operand::lent(value_at(steps, at));
+                value.push_to(self.alloc, args)?;
+                Ok(())
+            }
+            Nodes::Walk(segments) => {
+                let given = self.gather(segments, Wanted::Values, at, trail)?;
+                given.push_to(args)?;
+                Ok(())
+            }
+            Nodes::Constant(number) => {
+                if self.keep_nodes(*number, Wanted::Values, trail)? {
+                    trail.cache.push_to(*number, args)?;
+                } else {
+                    args.push_lent(self.root)?;
+                }
+                Ok(())
+            }
+        }
+    }
+
+    /// What is wanted of the nodes of these segments, from a value on.
     #[cycle(walk)]
     fn gather(
         &self,
@@ -54,42 +100,43 @@ impl<'a: 's, 's, T: Queryable> Task<'a, 's, T> {
         wanted: Wanted,
         at: WholeRef<'a, T>,
         trail: &mut Trail<'a, 's, '_, T>,
-    ) -> Walked<Sink<'a, T>>
+    ) -> Walked<Given<'a, 's, T>>
         requires { StandsAt self.now at trail.old }
-        ensures given { IfOk result (λ s. seen s ≡ give (start wanted) (here self.now trail.old at.entry (through (segments_meant (kept_of self.now) segments.now)))) }
+        ensures given { IfOk result (λ g. gave g ≡ given_of wanted (of_nodes (here self.now trail.old at.entry (through (segments_meant (kept_of self.now) segments.now))))) }
         ensures comes { Comes self.now trail.old trail.new (segments_patterns (segments_meant (kept_of self.now) segments.now)) result }
     {
         let mut sink = Sink::start(self.alloc, wanted);
         let _goes_on = self.walk(segments, at, trail, &mut sink)?;
-        Ok(sink)
+        Ok(sink.finish())
     }
 
-    /// What the nodes of the query from the root that has this number give of what is wanted. They are found when
-    /// that is first asked, and kept; so is that a pattern in it is too large.
+    /// Keeps what is wanted of the nodes of the query from the root that has this number, found when that is first asked; so
+    /// is that a pattern in it is too large. The result says whether there is such a query, for it is `$` where there is none.
     #[cycle(walk)]
-    pub fn constant_nodes(
+    pub fn keep_nodes(
         &self,
         number: usize,
         wanted: Wanted,
         trail: &mut Trail<'a, 's, '_, T>,
-    ) -> Walked<Gathered<'a, T>>
+    ) -> Walked<bool>
         requires { IsReady self.now trail.old.cache }
-        ensures given { IfOk result (λ g. gathered trail.new.cache g ≡ give (start wanted) (nodelist (query_at (kept_of self.now) wanted number) (document self.now))) }
+        ensures kept { IfOk result (λ b. IsTrue b → slot_at (slots_of trail.new.cache) number ≡ Some (given_of wanted (of_nodes (nodelist (query_at (kept_of self.now) wanted number) (document self.now))))) }
+        ensures none { IfOk result (λ b. IsFalse b → query_at (kept_of self.now) wanted number ≡ no_segments) }
         ensures comes { Comes self.now trail.old trail.new (segments_patterns (query_at (kept_of self.now) wanted number)) result }
     {
         let Some(segments) = self.plan.constant_segments(number, wanted) else {
-            return Ok(Gathered::Own(Sink::of_one(self.alloc, wanted, self.root)?));
+            return Ok(false);
         };
-        if trail.cache.has_nodes(number)? {
-            return Ok(Gathered::Constant(number));
+        if trail.cache.has(number)? {
+            return Ok(true);
         }
         let root = Way::new(self.alloc);
         let here = mem::replace(&mut trail.way, root);
         match self.gather(segments, wanted, self.root, trail) {
-            Ok(nodes) => {
+            Ok(given) => {
                 trail.way = here;
-                trail.cache.keep(number, Given::Nodes(nodes));
-                Ok(Gathered::Constant(number))
+                trail.cache.keep(number, given);
+                Ok(true)
             }
             Err(halt) => Err(trail.cache.keep_halt(number, halt)),
         }

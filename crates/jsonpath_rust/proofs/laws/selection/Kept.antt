@@ -7,19 +7,16 @@ use Rattle.std.specs.declared.fmt.Debug as debug
 use Rattle.jsonpath_parser.specs.tree.Syntax.{Query}
 use Rattle.jsonpath_base.specs.Tree.{Tree}
 use Rattle.jsonpath_rust.specs.documents.Document.{Document}
-use Rattle.jsonpath_rust.specs.documents.Meaning.{nodelist}
-use Rattle.jsonpath_rust.specs.documents.Patterns.{AsksPattern, segments_patterns}
-use Rattle.jsonpath_rust.specs.selection.inner.Halting.{IsHalt}
+use Rattle.jsonpath_rust.specs.documents.Functions.{Evaluated}
 use Rattle.jsonpath_rust.specs.selection.inner.PlanViews.{Constants, ConstantPart, nodes, value, answered, compared, query_in, part_at, query_at}
-use Rattle.jsonpath_rust.specs.selection.inner.Sinks.{Seen, start, give}
-use Rattle.jsonpath_rust.specs.selection.inner.Keeping.{Keeps, AreEmpty, Gave, IsGiven, gave, given_by, nodes_or_none, part_patterns, slots_of, slot_at, value_by}
-use Rattle.jsonpath_rust.specs.selection.inner.Keeping as keeping
-use Rattle.jsonpath_rust.specs.declared.documents.halt.Halt.{Halt}
-use Rattle.jsonpath_rust.specs.declared.selection.budget.Limit.{Limit}
+use Rattle.jsonpath_rust.specs.selection.inner.Keeping.{Keeps, AreEmpty, IsGiven, given_by, slots_of, slot_at, value_by}
+use Rattle.jsonpath_rust.specs.selection.inner.Wanting.{Gave, gave, given_of, given_value, wanted_of}
+use Rattle.jsonpath_rust.specs.selection.inner.Wanting as wanting
 use Rattle.jsonpath_rust.specs.declared.documents.queryable.Queryable.{Ghosts}
 use Rattle.jsonpath_rust.specs.declared.selection.cache.Cache.{Cache}
 use Rattle.jsonpath_rust.specs.declared.selection.cache.Given.{Given}
 use Rattle.jsonpath_rust.specs.declared.selection.sink.Wanted.{Wanted}
+use Rattle.jsonpath_rust.specs.declared.selection.sink.Wanted.TheVariants as wanted
 use Rattle.jsonpath_rust.proofs.laws.selection.PlanLaws.{query_in-nodes}
 
 -- ---- what is kept
@@ -71,23 +68,37 @@ kept_query kept n w q e = ap (query_in w) e ∙ query_in-nodes w q
 -- ---- values that are kept
 
 -- what a part gives is this value
-pub gives_value : (p q : ConstantPart) (d : Document) (t u : Option Tree) → p ≡ q → given_by q d ≡ keeping.value u → t ≡ u → keeping.value t ≡ given_by p d
-gives_value p q d t u e g h = ap keeping.value h ∙ sym g ∙ sym (ap (λ x. given_by x d) e)
+pub gives_value : (p q : ConstantPart) (d : Document) (t u : Option Tree) → p ≡ q → given_by q d ≡ wanting.value u → t ≡ u → wanting.value t ≡ given_by p d
+gives_value p q d t u e g h = ap wanting.value h ∙ sym g ∙ sym (ap (λ x. given_by x d) e)
 
 -- the value that is kept is that of the part
-pub value_given : (p : ConstantPart) (d : Document) (t : Option Tree) → keeping.value t ≡ given_by p d → t ≡ value_by p d
-value_given (nodes w q) d t e = absurd cc
+pub value_given : (p : ConstantPart) (d : Document) (t : Option Tree) → wanting.value t ≡ given_by p d → t ≡ value_by p d
+value_given (nodes wanted.Any q) d t e = cc
+value_given (nodes wanted.Count q) d t e = cc
+value_given (nodes wanted.Only q) d t e = cc
+value_given (nodes wanted.Values q) d t e = absurd cc
 value_given (value ss) d t e = cc
 value_given (answered c) d t e = cc
 value_given (compared c) d t e = cc
 
--- nodes that are kept are those of the part
-pub nodes_given : (p : ConstantPart) (d : Document) (w : Wanted) (q : Query) (s : Seen) (slot : Option Gave) → p ≡ nodes w q → slot ≡ Some (keeping.nodes s) → IsGiven (keeping.nodes s) p d → nodes_or_none slot ≡ give (start w) (nodelist q d)
-nodes_given p d w q s slot part there g = ap nodes_or_none there ∙ ap (λ x. nodes_or_none (Some x)) (g ∙ ap (λ x. given_by x d) part)
+-- ---- nodes that are kept
 
--- where they are refused, the query asks a pattern
-pub refused_asks : (p : ConstantPart) (d : Document) (w : Wanted) (q : Query) (limit : Limit) (h : Halt) → p ≡ nodes w q → IsGiven keeping.refused p d → IsHalt limit (segments_patterns q) d h
-refused_asks p d w q limit h part g = λ memory spent. subst (λ x. AsksPattern (part_patterns x) d) part g
+-- what a part gives may be kept
+pub given_right : (p : ConstantPart) (d : Document) → IsGiven (given_by p d) p d
+given_right (nodes wanted.Any q) d = refl
+given_right (nodes wanted.Count q) d = refl
+given_right (nodes wanted.Only q) d = refl
+given_right (nodes wanted.Values q) d = refl
+given_right (value ss) d = refl
+given_right (answered c) d = refl
+given_right (compared c) d = refl
+
+-- what was wanted is read again
+pub wanted_given : (w : Wanted) (e : Evaluated) → given_value (Some (given_of w e)) ≡ wanted_of w e
+wanted_given wanted.Any e = refl
+wanted_given wanted.Count e = refl
+wanted_given wanted.Only e = refl
+wanted_given wanted.Values e = refl
 
 -- what is found
 pub of_some : {X : Type 0} (P : X → Type 0) (o : Option X) (x : X) → o ≡ Some x → IfSome o P → P x

@@ -11,7 +11,7 @@ use Rattle.jsonpath_rust.specs.documents.Functions.{length_of, count_of, only_va
 use Rattle.jsonpath_rust.specs.documents.Meaning.{holds, some_holds, each_holds, atom_holds, comparison_holds, value_of, answer, argued, tested, all_trees, negated}
 use Rattle.jsonpath_rust.specs.documents.Node.{Node, root_node}
 use Rattle.jsonpath_rust.specs.selection.inner.Keeping.{given_by}
-use Rattle.jsonpath_rust.specs.selection.inner.Keeping as keeping
+use Rattle.jsonpath_rust.specs.selection.inner.Wanting as wanting
 use Rattle.jsonpath_rust.specs.selection.inner.PlanViews.{Constants, ConstantPart, nodes, value, answered, compared, part_at, part_is_rooted, call_in, comparison_in, call_at, comparison_at, AreRooted}
 use Rattle.jsonpath_rust.specs.selection.inner.Rooted.{filter_is_rooted, filters_are_rooted, atom_is_rooted, comparison_is_rooted, comparable_is_rooted, test_is_rooted, call_is_rooted, argument_is_rooted, arguments_are_rooted}
 
@@ -107,11 +107,11 @@ kept_comparison_same kept k d n m h = comparison_same (comparison_at kept k) d n
 pub answer_as : (f g : Call) (d : Document) (n m : Node) (t : Option Tree) → g ≡ f → n ≡ m → t ≡ answer f d n → t ≡ answer g d m
 answer_as f g d n m t e k h = h ∙ ap (answer f d) k ∙ sym (ap (λ x. answer x d m) e)
 
-pub answer_kept : (p : ConstantPart) (f : Call) (d : Document) (n : Node) (t : Option Tree) → p ≡ answered f → n ≡ root_node d.root → t ≡ answer f d n → keeping.value t ≡ given_by p d
-answer_kept p f d n t e k h = ap keeping.value (h ∙ ap (answer f d) k) ∙ sym (ap (λ x. given_by x d) e)
+pub answer_kept : (p : ConstantPart) (f : Call) (d : Document) (n : Node) (t : Option Tree) → p ≡ answered f → n ≡ root_node d.root → t ≡ answer f d n → wanting.value t ≡ given_by p d
+answer_kept p f d n t e k h = ap wanting.value (h ∙ ap (answer f d) k) ∙ sym (ap (λ x. given_by x d) e)
 
 pub comparison_as : (q r : Comparison) (d : Document) (n m : Node) (b : Bool) → r ≡ q → n ≡ m → b ≡ comparison_holds q d n → b ≡ comparison_holds r d m
 comparison_as q r d n m b e k h = h ∙ ap (comparison_holds q d) k ∙ sym (ap (λ x. comparison_holds x d m) e)
 
-pub comparison_kept : (p : ConstantPart) (q : Comparison) (d : Document) (n : Node) (b : Bool) → p ≡ compared q → n ≡ root_node d.root → b ≡ comparison_holds q d n → keeping.value (Some (truth b)) ≡ given_by p d
-comparison_kept p q d n b e k h = ap (λ x. keeping.value (Some (truth x))) (h ∙ ap (comparison_holds q d) k) ∙ sym (ap (λ x. given_by x d) e)
+pub comparison_kept : (p : ConstantPart) (q : Comparison) (d : Document) (n : Node) (b : Bool) → p ≡ compared q → n ≡ root_node d.root → b ≡ comparison_holds q d n → wanting.value (Some (truth b)) ≡ given_by p d
+comparison_kept p q d n b e k h = ap (λ x. wanting.value (Some (truth x))) (h ∙ ap (comparison_holds q d) k) ∙ sym (ap (λ x. given_by x d) e)

@@ -11,9 +11,12 @@ use Rattle.jsonpath_base.specs.inner.Marks.{set_with}
 use Rattle.jsonpath_base.specs.declared.removal.Removal.{Removal}
 use Rattle.jsonpath_base.proofs.Removed.{set_begun}
 use Rattle.jsonpath_rust.specs.documents.Node.{Node, has_node}
-use Rattle.jsonpath_rust.specs.documents.Functions.{greatest_count, count_value, count_of, only_value}
-use Rattle.jsonpath_rust.specs.selection.inner.Sinks as sinks
-use Rattle.jsonpath_rust.specs.selection.inner.Sinks.{Seen, nodes, paths, values, locations, removal, any, count, nothing, one, several, first, add, give, full, any_in, only_in, first_in, nodes_in, paths_in, locations_in, removal_in, values_in, path_and_tree, IsRemovalOf, Took}
+use Rattle.jsonpath_rust.specs.documents.Functions.{greatest_count, of_nodes}
+use Rattle.jsonpath_rust.specs.selection.inner.Sinks.{Seen, nodes, paths, values, locations, removal, any, count, nothing, one, several, first, start, add, give, full, any_in, first_in, nodes_in, paths_in, locations_in, removal_in, values_in, path_and_tree, IsRemovalOf, Took}
+use Rattle.jsonpath_rust.specs.selection.inner.Wanting.{finished, given_of}
+use Rattle.jsonpath_rust.specs.selection.inner.Wanting as wanting
+use Rattle.jsonpath_rust.specs.declared.selection.sink.Wanted.{Wanted}
+use Rattle.jsonpath_rust.specs.declared.selection.sink.Wanted.TheVariants as wanted
 
 pub give-append : (s : Seen) (xs ys : List Node) → give s (xs ++ ys) ≡ give (give s xs) ys
 give-append s [] ys = refl
@@ -61,9 +64,12 @@ result_as r s z xs ys e h = IfOk-weaker r (λ b. Took s xs z b) (λ b. Took s ys
 
 -- ---- inside a filter
 
+give-any : (ns : List Node) → give (any false) ns ≡ any (has_node ns)
+give-any [] = refl
+give-any (n ∷ ns) = give-full (any true) ns refl
+
 pub any_given : (ns : List Node) → any_in (give (any false) ns) ≡ has_node ns
-any_given [] = refl
-any_given (n ∷ ns) = ap any_in (give-full (any true) ns refl)
+any_given ns = ap any_in (give-any ns)
 
 pub give-count : (k : ℕ) (ns : List Node) → k ≤ greatest_count → give (count k) ns ≡ count (min (k + length ns) greatest_count)
 give-count k [] h = ap count (omega (arith, h))
@@ -71,15 +77,6 @@ give-count k (n ∷ ns) h = give-count (min (suc k) greatest_count) ns (omega ar
 
 twice : (n : ℕ) → min (min (0 + n) greatest_count) greatest_count ≡ min n greatest_count
 twice n = omega arith
-
-pub counted_all : (ns : List Node) → Some (count_value (sinks.count_in (give (count 0) ns))) ≡ count_of ns
-counted_all ns = ap (λ s. Some (count_value (sinks.count_in s))) (give-count 0 ns (omega arith)) ∙ ap (λ k. Some (number (pos k))) (twice (length ns))
-
--- the tree of the only node
-pub only_all : (ns : List Node) → only_in (give nothing ns) ≡ only_value ns
-only_all [] = refl
-only_all (n ∷ []) = refl
-only_all (n ∷ m ∷ ns) = ap only_in (give-full several ns refl)
 
 -- ---- what it has in the end
 
@@ -107,8 +104,14 @@ give-values : (ts : List Tree) (ns : List Node) → give (values ts) ns ≡ valu
 give-values ts [] = ap values (sym (append-nil ts))
 give-values ts (n ∷ ns) = give-values (ts ++ n.tree ∷ []) ns ∙ ap values (append_assoc ts (n.tree ∷ []) (map (λ m. m.tree) ns))
 
-pub values_all : (ns : List Node) → values_in (give (values []) ns) ≡ map (λ n. n.tree) ns
-values_all ns = ap values_in (give-values [] ns)
+-- what a sink for what is wanted gives is that of its nodes
+pub finished_all : (w : Wanted) (ns : List Node) → finished (give (start w) ns) ≡ given_of w (of_nodes ns)
+finished_all wanted.Any ns = ap finished (give-any ns)
+finished_all wanted.Count ns = ap finished (give-count 0 ns (omega arith)) ∙ ap (λ k. wanting.value (Some (number (pos k)))) (twice (length ns))
+finished_all wanted.Only [] = refl
+finished_all wanted.Only (n ∷ []) = refl
+finished_all wanted.Only (n ∷ m ∷ ns) = ap finished (give-full several ns refl)
+finished_all wanted.Values ns = ap finished (give-values [] ns)
 
 -- what an empty sink has, once it was given these nodes
 pub given_nodes : {X : Type 0} (f : X → List ℕ × Tree) (xs : List X) (z : Seen) (ns : List Node) → xs ≡ [] → z ≡ give (nodes (map f xs)) ns → nodes_in z ≡ map path_and_tree ns

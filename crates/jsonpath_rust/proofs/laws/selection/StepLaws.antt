@@ -6,12 +6,12 @@ use Rattle.jsonpath_parser.specs.tree.Syntax.{SingularStep, name_step, index_ste
 use Rattle.jsonpath_base.specs.Tree.{Tree, as_list}
 use Rattle.jsonpath_base.specs.Places.{child}
 use Rattle.jsonpath_rust.specs.documents.Document.{Document}
-use Rattle.jsonpath_rust.specs.documents.Functions.{as_truth}
+use Rattle.jsonpath_rust.specs.documents.Functions.{of_nodes, as_trees, as_truth}
 use Rattle.jsonpath_rust.specs.documents.Meaning.{value_at, element_of, tested}
 use Rattle.jsonpath_rust.specs.documents.Node.{Node, root_node, below, has_node}
 use Rattle.jsonpath_rust.specs.selection.inner.PlanViews.{steps_query}
-use Rattle.jsonpath_rust.specs.selection.inner.Sinks.{Seen, nothing, values, add, start, give}
 use Rattle.jsonpath_rust.specs.selection.inner.Walking.{through}
+use Rattle.jsonpath_rust.specs.selection.inner.Wanting.{wanted_of}
 use Rattle.jsonpath_rust.specs.declared.selection.sink.Wanted.{Wanted}
 use Rattle.jsonpath_rust.specs.declared.selection.sink.Wanted.TheVariants as wanted
 use Rattle.jsonpath_rust.proofs.laws.selection.NodelistLaws.{through-applied}
@@ -49,28 +49,26 @@ some_node f (Some x) (n ∷ ns) e = refl
 pub is_there : {X : Type 0} (f : X → Tree) (o : Option X) (ss : List SingularStep) (d : Document) (n : Node) → option_map f o ≡ value_at ss n.tree → is_some o ≡ as_truth (tested (relative (steps_query ss)) d n)
 is_there f o ss d n e = some_node f o (through (steps_query ss) d n) (steps_there ss d n ∙ ap option_to_list (sym e)) ∙ ap has_node (through-applied (steps_query ss) d n)
 
--- ---- what is given
-
-nodes_none : (ns : List Node) → trees_of ns ≡ [] → ns ≡ []
-nodes_none [] e = refl
-nodes_none (n ∷ ns) e = absurd cc
+-- ---- what is wanted
 
 -- inside a filter no location is kept
-add_there : (w : Wanted) (n : Node) (t : Tree) → n.tree ≡ t → add (start w) (root_node t) ≡ add (start w) n
-add_there wanted.Any n t e = refl
-add_there wanted.Count n t e = refl
-add_there wanted.Only n t e = ap (λ u. add nothing (root_node u)) (sym e)
-add_there wanted.Values n t e = ap (λ u. add (values []) (root_node u)) (sym e)
+wanted_alone : (w : Wanted) (n : Node) (t : Tree) → n.tree ≡ t → wanted_of w (of_nodes (root_node t ∷ [])) ≡ wanted_of w (of_nodes (n ∷ []))
+wanted_alone wanted.Any n t e = refl
+wanted_alone wanted.Count n t e = refl
+wanted_alone wanted.Only n t e = ap Some (sym e)
+wanted_alone wanted.Values n t e = refl
 
-gives_one : (w : Wanted) (s : Seen) (ns : List Node) (t : Tree) → s ≡ add (start w) (root_node t) → trees_of ns ≡ t ∷ [] → s ≡ give (start w) ns
-gives_one w s [] t h e = absurd cc
-gives_one w s (n ∷ []) t h e =
+wanted_there : (w : Wanted) (o : Option Tree) (ns : List Node) → trees_of ns ≡ option_to_list o → wanted_of w (of_nodes (map root_node (option_to_list o))) ≡ wanted_of w (of_nodes ns)
+wanted_there w None [] e = refl
+wanted_there w None (n ∷ ns) e = absurd cc
+wanted_there w (Some t) [] e = absurd cc
+wanted_there w (Some t) (n ∷ []) e =
     let same : n.tree ≡ t = cc in
-    h ∙ add_there w n t same
-gives_one w s (n ∷ m ∷ ns) t h e = absurd cc
+    wanted_alone w n t same
+wanted_there w (Some t) (n ∷ m ∷ ns) e = absurd cc
 
-pub gives_found : (w : Wanted) (s : Seen) (ss : List SingularStep) (d : Document) (n : Node) (t : Tree) → s ≡ add (start w) (record { location = []; tree = t }) → Some t ≡ value_at ss n.tree → s ≡ give (start w) (through (steps_query ss) d n)
-gives_found w s ss d n t e h = gives_one w s (through (steps_query ss) d n) t e (steps_there ss d n ∙ ap option_to_list (sym h))
+pub wanted_found : (w : Wanted) (o : Option Tree) (ss : List SingularStep) (d : Document) (n : Node) → o ≡ value_at ss n.tree → wanted_of w (of_nodes (map root_node (option_to_list o))) ≡ wanted_of w (tested (relative (steps_query ss)) d n)
+wanted_found w o ss d n e = wanted_there w o (through (steps_query ss) d n) (steps_there ss d n ∙ ap option_to_list (sym e)) ∙ ap (λ ns. wanted_of w (of_nodes ns)) (through-applied (steps_query ss) d n)
 
-pub gives_nothing : (w : Wanted) (s : Seen) (ss : List SingularStep) (d : Document) (n : Node) → s ≡ start w → None ≡ value_at ss n.tree → s ≡ give (start w) (through (steps_query ss) d n)
-gives_nothing w s ss d n e h = e ∙ ap (give (start w)) (sym (nodes_none (through (steps_query ss) d n) (steps_there ss d n ∙ ap option_to_list (sym h))))
+pub trees_found : (o : Option Tree) (ss : List SingularStep) (d : Document) (n : Node) → o ≡ value_at ss n.tree → option_to_list o ≡ as_trees (tested (relative (steps_query ss)) d n)
+trees_found o ss d n e = ap option_to_list e ∙ sym (steps_there ss d n) ∙ ap trees_of (through-applied (steps_query ss) d n)

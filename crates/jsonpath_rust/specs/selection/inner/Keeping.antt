@@ -1,24 +1,21 @@
 -- What one call of the evaluator keeps, for the contracts of the walk alone: the definitions here are no part of what a query means.
-use Rattle.std.specs.Prelude.{◌≡◌, ℕ, List, [], map, length, get_or, Bool, false, Option, None, Some, option_map, All}
+use Rattle.std.specs.Prelude.{◌≡◌, ℕ, List, [], map, length, get_or, Bool, Option, None, Some, option_map, All}
 use Rattle.std.specs.declared.fmt.Debug as debug
 use Rattle.jsonpath_parser.specs.tree.Syntax.{Argument}
 use Rattle.jsonpath_base.specs.Tree.{Tree, truth}
 use Rattle.jsonpath_rust.specs.documents.Document.{Document}
+use Rattle.jsonpath_rust.specs.documents.Functions.{of_nodes}
 use Rattle.jsonpath_rust.specs.documents.Meaning.{nodelist, value_at, answer, comparison_holds}
 use Rattle.jsonpath_rust.specs.documents.Node.{root_node}
 use Rattle.jsonpath_rust.specs.documents.Patterns.{AsksPattern, segments_patterns, call_patterns, comparison_patterns}
-use Rattle.jsonpath_rust.specs.documents.inner.Operands.{operand_tree}
 use Rattle.jsonpath_rust.specs.documents.inner.Whole.{document_at}
 use Rattle.jsonpath_rust.specs.selection.inner.PlanViews.{Constants, ConstantPart, kept_view, part_at}
 use Rattle.jsonpath_rust.specs.selection.inner.PlanViews as plan
-use Rattle.jsonpath_rust.specs.selection.inner.Sinks.{Seen, any, seen, start, give}
+use Rattle.jsonpath_rust.specs.selection.inner.Wanting.{Gave, value, values, refused, gave, given_of, wanted_of}
 use Rattle.jsonpath_rust.specs.declared.documents.queryable.Queryable.{Ghosts}
 use Rattle.jsonpath_rust.specs.declared.selection.cache.Cache.{Cache}
 use Rattle.jsonpath_rust.specs.declared.selection.cache.Given.{Given}
-use Rattle.jsonpath_rust.specs.declared.selection.cache.Given.TheVariants as given
 use Rattle.jsonpath_rust.specs.declared.selection.walk.Task.{Task}
-use Rattle.jsonpath_rust.specs.declared.selection.cache.Gathered.{Gathered}
-use Rattle.jsonpath_rust.specs.declared.selection.cache.Gathered.TheVariants as gathers
 
 -- what is asked, seen as the meaning has it
 abbrev pub document : {A : Type 0} {R : Ghosts A} {D : debug.Ghosts A} → Task A R D → Document
@@ -27,27 +24,16 @@ document task = document_at task.root
 abbrev pub kept_of : {A : Type 0} {R : Ghosts A} {D : debug.Ghosts A} → Task A R D → Constants
 kept_of task = kept_view task.plan.now.constants.items
 
--- what a constant gave: what was wanted of nodes; or a value, if there is one; or nothing, for a pattern is too large
-pub data Gave : Type 0 where
-  nodes : Seen → Gave
-  value : Option Tree → Gave
-  refused : Gave
-
-abbrev pub gave : {A : Type 0} {R : Ghosts A} {D : debug.Ghosts A} → Given A R D → Gave
-gave (given.Nodes s) = nodes (seen s)
-gave (given.Value o) = value (operand_tree o)
-gave given.Refused = refused
-
 -- the value of a part of the query without `@`, where it has one
 abbrev pub value_by : ConstantPart → Document → Option Tree
-value_by (plan.nodes w q) doc = None
+value_by (plan.nodes w q) doc = wanted_of w (of_nodes (nodelist q doc))
 value_by (plan.value ss) doc = value_at ss doc.root
 value_by (plan.answered c) doc = answer c doc (root_node doc.root)
 value_by (plan.compared c) doc = Some (truth (comparison_holds c doc (root_node doc.root)))
 
 -- what a part of the query without `@` gives
 abbrev pub given_by : ConstantPart → Document → Gave
-given_by (plan.nodes w q) doc = nodes (give (start w) (nodelist q doc))
+given_by (plan.nodes w q) doc = given_of w (of_nodes (nodelist q doc))
 given_by p doc = value (value_by p doc)
 
 -- the patterns that stand in a part of the query without `@`
@@ -59,8 +45,8 @@ part_patterns (plan.compared c) = comparison_patterns c
 
 -- what is kept is what the part gives; where it is refused, the part asks a pattern
 abbrev pub IsGiven : Gave → ConstantPart → Document → Type 0
-IsGiven (nodes s) p doc = nodes s ≡ given_by p doc
 IsGiven (value t) p doc = value t ≡ given_by p doc
+IsGiven (values ts) p doc = values ts ≡ given_by p doc
 IsGiven refused p doc = AsksPattern (part_patterns p) doc
 
 abbrev pub slots_of : {A : Type 0} {R : Ghosts A} {D : debug.Ghosts A} → Cache A R D → List (Option (Given A R D))
@@ -69,11 +55,6 @@ slots_of cache = cache.slots.items
 -- what is kept under a number
 abbrev pub slot_at : {A : Type 0} {R : Ghosts A} {D : debug.Ghosts A} → List (Option (Given A R D)) → ℕ → Option Gave
 slot_at slots n = get_or (map (option_map gave) slots) n None
-
--- what was wanted of nodes, where that is kept
-abbrev pub nodes_or_none : Option Gave → Seen
-nodes_or_none (Some (nodes s)) = s
-nodes_or_none _ = any false
 
 abbrev pub AreEmpty : {A : Type 0} {R : Ghosts A} {D : debug.Ghosts A} → List (Option (Given A R D)) → Type 0
 AreEmpty slots = All (λ o. o ≡ None) slots
@@ -86,8 +67,3 @@ pub record Keeps {A : Type 0} {R : Ghosts A} {D : debug.Ghosts A} (kept : Consta
 -- what is kept is right
 abbrev pub IsReady : {A : Type 0} {R : Ghosts A} {D : debug.Ghosts A} → Task A R D → Cache A R D → Type 0
 IsReady task cache = Keeps (kept_of task) (document task) cache
-
--- what the nodes of a query gave
-abbrev pub gathered : {A : Type 0} {R : Ghosts A} {D : debug.Ghosts A} → Cache A R D → Gathered A R D → Seen
-gathered cache (gathers.Own s) = seen s
-gathered cache (gathers.Constant n) = nodes_or_none (slot_at (slots_of cache) n)

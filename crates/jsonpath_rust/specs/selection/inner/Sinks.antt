@@ -101,10 +101,6 @@ abbrev pub count_in : Seen → ℕ
 count_in (count k) = k
 count_in _ = 0
 
-abbrev pub only_in : Seen → Option Tree
-only_in (one t) = Some t
-only_in _ = None
-
 abbrev pub first_in : Seen → Option (List ℕ × Tree)
 first_in (first o) = o
 first_in _ = None

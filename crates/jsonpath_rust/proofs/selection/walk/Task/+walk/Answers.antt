@@ -1,15 +1,14 @@
 -- The answers of the walk: of segments and selectors, of filters, of functions and of subqueries.
-use Rattle.std.proofs.Common.{◌≡◌, ◌<◌, ℕ, length, map, List, [], ◌∷◌, ◌++◌, append-nil, arith, Some, option_to_list, sym, ◌∙◌, ap, refl, subst, All, IsTrue, string_bytes, w64, SFits, rules}
+use Rattle.std.proofs.Common.{◌≡◌, ◌<◌, ℕ, length, map, List, [], ◌∷◌, ◌++◌, append-nil, arith, Some, option_to_list, sym, ◌∙◌, ap, refl, subst, All, IsTrue, OnOk, string_bytes, w64, SFits, rules}
 use Rattle.std.proofs.lemmas.Int.{to_z-of_z}
 use Rattle.std.proofs.lemmas.List.{map-append}
-use Rattle.std.proofs.lemmas.Result.{IfOk-weaker}
 use Rattle.std.proofs.lemmas.List.Elements.{All-head, All-tail}
 use Rattle.std.specs.List.{flat_map}
 use Rattle.jsonpath_parser.specs.Location.{name, index}
-use Rattle.jsonpath_parser.specs.tree.Syntax.{relative}
+use Rattle.jsonpath_parser.specs.tree.Syntax.{absolute, relative}
 use Rattle.jsonpath_parser.specs.tree.View.{operator_view, step_view}
 use Rattle.jsonpath_parser.specs.declared.tree.model.SingularQuerySegment.{SingularQuerySegment}
-use Rattle.jsonpath_rust.specs.selection.inner.PlanViews.{query_at, segments_meant, segment_view, selectors_meant, selector_view, filters_meant, filter_view, nodes_view, side_view, call_view, called_view, call_in, comparison_in, arguments_meant, argument_view, steps_query, children_query}
+use Rattle.jsonpath_rust.specs.selection.inner.PlanViews.{query_at, segments_meant, segment_view, selectors_meant, selector_view, filters_meant, filter_view, nodes_view, side_view, call_view, called_view, call_in, comparison_in, arguments_meant, argument_view, children_query}
 use Rattle.jsonpath_rust.specs.selection.inner.PlanViews as plan
 use Rattle.jsonpath_rust.specs.declared.selection.plan.Argument.{Argument}
 use Rattle.jsonpath_rust.specs.declared.selection.plan.Filter.{Filter}
@@ -24,12 +23,11 @@ use Rattle.jsonpath_rust.specs.documents.Node.{below, children, root_node, subtr
 use Rattle.jsonpath_rust.specs.documents.Meaning.{picks, all_pick, replaced, indexed, element, holds, some_holds, each_holds, value_of, value_at, answer, comparison_holds, negated, nodelist, all_trees, argued, tested}
 use Rattle.jsonpath_rust.specs.selection.inner.Passing.{action_weight}
 use Rattle.jsonpath_rust.specs.documents.inner.Weight.{segment_weight, selectors_weight, selector_weight, segments_weight, filter_weight, filters_weight, test_weight, comparable_weight, comparison_weight, call_weight, argument_weight, arguments_weight}
-use Rattle.jsonpath_rust.specs.documents.Patterns.{segments_patterns, selectors_patterns, selector_patterns, filter_patterns, filters_patterns, comparable_patterns, call_patterns, argument_patterns, arguments_patterns}
+use Rattle.jsonpath_rust.specs.documents.Patterns.{AsksPattern, segments_patterns, selectors_patterns, selector_patterns, filter_patterns, filters_patterns, comparable_patterns, call_patterns, argument_patterns, arguments_patterns}
 use Rattle.jsonpath_base.specs.Steps.{lent_step, lent_location}
 use Rattle.jsonpath_rust.specs.selection.inner.Walking.{action_patterns, through, node_of, acted}
-use Rattle.jsonpath_rust.specs.selection.inner.Sinks.{give, start}
-use Rattle.jsonpath_rust.specs.selection.inner.Keeping.{document, given_by, kept_of, nodes_or_none, part_patterns, value_by}
-use Rattle.jsonpath_rust.specs.selection.inner.Keeping as keeping
+use Rattle.jsonpath_rust.specs.selection.inner.Sinks.{give}
+use Rattle.jsonpath_rust.specs.selection.inner.Keeping.{IsGiven, document, given_by, kept_of, part_patterns, value_by}
 use Rattle.jsonpath_base.specs.declared.step.StepRef.TheVariants.{Name, Index}
 use Rattle.jsonpath_rust.proofs.laws.selection.Along.{along_none, along_idle, along_as, along_between, along_stop, takes_as, takes_then, takes_from, goes_off, goes_on, goes_no_more, goes_to_the_end, goes_on_to_place, goes_to_no_place, goes_past_places, tied_inside, tied_further, tied_back, tied_still, children-list, children-members}
 use Rattle.jsonpath_rust.proofs.laws.selection.Walks.{down, down_tree, down_same, selector_turns, element_turns, member_turns, below_more, flat_map-alone, flat_map-filter}
@@ -38,10 +36,10 @@ use Rattle.jsonpath_rust.proofs.laws.documents.NodesAt.{member_there}
 use Rattle.jsonpath_rust.proofs.laws.selection.HaltingLaws.{asked_as, asked_left, asked_right, asked_rest, asked_at, asked_at_or, pattern_asked}
 use Rattle.jsonpath_rust.proofs.laws.documents.Trees.{all_at, child_there, element_size, pair_size, member_size, element_at, sliced-list, named_some, named_none}
 use Rattle.jsonpath_rust.proofs.laws.documents.Parts.{part_of, kept_true, kept_false, some_found, some_next, each_failed, each_next, parts_end, ok_as, ok_through, differs, joined_next}
-use Rattle.jsonpath_rust.proofs.laws.selection.Kept.{kept_query, of_some}
+use Rattle.jsonpath_rust.proofs.laws.selection.Kept.{given_right, kept_query, of_some, wanted_given}
 use Rattle.jsonpath_rust.proofs.laws.selection.RootedLaws.{answer_as, answer_kept, comparison_as, comparison_kept, kept_call_same, kept_comparison_same}
 use Rattle.jsonpath_rust.specs.documents.Comparing.{compares}
-use Rattle.jsonpath_rust.specs.documents.Functions.{length_of, count_of, as_nodes, as_value, as_trees, as_truth, is_matched, is_true}
+use Rattle.jsonpath_rust.specs.documents.Functions.{length_of, count_of, only_value, of_nodes, as_nodes, as_value, as_trees, as_truth, is_matched, is_true}
 use Rattle.jsonpath_base.specs.Pattern.{is_entire}
 use Rattle.jsonpath_rust.specs.documents.inner.Operands.{operand_tree, side_tree, arg_trees}
 use Rattle.jsonpath_rust.specs.documents.Args.{arg_value}
@@ -49,8 +47,10 @@ use Rattle.jsonpath_rust.specs.documents.inner.Whole.{tree_of}
 use Rattle.jsonpath_rust.proofs.laws.selection.DirectLaws.{looked_up, query_count, query_there}
 use Rattle.jsonpath_rust.proofs.laws.selection.NodelistLaws.{through-applied, nodelist-through}
 use Rattle.jsonpath_base.specs.declared.step.StepRef.{StepRef}
-use Rattle.jsonpath_rust.specs.selection.inner.Arguing.{value, nodes, holding, value_held, only_held, count_held, trees_held, truth_held}
-use Rattle.jsonpath_rust.proofs.laws.selection.Arguing.{as_value_held, as_only_held, as_count_held, as_trees_held, as_truth_held}
+use Rattle.jsonpath_rust.specs.selection.inner.Wanting.{finished, given_of, given_value, given_values, wanted_of}
+use Rattle.jsonpath_rust.proofs.laws.selection.Sinks.{finished_all}
+use Rattle.jsonpath_rust.proofs.laws.selection.StepLaws.{trees_found, wanted_found}
+use Rattle.jsonpath_rust.proofs.laws.selection.Wanting.{query_alone}
 use Rattle.jsonpath_rust.specs.selection.inner.Halting.{IsHalt}
 use Rattle.jsonpath_rust.proofs.laws.selection.Standing.{still, stands_as, stays, at_root, on, comes_as, comes_on, comes_after, comes_err, comes_halt, comes_so}
 use Rattle.jsonpath_rust.proofs.selection.walk.Task.+walk.Goals as goal
@@ -710,11 +710,50 @@ each_holds-returns-clause-holds g t c =
     let n = node_of c.args.trail.now.way.steps.items c.args.at in
     parts_end (λ (fs : List Filter). each_holds (filters_meant kept fs) d n) c.args.parts.now c.loop-part.part-index _ c.loop-part-test.false c.loop-part.invariant.holds
 
-pub custom-argument-requires : goal.custom-argument-requires
-custom-argument-requires g t c κs within =
+pub custom-push_argument-requires : goal.custom-push_argument-requires
+custom-push_argument-requires g t c κs within =
     let kept = kept_of c.args.self.now in
     let w = part_of (λ (x : Argument). argument_weight (argument_view kept x Values)) (λ xs. arguments_weight (arguments_meant kept xs)) (λ x xs. refl) c.args.args.now c.loop-arg.arg-index c.arg-item.result c.loop-arg-test.true c.arg-item.is in
     (down _ _ _ _ _ _ c.decreases (omega (arith, w)) (omega (arith, c.requires.within)), (within, still c.requires c.loop-arg.invariant.returns))
+
+pub push_argument-push_nodes-requires : goal.push_argument-push_nodes-requires
+push_argument-push_nodes-requires g t c κs within =
+    let kept = kept_of c.args.self.now in
+    (down _ _ _ _ _ _ c.decreases (omega (arith, ap argument_weight (c.in-Some.ensures.nodes kept Values))) (omega (arith, c.requires.within)), (within, c.requires))
+
+pub push_argument-value-requires : goal.push_argument-value-requires
+push_argument-value-requires g t c κs within =
+    let kept = kept_of c.args.self.now in
+    (down_same _ _ _ _ _ _ c.decreases (ap argument_weight ((c.in-None.ensures.value kept).same Only Values)) (omega arith), (within, c.requires))
+
+pub push_argument-returns-in-Some-clause-value : goal.push_argument-returns-in-Some-clause-value
+push_argument-returns-in-Some-clause-value g t c =
+    let kept = kept_of c.args.self.now in
+    let d = document c.args.self.now in
+    let n = node_of c.args.trail.now.way.steps.items c.args.at in
+    let was = arg_trees c.args.args.now in
+    let same = sym (ap (λ a. as_trees (argued a d n)) (c.in-Some.ensures.nodes kept Values)) in
+    subst (λ ts. OnOk c.push_nodes.result (arg_trees c.push_nodes.new.args ≡ was ++ ts)) same c.push_nodes.ensures.value
+
+pub push_argument-returns-in-Some-clause-comes : goal.push_argument-returns-in-Some-clause-comes
+push_argument-returns-in-Some-clause-comes g t c =
+    let kept = kept_of c.args.self.now in
+    comes_as _ c.push_nodes.ensures.comes (λ h. asked_as argument_patterns _ _ (c.in-Some.ensures.nodes kept Values) h)
+
+pub push_argument-returns-in_ok-push_to-in-None-clause-value : goal.push_argument-returns-in_ok-push_to-in-None-clause-value
+push_argument-returns-in_ok-push_to-in-None-clause-value g t c =
+    let kept = kept_of c.args.self.now in
+    let d = document c.args.self.now in
+    let n = node_of c.args.trail.now.way.steps.items c.args.at in
+    let is = c.in-None.ensures.value kept in
+    let value = c.in_ok-value-in-None.ensures.value ∙ ap (λ a. as_value (argued a d n)) (is.same Only Values) in
+    let trees = ap option_to_list value ∙ sym (ap as_trees (is.alone Values d n)) in
+    c.in_ok-push_to-in-None.ensures.value ∙ ap (λ ts. arg_trees c.args.args.now ++ ts) trees
+
+pub push_argument-returns-in_err-value-in-None-clause-comes : goal.push_argument-returns-in_err-value-in-None-clause-comes
+push_argument-returns-in_err-value-in-None-clause-comes g t c =
+    let kept = kept_of c.args.self.now in
+    comes_so _ _ c.from_residual.ensures.1 c.in_err-value-in-None.ensures.comes (λ h. asked_as argument_patterns _ _ ((c.in-None.ensures.value kept).same Values Only) h)
 
 pub custom-loop-arg-init : goal.custom-loop-arg-init
 custom-loop-arg-init g t c =
@@ -731,8 +770,8 @@ custom-loop-arg-preserved g t c =
     let inv = c.loop-arg.invariant in
     let item = c.arg-item.result in
     let was = arg_trees c.loop-arg.values in
-    let trees = ap trees_held c.in_ok-argument.ensures.held ∙ as_trees_held (argued (argument_view kept item Values) d (node_of c.loop-arg.trail.way.steps.items c.args.at)) ∙ ap (λ q. as_trees (argued (argument_view kept item Values) d (node_of q c.args.at))) inv.returns.same in
-    record { returns = on inv.returns c.in_ok-argument.ensures.comes.back; trees = joined_next (λ (xs : List Argument). all_trees (arguments_meant kept xs) d n) (λ a. as_trees (argued (argument_view kept a Values) d n)) (λ x xs. refl) c.args.args.now c.loop-arg.arg-index item was _ _ c.loop-arg-test.true c.arg-item.is (c.in_ok-push_to.ensures.value ∙ ap (λ ts. was ++ ts) trees) inv.trees }
+    let same = ap (λ q. was ++ as_trees (argued (argument_view kept item Values) d (node_of q c.args.at))) inv.returns.same in
+    record { returns = on inv.returns c.in_ok-push_argument.ensures.comes.back; trees = joined_next (λ (xs : List Argument). all_trees (arguments_meant kept xs) d n) (λ a. as_trees (argued (argument_view kept a Values) d n)) (λ x xs. refl) c.args.args.now c.loop-arg.arg-index item was _ _ c.loop-arg-test.true c.arg-item.is (c.in_ok-push_argument.ensures.value ∙ same) inv.trees }
 
 pub custom-returns-clause-value : goal.custom-returns-clause-value
 custom-returns-clause-value g t c =
@@ -754,7 +793,8 @@ gather-returns-clause-given g t c =
     let kept = kept_of c.args.self.now in
     let d = document c.args.self.now in
     let n = node_of c.args.trail.now.way.steps.items c.args.at in
-    (c.in_ok-_goes_on.ensures.gave.took (tied_inside c.start-sink.result c.args.trail.now.way c.args.wanted c.start-sink.ensures)).given ∙ ap (λ s. give s (through (segments_meant kept c.args.segments.now) d n)) c.start-sink.ensures
+    let seen = (c.in_ok-_goes_on.ensures.gave.took (tied_inside c.start-sink.result c.args.trail.now.way c.args.wanted c.start-sink.ensures)).given ∙ ap (λ s. give s (through (segments_meant kept c.args.segments.now) d n)) c.start-sink.ensures in
+    c.finish.ensures ∙ ap finished seen ∙ finished_all c.args.wanted (through (segments_meant kept c.args.segments.now) d n)
 
 pub filter_holds-some_holds-requires : goal.filter_holds-some_holds-requires
 filter_holds-some_holds-requires g t c κs within =
@@ -876,11 +916,7 @@ exists-returns-in-Some-clause-holds g t c =
     of_some (λ b. b ≡ as_truth (tested (nodes_view kept c.args.nodes.now Any) d n)) _ _ c.in-Some.is (c.is_there.ensures kept d n refl)
 
 pub exists-returns-clause-holds : goal.exists-returns-clause-holds
-exists-returns-clause-holds g t c =
-    let kept = kept_of c.args.self.now in
-    let d = document c.args.self.now in
-    let n = node_of c.args.trail.now.way.steps.items c.args.at in
-    c.has_any.ensures ∙ ap truth_held c.in_ok-gathered.ensures.held ∙ as_truth_held (tested (nodes_view kept c.args.nodes.now Any) d n)
+exists-returns-clause-holds g t c = c.is_true.ensures ∙ ap is_true c.in_ok-nodes.ensures.value
 
 pub comparison_holds-lent_compare-requires : goal.comparison_holds-lent_compare-requires
 comparison_holds-lent_compare-requires g t c = c.requires.ready
@@ -978,17 +1014,17 @@ answer-value-requires g t c κs within =
     let e = ap (call_view kept) c.in-Length.is ∙ call_view-Length kept c.in-Length.arg in
     (down _ _ _ _ _ _ c.decreases (omega (arith, ap call_weight e)) (omega (arith, c.requires.within)), (within, c.requires))
 
-pub answer-argument-requires : goal.answer-argument-requires
-answer-argument-requires g t c κs within =
+pub answer-nodes-requires : goal.answer-nodes-requires
+answer-nodes-requires g t c κs within =
     let kept = kept_of c.args.self.now in
     let e = ap (call_view kept) c.in-Value.is ∙ call_view-Value kept c.in-Value.arg in
-    (down _ _ _ _ _ _ c.decreases (omega (arith, ap call_weight e)) (omega (arith, c.requires.within)), (within, c.requires))
+    (down _ _ _ _ _ _ c.decreases (omega (arith, ap call_weight e, ap argument_weight (c.in-Some.ensures.nodes kept Only))) (omega (arith, c.requires.within)), (within, c.requires))
 
-pub answer-argument-requires-in-Count : goal.answer-argument-requires-in-Count
-answer-argument-requires-in-Count g t c κs within =
+pub answer-nodes-requires-in-Some-nodes_in : goal.answer-nodes-requires-in-Some-nodes_in
+answer-nodes-requires-in-Some-nodes_in g t c κs within =
     let kept = kept_of c.args.self.now in
     let e = ap (call_view kept) c.in-Count.is ∙ call_view-Count kept c.in-Count.arg in
-    (down _ _ _ _ _ _ c.decreases (omega (arith, ap call_weight e)) (omega (arith, c.requires.within)), (within, c.requires))
+    (down _ _ _ _ _ _ c.decreases (omega (arith, ap call_weight e, ap argument_weight (c.in-Some-nodes_in.ensures.nodes kept Count))) (omega (arith, c.requires.within)), (within, c.requires))
 
 pub answer-match_or_search-requires : goal.answer-match_or_search-requires
 answer-match_or_search-requires g t c κs within =
@@ -1019,21 +1055,51 @@ answer-returns-in_ok-spend-in-Length-clause-value g t c =
     let e = ap (call_view kept) c.in-Length.is ∙ call_view-Length kept c.in-Length.arg in
     ok_through _ (operand_tree) _ _ (ap length_of c.in_ok-value-in-Length.ensures.value ∙ sym (ap (λ f. answer f d n) e)) c.length.ensures.value
 
-pub answer-returns-in_ok-argument-in-Value-clause-value : goal.answer-returns-in_ok-argument-in-Value-clause-value
-answer-returns-in_ok-argument-in-Value-clause-value g t c =
+pub answer-returns-in-Some-clause-value : goal.answer-returns-in-Some-clause-value
+answer-returns-in-Some-clause-value g t c =
     let kept = kept_of c.args.self.now in
     let d = document c.args.self.now in
     let n = node_of c.args.trail.now.way.steps.items c.args.at in
     let e = ap (call_view kept) c.in-Value.is ∙ call_view-Value kept c.in-Value.arg in
-    c.only.ensures ∙ ap only_held c.in_ok-argument-in-Value.ensures.held ∙ as_only_held (argued (argument_view kept c.in-Value.arg Only) d n) ∙ sym (ap (λ f. answer f d n) e)
+    let nodes = c.in-Some.ensures.nodes kept Only in
+    ok_through _ (operand_tree) _ _ (query_alone kept c.in-Some.nodes.now Only d n ∙ sym (ap (λ f. answer f d n) e ∙ ap (λ a. only_value (as_nodes (argued a d n))) nodes)) c.nodes.ensures.value
 
-pub answer-returns-in_ok-argument-in-Count-clause-value : goal.answer-returns-in_ok-argument-in-Count-clause-value
-answer-returns-in_ok-argument-in-Count-clause-value g t c =
+pub answer-returns-in-Some-clause-comes : goal.answer-returns-in-Some-clause-comes
+answer-returns-in-Some-clause-comes g t c =
+    let kept = kept_of c.args.self.now in
+    let e = ap (call_view kept) c.in-Value.is ∙ call_view-Value kept c.in-Value.arg in
+    comes_as _ c.nodes.ensures.comes (λ h. asked_as call_patterns _ _ e (asked_as argument_patterns _ _ (c.in-Some.ensures.nodes kept Only) h))
+
+pub answer-returns-in-None-clause-value : goal.answer-returns-in-None-clause-value
+answer-returns-in-None-clause-value g t c =
+    let kept = kept_of c.args.self.now in
+    let d = document c.args.self.now in
+    let n = node_of c.args.trail.now.way.steps.items c.args.at in
+    let e = ap (call_view kept) c.in-Value.is ∙ call_view-Value kept c.in-Value.arg in
+    sym (ap (λ f. answer f d n) e ∙ ap (λ x. only_value (as_nodes x)) ((c.in-None.ensures.value kept).alone Only d n))
+
+pub answer-returns-in-Some-nodes_in-clause-value : goal.answer-returns-in-Some-nodes_in-clause-value
+answer-returns-in-Some-nodes_in-clause-value g t c =
     let kept = kept_of c.args.self.now in
     let d = document c.args.self.now in
     let n = node_of c.args.trail.now.way.steps.items c.args.at in
     let e = ap (call_view kept) c.in-Count.is ∙ call_view-Count kept c.in-Count.arg in
-    c.count.ensures ∙ ap count_held c.in_ok-argument-in-Count.ensures.held ∙ as_count_held (argued (argument_view kept c.in-Count.arg Count) d n) ∙ sym (ap (λ f. answer f d n) e)
+    let nodes = c.in-Some-nodes_in.ensures.nodes kept Count in
+    ok_through _ (operand_tree) _ _ (sym (ap (λ f. answer f d n) e ∙ ap (λ a. count_of (as_nodes (argued a d n))) nodes)) c.nodes-in-Some-nodes_in.ensures.value
+
+pub answer-returns-in-Some-nodes_in-clause-comes : goal.answer-returns-in-Some-nodes_in-clause-comes
+answer-returns-in-Some-nodes_in-clause-comes g t c =
+    let kept = kept_of c.args.self.now in
+    let e = ap (call_view kept) c.in-Count.is ∙ call_view-Count kept c.in-Count.arg in
+    comes_as _ c.nodes-in-Some-nodes_in.ensures.comes (λ h. asked_as call_patterns _ _ e (asked_as argument_patterns _ _ (c.in-Some-nodes_in.ensures.nodes kept Count) h))
+
+pub answer-returns-in-None-nodes_in-clause-value : goal.answer-returns-in-None-nodes_in-clause-value
+answer-returns-in-None-nodes_in-clause-value g t c =
+    let kept = kept_of c.args.self.now in
+    let d = document c.args.self.now in
+    let n = node_of c.args.trail.now.way.steps.items c.args.at in
+    let e = ap (call_view kept) c.in-Count.is ∙ call_view-Count kept c.in-Count.arg in
+    ap Some c.count_scalar.ensures ∙ sym (ap (λ f. answer f d n) e ∙ ap (λ x. count_of (as_nodes x)) ((c.in-None-nodes_in.ensures.value kept).alone Count d n))
 
 pub answer-returns-in_ok-count-in-CountChildren-clause-value : goal.answer-returns-in_ok-count-in-CountChildren-clause-value
 answer-returns-in_ok-count-in-CountChildren-clause-value g t c =
@@ -1042,7 +1108,7 @@ answer-returns-in_ok-count-in-CountChildren-clause-value g t c =
     let n = node_of c.args.trail.now.way.steps.items c.args.at in
     let e = ap (call_view kept) c.in-CountChildren.is ∙ call_view-CountChildren kept c.in-CountChildren.steps in
     let steps = ap (λ (ss : List SingularQuerySegment). children_query (map step_view ss)) c.deref-in-CountChildren.ensures.value in
-    ap Some c.count_scalar.ensures ∙ query_count _ d n _ (c.in_ok-count-in-CountChildren.ensures.count d n refl) ∙ ap (λ q. count_of (as_nodes (tested (relative q) d n))) steps ∙ sym (ap (λ f. answer f d n) e)
+    ap Some c.count_scalar-in-CountChildren.ensures ∙ query_count _ d n _ (c.in_ok-count-in-CountChildren.ensures.count d n refl) ∙ ap (λ q. count_of (as_nodes (tested (relative q) d n))) steps ∙ sym (ap (λ f. answer f d n) e)
 
 pub answer-returns-in-Search-clause-value : goal.answer-returns-in-Search-clause-value
 answer-returns-in-Search-clause-value g t c =
@@ -1092,9 +1158,6 @@ match_or_search-returns-in_err-found-clause-comes g t c =
     let back = on c.in_ok-text.ensures.comes.back c.in_ok-pattern.ensures.comes.back in
     comes_halt _ _ c.from_residual-in_err-found.ensures.1 back.ready why (λ h. h)
 
-pub value-argument-requires : goal.value-argument-requires
-value-argument-requires g t c κs within = (down_tree _ _ _ _ _ c.decreases (omega arith), (within, c.requires))
-
 pub value-returns-in-Some-clause-value : goal.value-returns-in-Some-clause-value
 value-returns-in-Some-clause-value g t c =
     let d = document c.args.self.now in
@@ -1103,70 +1166,63 @@ value-returns-in-Some-clause-value g t c =
     let found = looked_up (map step_view c.in-Some.steps.now) d n n.tree refl in
     c.lent.ensures ∙ c.value_at.ensures ∙ sym (ap (λ a. as_value (argued a d n)) query ∙ found)
 
-pub value-returns-clause-value : goal.value-returns-clause-value
-value-returns-clause-value g t c =
+pub value-nodes-requires : goal.value-nodes-requires
+value-nodes-requires g t c κs within =
     let kept = kept_of c.args.self.now in
-    let d = document c.args.self.now in
-    let n = node_of c.args.trail.now.way.steps.items c.args.at in
-    c.value.ensures ∙ ap value_held c.in_ok-argument.ensures.held ∙ as_value_held (argued (argument_view kept c.args.arg.now Only) d n)
-
-pub argument-nodes-requires : goal.argument-nodes-requires
-argument-nodes-requires g t c κs within =
-    let kept = kept_of c.args.self.now in
-    let e = ap (λ a. argument_view kept a c.args.wanted) c.in-Nodes.is ∙ argument_view-Nodes kept c.in-Nodes.nodes c.args.wanted in
+    let e = ap (λ a. argument_view kept a Only) c.in-Nodes.is ∙ argument_view-Nodes kept c.in-Nodes.nodes Only in
     (down _ _ _ _ _ _ c.decreases (omega (arith, ap argument_weight e)) (omega (arith, c.requires.within)), (within, c.requires))
 
-pub argument-called-requires : goal.argument-called-requires
-argument-called-requires g t c κs within =
+pub value-called-requires : goal.value-called-requires
+value-called-requires g t c κs within =
     let kept = kept_of c.args.self.now in
-    let e = ap (λ a. argument_view kept a c.args.wanted) c.in-Call.is ∙ argument_view-Call kept c.in-Call.call c.args.wanted in
+    let e = ap (λ a. argument_view kept a Only) c.in-Call.is ∙ argument_view-Call kept c.in-Call.call Only in
     (down _ _ _ _ _ _ c.decreases (omega (arith, ap argument_weight e)) (omega arith), (within, c.requires))
 
-pub argument-filter_holds-requires : goal.argument-filter_holds-requires
-argument-filter_holds-requires g t c κs within =
+pub value-filter_holds-requires : goal.value-filter_holds-requires
+value-filter_holds-requires g t c κs within =
     let kept = kept_of c.args.self.now in
-    let e = ap (λ a. argument_view kept a c.args.wanted) c.in-Filter.is ∙ argument_view-Filter kept c.in-Filter.filter c.args.wanted in
+    let e = ap (λ a. argument_view kept a Only) c.in-Filter.is ∙ argument_view-Filter kept c.in-Filter.filter Only in
     (down _ _ _ _ _ _ c.decreases (omega (arith, ap argument_weight e)) (omega (arith, c.requires.within)), (within, c.requires))
 
-pub argument-returns-in-Literal-clause-held : goal.argument-returns-in-Literal-clause-held
-argument-returns-in-Literal-clause-held g t c =
+pub value-returns-in-Literal-clause-value : goal.value-returns-in-Literal-clause-value
+value-returns-in-Literal-clause-value g t c =
     let kept = kept_of c.args.self.now in
     let d = document c.args.self.now in
     let n = node_of c.args.trail.now.way.steps.items c.args.at in
-    let e = ap (λ a. argument_view kept a c.args.wanted) c.in-Literal.is ∙ argument_view-Literal kept c.in-Literal.literal c.args.wanted in
-    ap (λ x. value (Some x)) c.scalar_of.ensures ∙ sym (ap (λ a. holding c.args.wanted (argued a d n)) e)
+    let e = ap (λ a. argument_view kept a Only) c.in-Literal.is ∙ argument_view-Literal kept c.in-Literal.literal Only in
+    ap Some c.scalar_of.ensures ∙ sym (ap (λ a. as_value (argued a d n)) e)
 
-pub argument-returns-in-Pattern-clause-held : goal.argument-returns-in-Pattern-clause-held
-argument-returns-in-Pattern-clause-held g t c =
+pub value-returns-in-Pattern-clause-value : goal.value-returns-in-Pattern-clause-value
+value-returns-in-Pattern-clause-value g t c =
     let kept = kept_of c.args.self.now in
     let d = document c.args.self.now in
     let n = node_of c.args.trail.now.way.steps.items c.args.at in
-    let e = ap (λ a. argument_view kept a c.args.wanted) c.in-Pattern.is ∙ argument_view-Pattern kept c.in-Pattern.text c.in-Pattern._number c.args.wanted in
-    ap (λ s. value (Some (text s))) c.deref.ensures ∙ sym (ap (λ a. holding c.args.wanted (argued a d n)) e)
+    let e = ap (λ a. argument_view kept a Only) c.in-Pattern.is ∙ argument_view-Pattern kept c.in-Pattern.text c.in-Pattern._number Only in
+    ap (λ s. Some (text s)) c.deref.ensures ∙ sym (ap (λ a. as_value (argued a d n)) e)
 
-pub argument-returns-in_ok-gathered-in-Nodes-clause-held : goal.argument-returns-in_ok-gathered-in-Nodes-clause-held
-argument-returns-in_ok-gathered-in-Nodes-clause-held g t c =
+pub value-returns-in-Nodes-clause-value : goal.value-returns-in-Nodes-clause-value
+value-returns-in-Nodes-clause-value g t c =
     let kept = kept_of c.args.self.now in
     let d = document c.args.self.now in
     let n = node_of c.args.trail.now.way.steps.items c.args.at in
-    let e = ap (λ a. argument_view kept a c.args.wanted) c.in-Nodes.is ∙ argument_view-Nodes kept c.in-Nodes.nodes c.args.wanted in
-    c.in_ok-gathered-in-Nodes.ensures.held ∙ sym (ap (λ a. holding c.args.wanted (argued a d n)) e)
+    let e = ap (λ a. argument_view kept a Only) c.in-Nodes.is ∙ argument_view-Nodes kept c.in-Nodes.nodes Only in
+    ok_through _ (operand_tree) _ _ (sym (ap (λ a. as_value (argued a d n)) e)) c.nodes.ensures.value
 
-pub argument-returns-in_ok-value-in-Call-clause-held : goal.argument-returns-in_ok-value-in-Call-clause-held
-argument-returns-in_ok-value-in-Call-clause-held g t c =
+pub value-returns-in-Call-clause-value : goal.value-returns-in-Call-clause-value
+value-returns-in-Call-clause-value g t c =
     let kept = kept_of c.args.self.now in
     let d = document c.args.self.now in
     let n = node_of c.args.trail.now.way.steps.items c.args.at in
-    let e = ap (λ a. argument_view kept a c.args.wanted) c.in-Call.is ∙ argument_view-Call kept c.in-Call.call c.args.wanted in
-    ap value c.in_ok-value-in-Call.ensures.value ∙ sym (ap (λ a. holding c.args.wanted (argued a d n)) e)
+    let e = ap (λ a. argument_view kept a Only) c.in-Call.is ∙ argument_view-Call kept c.in-Call.call Only in
+    ok_through _ (operand_tree) _ _ (sym (ap (λ a. as_value (argued a d n)) e)) c.called.ensures.value
 
-pub argument-returns-in_ok-truth-in-Filter-clause-held : goal.argument-returns-in_ok-truth-in-Filter-clause-held
-argument-returns-in_ok-truth-in-Filter-clause-held g t c =
+pub value-returns-in_ok-truth-in-Filter-clause-value : goal.value-returns-in_ok-truth-in-Filter-clause-value
+value-returns-in_ok-truth-in-Filter-clause-value g t c =
     let kept = kept_of c.args.self.now in
     let d = document c.args.self.now in
     let n = node_of c.args.trail.now.way.steps.items c.args.at in
-    let e = ap (λ a. argument_view kept a c.args.wanted) c.in-Filter.is ∙ argument_view-Filter kept c.in-Filter.filter c.args.wanted in
-    ap (λ b. value (Some (truth b))) c.in_ok-truth-in-Filter.ensures.holds ∙ sym (ap (λ a. holding c.args.wanted (argued a d n)) e)
+    let e = ap (λ a. argument_view kept a Only) c.in-Filter.is ∙ argument_view-Filter kept c.in-Filter.filter Only in
+    ap (λ b. Some (truth b)) c.in_ok-truth-in-Filter.ensures.holds ∙ sym (ap (λ a. as_value (argued a d n)) e)
 
 pub nodes-gather-requires : goal.nodes-gather-requires
 nodes-gather-requires g t c κs within =
@@ -1174,97 +1230,123 @@ nodes-gather-requires g t c κs within =
     let e = ap (λ ns. nodes_view kept ns c.args.wanted) c.in-Walk.is ∙ nodes_view-Walk kept c.in-Walk.segments c.args.wanted in
     (down _ _ _ _ _ _ c.decreases (omega (arith, ap test_weight e, ap (λ (xs : List Segment). segments_weight (segments_meant kept xs)) c.deref-in-Walk.ensures.value)) (omega (arith, c.requires.within)), (within, c.requires))
 
-pub nodes-constant_nodes-requires : goal.nodes-constant_nodes-requires
-nodes-constant_nodes-requires g t c κs within =
+pub nodes-keep_nodes-requires : goal.nodes-keep_nodes-requires
+nodes-keep_nodes-requires g t c κs within =
     let kept = kept_of c.args.self.now in
     let e = ap (λ ns. nodes_view kept ns c.args.wanted) c.in-Constant.is ∙ nodes_view-Constant kept c.in-Constant.number c.args.wanted in
     (down _ _ _ _ _ _ c.decreases (omega (arith, ap test_weight e)) (omega (arith, c.requires.within)), (within, c.requires.ready))
 
-pub nodes-returns-in_ok-looked_up-in-Lookup-clause-held : goal.nodes-returns-in_ok-looked_up-in-Lookup-clause-held
-nodes-returns-in_ok-looked_up-in-Lookup-clause-held g t c =
+pub nodes-returns-in-Lookup-clause-value : goal.nodes-returns-in-Lookup-clause-value
+nodes-returns-in-Lookup-clause-value g t c =
     let kept = kept_of c.args.self.now in
     let d = document c.args.self.now in
     let n = node_of c.args.trail.now.way.steps.items c.args.at in
-    let e = ap (λ ns. nodes_view kept ns c.args.wanted) c.in-Lookup.is ∙ nodes_view-Lookup kept c.in-Lookup.steps c.args.wanted in
-    let ns = ap (λ (ss : List SingularQuerySegment). through (steps_query (map step_view ss)) d n) c.deref.ensures.value ∙ through-applied (steps_query (map step_view c.in-Lookup.steps.items)) d n in
-    ap nodes (c.in_ok-looked_up-in-Lookup.ensures.given d n refl ∙ ap (give (start c.args.wanted)) ns) ∙ sym (ap (λ q. holding c.args.wanted (tested q d n)) e)
+    let w = c.args.wanted in
+    let e = ap (λ ns. nodes_view kept ns w) c.in-Lookup.is ∙ nodes_view-Lookup kept c.in-Lookup.steps w in
+    let there = c.value_at.ensures ∙ ap (λ (ss : List SingularQuerySegment). value_at (map step_view ss) n.tree) c.deref.ensures.value in
+    c.of.ensures ∙ wanted_found w _ (map step_view c.in-Lookup.steps.items) d n there ∙ sym (ap (λ q. wanted_of w (tested q d n)) e)
 
-pub nodes-returns-in_ok-gather-in-Walk-clause-held : goal.nodes-returns-in_ok-gather-in-Walk-clause-held
-nodes-returns-in_ok-gather-in-Walk-clause-held g t c =
+pub nodes-returns-in_ok-given-in-Walk-clause-value : goal.nodes-returns-in_ok-given-in-Walk-clause-value
+nodes-returns-in_ok-given-in-Walk-clause-value g t c =
     let kept = kept_of c.args.self.now in
     let d = document c.args.self.now in
     let n = node_of c.args.trail.now.way.steps.items c.args.at in
-    let e = ap (λ ns. nodes_view kept ns c.args.wanted) c.in-Walk.is ∙ nodes_view-Walk kept c.in-Walk.segments c.args.wanted in
+    let w = c.args.wanted in
+    let e = ap (λ ns. nodes_view kept ns w) c.in-Walk.is ∙ nodes_view-Walk kept c.in-Walk.segments w in
     let ns = ap (λ (gs : List Segment). through (segments_meant kept gs) d n) c.deref-in-Walk.ensures.value ∙ through-applied (segments_meant kept c.in-Walk.segments.items) d n in
-    ap nodes (c.in_ok-gather-in-Walk.ensures.given ∙ ap (give (start c.args.wanted)) ns) ∙ sym (ap (λ q. holding c.args.wanted (tested q d n)) e)
+    c.into_value.ensures ∙ ap (λ x. given_value (Some x)) (c.in_ok-given-in-Walk.ensures.given ∙ ap (λ ms. given_of w (of_nodes ms)) ns) ∙ wanted_given w _ ∙ sym (ap (λ q. wanted_of w (tested q d n)) e)
 
-pub nodes-returns-in-Constant-clause-held : goal.nodes-returns-in-Constant-clause-held
-nodes-returns-in-Constant-clause-held g t c =
+pub nodes-returns-else-branch-clause-value : goal.nodes-returns-else-branch-clause-value
+nodes-returns-else-branch-clause-value g t c =
     let kept = kept_of c.args.self.now in
     let d = document c.args.self.now in
     let n = node_of c.args.trail.now.way.steps.items c.args.at in
-    let e = ap (λ ns. nodes_view kept ns c.args.wanted) c.in-Constant.is ∙ nodes_view-Constant kept c.in-Constant.number c.args.wanted in
-    IfOk-weaker c.constant_nodes.result _ _ (λ g h. ap nodes h ∙ sym (ap (λ q. holding c.args.wanted (tested q d n)) e)) c.constant_nodes.ensures.given
+    let w = c.args.wanted in
+    let e = ap (λ ns. nodes_view kept ns w) c.in-Constant.is ∙ nodes_view-Constant kept c.in-Constant.number w in
+    let root = c.in_ok-keep_nodes-in-Constant.ensures.none c.if-branch.false in
+    c.of-else-branch.ensures ∙ sym (ap (λ q. wanted_of w (tested q d n)) (e ∙ ap absolute root))
 
-pub constant_nodes-gather-requires : goal.constant_nodes-gather-requires
-constant_nodes-gather-requires g t c κs within =
+pub push_nodes-gather-requires : goal.push_nodes-gather-requires
+push_nodes-gather-requires g t c κs within =
+    let kept = kept_of c.args.self.now in
+    let e = ap (λ ns. nodes_view kept ns Values) c.in-Walk.is ∙ nodes_view-Walk kept c.in-Walk.segments Values in
+    (down _ _ _ _ _ _ c.decreases (omega (arith, ap test_weight e, ap (λ (xs : List Segment). segments_weight (segments_meant kept xs)) c.deref-in-Walk.ensures.value)) (omega (arith, c.requires.within)), (within, c.requires))
+
+pub push_nodes-keep_nodes-requires : goal.push_nodes-keep_nodes-requires
+push_nodes-keep_nodes-requires g t c κs within =
+    let kept = kept_of c.args.self.now in
+    let e = ap (λ ns. nodes_view kept ns Values) c.in-Constant.is ∙ nodes_view-Constant kept c.in-Constant.number Values in
+    (down _ _ _ _ _ _ c.decreases (omega (arith, ap test_weight e)) (omega (arith, c.requires.within)), (within, c.requires.ready))
+
+pub push_nodes-returns-in_ok-push_to-in-Lookup-clause-value : goal.push_nodes-returns-in_ok-push_to-in-Lookup-clause-value
+push_nodes-returns-in_ok-push_to-in-Lookup-clause-value g t c =
+    let kept = kept_of c.args.self.now in
+    let d = document c.args.self.now in
+    let n = node_of c.args.trail.now.way.steps.items c.args.at in
+    let e = ap (λ ns. nodes_view kept ns Values) c.in-Lookup.is ∙ nodes_view-Lookup kept c.in-Lookup.steps Values in
+    let there = c.lent-value.ensures ∙ c.value_at.ensures ∙ ap (λ (ss : List SingularQuerySegment). value_at (map step_view ss) n.tree) c.deref.ensures.value in
+    let trees = trees_found _ (map step_view c.in-Lookup.steps.items) d n there ∙ sym (ap (λ q. as_trees (tested q d n)) e) in
+    c.in_ok-push_to-in-Lookup.ensures.value ∙ ap (λ ts. arg_trees c.args.args.now ++ ts) trees
+
+pub push_nodes-returns-in_ok-push_to-in-Walk-clause-value : goal.push_nodes-returns-in_ok-push_to-in-Walk-clause-value
+push_nodes-returns-in_ok-push_to-in-Walk-clause-value g t c =
+    let kept = kept_of c.args.self.now in
+    let d = document c.args.self.now in
+    let n = node_of c.args.trail.now.way.steps.items c.args.at in
+    let e = ap (λ ns. nodes_view kept ns Values) c.in-Walk.is ∙ nodes_view-Walk kept c.in-Walk.segments Values in
+    let ns = ap (λ (gs : List Segment). through (segments_meant kept gs) d n) c.deref-in-Walk.ensures.value ∙ through-applied (segments_meant kept c.in-Walk.segments.items) d n in
+    let trees = ap (λ x. given_values (Some x)) (c.in_ok-given-in-Walk.ensures.given ∙ ap (λ ms. given_of Values (of_nodes ms)) ns) ∙ sym (ap (λ q. as_trees (tested q d n)) e) in
+    c.in_ok-push_to-in-Walk.ensures.value ∙ ap (λ ts. arg_trees c.args.args.now ++ ts) trees
+
+pub keep_nodes-gather-requires : goal.keep_nodes-gather-requires
+keep_nodes-gather-requires g t c κs within =
     let kept = kept_of c.args.self.now in
     let e = kept_query kept c.args.number c.args.wanted _ c.in-Some.ensures.part in
     let root = at_root (ap (λ w. w.steps.items) c.replace-here.ensures.after ∙ c.new-root.ensures) c.requires in
     (down _ _ _ _ _ _ c.decreases (omega (arith, ap segments_weight e)) (omega arith), (within, root))
 
-pub constant_nodes-keep-requires : goal.constant_nodes-keep-requires
-constant_nodes-keep-requires g t c = subst (λ k. c.args.number < k) (sym c.in-Ok.ensures.comes.back.ready.room) c.in-Some.ensures.within
+pub keep_nodes-keep-requires : goal.keep_nodes-keep-requires
+keep_nodes-keep-requires g t c = subst (λ k. c.args.number < k) (sym c.in-Ok.ensures.comes.back.ready.room) c.in-Some.ensures.within
 
-pub constant_nodes-keep_halt-requires : goal.constant_nodes-keep_halt-requires
-constant_nodes-keep_halt-requires g t c = subst (λ k. c.args.number < k) (sym c.in-Err.ensures.comes.ready.room) c.in-Some.ensures.within
+pub keep_nodes-keep_halt-requires : goal.keep_nodes-keep_halt-requires
+keep_nodes-keep_halt-requires g t c = subst (λ k. c.args.number < k) (sym c.in-Err.ensures.comes.ready.room) c.in-Some.ensures.within
 
-pub constant_nodes-returns-in_default-clause-given : goal.constant_nodes-returns-in_default-clause-given
-constant_nodes-returns-in_default-clause-given g t c =
-    let d = document c.args.self.now in
-    c.in_ok-of_one.ensures.given ∙ sym (ap (λ q. give (start c.args.wanted) (nodelist q d)) c.in_default.ensures.none)
+pub keep_nodes-returns-in_default-clause-none : goal.keep_nodes-returns-in_default-clause-none
+keep_nodes-returns-in_default-clause-none g t c = λ is. c.in_default.ensures.none
 
-pub constant_nodes-returns-in_err-has_nodes-clause-comes : goal.constant_nodes-returns-in_err-has_nodes-clause-comes
-constant_nodes-returns-in_err-has_nodes-clause-comes g t c =
-    let kept = kept_of c.args.self.now in
-    let d = document c.args.self.now in
-    let limit = c.args.self.now.limit in
-    let q = c.in-Some.ensures.part in
-    let e = c.in_err-has_nodes.field-0.0 in
-    let why = subst (λ x. IsHalt limit (segments_patterns x) d e) (sym (kept_query kept c.args.number c.args.wanted _ q)) (c.in_err-has_nodes.ensures.refused kept d c.args.wanted _ limit c.requires q) in
-    comes_halt _ _ c.from_residual-in_err-has_nodes.ensures.1 c.requires why (λ h. h)
-
-pub constant_nodes-returns-then-branch-clause-given : goal.constant_nodes-returns-then-branch-clause-given
-constant_nodes-returns-then-branch-clause-given g t c =
+pub keep_nodes-returns-then-branch-clause-kept : goal.keep_nodes-returns-then-branch-clause-kept
+keep_nodes-returns-then-branch-clause-kept g t c = λ is.
     let kept = kept_of c.args.self.now in
     let d = document c.args.self.now in
     let q = c.in-Some.ensures.part in
-    c.in_ok-has_nodes.ensures.nodes kept d c.args.wanted _ c.requires q c.if-branch.true ∙ ap (λ x. give (start c.args.wanted) (nodelist x d)) (sym (kept_query kept c.args.number c.args.wanted _ q))
+    c.in_ok-has.ensures.given kept d c.requires c.if-branch.true ∙ ap (λ p. Some (given_by p d)) q ∙ ap (λ x. Some (given_of c.args.wanted (of_nodes (nodelist x d)))) (sym (kept_query kept c.args.number c.args.wanted _ q))
 
-pub constant_nodes-returns-then-branch-clause-comes : goal.constant_nodes-returns-then-branch-clause-comes
-constant_nodes-returns-then-branch-clause-comes g t c = record { back = stays c.requires; ready = tt; halts = tt }
+pub keep_nodes-returns-then-branch-clause-comes : goal.keep_nodes-returns-then-branch-clause-comes
+keep_nodes-returns-then-branch-clause-comes g t c = record { back = stays c.requires; ready = tt; halts = tt }
 
-pub constant_nodes-returns-in-Ok-clause-given : goal.constant_nodes-returns-in-Ok-clause-given
-constant_nodes-returns-in-Ok-clause-given g t c =
+pub keep_nodes-returns-in-Ok-clause-kept : goal.keep_nodes-returns-in-Ok-clause-kept
+keep_nodes-returns-in-Ok-clause-kept g t c = λ is.
     let kept = kept_of c.args.self.now in
     let d = document c.args.self.now in
     let gs = segments_meant kept c.in-Some.segments.now in
     let at = λ (q : List StepRef). through gs d (node_of q c.args.self.now.root) in
     let all = ap at (ap (λ w. w.steps.items) c.replace-here.ensures.after ∙ c.new-root.ensures) ∙ nodelist-through gs d ∙ ap (λ q. nodelist q d) (sym (kept_query kept c.args.number c.args.wanted _ c.in-Some.ensures.part)) in
-    ap nodes_or_none c.keep.ensures.value ∙ c.in-Ok.ensures.given ∙ ap (give (start c.args.wanted)) all
+    c.keep.ensures.value ∙ ap Some (c.in-Ok.ensures.given ∙ ap (λ ns. given_of c.args.wanted (of_nodes ns)) all)
 
-pub constant_nodes-returns-in-Ok-clause-comes : goal.constant_nodes-returns-in-Ok-clause-comes
-constant_nodes-returns-in-Ok-clause-comes g t c =
+pub keep_nodes-returns-in-Ok-clause-comes : goal.keep_nodes-returns-in-Ok-clause-comes
+keep_nodes-returns-in-Ok-clause-comes g t c =
     let kept = kept_of c.args.self.now in
     let d = document c.args.self.now in
     let gs = segments_meant kept c.in-Some.segments.now in
+    let part = plan.part_at kept c.args.number in
     let at = λ (q : List StepRef). through gs d (node_of q c.args.self.now.root) in
     let all = ap at (ap (λ w. w.steps.items) c.replace-here.ensures.after ∙ c.new-root.ensures) ∙ nodelist-through gs d in
-    let given = ap keeping.nodes (c.in-Ok.ensures.given ∙ ap (give (start c.args.wanted)) all) ∙ sym (ap (λ p. given_by p d) c.in-Some.ensures.part) in
+    let same = c.in-Ok.ensures.given ∙ ap (λ ns. given_of c.args.wanted (of_nodes ns)) all ∙ sym (ap (λ p. given_by p d) c.in-Some.ensures.part) in
+    let given = subst (λ x. IsGiven x part d) (sym same) (given_right part d) in
     record { back = record { same = ap (λ w. w.steps.items) c.replace-here.ensures.value; ready = c.keep.ensures.right kept d given c.in-Ok.ensures.comes.back.ready }; ready = tt; halts = tt }
 
-pub constant_nodes-returns-clause-comes : goal.constant_nodes-returns-clause-comes
-constant_nodes-returns-clause-comes g t c =
+pub keep_nodes-returns-in-Err-clause-comes : goal.keep_nodes-returns-in-Err-clause-comes
+keep_nodes-returns-in-Err-clause-comes g t c =
     let kept = kept_of c.args.self.now in
     let d = document c.args.self.now in
     let comes = c.in-Err.ensures.comes in
@@ -1276,6 +1358,15 @@ constant_nodes-returns-clause-comes g t c =
       ready = c.keep_halt.ensures.right kept d c.args.self.now.limit halt comes.ready;
       halts = subst (λ h. IsHalt c.args.self.now.limit (segments_patterns (query_at kept c.args.wanted c.args.number)) d h) (sym c.keep_halt.ensures.same) why;
     }
+
+pub keep_nodes-returns-in_err-has-clause-comes : goal.keep_nodes-returns-in_err-has-clause-comes
+keep_nodes-returns-in_err-has-clause-comes g t c =
+    let kept = kept_of c.args.self.now in
+    let d = document c.args.self.now in
+    let part = c.in-Some.ensures.part in
+    let query = kept_query kept c.args.number c.args.wanted _ part in
+    let why = c.in_err-has.ensures.refused kept d c.args.self.now.limit c.requires in
+    comes_halt _ _ c.from_residual.ensures.1 c.requires why (λ h. asked_as segments_patterns _ _ query (subst (λ p. AsksPattern (part_patterns p) d) part h))
 
 pub called-answer-requires : goal.called-answer-requires
 called-answer-requires g t c κs within =
@@ -1433,10 +1524,10 @@ match_or_search-returns-in_err-cost-clause-comes g t c =
     let back = on c.in_ok-text.ensures.comes.back c.in_ok-pattern.ensures.comes.back in
     comes_err _ _ c.from_residual-in_err-cost.ensures.1 back.ready (λ y e memory spent. absurd (memory (e ∙ c.in_err-cost.ensures.memory)))
 
-pub custom-returns-in_err-argument-clause-comes : goal.custom-returns-in_err-argument-clause-comes
-custom-returns-in_err-argument-clause-comes g t c =
+pub custom-returns-in_err-push_argument-clause-comes : goal.custom-returns-in_err-push_argument-clause-comes
+custom-returns-in_err-push_argument-clause-comes g t c =
     let kept = kept_of c.args.self.now in
-    comes_so _ _ c.from_residual.ensures.1 c.in_err-argument.ensures.comes (λ h. asked_at (λ (x : Argument). argument_patterns (argument_view kept x Values)) (λ xs. arguments_patterns (arguments_meant kept xs)) (λ x xs. refl) c.args.args.now c.loop-arg.arg-index c.arg-item.result c.loop-arg-test.true c.arg-item.is h)
+    comes_so _ _ c.from_residual.ensures.1 c.in_err-push_argument.ensures.comes (λ h. asked_at (λ (x : Argument). argument_patterns (argument_view kept x Values)) (λ xs. arguments_patterns (arguments_meant kept xs)) (λ x xs. refl) c.args.args.now c.loop-arg.arg-index c.arg-item.result c.loop-arg-test.true c.arg-item.is h)
 
 pub custom-returns-in_err-cost-clause-comes : goal.custom-returns-in_err-cost-clause-comes
 custom-returns-in_err-cost-clause-comes g t c = comes_err _ _ c.from_residual-in_err-cost.ensures.1 c.loop-arg.invariant.returns.ready (λ y e memory spent. absurd (memory (e ∙ c.in_err-cost.ensures.memory)))

@@ -15,7 +15,7 @@ use Rattle.jsonpath_rust.proofs.laws.selection.Along.{Goes}
 use Rattle.jsonpath_rust.proofs.laws.selection.Work.{work}
 use Rattle.jsonpath_rust.specs.selection.inner.Passing.{action_weight}
 use Rattle.jsonpath_rust.specs.documents.inner.Weight.{segments_weight, segment_weight, selectors_weight, selector_weight, filter_weight, filters_weight, test_weight, comparable_weight, comparison_weight, call_weight, argument_weight, arguments_weight}
-use Rattle.jsonpath_rust.specs.declared.selection.sink.Wanted.TheVariants.{Any, Only}
+use Rattle.jsonpath_rust.specs.declared.selection.sink.Wanted.TheVariants.{Any, Only, Values}
 use Rattle.jsonpath_rust.proofs.selection.walk.Task.+walk.Given as goal
 
 abbrev pub decreases-walk : goal.decreases-walk
@@ -75,11 +75,11 @@ decreases-match_or_search g l = work (argument_weight (argument_view (kept_of l.
 abbrev pub decreases-custom : goal.decreases-custom
 decreases-custom g l = work (arguments_weight (arguments_meant (kept_of l.self.now) l.args.now) + 1) (size (tree_of l.self.now.root)) (5 * size (tree_of l.at))
 
-abbrev pub decreases-value : goal.decreases-value
-decreases-value g l = work (argument_weight (argument_view (kept_of l.self.now) l.arg.now Only)) (size (tree_of l.self.now.root)) (5 * size (tree_of l.at) + 1)
+abbrev pub decreases-push_argument : goal.decreases-push_argument
+decreases-push_argument g l = work (argument_weight (argument_view (kept_of l.self.now) l.arg.now Values)) (size (tree_of l.self.now.root)) (5 * size (tree_of l.at) + 1)
 
-abbrev pub decreases-argument : goal.decreases-argument
-decreases-argument g l = work (argument_weight (argument_view (kept_of l.self.now) l.arg.now l.wanted)) (size (tree_of l.self.now.root)) (5 * size (tree_of l.at))
+abbrev pub decreases-value : goal.decreases-value
+decreases-value g l = work (argument_weight (argument_view (kept_of l.self.now) l.arg.now Only)) (size (tree_of l.self.now.root)) (5 * size (tree_of l.at))
 
 abbrev pub decreases-gather : goal.decreases-gather
 decreases-gather g l = work (segments_weight (segments_meant (kept_of l.self.now) l.segments.now) + 2) (size (tree_of l.self.now.root)) (5 * size (tree_of l.at))
@@ -99,8 +99,11 @@ decreases-side g l = work (comparable_weight (side_view (kept_of l.self.now) l.s
 abbrev pub decreases-nodes : goal.decreases-nodes
 decreases-nodes g l = work (test_weight (nodes_view (kept_of l.self.now) l.nodes.now l.wanted)) (size (tree_of l.self.now.root)) (5 * size (tree_of l.at))
 
-abbrev pub decreases-constant_nodes : goal.decreases-constant_nodes
-decreases-constant_nodes g l = work (segments_weight (query_at (kept_of l.self.now) l.wanted l.number) + 3) (size (tree_of l.self.now.root)) (5 * size (tree_of l.self.now.root))
+abbrev pub decreases-push_nodes : goal.decreases-push_nodes
+decreases-push_nodes g l = work (test_weight (nodes_view (kept_of l.self.now) l.nodes.now Values)) (size (tree_of l.self.now.root)) (5 * size (tree_of l.at))
+
+abbrev pub decreases-keep_nodes : goal.decreases-keep_nodes
+decreases-keep_nodes g l = work (segments_weight (query_at (kept_of l.self.now) l.wanted l.number) + 3) (size (tree_of l.self.now.root)) (5 * size (tree_of l.self.now.root))
 
 -- what was given, with what is left, is what all of them give
 abbrev pub invariant-pick_each-loop-selector : goal.invariant-pick_each-loop-selector

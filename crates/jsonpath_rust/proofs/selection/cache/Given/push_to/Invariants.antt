@@ -1,6 +1,6 @@
 use Rattle.std.proofs.Common.{◌≡◌, ◌++◌, map, drop}
 use Rattle.jsonpath_rust.specs.documents.inner.Operands.{arg_trees}
-use Rattle.jsonpath_rust.proofs.selection.argument.push_values.Given as goal
+use Rattle.jsonpath_rust.proofs.selection.cache.Given.push_to.Given as goal
 
 -- the arguments so far, with the values that are left
 abbrev pub invariant-loop-value : goal.invariant-loop-value
