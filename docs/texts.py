@@ -1,7 +1,7 @@
-"""Prints rows on random trees as texts, which `rows_of_texts` asks: that `to_query_text` writes of each the text told here, which is
+"""Prints rows on random trees as texts, which `rows` asks: that `to_query_text` writes of each the text told here, which is
 read as the tree that the row's own text spells.
 
-    python3 docs/texts.py 10000 1 | crates/rows_of_texts/out/rows_of_texts
+    python3 docs/texts.py 10000 1 | crates/rows/out/rows
 
 The arguments are how many rows, and a number that the random choices follow from. Each row's own text spells a tree in a random way:
 names bare or quoted, characters as they are or escaped, numbers with a fraction or an exponent, blanks wherever the grammar of

@@ -3,12 +3,11 @@ ghost use Rattle.std.specs.Prelude.{IsTrue};
 ghost use Rattle.jsonpath_base.specs.Same.{same};
 ghost use Rattle.jsonpath_base.specs.Values.{value_tree};
 
-use crate::members::{list, size};
-use crate::memory::Memory;
+use crate::refusal::{Given, Refusal};
 use jsonpath_base::{Step, same, whole};
-use jsonpath_rust::parser::errors::{JsonPathError, Parsed};
-use serde_json::{ToValue, Value, json};
-use std::alloc::{AllocError, Global};
+use jsonpath_rust::parser::errors::JsonPathError;
+use serde_json::{Map, ToValue, Value, put};
+use std::alloc::Global;
 
 /// Whether both are whole, and the same.
 pub fn are_same(value: &Value, wanted: &Value) -> bool
@@ -17,95 +16,100 @@ pub fn are_same(value: &Value, wanted: &Value) -> bool
     whole(value) && whole(wanted) && same(value, wanted)
 }
 
-/// A call's value, or its refusal.
-pub fn answered<T: ToValue + Drop>(memory: &Memory, answer: Parsed<T>) -> Option<Value> {
-    match answer {
-        Ok(value) => memory.ok(value.to_value(memory.alloc)),
-        Err(error) => refusal(memory, error),
-    }
-}
-
-/// A call's list, or its refusal.
-pub fn answered_list<T: ToValue + Drop>(memory: &Memory, answer: Parsed<Vec<T>>) -> Option<Value> {
-    match answer {
-        Ok(items) => listed(memory, items),
-        Err(error) => refusal(memory, error),
-    }
-}
-
-/// A refusal: `{"refused": ..}`, with its kind. `InvalidNumber` has the literal behind it, and `MaxNestingDepthExceeded` the depth.
-pub fn refusal(memory: &Memory, error: JsonPathError) -> Option<Value> {
-    memory.note(&error);
-    let kind = memory.ok(kind_of(memory.alloc, &error));
-    drop(error);
-    let kind = kind?;
-    refused(memory, kind.as_str())
-}
-
-fn kind_of(alloc: Global, error: &JsonPathError) -> Result<String, AllocError> {
-    match error {
-        JsonPathError::PestError(_) => String::from_str(alloc, "PestError"),
-        JsonPathError::InvalidJsonPath(_) => String::from_str(alloc, "InvalidJsonPath"),
-        JsonPathError::InvalidNumber(literal) => format!(in alloc; "InvalidNumber {literal}"),
-        JsonPathError::MaxNestingDepthExceeded(depth) => {
-            format!(in alloc; "MaxNestingDepthExceeded {depth}")
+/// A value, or a refusal by an error, which is `{"refused": ..}`, with its kind; `InvalidNumber` has the literal behind it, and
+/// `MaxNestingDepthExceeded` the depth. Out of memory is no answer.
+pub fn answered(alloc: Global, given: Given<Value>) -> Given<Value> {
+    match given {
+        Ok(value) => Ok(value),
+        Err(Refusal::Error(error)) => {
+            let kind = kind_of(alloc, &error);
+            drop(error);
+            member(alloc, "refused", Value::String(kind?))
         }
-        _ => format!(in alloc; "{error:?}"),
+        Err(Refusal::Other(cause)) => {
+            let kind = format!(in alloc; "{cause:?}")?;
+            member(alloc, "refused", Value::String(kind))
+        }
+        Err(refusal) => Err(refusal),
     }
 }
 
-/// The refusal of that kind.
-pub fn refused(memory: &Memory, kind: &str) -> Option<Value> {
-    memory.ok(json!(in memory.alloc; {"refused": kind}))
+fn kind_of(alloc: Global, error: &JsonPathError) -> Given<String> {
+    match error {
+        JsonPathError::OutOfMemory => Err(Refusal::memory()),
+        JsonPathError::PestError(_) => Ok(String::from_str(alloc, "PestError")?),
+        JsonPathError::InvalidJsonPath(_) => Ok(String::from_str(alloc, "InvalidJsonPath")?),
+        JsonPathError::InvalidNumber(literal) => {
+            Ok(format!(in alloc; "InvalidNumber {literal}")?)
+        }
+        JsonPathError::MaxNestingDepthExceeded(depth) => {
+            Ok(format!(in alloc; "MaxNestingDepthExceeded {depth}")?)
+        }
+        _ => Ok(format!(in alloc; "{error:?}")?),
+    }
+}
+
+/// What a call gave that may have changed a document. Where it is refused, the document has to be as it was.
+pub fn unchanged<T: Drop>(given: Given<T>, is_kept: bool) -> Given<T> {
+    match given {
+        Err(_) if !is_kept => Err(Refusal::Changed),
+        given => given,
+    }
+}
+
+/// A list of what a call gave, and of what it left of a copy of the value. Where it is refused, the copy has to be as the value is.
+pub fn with_left(alloc: Global, given: Given<Value>, left: Value, value: &Value) -> Given<Value> {
+    let is_kept = are_same(&left, value);
+    pair(alloc, unchanged(given, is_kept)?, left)
+}
+
+/// A text.
+pub fn text(alloc: Global, text: &str) -> Given<Value> {
+    Ok(Value::try_from_str(alloc, text)?)
+}
+
+/// A list of two.
+pub fn pair(alloc: Global, first: Value, second: Value) -> Given<Value> {
+    Ok(Value::Array(vec![in alloc; first, second]?))
+}
+
+/// An object of that one member.
+pub fn member(alloc: Global, name: &str, value: Value) -> Given<Value> {
+    let mut members = Map::new(alloc);
+    put(&mut members, alloc, name, value)?;
+    Ok(Value::Object(members))
 }
 
 /// A list of what is there, and an empty one of None.
-pub fn optional<T: ToValue + Drop>(memory: &Memory, found: Option<T>) -> Option<Value> {
-    match found {
-        Some(found) => memory.ok(json!(in memory.alloc; [found])),
-        None => Some(Value::Array(Vec::new(memory.alloc))),
+pub fn optional<T: ToValue + Drop>(alloc: Global, found: Option<T>) -> Given<Value> {
+    let mut values = Vec::new(alloc);
+    if let Some(found) = found {
+        values.push(found.to_value(alloc)?)?;
     }
+    Ok(Value::Array(values))
 }
 
 /// A list.
-pub fn listed<T: ToValue + Drop>(memory: &Memory, items: Vec<T>) -> Option<Value> {
-    let mut values = Vec::new(memory.alloc);
+pub fn listed<T: ToValue + Drop>(alloc: Global, items: Vec<T>) -> Given<Value> {
+    let mut values = Vec::new(alloc);
     for item in items {
-        let value = memory.ok(item.to_value(memory.alloc))?;
-        memory.ok(values.push(value))?;
+        values.push(item.to_value(alloc)?)?;
     }
-    Some(Value::Array(values))
+    Ok(Value::Array(values))
 }
 
 /// A location, as a list of names and indexes.
-pub fn location(memory: &Memory, steps: &[Step]) -> Option<Value> {
-    let mut values = Vec::new(memory.alloc);
+pub fn location(alloc: Global, steps: &[Step]) -> Given<Value> {
+    let mut values = Vec::new(alloc);
     for step in steps {
-        memory.ok(values.push(step_value(memory, step)?))?;
+        values.push(step_value(step)?)?;
     }
-    Some(Value::Array(values))
+    Ok(Value::Array(values))
 }
 
-fn step_value(memory: &Memory, step: &Step) -> Option<Value> {
+fn step_value(step: &Step) -> Given<Value> {
     match step {
-        Step::Name(name) => Some(Value::String(memory.ok(name.clone())?)),
-        Step::Index(index) => Some(Value::from(*index)),
-    }
-}
-
-/// The steps of a list of names and indexes.
-pub fn steps_of(memory: &Memory, location: &Value) -> Option<Vec<Step>> {
-    let mut steps = Vec::new(memory.alloc);
-    for step in list(location)? {
-        memory.ok(steps.push(step_of(memory, step)?))?;
-    }
-    Some(steps)
-}
-
-/// The step of a name or an index.
-pub fn step_of(memory: &Memory, step: &Value) -> Option<Step> {
-    match step {
-        Value::String(name) => Some(Step::Name(memory.ok(name.clone())?)),
-        _ => Some(Step::Index(size(step)?)),
+        Step::Name(name) => Ok(Value::String(name.clone()?)),
+        Step::Index(index) => Ok(Value::from(*index)),
     }
 }

@@ -1,12 +1,10 @@
-//! Rows: their members, their texts, the answers that they name, the memory that they are asked with, and how all of them are asked.
+//! Rows: how all of them are asked, what their calls take, and what they answer.
 #![tactic(auto)]
 
 pub mod answers;
-mod calling;
-pub mod members;
-pub mod memory;
-pub mod reading;
-pub mod text;
+pub mod arguments;
+mod asking;
+mod refusal;
 
-pub use calling::ask_calls;
-pub use memory::Memory;
+pub use asking::ask_calls;
+pub use refusal::{Cause, Given, Refusal};

@@ -3,66 +3,44 @@ use crate::changing::{Change, put_each};
 use crate::patch::{Operation, apply_patch};
 use crate::redaction::redact;
 use crate::rows::texts::queries_of;
-use crate::rows::whole_copy;
 use crate::script::{Edit, apply_edits};
 use jsonpath_rust::Whole;
 use jsonpath_rust::parser::{let_go, parse_json_path};
 use jsonpath_rust::query::{Queried, at, selected_locations};
-use rows_common::Memory;
-use rows_common::answers::{are_same, refusal, refused, steps_of};
-use rows_common::members::{has_only, list, string_at};
-use serde_json::{Value, json};
+use rows_common::answers::with_left;
+use rows_common::arguments::{given, list, steps, text, whole_copy};
+use rows_common::{Cause, Given, Refusal};
+use serde_json::Value;
 use std::alloc::Global;
 
 /// What the call of that name answers, and leaves of the document, which is its last argument.
-pub fn answer(memory: &Memory, name: &str, arguments: &[Value]) -> Option<Value> {
-    let (document, arguments) = arguments.split_last()?;
-    let mut left = whole_copy(memory, document)?;
-    match (name, arguments) {
-        ("redact", [rules, mask]) => {
-            let mask = whole_copy(memory, mask)?;
-            let count = redacted(memory.alloc, list(rules)?, &mut left, &mask);
-            changed(memory, count, left, document)
-        }
-        ("apply_edits", [steps]) => {
-            let edits = edits_of(memory, list(steps)?)?;
-            let index = apply_edits(memory.alloc, &edits, &mut left);
-            changed(memory, index, left, document)
-        }
-        ("apply_patch", [patch]) => match operations_of(memory, patch) {
-            Some(operations) => {
-                let index = apply_patch(memory.alloc, &operations, &mut left);
-                changed(memory, index, left, document)
-            }
-            None => refused(memory, "NoPatch"),
-        },
-        ("add_one", [query]) => {
-            let added = add_one(memory.alloc, query.as_str()?, &mut left);
-            changed(memory, added, left, document)
-        }
-        ("put_each", [changes]) => {
-            put_each(changes_of(memory, list(changes)?)?, &mut left);
-            changed(memory, Ok(()), left, document)
-        }
-        _ => None,
-    }
+pub fn answer(alloc: Global, name: &str, arguments: &[Value]) -> Given<Value> {
+    let (document, arguments) = given(arguments.split_last())?;
+    let mut left = whole_copy(document)?;
+    let answer = change(alloc, name, arguments, &mut left);
+    with_left(alloc, answer, left.into_inner(), document)
 }
 
-/// What a call answered, and left of the document; a refusal only where that is as it was.
-pub fn changed<T: Into<Value> + Drop>(
-    memory: &Memory,
-    answer: Queried<T>,
-    left: Whole<Value>,
-    document: &Value,
-) -> Option<Value> {
-    match answer {
-        Ok(answer) => { memory.ok(json!(in memory.alloc; [answer.into(), left.into_inner()])) }
-        Err(error) => {
-            let refusal = refusal(memory, error);
-            let kept = are_same(left.get(), document);
-            memory.note_kept(kept);
-            if kept { refusal } else { None }
+fn change(alloc: Global, name: &str, arguments: &[Value], left: &mut Whole<Value>) -> Given<Value> {
+    match (name, arguments) {
+        ("redact", [rules, mask]) => {
+            let mask = whole_copy(mask)?;
+            Ok(Value::from(redacted(alloc, list(rules)?, left, &mask)?))
         }
+        ("apply_edits", [steps]) => {
+            let edits = edits_of(alloc, list(steps)?)?;
+            Ok(Value::from(apply_edits(alloc, &edits, left)?))
+        }
+        ("apply_patch", [patch]) => {
+            let operations = patch_of(alloc, patch)?;
+            Ok(Value::from(apply_patch(alloc, &operations, left)?))
+        }
+        ("add_one", [query]) => Ok(Value::from(add_one(alloc, text(query)?, left)?)),
+        ("put_each", [changes]) => {
+            put_each(changes_of(alloc, list(changes)?)?, left);
+            Ok(Value::Null)
+        }
+        _ => Err(Refusal::NoAnswer),
     }
 }
 
@@ -102,90 +80,96 @@ fn one_more(value: Option<&Value>) -> Option<Whole<Value>> {
 }
 
 /// The changes that pairs of a location and a value tell.
-fn changes_of(memory: &Memory, pairs: &[Value]) -> Option<Vec<Change>> {
-    let mut changes = Vec::new(memory.alloc);
+fn changes_of(alloc: Global, pairs: &[Value]) -> Given<Vec<Change>> {
+    let mut changes = Vec::new(alloc);
     for pair in pairs {
-        memory.ok(changes.push(change_of(memory, list(pair)?)?))?;
+        changes.push(change_of(alloc, list(pair)?)?)?;
     }
-    Some(changes)
+    Ok(changes)
 }
 
-fn change_of(memory: &Memory, pair: &[Value]) -> Option<Change> {
+fn change_of(alloc: Global, pair: &[Value]) -> Given<Change> {
     match pair {
-        [steps, value] => {
-            let place = steps_of(memory, steps)?;
-            let value = whole_copy(memory, value)?;
-            Some(Change { place, value })
+        [location, value] => {
+            let place = steps(alloc, location)?;
+            let value = whole_copy(value)?;
+            Ok(Change { place, value })
         }
-        _ => None,
+        _ => Err(Refusal::NoAnswer),
     }
 }
 
 /// The edits that steps tell: `{"delete": ..}`, with a query, and `{"put": .., "value": ..}`, with a path.
-fn edits_of(memory: &Memory, steps: &[Value]) -> Option<Vec<Edit>> {
-    let mut edits = Vec::new(memory.alloc);
+fn edits_of(alloc: Global, steps: &[Value]) -> Given<Vec<Edit>> {
+    let mut edits = Vec::new(alloc);
     for step in steps {
-        memory.ok(edits.push(edit_of(memory, step)?))?;
+        edits.push(edit_of(alloc, step)?)?;
     }
-    Some(edits)
+    Ok(edits)
 }
 
-fn edit_of(memory: &Memory, step: &Value) -> Option<Edit> {
-    if has_only(step, &["delete"]) {
-        return Some(Edit::Delete(text_at(memory, step, "delete")?));
+fn edit_of(alloc: Global, step: &Value) -> Given<Edit> {
+    match (step.get("delete"), step.get("put"), step.get("value")) {
+        (Some(query), None, None) => Ok(Edit::Delete(String::from_str(alloc, text(query)?)?)),
+        (None, Some(path), Some(value)) => {
+            let path = String::from_str(alloc, text(path)?)?;
+            Ok(Edit::Replace(path, whole_copy(value)?))
+        }
+        _ => Err(Refusal::NoAnswer),
     }
-    if has_only(step, &["put", "value"]) {
-        let path = text_at(memory, step, "put")?;
-        return Some(Edit::Replace(path, value_at(memory, step)?));
-    }
-    None
 }
 
-/// The operations of a patch (RFC 6902, 3), or None where it is no list of them, or memory ran out.
-fn operations_of(memory: &Memory, patch: &Value) -> Option<Vec<Operation>> {
-    let mut operations = Vec::new(memory.alloc);
+/// The operations of a patch (RFC 6902, 3); what is no list of them is refused as `NoPatch`.
+fn patch_of(alloc: Global, patch: &Value) -> Given<Vec<Operation>> {
+    match operations_of(alloc, patch) {
+        Err(Refusal::NoAnswer) => Err(Refusal::Other(Cause::NoPatch)),
+        operations => operations,
+    }
+}
+
+fn operations_of(alloc: Global, patch: &Value) -> Given<Vec<Operation>> {
+    let mut operations = Vec::new(alloc);
     for element in list(patch)? {
-        memory.ok(operations.push(operation_of(memory, element)?))?;
+        operations.push(operation_of(alloc, element)?)?;
     }
-    Some(operations)
+    Ok(operations)
 }
 
-/// The operation that an object is (RFC 6902, 4), by the members that it needs; None where it lacks one, or its `op` is none of the six,
-/// or memory ran out. Other members mean nothing.
-fn operation_of(memory: &Memory, element: &Value) -> Option<Operation> {
-    let path = text_at(memory, element, "path")?;
-    match string_at(element, "op")? {
-        "add" => Some(Operation::Add {
-            path,
-            value: value_at(memory, element)?,
-        }),
-        "remove" => Some(Operation::Remove { path }),
-        "replace" => Some(Operation::Replace {
-            path,
-            value: value_at(memory, element)?,
-        }),
-        "move" => Some(Operation::Move {
-            from: text_at(memory, element, "from")?,
-            path,
-        }),
-        "copy" => Some(Operation::Copy {
-            from: text_at(memory, element, "from")?,
-            path,
-        }),
-        "test" => Some(Operation::Test {
-            path,
-            value: value_at(memory, element)?,
-        }),
-        _ => None,
+/// The operation that an object is (RFC 6902, 4), by the members that it needs. Other members mean nothing.
+fn operation_of(alloc: Global, element: &Value) -> Given<Operation> {
+    let path = text_at(alloc, element, "path")?;
+    match text(given(element.get("op"))?)? {
+        "add" => {
+            let value = value_at(element)?;
+            Ok(Operation::Add { path, value })
+        }
+        "remove" => Ok(Operation::Remove { path }),
+        "replace" => {
+            let value = value_at(element)?;
+            Ok(Operation::Replace { path, value })
+        }
+        "move" => {
+            let from = text_at(alloc, element, "from")?;
+            Ok(Operation::Move { from, path })
+        }
+        "copy" => {
+            let from = text_at(alloc, element, "from")?;
+            Ok(Operation::Copy { from, path })
+        }
+        "test" => {
+            let value = value_at(element)?;
+            Ok(Operation::Test { path, value })
+        }
+        _ => Err(Refusal::NoAnswer),
     }
 }
 
 /// The text of that member.
-fn text_at(memory: &Memory, object: &Value, name: &str) -> Option<String> {
-    memory.ok(String::from_str(memory.alloc, string_at(object, name)?))
+fn text_at(alloc: Global, object: &Value, name: &str) -> Given<String> {
+    Ok(String::from_str(alloc, text(given(object.get(name))?)?)?)
 }
 
 /// The member `value`.
-fn value_at(memory: &Memory, object: &Value) -> Option<Whole<Value>> {
-    whole_copy(memory, object.get("value")?)
+fn value_at(object: &Value) -> Given<Whole<Value>> {
+    whole_copy(given(object.get("value"))?)
 }

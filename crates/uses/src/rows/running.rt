@@ -1,86 +1,56 @@
 //! Calls that change a whole document by a runner, or by one under a limit: what each answers, null where the units are not enough,
 //! and what is left.
-use crate::rows::changing::changed;
-use crate::rows::whole_copy;
 use jsonpath_rust::Whole;
-use jsonpath_rust::query::{Prepared, Queried, Within};
-use rows_common::Memory;
-use rows_common::members::size;
+use jsonpath_rust::query::{Prepared, Within};
+use rows_common::answers::with_left;
+use rows_common::arguments::{given, size, text, whole_copy};
+use rows_common::{Given, Refusal};
 use serde_json::Value;
 use std::alloc::Global;
 
-/// What the call of that name answers, and leaves of the document, which is its last argument.
-pub fn answer(memory: &Memory, name: &str, arguments: &[Value]) -> Option<Value> {
-    let alloc = memory.alloc;
-    let (document, arguments) = arguments.split_last()?;
-    let mut left = whole_copy(memory, document)?;
+/// What the call of that name answers, and leaves of the document, which is its last argument. The first is the query.
+pub fn answer(alloc: Global, name: &str, arguments: &[Value]) -> Given<Value> {
+    let (document, arguments) = given(arguments.split_last())?;
+    let (query, arguments) = given(arguments.split_first())?;
+    let query = Prepared::read(alloc, text(query)?)?;
+    let mut left = whole_copy(document)?;
+    let answer = change(alloc, name, &query, arguments, &mut left);
+    drop(query);
+    with_left(alloc, answer, left.into_inner(), document)
+}
+
+fn change(
+    alloc: Global,
+    name: &str,
+    query: &Prepared,
+    arguments: &[Value],
+    left: &mut Whole<Value>,
+) -> Given<Value> {
+    let mut runner = query.runner(alloc);
     match (name, arguments) {
-        ("Whole::delete_by_runner", [query]) => {
-            let count = deleted(alloc, query.as_str()?, &mut left);
-            changed(memory, count, left, document)
+        ("Whole::delete_by_runner", []) => {
+            Ok(Value::from(left.delete_by_runner(alloc, &mut runner)?))
         }
-        ("Whole::replace_by_runner", [query, new]) => {
-            let new = whole_copy(memory, new)?;
-            let count = replaced(alloc, query.as_str()?, &mut left, &new);
-            changed(memory, count, left, document)
+        ("Whole::replace_by_runner", [new]) => {
+            let new = whole_copy(new)?;
+            Ok(Value::from(left.replace_by_runner(alloc, &mut runner, &new)?))
         }
-        ("Whole::delete_limited", [query, units]) => {
-            let limit = (query.as_str()?, size(units)?);
-            let count = deleted_within(alloc, limit, &mut left);
-            changed(memory, count, left, document)
+        ("Whole::delete_limited", [units]) => {
+            let mut limited = runner.limited(size(units)?);
+            Ok(told(left.delete_limited(alloc, &mut limited)?))
         }
-        ("Whole::replace_limited", [query, units, new]) => {
-            let limit = (query.as_str()?, size(units)?);
-            let new = whole_copy(memory, new)?;
-            let count = replaced_within(alloc, limit, &mut left, &new);
-            changed(memory, count, left, document)
+        ("Whole::replace_limited", [units, new]) => {
+            let mut limited = runner.limited(size(units)?);
+            let new = whole_copy(new)?;
+            Ok(told(left.replace_limited(alloc, &mut limited, &new)?))
         }
-        _ => None,
+        _ => Err(Refusal::NoAnswer),
     }
 }
 
-fn deleted(alloc: Global, query: &str, document: &mut Whole<Value>) -> Queried<usize> {
-    let query = Prepared::read(alloc, query)?;
-    let mut runner = query.runner(alloc);
-    document.delete_by_runner(alloc, &mut runner)
-}
-
-fn replaced(
-    alloc: Global,
-    query: &str,
-    document: &mut Whole<Value>,
-    new: &Whole<Value>,
-) -> Queried<usize> {
-    let query = Prepared::read(alloc, query)?;
-    let mut runner = query.runner(alloc);
-    document.replace_by_runner(alloc, &mut runner, new)
-}
-
-/// Of a query, with so many units.
-fn deleted_within(
-    alloc: Global,
-    limit: (&str, usize),
-    document: &mut Whole<Value>,
-) -> Queried<Option<usize>> {
-    let query = Prepared::read(alloc, limit.0)?;
-    let mut limited = query.runner(alloc).limited(limit.1);
-    Ok(done(document.delete_limited(alloc, &mut limited)?))
-}
-
-fn replaced_within(
-    alloc: Global,
-    limit: (&str, usize),
-    document: &mut Whole<Value>,
-    new: &Whole<Value>,
-) -> Queried<Option<usize>> {
-    let query = Prepared::read(alloc, limit.0)?;
-    let mut limited = query.runner(alloc).limited(limit.1);
-    Ok(done(document.replace_limited(alloc, &mut limited, new)?))
-}
-
-fn done(count: Within<usize>) -> Option<usize> {
+fn told(count: Within<usize>) -> Value {
     match count {
-        Within::Done(count) => Some(count),
-        Within::Spent => None,
+        Within::Done(count) => Value::from(count),
+        Within::Spent => Value::Null,
     }
 }

@@ -1,0 +1,40 @@
+//! What a query selects in a document: nodes, each a list of its path and its value.
+use crate::doc::document::{Document, document_of};
+use jsonpath_rust::Only;
+use jsonpath_rust::query::{QueryRef, js_path, js_path_only};
+use rows_common::Given;
+use rows_common::answers::{member, pair, text};
+use rows_common::arguments::whole;
+use serde_json::Value;
+use std::alloc::Global;
+
+/// The nodes that `js_path` finds.
+pub fn found<T: Document>(alloc: Global, query: &str, document: &Value) -> Given<Value> {
+    let document = document_of::<T>(alloc, document)?;
+    listed(alloc, &js_path(alloc, query, document.get())?)
+}
+
+/// `"Nothing"`, `"Several"`, or `{"One": VALUE}`.
+pub fn only(alloc: Global, query: &str, document: &Value) -> Given<Value> {
+    let document = whole(document)?;
+    match js_path_only(alloc, query, document.get())? {
+        Only::Nothing => text(alloc, "Nothing"),
+        Only::One(value) => member(alloc, "One", value.clone()?),
+        Only::Several => text(alloc, "Several"),
+    }
+}
+
+/// A list of these nodes.
+pub fn listed<T: Document>(alloc: Global, nodes: &[QueryRef<'_, T>]) -> Given<Value> {
+    let mut list = Vec::new(alloc);
+    for found in nodes {
+        list.push(node(alloc, &found.path, found.val)?)?;
+    }
+    Ok(Value::Array(list))
+}
+
+/// The node of that path and value.
+pub fn node<T: Document>(alloc: Global, path: &str, value: &T) -> Given<Value> {
+    let value = value.value(alloc)?;
+    pair(alloc, text(alloc, path)?, value)
+}

@@ -1,0 +1,126 @@
+//! Rows on calls: `{"call": .., "arguments": [..], "answer": ..}`, the name of a call, what it takes, and what it answers. A refusal is
+//! the answer `{"refused": ..}`.
+ghost use Rattle.std.specs.Prelude.{IsTrue, IsOkAnd};
+ghost use Rattle.jsonpath_base.specs.Same.{same};
+ghost use Rattle.jsonpath_base.specs.Values.{value_tree};
+
+use crate::answers::{answered, are_same};
+use crate::arguments::{given, list, text};
+use crate::refusal::{Given, Refusal};
+use jsonpath_rust::parser::errors::JsonPathError;
+use serde_json::Value;
+use std::alloc::Global;
+use std::io;
+
+/// What asking a row comes to.
+#[derive(Drop)]
+enum Outcome {
+    Holds,
+    /// The line is no row on a call.
+    NoRow,
+    /// This came, and not the answer that is wanted.
+    Fails(Given<Value>),
+}
+
+/// Asks each row, of the call that its name leads to, tells which do not hold and what came, and last how many hold.
+pub fn ask_calls<C: Fn(Global, &str, &[Value]) -> Given<Value>>(
+    rt: &(impl Print + AllocGlobal),
+    input: &str,
+    call: C,
+) -> io::Result<()>
+    requires { C.IsAlwaysCallable call }
+{
+    let mut count = 0u64;
+    let mut held = 0u64;
+    for (at, line) in input.lines().enumerate() {
+        if line.is_empty() || line.starts_with('#') {
+            continue;
+        }
+        count = count.saturating_add(1);
+        let outcome = ask(rt.alloc(), line, &call);
+        if matches!(&outcome, Outcome::Holds) {
+            held = held.saturating_add(1);
+        }
+        tell(rt, at.saturating_add(1), line, outcome)?;
+    }
+    println!(rt; "{held} of {count} rows hold")
+}
+
+/// Tells of a row that does not hold what it asks and wants, and what came.
+fn tell(
+    rt: &(impl Print + AllocGlobal),
+    number: usize,
+    line: &str,
+    outcome: Outcome,
+) -> io::Result<()> {
+    match outcome {
+        Outcome::Holds => Ok(()),
+        Outcome::NoRow => println!(rt; "row {number} is no row: {line}"),
+        Outcome::Fails(Ok(answer)) => {
+            println!(rt; "row {number} does not hold: {line}, but {answer}")
+        }
+        Outcome::Fails(Err(Refusal::Error(JsonPathError::OutOfMemory))) => {
+            println!(rt; "row {number}: out of memory")
+        }
+        Outcome::Fails(Err(Refusal::Changed)) => {
+            println!(rt; "row {number} does not hold: {line}, but the document changed")
+        }
+        Outcome::Fails(Err(_)) => {
+            println!(rt; "row {number} does not hold: {line}, but there is no answer")
+        }
+    }
+}
+
+/// Asks the row that the line spells.
+fn ask<C: Fn(Global, &str, &[Value]) -> Given<Value>>(
+    alloc: Global,
+    line: &str,
+    call: &C,
+) -> Outcome
+    requires { C.IsAlwaysCallable call.now }
+{
+    let row = match Value::from_str(alloc, line) {
+        Ok(row) => row,
+        Err(error) if error.is_memory() => return Outcome::Fails(Err(Refusal::memory())),
+        Err(_) => return Outcome::NoRow,
+    };
+    let outcome = match parts_of(&row) {
+        Ok((name, arguments, wanted)) => {
+            beside(answered(alloc, call(alloc, name, arguments)), wanted)
+        }
+        Err(_) => Outcome::NoRow,
+    };
+    drop(row);
+    outcome
+}
+
+/// The name of the call, its arguments, and the answer that is wanted. A row has these members, and it may have a `name`.
+fn parts_of(row: &Value) -> Given<(&str, &[Value], &Value)> {
+    for (name, _) in given(row.as_object())? {
+        if !matches!(name.as_str(), "name" | "call" | "arguments" | "answer") {
+            return Err(Refusal::NoAnswer);
+        }
+    }
+    let (call, arguments) = (given(row.get("call"))?, given(row.get("arguments"))?);
+    Ok((text(call)?, list(arguments)?, given(row.get("answer"))?))
+}
+
+/// What came, beside the answer that is wanted.
+fn beside(given: Given<Value>, wanted: &Value) -> Outcome {
+    if is_wanted(&given, wanted) {
+        drop(given);
+        Outcome::Holds
+    } else {
+        Outcome::Fails(given)
+    }
+}
+
+/// Whether there is an answer, and it is the one that is wanted.
+fn is_wanted(given: &Given<Value>, wanted: &Value) -> bool
+    ensures { IsTrue result → IsOkAnd given.now (λ v. IsTrue (same (value_tree v) (value_tree wanted.now))) }
+{
+    match given {
+        Ok(answer) => are_same(answer, wanted),
+        Err(_) => false,
+    }
+}
