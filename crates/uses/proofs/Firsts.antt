@@ -1,9 +1,9 @@
 -- What is known of the first of the nodes that are shown, and of the first of a list that is so.
-use Rattle.std.proofs.Common.{◌≡◌, ℕ, zero, suc, ◌+◌, ◌<◌, ◌≤◌, Bool, not, cond, ltb, List, [], ◌∷◌, All, map, position, length, take, get_or, slice_get, Option, Some, None, IfSome, IfNone, IsTrue, IsFalse, false, option_map, refl, sym, ◌∙◌, ap, subst, arith, string_bytes}
+use Rattle.std.proofs.Common.{◌≡◌, ℕ, zero, suc, ◌+◌, ◌<◌, ◌≤◌, Bool, not, cond, ltb, List, [], ◌∷◌, All, position, length, take, get_or, slice_get, Option, Some, None, option_map, String, Global, MatchOption, IfSome, IfNone, IsTrue, IsFalse, false, refl, sym, ◌∙◌, ap, subst, arith, string_bytes}
 use Rattle.std.proofs.lemmas.Bool.{cond_above, cond_below}
-use Rattle.std.proofs.lemmas.List.{take_all, length-map, get_or-map}
+use Rattle.std.proofs.lemmas.List.{take_all}
 use Rattle.std.proofs.lemmas.List.Elements.{All-head, All-more, All-tail}
-use Rattle.std.proofs.lemmas.Option.{slice_get_read, slice_get_within, slice_get-map}
+use Rattle.std.proofs.lemmas.Option.{slice_get_read, slice_get_within}
 use Rattle.std.specs.List.{AllZip, position_or_len}
 use Rattle.jsonpath_rust.specs.Location.{Location}
 use Rattle.jsonpath_rust.specs.Syntax.{Query}
@@ -27,28 +27,22 @@ pub none_there : {A B : Type 0} (P : A → B → Type 0) (xs : List A) → AllZi
 none_there P [] h = refl
 none_there P (x ∷ xs) h = absurd h
 
--- what holds of the value in an answer
-pub in_some : {X : Type 0} (P : X → Type 0) (o : Option X) (x : X) → o ≡ Some x → IfSome o P → P x
-in_some P (Some y) x is h = subst P (cc) h
-in_some P None x is h = absurd (cc)
-
-pub in_none : {X : Type 0} (P : Type 0) (o : Option X) → o ≡ None → IfNone o P → P
-in_none P (Some y) is h = absurd (cc)
-in_none P None is h = h
+-- of an answer, which is the path of the first node, or None where there is none
+pub shown_so : (doc : Document) (q : Query) (o : Option (String Global)) → IfSome o (λ path. IsFirstPath doc (string_bytes path) q) → IfNone o (IsSilent doc q) → MatchOption (option_map string_bytes o) (IsSilent doc q) (λ path. IsFirstPath doc path q)
+shown_so doc q (Some path) first silent = first
+shown_so doc q None first silent = silent
 
 -- the element at the index is so, and those before it are passed over
-pub found_here : {X Y : Type 0} (view : X → Y) (xs : List X) (IsPassed : Y → Type 0) (i : ℕ) (x : X) (IsSo : Y → Type 0) → All IsPassed (take i (map view xs)) → i < length xs → x ≡ get_or xs i x → IsSo (view x) → IsFirst (map view xs) IsPassed i IsSo
-found_here view xs IsPassed i x IsSo before within is so = record { before = before; element = view x; there = slice_get-map view xs i ∙ ap (option_map view) (slice_get_read xs (length xs) i x refl within is); is_so = so }
+pub found_here : {X : Type 0} (xs : List X) (IsPassed : X → Type 0) (i : ℕ) (x : X) (IsSo : X → Type 0) → All IsPassed (take i xs) → i < length xs → x ≡ get_or xs i x → IsSo x → IsFirst xs IsPassed i IsSo
+found_here xs IsPassed i x IsSo before within is so = record { before = before; element = x; there = slice_get_read xs (length xs) i x refl within is; is_so = so }
 
 -- it is passed over too
-pub passed_next : {X Y : Type 0} (view : X → Y) (xs : List X) (IsPassed : Y → Type 0) (i : ℕ) (x : X) → All IsPassed (take i (map view xs)) → i < length xs → x ≡ get_or xs i x → IsPassed (view x) → All IsPassed (take (i + 1) (map view xs))
-passed_next view xs IsPassed i x before within is so =
-    let same : view x ≡ get_or (map view xs) i (view x) = ap view is ∙ sym (get_or-map view xs i x (view x) within) in
-    All-more IsPassed (map view xs) i (view x) (omega (arith, length-map xs view, within)) before (subst IsPassed same so)
+pub passed_next : {X : Type 0} (xs : List X) (IsPassed : X → Type 0) (i : ℕ) (x : X) → All IsPassed (take i xs) → i < length xs → x ≡ get_or xs i x → IsPassed x → All IsPassed (take (i + 1) xs)
+passed_next xs IsPassed i x before within is so = All-more IsPassed xs i x within before (subst IsPassed is so)
 
 -- all have been asked
-pub passed_all : {X Y : Type 0} (view : X → Y) (xs : List X) (IsPassed : Y → Type 0) (i : ℕ) → All IsPassed (take i (map view xs)) → length xs ≤ i → All IsPassed (map view xs)
-passed_all view xs IsPassed i before past = subst (All IsPassed) (take_all i (map view xs) (omega (arith, length-map xs view, past))) before
+pub passed_all : {X : Type 0} (xs : List X) (IsPassed : X → Type 0) (i : ℕ) → All IsPassed (take i xs) → length xs ≤ i → All IsPassed xs
+passed_all xs IsPassed i before past = subst (All IsPassed) (take_all i xs past) before
 
 -- the first that passes stands where each before it fails
 place_of : {Y : Type 0} (p : Y → Bool) (ys : List Y) (i : ℕ) (y : Y) → All (λ z. IsFalse (p z)) (take i ys) → slice_get ys i ≡ Some y → IsTrue (p y) → position_or_len p ys ≡ i

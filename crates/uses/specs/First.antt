@@ -1,12 +1,10 @@
--- The first of a list that is so, and the first query that selects something in a document.
+-- The first of a list that is so, and the first node that a query selects in a document.
 use Rattle.std.specs.Prelude.{◌≡◌, ℕ, List, [], ◌∷◌, Some, All, take, slice_get}
 use Rattle.jsonpath_rust.specs.Location.{Location}
 use Rattle.jsonpath_rust.specs.Syntax.{Query}
-use Rattle.jsonpath_rust.specs.JsonPathError.{JsonPathError}
 use Rattle.jsonpath_rust.specs.Answer.{IsPathAt}
 use Rattle.jsonpath_rust.specs.Document.{Document}
 use Rattle.jsonpath_rust.specs.Meaning.{selected}
-use Rattle.jsonpath_rust.specs.Patterns.{IsStop}
 
 -- the query selects nothing in the document
 abbrev pub IsSilent : Document → Query → Type 0
@@ -25,8 +23,3 @@ pub record IsFirstPath (doc : Document) (path : List ℕ) (q : Query) : Type 0 w
   pub rest : List Location
   pub selects : selected q doc ≡ location ∷ rest
   pub normal : IsPathAt doc location path
-
--- A query is refused so, and those before it select nothing.
-pub record IsStopped (queries : List Query) (doc : Document) (e : JsonPathError) : Type 0 where
-  pub index : ℕ
-  pub stop : IsFirst queries (IsSilent doc) index (λ q. IsStop q doc e)

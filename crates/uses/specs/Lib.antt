@@ -6,5 +6,6 @@ pub mod First
 pub mod Gateway
 pub mod Inbox
 pub mod Patch
+pub mod Policy
 pub mod Redaction
 pub mod Script

@@ -1,6 +1,5 @@
 //! Assertions: conditions that a document is to meet, and those that it does not.
 ghost use Rattle.std.specs.Prelude.{◌≡◌, Any, IfOk, IfErr, filter, map, not};
-ghost use Rattle.jsonpath_rust.specs.Condition.{condition_view};
 ghost use Rattle.jsonpath_rust.specs.Document.{document_of};
 ghost use Rattle.uses.specs.Conditions.{is_met, IsUndecided};
 
@@ -29,8 +28,8 @@ pub fn failures<'a, T: Queryable>(
     document: WholeRef<'_, T>,
 ) -> Queried<Vec<&'a Assertion>>
     ensures failed { IfOk result (λ v. map (λ a. a.now) v.items
-        ≡ filter (λ a. not (is_met (document_of T.tree T.custom document.entry.value.now) (condition_view a.condition))) assertions.now) }
-    ensures refused { IfErr result (λ e. Any (λ a. IsUndecided (document_of T.tree T.custom document.entry.value.now) e (condition_view a.condition)) assertions.now) }
+        ≡ filter (λ a. not (is_met (document_of T.tree T.custom document.entry.value.now) a.condition)) assertions.now) }
+    ensures refused { IfErr result (λ e. Any (λ a. IsUndecided (document_of T.tree T.custom document.entry.value.now) e a.condition) assertions.now) }
 {
     let mut failed = Vec::new(alloc);
     for assertion in assertions {

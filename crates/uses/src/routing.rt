@@ -1,6 +1,5 @@
 //! Routing: the first condition of a table that holds of a document.
-ghost use Rattle.std.specs.Prelude.{◌≡◌, IfOk, IfErr, map, position};
-ghost use Rattle.jsonpath_rust.specs.Condition.{condition_view};
+ghost use Rattle.std.specs.Prelude.{◌≡◌, IfOk, IfErr, position};
 ghost use Rattle.jsonpath_rust.specs.Document.{document_of};
 ghost use Rattle.uses.specs.Conditions.{is_met, IsUnrouted};
 
@@ -21,8 +20,8 @@ pub fn route<T: Queryable>(
     table: &[Condition],
     document: WholeRef<'_, T>,
 ) -> Queried<Option<usize>>
-    ensures routed { IfOk result (λ o. o ≡ position (is_met (document_of T.tree T.custom document.entry.value.now)) (map condition_view table.now)) }
-    ensures refused { IfErr result (IsUnrouted (map condition_view table.now) (document_of T.tree T.custom document.entry.value.now)) }
+    ensures routed { IfOk result (λ o. o ≡ position (is_met (document_of T.tree T.custom document.entry.value.now)) table.now) }
+    ensures refused { IfErr result (IsUnrouted table.now (document_of T.tree T.custom document.entry.value.now)) }
 {
     for (index, condition) in table.iter().enumerate() {
         if condition.holds(alloc, document.get())? {

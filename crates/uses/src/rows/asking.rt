@@ -7,7 +7,7 @@ use crate::gateway::admit;
 use crate::inbox::matching;
 use crate::policy::first_violation;
 use crate::routing::route;
-use crate::rows::texts::{assertions_of, conditions_of, queries_of};
+use crate::rows::texts::{assertions_of, conditions_of, rules_of};
 use crate::same::is_same_query;
 use jsonpath_rust::parser::{let_go, parse_json_path};
 use jsonpath_rust::query::{Prepared, Step};
@@ -54,9 +54,9 @@ pub fn answer(alloc: Global, name: &str, arguments: &[Value]) -> Given<Value> {
 
 /// `{"rule": .., "path": ..}` of the first violation of a policy.
 fn violation(alloc: Global, rules: &[Value], document: Lent<'_>) -> Given<Value> {
-    let queries = queries_of(alloc, rules)?;
-    let found = first_violation(alloc, &queries, document);
-    drop(queries);
+    let policy = rules_of(alloc, rules)?;
+    let found = first_violation(alloc, &policy, document);
+    drop(policy);
     match found? {
         Some(violation) => Ok(json!(in alloc; {"rule": violation.rule, "path": violation.path})?),
         None => Ok(Value::Null),

@@ -1,7 +1,6 @@
 use Rattle.std.proofs.Common.{Any, refl, sym, subst, arith}
 use Rattle.std.proofs.lemmas.Result.{err_from_is_err_and}
 use Rattle.jsonpath_rust.specs.JsonPathError.TheVariants.{OutOfMemory}
-use Rattle.jsonpath_rust.specs.Condition.{condition_view}
 use Rattle.jsonpath_rust.specs.Document.{document_of}
 use Rattle.uses.specs.Conditions.{IsUndecided}
 use Rattle.uses.specs.declared.assertion.Assertion.{Assertion}
@@ -12,8 +11,8 @@ returns-in_err-holds-clause-refused g c =
     let doc = document_of g.T.Queryable.tree g.T.Queryable.custom in
     let e = c.in_err-holds.field-0.0 in
     let a = c.assertion-item.result in
-    let stop = subst (λ x. IsUndecided (doc x) e (condition_view a.condition)) c.get.ensures.same c.in_err-holds.ensures.refused in
-    let any : Any (λ (b : Assertion). IsUndecided (doc c.args.document.value.now) e (condition_view b.condition)) c.args.assertions.now = (c.loop-assertion.assertion-index, a, omega arith, sym c.assertion-item.is, stop) in
+    let stop = subst (λ x. IsUndecided (doc x) e a.condition) c.get.ensures.same c.in_err-holds.ensures.refused in
+    let any : Any (λ (b : Assertion). IsUndecided (doc c.args.document.value.now) e b.condition) c.args.assertions.now = (c.loop-assertion.assertion-index, a, omega arith, sym c.assertion-item.is, stop) in
     let p = err_from_is_err_and c.from_residual.result c.from_residual.ensures.1 in
     rw (p.1, p.2) any
 
@@ -21,6 +20,6 @@ pub returns-in_err-push-clause-refused : goal.returns-in_err-push-clause-refused
 returns-in_err-push-clause-refused g c =
     let doc = document_of g.T.Queryable.tree g.T.Queryable.custom c.args.document.value.now in
     let a = c.assertion-item.result in
-    let any : Any (λ (b : Assertion). IsUndecided doc OutOfMemory (condition_view b.condition)) c.args.assertions.now = (c.loop-assertion.assertion-index, a, omega arith, sym c.assertion-item.is, λ no. absurd (no refl)) in
+    let any : Any (λ (b : Assertion). IsUndecided doc OutOfMemory b.condition) c.args.assertions.now = (c.loop-assertion.assertion-index, a, omega arith, sym c.assertion-item.is, λ no. absurd (no refl)) in
     let p = err_from_is_err_and c.from_residual-in_err-push.result c.from_residual-in_err-push.ensures.1 in
     rw (p.1, p.2) any

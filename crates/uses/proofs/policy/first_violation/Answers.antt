@@ -1,35 +1,53 @@
-use Rattle.std.proofs.Common.{map, string_bytes, arith}
+use Rattle.std.proofs.Common.{◌≡◌, true, false, ◌∙◌, sym, subst, arith, inl, inr, option_map, string_bytes}
 use Rattle.std.proofs.lemmas.Result.{err_from_is_err_and}
 use Rattle.jsonpath_rust.specs.View.{query_view}
 use Rattle.jsonpath_rust.specs.Document.{document_of}
-use Rattle.jsonpath_rust.specs.Patterns.{IsStop}
-use Rattle.uses.specs.First.{IsSilent, IsFirstPath, IsStopped}
-use Rattle.uses.proofs.Firsts.{in_some, in_none, found_here, passed_next, passed_all}
+use Rattle.uses.specs.Conditions.{is_met, IsUndecided}
+use Rattle.uses.specs.Policy.{IsKept, IsBroken, IsRuleStop, IsUnjudged}
+use Rattle.uses.proofs.Firsts.{shown_so, found_here, passed_next, passed_all}
 use Rattle.uses.proofs.policy.first_violation.Goals as goal
+
+pub returns-in_err-holds-clause-refused : goal.returns-in_err-holds-clause-refused
+returns-in_err-holds-clause-refused g c =
+    let doc = document_of g.T.Queryable.tree g.T.Queryable.custom in
+    let v = c.args.document.value.now in
+    let r = c.index-policy-index.result in
+    let e = c.in_err-holds.field-0.0 in
+    let stop = subst (λ x. IsUndecided (doc x) e r.condition) c.get.ensures.same c.in_err-holds.ensures.refused in
+    let unjudged : IsUnjudged c.args.policy.now (doc v) e = record { index = c.loop-index.index; refused = found_here c.args.policy.now (IsKept (doc v)) c.loop-index.index r (IsRuleStop (doc v) e) c.loop-index.invariant (omega arith) c.index-policy-index.is (inl stop) } in
+    let p = err_from_is_err_and c.from_residual.result c.from_residual.ensures.1 in
+    rw (p.1, p.2) unjudged
 
 pub returns-in_err-path-clause-refused : goal.returns-in_err-path-clause-refused
 returns-in_err-path-clause-refused g c =
-    let doc = document_of g.T.Queryable.tree g.T.Queryable.custom c.args.document.value.now in
-    let q = c.index-policy-rule.result in
+    let doc = document_of g.T.Queryable.tree g.T.Queryable.custom in
+    let v = c.args.document.value.now in
+    let r = c.index-policy-index.result in
     let e = c.in_err-path.field-0.0 in
-    let stopped : IsStopped (map query_view c.args.policy.now) doc e = record { index = c.loop-rule.rule; stop = found_here query_view c.args.policy.now (IsSilent doc) c.loop-rule.rule q (λ p. IsStop p doc e) c.loop-rule.invariant (omega arith) c.index-policy-rule.is c.in_err-path.ensures.refused } in
-    let p = err_from_is_err_and c.from_residual.result c.from_residual.ensures.1 in
-    rw (p.1, p.2) stopped
+    let unmet : is_met (doc v) r.condition ≡ false = sym (subst (λ x. c.in_ok-holds.field-0 ≡ is_met (doc x) r.condition) c.get.ensures.same c.in_ok-holds.ensures.holds) ∙ c.if-not-branch.true in
+    let unjudged : IsUnjudged c.args.policy.now (doc v) e = record { index = c.loop-index.index; refused = found_here c.args.policy.now (IsKept (doc v)) c.loop-index.index r (IsRuleStop (doc v) e) c.loop-index.invariant (omega arith) c.index-policy-index.is (inr (unmet, c.in_err-path.ensures.refused)) } in
+    let p = err_from_is_err_and c.from_residual-in_err-path.result c.from_residual-in_err-path.ensures.1 in
+    rw (p.1, p.2) unjudged
 
-pub returns-in-Some-clause-broken : goal.returns-in-Some-clause-broken
-returns-in-Some-clause-broken g c =
-    let doc = document_of g.T.Queryable.tree g.T.Queryable.custom c.args.document.value.now in
-    let q = c.index-policy-rule.result in
-    found_here query_view c.args.policy.now (IsSilent doc) c.loop-rule.rule q (IsFirstPath doc (string_bytes c.in-Some.path)) c.loop-rule.invariant (omega arith) c.index-policy-rule.is
-    (in_some (λ path. IsFirstPath doc (string_bytes path) (query_view q)) c.in_ok-path.field-0 c.in-Some.path (cc) c.in_ok-path.ensures.found)
+pub returns-then-not-branch-clause-broken : goal.returns-then-not-branch-clause-broken
+returns-then-not-branch-clause-broken g c =
+    let doc = document_of g.T.Queryable.tree g.T.Queryable.custom in
+    let v = c.args.document.value.now in
+    let r = c.index-policy-index.result in
+    let o = c.in_ok-path.path in
+    let unmet : is_met (doc v) r.condition ≡ false = sym (subst (λ x. c.in_ok-holds.field-0 ≡ is_met (doc x) r.condition) c.get.ensures.same c.in_ok-holds.ensures.holds) ∙ c.if-not-branch.true in
+    let path = option_map string_bytes o in
+    let broken : IsBroken (doc v) path r = record { unmet = unmet; shown = shown_so (doc v) (query_view r.shown) o c.in_ok-path.ensures.found c.in_ok-path.ensures.silent } in
+    found_here c.args.policy.now (IsKept (doc v)) c.loop-index.index r (IsBroken (doc v) path) c.loop-index.invariant (omega arith) c.index-policy-index.is broken
 
-pub loop-rule-preserved : goal.loop-rule-preserved
-loop-rule-preserved g c =
-    let doc = document_of g.T.Queryable.tree g.T.Queryable.custom c.args.document.value.now in
-    let q = c.index-policy-rule.result in
-    passed_next query_view c.args.policy.now (IsSilent doc) c.loop-rule.rule q c.loop-rule.invariant (omega arith) c.index-policy-rule.is
-    (in_none (IsSilent doc (query_view q)) c.in_ok-path.field-0 (cc) c.in_ok-path.ensures.silent)
+pub loop-index-preserved : goal.loop-index-preserved
+loop-index-preserved g c =
+    let doc = document_of g.T.Queryable.tree g.T.Queryable.custom in
+    let v = c.args.document.value.now in
+    let r = c.index-policy-index.result in
+    let met : is_met (doc v) r.condition ≡ true = sym (subst (λ x. c.in_ok-holds.field-0 ≡ is_met (doc x) r.condition) c.get.ensures.same c.in_ok-holds.ensures.holds) ∙ c.if-not-branch.false in
+    passed_next c.args.policy.now (IsKept (doc v)) c.loop-index.index r c.loop-index.invariant (omega arith) c.index-policy-index.is met
 
 pub returns-clause-kept : goal.returns-clause-kept
 returns-clause-kept g c =
-    passed_all query_view c.args.policy.now (IsSilent (document_of g.T.Queryable.tree g.T.Queryable.custom c.args.document.value.now)) c.loop-rule.rule c.loop-rule.invariant (omega arith)
+    passed_all c.args.policy.now (IsKept (document_of g.T.Queryable.tree g.T.Queryable.custom c.args.document.value.now)) c.loop-index.index c.loop-index.invariant (omega arith)

@@ -1,9 +1,8 @@
-use Rattle.std.proofs.Common.{All, map, take}
-use Rattle.jsonpath_rust.specs.View.{query_view}
+use Rattle.std.proofs.Common.{All, take}
 use Rattle.jsonpath_rust.specs.Document.{document_of}
-use Rattle.uses.specs.First.{IsSilent}
+use Rattle.uses.specs.Policy.{IsKept}
 use Rattle.uses.proofs.policy.first_violation.Given as goal
 
--- the queries that were asked select nothing
-abbrev pub invariant-loop-rule : goal.invariant-loop-rule
-invariant-loop-rule g l = All (IsSilent (document_of g.T.Queryable.tree g.T.Queryable.custom l.document.value.now)) (take l.rule (map query_view l.policy))
+-- the rules that were asked are kept
+abbrev pub invariant-loop-index : goal.invariant-loop-index
+invariant-loop-index g l = All (IsKept (document_of g.T.Queryable.tree g.T.Queryable.custom l.document.value.now)) (take l.index l.policy)

@@ -1,8 +1,6 @@
-use Rattle.std.proofs.Common.{◌≡◌, true, false, IsFalse, IsTrue, ◌∙◌, map, sym, subst, arith}
+use Rattle.std.proofs.Common.{◌≡◌, true, false, IsFalse, IsTrue, ◌∙◌, sym, subst, arith}
 use Rattle.std.proofs.lemmas.Result.{err_from_is_err_and}
-use Rattle.jsonpath_rust.specs.Condition.{condition_view, filter_query}
 use Rattle.jsonpath_rust.specs.Document.{document_of}
-use Rattle.jsonpath_rust.specs.Patterns.{IsStop}
 use Rattle.uses.specs.Conditions.{is_met, IsUndecided, IsUnrouted}
 use Rattle.uses.proofs.Firsts.{found_here, passed_next, passed_all, position_here, position_nowhere}
 use Rattle.uses.proofs.routing.route.Goals as goal
@@ -13,8 +11,8 @@ returns-in_err-holds-clause-refused g c =
     let v = c.args.document.value.now in
     let f = c.index-table-index.result in
     let e = c.in_err-holds.field-0.0 in
-    let stop = subst (λ x. IsUndecided (doc x) e (condition_view f)) c.get.ensures.same c.in_err-holds.ensures.refused in
-    let unrouted : IsUnrouted (map condition_view c.args.table.now) (doc v) e = record { index = c.loop-index.index; refused = found_here condition_view c.args.table.now (λ x. IsFalse (is_met (doc v) x)) c.loop-index.index f (IsUndecided (doc v) e) c.loop-index.invariant (omega arith) c.index-table-index.is stop } in
+    let stop = subst (λ x. IsUndecided (doc x) e f) c.get.ensures.same c.in_err-holds.ensures.refused in
+    let unrouted : IsUnrouted c.args.table.now (doc v) e = record { index = c.loop-index.index; refused = found_here c.args.table.now (λ x. IsFalse (is_met (doc v) x)) c.loop-index.index f (IsUndecided (doc v) e) c.loop-index.invariant (omega arith) c.index-table-index.is stop } in
     let p = err_from_is_err_and c.from_residual.result c.from_residual.ensures.1 in
     rw (p.1, p.2) unrouted
 
@@ -23,18 +21,18 @@ returns-then-branch-clause-routed g c =
     let doc = document_of g.T.Queryable.tree g.T.Queryable.custom in
     let v = c.args.document.value.now in
     let f = c.index-table-index.result in
-    let held : is_met (doc v) (condition_view f) ≡ true = sym (subst (λ x. c.in_ok-holds.field-0 ≡ is_met (doc x) (condition_view f)) c.get.ensures.same c.in_ok-holds.ensures.holds) ∙ c.if-branch.true in
-    position_here (is_met (doc v)) (map condition_view c.args.table.now) c.loop-index.index (found_here condition_view c.args.table.now (λ x. IsFalse (is_met (doc v) x)) c.loop-index.index f (λ x. IsTrue (is_met (doc v) x)) c.loop-index.invariant (omega arith) c.index-table-index.is held)
+    let held : is_met (doc v) f ≡ true = sym (subst (λ x. c.in_ok-holds.field-0 ≡ is_met (doc x) f) c.get.ensures.same c.in_ok-holds.ensures.holds) ∙ c.if-branch.true in
+    position_here (is_met (doc v)) c.args.table.now c.loop-index.index (found_here c.args.table.now (λ x. IsFalse (is_met (doc v) x)) c.loop-index.index f (λ x. IsTrue (is_met (doc v) x)) c.loop-index.invariant (omega arith) c.index-table-index.is held)
 
 pub loop-index-preserved : goal.loop-index-preserved
 loop-index-preserved g c =
     let doc = document_of g.T.Queryable.tree g.T.Queryable.custom in
     let v = c.args.document.value.now in
     let f = c.index-table-index.result in
-    let failed : is_met (doc v) (condition_view f) ≡ false = sym (subst (λ x. c.in_ok-holds.field-0 ≡ is_met (doc x) (condition_view f)) c.get.ensures.same c.in_ok-holds.ensures.holds) ∙ c.if-branch.false in
-    passed_next condition_view c.args.table.now (λ x. IsFalse (is_met (doc v) x)) c.loop-index.index f c.loop-index.invariant (omega arith) c.index-table-index.is failed
+    let failed : is_met (doc v) f ≡ false = sym (subst (λ x. c.in_ok-holds.field-0 ≡ is_met (doc x) f) c.get.ensures.same c.in_ok-holds.ensures.holds) ∙ c.if-branch.false in
+    passed_next c.args.table.now (λ x. IsFalse (is_met (doc v) x)) c.loop-index.index f c.loop-index.invariant (omega arith) c.index-table-index.is failed
 
 pub returns-clause-routed : goal.returns-clause-routed
 returns-clause-routed g c =
     let doc = document_of g.T.Queryable.tree g.T.Queryable.custom c.args.document.value.now in
-    position_nowhere (is_met doc) (map condition_view c.args.table.now) (passed_all condition_view c.args.table.now (λ x. IsFalse (is_met doc x)) c.loop-index.index c.loop-index.invariant (omega arith))
+    position_nowhere (is_met doc) c.args.table.now (passed_all c.args.table.now (λ x. IsFalse (is_met doc x)) c.loop-index.index c.loop-index.invariant (omega arith))
