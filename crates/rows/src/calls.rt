@@ -5,14 +5,10 @@ use crate::{
     built, changes, conditions, errors, grammar, limits, locations, makers, methods, nodes,
     patterns, process, states, trees, types,
 };
-use jsonpath_base::{
-    begins, path_of, picked, pointer_of, same, set_function, text_length, text_less,
-};
-use jsonpath_rust::Whole;
+use jsonpath_base::{same, set_function, text_length, text_less};
 use jsonpath_rust::query::queryable::Deletable;
-use jsonpath_rust::query::{js_path_count, location_by_path, referred_location};
-use rows_common::answers::{answered, are_same, listed, pair};
-use rows_common::arguments::{size, spelled, steps, text, whole};
+use rows_common::answers::{answered, are_same, pair};
+use rows_common::arguments::{text, whole};
 use rows_common::{Given, Refusal};
 use serde_json::Value;
 use std::alloc::Global;
@@ -38,35 +34,15 @@ pub fn answer(alloc: Global, name: &str, arguments: &[Value]) -> Given<Value> {
 /// The same of slices, of locations and of values at them.
 fn of_locations(alloc: Global, name: &str, arguments: &[Value]) -> Given<Value> {
     match (name, arguments) {
-        ("picked", [start, end, step, length]) => {
-            let (start, end, step) = locations::slice(start, end, step)?;
-            listed(alloc, picked(alloc, start, end, step, size(length)?)?)
-        }
-        ("slice_places", [start, end, step, length]) => {
-            locations::places(alloc, locations::slice(start, end, step)?, length)
-        }
+        ("picked" | "slice_places", parts) => locations::sliced(alloc, name, parts),
         ("add_name" | "add_index", [path, step]) => locations::longer(alloc, name, path, step),
         ("try_clone", [step, other]) => locations::copied(alloc, step, other),
-        ("begins", [location, prefix]) => {
-            let (location, prefix) = (steps(alloc, location)?, steps(alloc, prefix)?);
-            Ok(Value::from(begins(&location, &prefix)))
-        }
-        ("path_of", [location]) => {
-            let steps = steps(alloc, location)?;
-            Ok(Value::String(path_of(alloc, &steps)?))
-        }
-        ("pointer_of", [location]) => {
-            let steps = steps(alloc, location)?;
-            Ok(Value::String(pointer_of(alloc, &steps)?))
-        }
+        ("begins", [location, prefix]) => locations::begun(alloc, location, prefix),
+        ("path_of" | "pointer_of", [location]) => locations::written(alloc, name, location),
         ("location_by_pointer", [value, pointer]) => locations::pointed(alloc, value, pointer),
         ("step_by_token", [value, token]) => locations::stepped(alloc, value, token),
-        ("location_by_path", [path]) => {
-            locations::located(alloc, location_by_path(alloc, text(path)?)?)
-        }
-        ("referred_location", [value, path]) => {
-            locations::located(alloc, referred_location(alloc, value, text(path)?)?)
-        }
+        ("location_by_path", [path]) => locations::by_path(alloc, path),
+        ("referred_location", [value, path]) => locations::referred(alloc, value, path),
         ("at", [value, location]) => changes::value_at(alloc, value, location),
         ("take_at", [value, location]) => changes::taken(alloc, value, location),
         ("Whole::take_at", [value, location]) => changes::taken_whole(alloc, value, location),
@@ -86,26 +62,24 @@ fn of_trees(alloc: Global, name: &str, arguments: &[Value]) -> Given<Value> {
         ("Whole::add_at" | "Whole::delete_within", [value, change @ ..]) => {
             changes::changed_whole(alloc, name, value, change)
         }
-        ("to_query_text", [name, part]) => trees::unspelled(alloc, text(name)?, text(part)?),
-        ("error", [name]) => errors::shown(alloc, text(name)?),
+        ("to_query_text", [name, part]) => trees::unspelled(alloc, name, part),
+        ("error", [name]) => errors::shown(alloc, name),
         ("same_tree" | "parse_json_path" | "to_query_text", [query, rest @ ..]) => {
-            trees::answer(alloc, name, &spelled(alloc, query)?, rest)
+            trees::answer(alloc, name, query, rest)
         }
         ("is_singular" | "is_local" | "calls_only" | "fixed_steps", [query, rest @ ..]) => {
-            trees::answer(alloc, name, &spelled(alloc, query)?, rest)
+            trees::answer(alloc, name, query, rest)
         }
-        ("cursor", [query, names]) => grammar::each(alloc, &spelled(alloc, query)?, names),
+        ("cursor", [query, names]) => grammar::each(alloc, query, names),
         ("built", [name, query]) => built::answer(alloc, name, query),
-        ("kind", [argument]) => makers::kind(alloc, text(argument)?),
-        ("TestFunction::try_new", [name, arguments]) => {
-            makers::call(alloc, text(name)?, text(arguments)?)
-        }
+        ("kind", [argument]) => makers::kind(alloc, argument),
+        ("TestFunction::try_new", [name, arguments]) => makers::call(alloc, name, arguments),
         (
             "JpQuery::new" | "slice_from" | "FilterAtom::filter" | "FilterAtom::test" | "atom_test",
             [],
-        ) => makers::made(alloc, name, ""),
+        ) => makers::made(alloc, name, &Value::Null),
         ("FilterAtom::cmp" | "Comparison::vals" | "Comparison::try_new" | "cmp", [operator]) =>
-            makers::made(alloc, name, text(operator)?),
+            makers::made(alloc, name, operator),
         _ => of_documents(alloc, name, arguments),
     }
 }
@@ -113,13 +87,10 @@ fn of_trees(alloc: Global, name: &str, arguments: &[Value]) -> Given<Value> {
 /// The same of documents and of conditions on them.
 fn of_documents(alloc: Global, name: &str, arguments: &[Value]) -> Given<Value> {
     match (name, arguments) {
-        ("Whole::read", [json]) => Ok(Whole::read(alloc, &spelled(alloc, json)?)?.into_inner()),
-        ("query_with_path", [document, query]) => methods::answer(alloc, document, text(query)?),
-        ("js_path_only", [query, document]) => nodes::only(alloc, text(query)?, document),
-        ("js_path_count", [query, document]) => {
-            let count = js_path_count(alloc, text(query)?, whole(document)?.get())?;
-            Ok(Value::from(count))
-        }
+        ("Whole::read", [json]) => nodes::read(alloc, json),
+        ("query_with_path", [document, query]) => methods::answer(alloc, document, query),
+        ("js_path_only", [query, document]) => nodes::only(alloc, query, document),
+        ("js_path_count", [query, document]) => nodes::count(alloc, query, document),
         ("enough", [query, document]) => limits::enough(alloc, query, document),
         ("Condition::read" | "Condition::holds" | "Condition::enough", [text, rest @ ..]) => {
             conditions::answer(alloc, name, text, rest)
@@ -155,25 +126,21 @@ fn of_type<T: Document + Deletable>(
     arguments: &[Value],
 ) -> Given<Value> {
     match (name, arguments) {
-        ("js_path", [query, document]) => {
-            nodes::found::<T>(alloc, &spelled(alloc, query)?, document)
-        }
+        ("js_path", [query, document]) => nodes::found::<T>(alloc, query, document),
         ("js_path_process", [part, query, document]) => {
-            process::found::<T>(alloc, text(part)?, text(query)?, document)
+            process::found::<T>(alloc, part, query, document)
         }
         ("process", [part, query, document]) => {
-            process::answer::<T>(alloc, text(part)?, query, (None, document))
+            process::answer::<T>(alloc, part, query, (None, document))
         }
         ("process", [part, query, document, content]) => {
-            process::answer::<T>(alloc, text(part)?, query, (Some(content), document))
+            process::answer::<T>(alloc, part, query, (Some(content), document))
         }
-        ("reference", [document, path]) => changes::referred::<T>(alloc, document, text(path)?),
-        ("delete_by_path", [document, query]) => {
-            changes::deleted::<T>(alloc, document, text(query)?)
-        }
+        ("reference", [document, path]) => changes::referred::<T>(alloc, document, path),
+        ("delete_by_path", [document, query]) => changes::deleted::<T>(alloc, document, query),
         ("equal", [left, right]) => types::equal::<T>(alloc, left, right),
         ("from_list", values) => types::list::<T>(alloc, values),
-        ("extension_custom", [name, values @ ..]) => types::custom::<T>(alloc, text(name)?, values),
+        ("extension_custom", [name, values @ ..]) => types::custom::<T>(alloc, name, values),
         ("not_a_reference", [value]) => types::refused::<T>(alloc, value),
         ("QueryRef::equal", [left, right]) => types::equal_nodes::<T>(alloc, left, right),
         _ => states::answer::<T>(alloc, name, arguments),

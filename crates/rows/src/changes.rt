@@ -136,16 +136,21 @@ fn change_whole(
 }
 
 /// A list of the value that `reference` finds, empty for None.
-pub fn referred<T: Document>(alloc: Global, document: &Value, path: &str) -> Given<Value> {
+pub fn referred<T: Document>(alloc: Global, document: &Value, path: &Value) -> Given<Value> {
     let document = document_of::<T>(alloc, document)?;
-    match document.get().reference(alloc, path)? {
+    match document.get().reference(alloc, text(path)?)? {
         Some(found) => optional(alloc, Some(found.value(alloc)?)),
         None => optional(alloc, None::<Value>),
     }
 }
 
 /// What `delete_by_path` answers and leaves.
-pub fn deleted<T: Document + Deletable>(alloc: Global, value: &Value, query: &str) -> Given<Value> {
+pub fn deleted<T: Document + Deletable>(
+    alloc: Global,
+    value: &Value,
+    query: &Value,
+) -> Given<Value> {
+    let query = text(query)?;
     let mut document = document_of::<T>(alloc, value)?.into_inner();
     let count = document.delete_by_path(alloc, query);
     with_left(alloc, counted(count), document.value(alloc)?, value)

@@ -1,17 +1,17 @@
 //! Errors: the text of each, which is made by its maker where it has one.
 use jsonpath_rust::parser::errors::JsonPathError;
-use rows_common::arguments::given;
+use rows_common::arguments::{given, text};
 use rows_common::{Given, Refusal};
 use serde_json::Value;
 use std::alloc::Global;
 
 /// The text of the error of that name, whose copy has to be equal to it. Beside the thirteen variants there are the names of two makers,
 /// `from_text` and `bad_bool`.
-pub fn shown(alloc: Global, name: &str) -> Given<Value> {
-    let error = named(alloc, name)?;
-    let text = shown_alike(alloc, &error);
+pub fn shown(alloc: Global, name: &Value) -> Given<Value> {
+    let error = named(alloc, text(name)?)?;
+    let shown = shown_alike(alloc, &error);
     drop(error);
-    text
+    shown
 }
 
 fn shown_alike(alloc: Global, error: &JsonPathError) -> Given<Value> {

@@ -36,8 +36,9 @@ pub fn answer(alloc: Global, name: &str, arguments: &[Value]) -> Given<Value> {
 }
 
 /// A list of what each of the functions reads, from where the one before it ended.
-pub fn each(alloc: Global, query: &str, names: &Value) -> Given<Value> {
-    let mut cursor = Cursor::new(query);
+pub fn each(alloc: Global, query: &Value, names: &Value) -> Given<Value> {
+    let query = spelled(alloc, query)?;
+    let mut cursor = Cursor::new(&query);
     let mut answers = Vec::new(alloc);
     for name in list(names)? {
         let read = front(alloc, text(name)?, Form::Tree, &mut cursor);

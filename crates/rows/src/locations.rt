@@ -1,17 +1,26 @@
 //! Slices, steps, and locations, which are lists of names and indexes.
-use jsonpath_base::{Step, add_index, add_name, location_by_pointer, slice_places, step_by_token};
-use rows_common::answers::{location, pair};
-use rows_common::arguments::{number, size, step, text};
+use jsonpath_base::{
+    SlicePlaces, Step, add_index, add_name, begins, location_by_pointer, path_of, picked,
+    pointer_of, slice_places, step_by_token,
+};
+use jsonpath_rust::query::{location_by_path, referred_location};
+use rows_common::answers::{listed, location, pair};
+use rows_common::arguments::{number, size, step, steps, text};
 use rows_common::{Given, Refusal};
 use serde_json::Value;
 use std::alloc::Global;
 
-/// The start, the end and the step of a slice, each None where it is left out.
-type Slice = (Option<i64>, Option<i64>, Option<i64>);
-
-/// The slice of these parts, null where one is left out.
-pub fn slice(start: &Value, end: &Value, step: &Value) -> Given<Slice> {
-    Ok((part(start)?, part(end)?, part(step)?))
+/// The places that the slice of a start, an end and a step picks of so many elements, null where a part is left out; for `slice_places`
+/// how many there are, and which.
+pub fn sliced(alloc: Global, name: &str, parts: &[Value]) -> Given<Value> {
+    let [start, end, step, length] = parts else {
+        return Err(Refusal::NoAnswer);
+    };
+    let (start, end, step, length) = (part(start)?, part(end)?, part(step)?, size(length)?);
+    match name {
+        "picked" => listed(alloc, picked(alloc, start, end, step, length)?),
+        _ => told(alloc, slice_places(start, end, step, length)),
+    }
 }
 
 fn part(value: &Value) -> Given<Option<i64>> {
@@ -21,9 +30,7 @@ fn part(value: &Value) -> Given<Option<i64>> {
     }
 }
 
-/// How many places there are, and which.
-pub fn places(alloc: Global, (start, end, step): Slice, length: &Value) -> Given<Value> {
-    let places = slice_places(start, end, step, size(length)?);
+fn told(alloc: Global, places: SlicePlaces) -> Given<Value> {
     let count = Value::from(places.len());
     let mut given = Vec::new(alloc);
     for place in places {
@@ -53,6 +60,21 @@ pub fn copied(alloc: Global, original: &Value, other: &Value) -> Given<Value> {
     }
 }
 
+/// Whether the location begins with the prefix.
+pub fn begun(alloc: Global, location: &Value, prefix: &Value) -> Given<Value> {
+    let (location, prefix) = (steps(alloc, location)?, steps(alloc, prefix)?);
+    Ok(Value::from(begins(&location, &prefix)))
+}
+
+/// The path of the location, or its pointer.
+pub fn written(alloc: Global, name: &str, location: &Value) -> Given<Value> {
+    let steps = steps(alloc, location)?;
+    match name {
+        "path_of" => Ok(Value::String(path_of(alloc, &steps)?)),
+        _ => Ok(Value::String(pointer_of(alloc, &steps)?)),
+    }
+}
+
 /// A list of the location that the pointer means, empty for None.
 pub fn pointed(alloc: Global, value: &Value, pointer: &Value) -> Given<Value> {
     let mut found = Vec::new(alloc);
@@ -71,8 +93,17 @@ pub fn stepped(alloc: Global, value: &Value, token: &Value) -> Given<Value> {
     location(alloc, &found)
 }
 
-/// The location, null for None.
-pub fn located(alloc: Global, found: Option<Vec<Step>>) -> Given<Value> {
+/// The location that the path means, null for None.
+pub fn by_path(alloc: Global, path: &Value) -> Given<Value> {
+    located(alloc, location_by_path(alloc, text(path)?)?)
+}
+
+/// The location that the path means in the value, null for None.
+pub fn referred(alloc: Global, value: &Value, path: &Value) -> Given<Value> {
+    located(alloc, referred_location(alloc, value, text(path)?)?)
+}
+
+fn located(alloc: Global, found: Option<Vec<Step>>) -> Given<Value> {
     match found {
         Some(steps) => location(alloc, &steps),
         None => Ok(Value::Null),

@@ -6,12 +6,14 @@ use jsonpath_rust::parser::model::{
     Comparison, Filter, FilterAtom, FnArg, JpQuery, Segment, Test, TestFunction, slice_from,
 };
 use jsonpath_rust::parser::{Cursor, function_expr};
+use rows_common::arguments::text;
 use rows_common::{Given, Refusal, answers};
 use serde_json::Value;
 use std::alloc::Global;
 
 /// What the maker of that name makes, of an operator between 1 and 2 where it takes one.
-pub fn made(alloc: Global, name: &str, operator: &str) -> Given<Value> {
+pub fn made(alloc: Global, name: &str, operator: &Value) -> Given<Value> {
+    let operator = operator.as_str().unwrap_or("");
     match name {
         "JpQuery::new" => {
             let segments = vec![in alloc; Segment::name(alloc, "a")?]?;
@@ -48,8 +50,9 @@ fn comparison(alloc: Global, operator: &str) -> Parsed<Comparison> {
 }
 
 /// What `TestFunction::try_new` makes of a name and of arguments as they are written.
-pub fn call(alloc: Global, name: &str, text: &str) -> Given<Value> {
-    let arguments = arguments_of(alloc, text)?;
+pub fn call(alloc: Global, name: &Value, arguments: &Value) -> Given<Value> {
+    let name = text(name)?;
+    let arguments = arguments_of(alloc, text(arguments)?)?;
     tree(alloc, TestFunction::try_new(alloc, name, arguments))
 }
 
@@ -66,8 +69,8 @@ pub fn arguments_of(alloc: Global, text: &str) -> Given<Vec<FnArg>> {
 }
 
 /// What the argument of this text is, by its own calls and those of the test that it holds.
-pub fn kind(alloc: Global, text: &str) -> Given<Value> {
-    let arguments = arguments_of(alloc, text)?;
+pub fn kind(alloc: Global, argument: &Value) -> Given<Value> {
+    let arguments = arguments_of(alloc, text(argument)?)?;
     let kind = match arguments.first() {
         Some(argument) => kind_of(argument),
         None => "no argument",

@@ -6,13 +6,13 @@ use crate::nodes::listed;
 use jsonpath_rust::JsonPath;
 use jsonpath_rust::query::{Queried, QueryPath, QueryRef};
 use rows_common::Given;
-use rows_common::arguments::whole;
+use rows_common::arguments::{text, whole};
 use serde_json::Value;
 use std::alloc::Global;
 
 /// The nodes that `query_with_path` finds.
-pub fn answer(alloc: Global, document: &Value, query: &str) -> Given<Value> {
-    let answers = methods_answers(alloc, query, whole(document)?.get())?;
+pub fn answer(alloc: Global, document: &Value, query: &Value) -> Given<Value> {
+    let answers = methods_answers(alloc, text(query)?, whole(document)?.get())?;
     listed(alloc, &answers.nodes)
 }
 /// What the three methods of a document answer to a query.

@@ -38,9 +38,15 @@ fn extent_of(whole: bool) -> Extent {
 /// In which of the texts one finder of the pattern finds something.
 pub fn finder(alloc: Global, pattern: &Value, whole: &Value, texts: &Value) -> Given<Value> {
     let read = Pattern::new(alloc, text(pattern)?, extent_of(truth(whole)?))?;
+    let answers = found_in(alloc, &read, list(texts)?);
+    drop(read);
+    answers
+}
+
+fn found_in(alloc: Global, read: &Pattern, texts: &[Value]) -> Given<Value> {
     let mut finder = read.finder(alloc)?;
     let mut answers = Vec::new(alloc);
-    for subject in list(texts)? {
+    for subject in texts {
         answers.push(Value::from(finder.is_found(text(subject)?)))?;
     }
     if finder.is_of(read.source(), read.extent()) {

@@ -13,7 +13,7 @@ use jsonpath_rust::parser::{
     test,
 };
 use jsonpath_rust::query::{Query, apply, js_path_process};
-use rows_common::arguments::{given, spelled};
+use rows_common::arguments::{given, spelled, text};
 use rows_common::{Given, Refusal};
 use serde_json::Value;
 use std::alloc::Global;
@@ -21,21 +21,26 @@ use std::alloc::Global;
 /// What the state comes to: that of the content, or else of the root.
 pub fn answer<T: Document>(
     alloc: Global,
-    part: &str,
+    part: &Value,
     query: &Value,
     (content, document): (Option<&Value>, &Value),
 ) -> Given<Value> {
-    let text = spelled(alloc, query)?;
+    let (part, query) = (text(part)?, spelled(alloc, query)?);
     let ground = ground_of::<T>(alloc, content, document)?;
-    let answer = of_part(alloc, &ground, part, &text);
+    let answer = of_part(alloc, &ground, part, &query);
     drop(ground);
     answer
 }
 
 /// The nodes of the query that no text spells.
-pub fn found<T: Document>(alloc: Global, name: &str, part: &str, document: &Value) -> Given<Value> {
+pub fn found<T: Document>(
+    alloc: Global,
+    name: &Value,
+    part: &Value,
+    document: &Value,
+) -> Given<Value> {
     let document = document_of::<T>(alloc, document)?;
-    let query = unspelled(alloc, name, part)?;
+    let query = unspelled(alloc, text(name)?, text(part)?)?;
     let nodes = js_path_process(alloc, &query, document.get());
     let_go(query);
     listed(alloc, &nodes?)

@@ -7,18 +7,19 @@ use jsonpath_rust::parser::{
     calls_only, is_local, is_singular, let_go, parse_json_path, to_query_text,
 };
 use rows_common::answers::location;
-use rows_common::arguments::{text, texts};
+use rows_common::arguments::{spelled, text, texts};
 use rows_common::{Given, Refusal};
 use serde_json::Value;
 use std::alloc::Global;
 
 /// What the call of that name answers of the tree that the text spells: `same_tree` whether another text spells it too, and
 /// `to_query_text` what is written of it, which has to spell it.
-pub fn answer(alloc: Global, name: &str, query: &str, rest: &[Value]) -> Given<Value> {
+pub fn answer(alloc: Global, name: &str, query: &Value, rest: &[Value]) -> Given<Value> {
+    let query = spelled(alloc, query)?;
     if name == "parse_json_path" {
-        return told(alloc, Form::Shown, parse_json_path(alloc, query));
+        return told(alloc, Form::Shown, parse_json_path(alloc, &query));
     }
-    let tree = parse_json_path(alloc, query)?;
+    let tree = parse_json_path(alloc, &query)?;
     let answer = asked(alloc, name, &tree, rest);
     let_go(tree);
     answer
@@ -43,8 +44,8 @@ fn asked(alloc: Global, name: &str, tree: &JpQuery, rest: &[Value]) -> Given<Val
 }
 
 /// What is written of the tree of that name that no text spells: null.
-pub fn unspelled(alloc: Global, name: &str, part: &str) -> Given<Value> {
-    let tree = made(alloc, name, part)?;
+pub fn unspelled(alloc: Global, name: &Value, part: &Value) -> Given<Value> {
+    let tree = made(alloc, text(name)?, text(part)?)?;
     let answer = written(alloc, &tree);
     let_go(tree);
     answer

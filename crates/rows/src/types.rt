@@ -37,7 +37,8 @@ fn are_whole<T: Queryable>(values: &[T]) -> bool
 }
 
 /// What `extension_custom` answers of the function of that name, and of the values.
-pub fn custom<T: Document>(alloc: Global, name: &str, values: &[Value]) -> Given<Value> {
+pub fn custom<T: Document>(alloc: Global, name: &Value, values: &[Value]) -> Given<Value> {
+    let name = text(name)?;
     let mut arguments = Vec::new(alloc);
     for value in values {
         arguments.push(Arg::Owned(document_of::<T>(alloc, value)?.into_inner()))?;

@@ -59,9 +59,10 @@ fn of_call(alloc: Global, call: TestFunction) -> Given<JpQuery> {
 /// `$[?CALL==LITERAL]`, of the text `CALL==LITERAL`.
 fn compared(alloc: Global, text: &str) -> Given<JpQuery> {
     let (left, right) = given(text.split_once("=="))?;
-    let right = comparable_lit(literal(alloc, &mut Cursor::new(right))?);
+    let right = literal(alloc, &mut Cursor::new(right))?;
     let left = comparable_fn(untyped_call(alloc, left)?);
-    of_filter(alloc, filter(atom_cmp(alloc, left, "==", right)?))
+    let compared = atom_cmp(alloc, left, "==", comparable_lit(right))?;
+    of_filter(alloc, filter(compared))
 }
 
 /// The call of this text, whatever its arguments are.

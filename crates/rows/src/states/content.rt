@@ -100,10 +100,10 @@ pub fn state_of<'d, T: Document>(alloc: Global, ground: &'d Ground<'_, T>) -> Gi
 }
 
 /// Whether all values of the data are documents of whole numbers.
-fn is_whole<T: Queryable>(data: &Data<'_, T>) -> bool
-    ensures { IsTrue result → DataIsWhole T.is_whole data.now }
+fn is_whole<T: Queryable>(held: &Data<'_, T>) -> bool
+    ensures { IsTrue result → DataIsWhole T.is_whole held.now }
 {
-    match data {
+    match held {
         Data::Ref(pointer) => pointer.inner.is_whole(),
         Data::Refs(pointers) => are_whole(pointers),
         Data::Value(value) => value.is_whole(),
