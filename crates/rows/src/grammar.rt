@@ -1,5 +1,5 @@
 //! The grammar functions: what each reads from the start of a text.
-use jsonpath_rust::parser::errors::Parsed;
+use jsonpath_rust::parser::errors::{JsonPathError, Parsed};
 use jsonpath_rust::parser::{
     Cursor, child_segment, comp_expr, comparable, filter_atom, function_expr, jp_query, literal,
     logical_expr, logical_expr_and, rel_query, segment, segments, selector, singular_query,
@@ -47,11 +47,12 @@ pub fn each(alloc: Global, query: &Value, names: &Value) -> Given<Value> {
     Ok(Value::Array(answers))
 }
 
-/// What is read of what follows the cursor. A refusal leaves the cursor.
+/// What is read of what follows the cursor. A refusal leaves the cursor; memory may also run out behind it, for what is told.
 fn front(alloc: Global, name: &str, form: Form, cursor: &mut Cursor<'_>) -> Given<Value> {
     let start = cursor.at();
     match read(alloc, name, form, cursor) {
         Ok(answer) => ended(alloc, answer, cursor),
+        Err(Refusal::Error(JsonPathError::OutOfMemory)) => Err(Refusal::memory()),
         Err(refusal) if cursor.at() == start => Err(refusal),
         Err(_) => Err(Refusal::NoAnswer),
     }
