@@ -1,6 +1,7 @@
-//! Documents and their nodes, and what a query means of them (RFC 9535, 2.1 to 2.4). A document is any type that is `Queryable`.
-//! `whole` has the values that are whole, `nodes` and `args` lists of them. `value`, `comparison` and `halt` serve the two evaluators,
-//! `selection` and `states`; `depth` serves the walk.
+//! Documents and their nodes, and what a query means of them (RFC 9535, 2.1 to 2.4). A document is
+//! any type that is `Queryable`. `whole` has the values that are whole, `nodes` and `args` lists of
+//! them. `value`, `comparison` and `halt` serve the two evaluators, `selection` and `states`;
+//! `depth` serves the walk.
 pub mod args;
 pub mod comparison;
 pub mod depth;

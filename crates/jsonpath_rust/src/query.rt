@@ -54,8 +54,8 @@ use jsonpath_parser::{
 };
 use std::alloc::Global;
 
-/// The nodes that a query text selects in a document, in order (RFC 9535, 2.1.2): their values and their Normalized
-/// Paths.
+/// The nodes that a query text selects in a document, in order (RFC 9535, 2.1.2): their values and
+/// their Normalized Paths.
 ///
 /// # Errors
 ///
@@ -69,14 +69,18 @@ pub fn js_path<'a, T: Queryable>(
     value: &'a T,
 ) -> Queried<Vec<QueryRef<'a, T>>>
     requires { IsTrue (T.is_whole value.now) }
-    ensures answered { IfOk result (λ v. Lists IsNodeAt MAX_NESTING_DEPTH path.now (document_of T.tree T.custom value.now) (shown T.tree v.items)) }
+    ensures answered { IfOk result (λ v. Lists IsNodeAt MAX_NESTING_DEPTH path.now
+        (document_of T.tree T.custom value.now) (shown T.tree v.items)) }
 
-    // Whatever query the text derives, its nodes are answered, unless memory ran out or a pattern was refused.
+    // Whatever query the text derives, its nodes are answered, unless memory ran out or a pattern
+    // was refused.
     ensures only { (q : Query) → Derives MAX_NESTING_DEPTH path.now q → MatchResult result
-        (λ v. AllZip (IsNodeAt (document_of T.tree T.custom value.now)) (selected q (document_of T.tree T.custom value.now)) (shown T.tree v.items))
+        (λ v. AllZip (IsNodeAt (document_of T.tree T.custom value.now))
+        (selected q (document_of T.tree T.custom value.now)) (shown T.tree v.items))
         (IsStop q (document_of T.tree T.custom value.now)) }
 
-    // A Normalized Path is refused by `OutOfMemory` alone. It gives the node at its location, or none where nothing is there.
+    // A Normalized Path is refused by `OutOfMemory` alone. It gives the node at its location, or
+    // none where nothing is there.
     ensures normal { (l : Location) → IsNormal l path.now → HasIndexesInRange l → MatchResult result
         (λ v. shown T.tree v.items ≡ node_there (document_of T.tree T.custom value.now) l path.now)
         (λ e. e ≡ OutOfMemory) }
@@ -86,11 +90,13 @@ pub fn js_path<'a, T: Queryable>(
     js_path_within(alloc, path, MAX_NESTING_DEPTH, value)
 }
 
-/// The nodes that a query text selects in a document, as [`js_path`], which is this at a depth of 128.
+/// The nodes that a query text selects in a document, as [`js_path`], which is this at a depth of
+/// 128.
 ///
 /// # Errors
 ///
-/// As those of [`js_path`], but `MaxNestingDepthExceeded(depth)` where more than `depth` brackets stand open.
+/// As those of [`js_path`], but `MaxNestingDepthExceeded(depth)` where more than `depth` brackets
+/// stand open.
 pub fn js_path_within<'a, T: Queryable>(
     alloc: Global,
     path: &str,
@@ -100,12 +106,15 @@ pub fn js_path_within<'a, T: Queryable>(
     requires { IsTrue (T.is_whole value.now) }
     ensures answered { IfOk result (λ v. Lists IsNodeAt depth path.now (document_of T.tree T.custom value.now) (shown T.tree v.items)) }
 
-    // Whatever query the text derives, its nodes are answered, unless memory ran out or a pattern was refused.
+    // Whatever query the text derives, its nodes are answered, unless memory ran out or a pattern
+    // was refused.
     ensures only { (q : Query) → Derives depth path.now q → MatchResult result
-        (λ v. AllZip (IsNodeAt (document_of T.tree T.custom value.now)) (selected q (document_of T.tree T.custom value.now)) (shown T.tree v.items))
+        (λ v. AllZip (IsNodeAt (document_of T.tree T.custom value.now))
+        (selected q (document_of T.tree T.custom value.now)) (shown T.tree v.items))
         (IsStop q (document_of T.tree T.custom value.now)) }
 
-    // A Normalized Path is refused by `OutOfMemory` alone. It gives the node at its location, or none where nothing is there.
+    // A Normalized Path is refused by `OutOfMemory` alone. It gives the node at its location, or
+    // none where nothing is there.
     ensures normal { (l : Location) → IsNormal l path.now → HasIndexesInRange l → 1 ≤ depth → MatchResult result
         (λ v. shown T.tree v.items ≡ node_there (document_of T.tree T.custom value.now) l path.now)
         (λ e. e ≡ OutOfMemory) }
@@ -118,8 +127,9 @@ pub fn js_path_within<'a, T: Queryable>(
     nodes
 }
 
-/// The nodes that a query text selects in a document, as [`js_path`], or [`Within::Spent`] where so many units of work are not
-/// enough: for queries of strangers. What a unit is spent for stands at [`Limited`]; a singular query spends none.
+/// The nodes that a query text selects in a document, as [`js_path`], or [`Within::Spent`] where so
+/// many units of work are not enough: for queries of strangers. What a unit is spent for stands at
+/// [`Limited`]; a singular query spends none.
 ///
 /// # Errors
 ///
@@ -131,17 +141,21 @@ pub fn js_path_limited<'a, T: Queryable>(
     value: &'a T,
 ) -> Queried<Within<Vec<QueryRef<'a, T>>>>
     requires { IsTrue (T.is_whole value.now) }
-    ensures answered { IfOk result (λ w. IfDone w (λ v. Lists IsNodeAt MAX_NESTING_DEPTH path.now (document_of T.tree T.custom value.now) (shown T.tree v.items))) }
+    ensures answered { IfOk result (λ w. IfDone w (λ v. Lists IsNodeAt MAX_NESTING_DEPTH path.now
+        (document_of T.tree T.custom value.now) (shown T.tree v.items))) }
 
-    // Whatever query the text derives, its nodes are answered, unless the work, or memory, ran out or a pattern was refused.
+    // Whatever query the text derives, its nodes are answered, unless the work, or memory, ran out
+    // or a pattern was refused.
     ensures only { (q : Query) → Derives MAX_NESTING_DEPTH path.now q → MatchResult result
-        (λ w. IfDone w (λ v. AllZip (IsNodeAt (document_of T.tree T.custom value.now)) (selected q (document_of T.tree T.custom value.now)) (shown T.tree v.items)))
+        (λ w. IfDone w (λ v. AllZip (IsNodeAt (document_of T.tree T.custom value.now))
+        (selected q (document_of T.tree T.custom value.now)) (shown T.tree v.items)))
         (IsStop q (document_of T.tree T.custom value.now)) }
 
     // Any work is enough for a singular query.
     ensures enough { (q : Query) → Derives MAX_NESTING_DEPTH path.now q → IsTrue (typing.is_singular q) → IfOk result (λ w. IfSpent w ⊥) }
 
-    // A Normalized Path is refused by `OutOfMemory` alone. Its node is given, or none where nothing is there; any work is enough.
+    // A Normalized Path is refused by `OutOfMemory` alone. Its node is given, or none where nothing
+    // is there; any work is enough.
     ensures normal { (l : Location) → IsNormal l path.now → HasIndexesInRange l → MatchResult result
         (λ w. IfDone w (λ v. shown T.tree v.items ≡ node_there (document_of T.tree T.custom value.now) l path.now))
         (λ e. e ≡ OutOfMemory) }
@@ -164,11 +178,14 @@ pub fn js_path_vals<'a, T: Queryable>(
     value: &'a T,
 ) -> Queried<Vec<&'a T>>
     requires { IsTrue (T.is_whole value.now) }
-    ensures answered { IfOk result (λ v. Lists IsValueAt MAX_NESTING_DEPTH path.now (document_of T.tree T.custom value.now) (map (λ x. T.tree x.now) v.items)) }
+    ensures answered { IfOk result (λ v. Lists IsValueAt MAX_NESTING_DEPTH path.now
+        (document_of T.tree T.custom value.now) (map (λ x. T.tree x.now) v.items)) }
 
-    // Whatever query the text derives, its nodes' values are answered, unless memory ran out or a pattern was refused.
+    // Whatever query the text derives, its nodes' values are answered, unless memory ran out or a
+    // pattern was refused.
     ensures only { (q : Query) → Derives MAX_NESTING_DEPTH path.now q → MatchResult result
-        (λ v. AllZip (IsValueAt (document_of T.tree T.custom value.now)) (selected q (document_of T.tree T.custom value.now)) (map (λ x. T.tree x.now) v.items))
+        (λ v. AllZip (IsValueAt (document_of T.tree T.custom value.now))
+        (selected q (document_of T.tree T.custom value.now)) (map (λ x. T.tree x.now) v.items))
         (IsStop q (document_of T.tree T.custom value.now)) }
     ensures whole { IfOk result (λ v. All (λ x. IsTrue (T.is_whole x.now)) v.items) }
     ensures refused { IfErr result (IsQueryRefusal MAX_NESTING_DEPTH path.now (document_of T.tree T.custom value.now)) }
@@ -186,11 +203,14 @@ pub fn js_path_vals<'a, T: Queryable>(
 /// Those of [`js_path`].
 pub fn js_path_path<T: Queryable>(alloc: Global, path: &str, value: &T) -> Queried<Vec<QueryPath>>
     requires { IsTrue (T.is_whole value.now) }
-    ensures answered { IfOk result (λ v. Lists IsPathAt MAX_NESTING_DEPTH path.now (document_of T.tree T.custom value.now) (paths_of v.items)) }
+    ensures answered { IfOk result (λ v. Lists IsPathAt MAX_NESTING_DEPTH path.now
+        (document_of T.tree T.custom value.now) (paths_of v.items)) }
 
-    // Whatever query the text derives, its nodes' paths are answered, unless memory ran out or a pattern was refused.
+    // Whatever query the text derives, its nodes' paths are answered, unless memory ran out or a
+    // pattern was refused.
     ensures only { (q : Query) → Derives MAX_NESTING_DEPTH path.now q → MatchResult result
-        (λ v. AllZip (IsPathAt (document_of T.tree T.custom value.now)) (selected q (document_of T.tree T.custom value.now)) (paths_of v.items))
+        (λ v. AllZip (IsPathAt (document_of T.tree T.custom value.now))
+        (selected q (document_of T.tree T.custom value.now)) (paths_of v.items))
         (IsStop q (document_of T.tree T.custom value.now)) }
     ensures refused { IfErr result (IsQueryRefusal MAX_NESTING_DEPTH path.now (document_of T.tree T.custom value.now)) }
 {
@@ -200,13 +220,16 @@ pub fn js_path_path<T: Queryable>(alloc: Global, path: &str, value: &T) -> Queri
     paths
 }
 
-/// The nodes that a query selects in a document, in order (RFC 9535, 2.1.2): their values and their Normalized Paths.
+/// The nodes that a query selects in a document, in order (RFC 9535, 2.1.2): their values and their
+/// Normalized Paths.
 ///
-/// That holds for each tree that [`is_typed`], with any index and any slice; a tree that was read from a text is one. A
-/// tree made by hand may be refused by the typing of RFC 9535, 2.4.3, as one with `length(@.*)`, where `length` is given
-/// nodes in place of a value. It selects nothing by the RFC; here it is asked all the same, and [`Query::process`] gives
-/// that `length` the number of the nodes. Of every tree the nodes are those of [`Query::process`] from
-/// [`State::root`](state::State::root), which on a typed one are those that it selects ([`laws::process_gives_the_nodelist`]).
+/// That holds for each tree that [`is_typed`], with any index and any slice; a tree that was read
+/// from a text is one. A tree made by hand may be refused by the typing of RFC 9535, 2.4.3, as one
+/// with `length(@.*)`, where `length` is given nodes in place of a value. It selects nothing by the
+/// RFC; here it is asked all the same, and [`Query::process`] gives that `length` the number of the
+/// nodes. Of every tree the nodes are those of [`Query::process`] from
+/// [`State::root`](state::State::root), which on a typed one are those that it selects
+/// ([`laws::process_gives_the_nodelist`]).
 ///
 /// # Errors
 ///
@@ -220,12 +243,16 @@ pub fn js_path_process<'a, T: Queryable>(
     value: &'a T,
 ) -> Queried<Vec<QueryRef<'a, T>>>
     requires { IsTrue (T.is_whole value.now) }
-    ensures nodes { IsTrue (typing.is_typed (query_view path.now)) → IfOk result (λ v. AllZip (IsNodeAt (document_of T.tree T.custom value.now))
+    ensures nodes { IsTrue (typing.is_typed (query_view path.now)) →
+        IfOk result (λ v. AllZip (IsNodeAt (document_of T.tree T.custom value.now))
         (selected (query_view path.now) (document_of T.tree T.custom value.now)) (shown T.tree v.items)) }
     ensures processed { IfOk result (λ v. shown T.tree v.items ≡ processed (query_view path.now) (document_of T.tree T.custom value.now)) }
     ensures whole { IfOk result (λ v. All (λ r. IsTrue (T.is_whole r.val.now)) v.items) }
-    ensures refused { IsTrue (typing.is_typed (query_view path.now)) → IfErr result (IsStop (query_view path.now) (document_of T.tree T.custom value.now)) }
-    ensures processing_refused { IsFalse (typing.is_typed (query_view path.now)) → IfErr result (IsProcessStop (segments_patterns (query_view path.now)) (document_of T.tree T.custom value.now)
+    ensures refused { IsTrue (typing.is_typed (query_view path.now)) →
+        IfErr result (IsStop (query_view path.now) (document_of T.tree T.custom value.now)) }
+    ensures processing_refused { IsFalse (typing.is_typed (query_view path.now)) →
+        IfErr result (IsProcessStop (segments_patterns (query_view path.now))
+        (document_of T.tree T.custom value.now)
         (root_content (document_of T.tree T.custom value.now))) }
 {
     if is_typed(path) {
@@ -235,7 +262,8 @@ pub fn js_path_process<'a, T: Queryable>(
     }
 }
 
-/// The values of the nodes that [`js_path_process`] returns, in order. Of a tree that [`is_typed`] no path is made.
+/// The values of the nodes that [`js_path_process`] returns, in order. Of a tree that [`is_typed`]
+/// no path is made.
 ///
 /// # Errors
 ///
@@ -246,13 +274,17 @@ pub fn js_path_process_vals<'a, T: Queryable>(
     value: &'a T,
 ) -> Queried<Vec<&'a T>>
     requires { IsTrue (T.is_whole value.now) }
-    ensures values { IsTrue (typing.is_typed (query_view query.now)) → IfOk result (λ v. AllZip (IsValueAt (document_of T.tree T.custom value.now))
+    ensures values { IsTrue (typing.is_typed (query_view query.now)) →
+        IfOk result (λ v. AllZip (IsValueAt (document_of T.tree T.custom value.now))
         (selected (query_view query.now) (document_of T.tree T.custom value.now)) (map (λ x. T.tree x.now) v.items)) }
     ensures processed { IfOk result (λ v. map (λ x. T.tree x.now) v.items
         ≡ map (λ n. n.1) (processed (query_view query.now) (document_of T.tree T.custom value.now))) }
     ensures whole { IfOk result (λ v. All (λ x. IsTrue (T.is_whole x.now)) v.items) }
-    ensures refused { IsTrue (typing.is_typed (query_view query.now)) → IfErr result (IsStop (query_view query.now) (document_of T.tree T.custom value.now)) }
-    ensures processing_refused { IsFalse (typing.is_typed (query_view query.now)) → IfErr result (IsProcessStop (segments_patterns (query_view query.now)) (document_of T.tree T.custom value.now)
+    ensures refused { IsTrue (typing.is_typed (query_view query.now)) →
+        IfErr result (IsStop (query_view query.now) (document_of T.tree T.custom value.now)) }
+    ensures processing_refused { IsFalse (typing.is_typed (query_view query.now)) →
+        IfErr result (IsProcessStop (segments_patterns (query_view query.now))
+        (document_of T.tree T.custom value.now)
         (root_content (document_of T.tree T.custom value.now))) }
 {
     if is_typed(query) {

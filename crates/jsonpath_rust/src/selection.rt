@@ -1,10 +1,11 @@
-//! The walk: the nodes of a query, met depth-first in the order of its nodelist (RFC 9535, 2.1.2). What a query means stands in
-//! `documents`.
+//! The walk: the nodes of a query, met depth-first in the order of its nodelist (RFC 9535, 2.1.2).
+//! What a query means stands in `documents`.
 //!
-//! A query is compiled to a plan (`plan`), once. The walk (`walk`, `children`) goes by the plan; inside filters (`filter`,
-//! `function`, `subquery`) it looks up names and indexes (`singular`, `sides`, `counting`, `direct`), walks from the node at hand, or takes
-//! what is kept of the root (`cache`, `constants`, `early`) and of patterns (`engine` of `jsonpath_base`). The nodes go to a sink
-//! (`sink`) with the way that leads to them (`Way` there).
+//! A query is compiled to a plan (`plan`), once. The walk (`walk`, `children`) goes by the plan;
+//! inside filters (`filter`, `function`, `subquery`) it looks up names and indexes (`singular`,
+//! `sides`, `counting`, `direct`), walks from the node at hand, or takes what is kept of the root
+//! (`cache`, `constants`, `early`) and of patterns (`engine` of `jsonpath_base`). The nodes go to a
+//! sink (`sink`) with the way that leads to them (`Way` there).
 mod action;
 mod budget;
 mod cache;

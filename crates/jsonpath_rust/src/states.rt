@@ -1,4 +1,5 @@
-//! States, and what each part of a query returns on any of them: an evaluator by itself, which takes nothing of the walk.
+//! States, and what each part of a query returns on any of them: an evaluator by itself, which
+//! takes nothing of the walk.
 mod evaluate;
 mod process;
 mod processed;

@@ -27,7 +27,8 @@ impl<'a, T: Queryable> Args<'a, T> {
 
     /// Follows them by a value of the document.
     pub fn push_lent(&mut self, value: WholeRef<'a, T>) -> Result<(), AllocError>
-        ensures { OnOk result (map (λ a. T.tree (arg_value a)) self.new.list.items ≡ map (λ a. T.tree (arg_value a)) self.old.list.items ++ tree_of value.entry ∷ []) }
+        ensures { OnOk result (map (λ a. T.tree (arg_value a)) self.new.list.items
+            ≡ map (λ a. T.tree (arg_value a)) self.old.list.items ++ tree_of value.entry ∷ []) }
     {
         self.list.push(Arg::Borrowed(value.value))?;
         Ok(())
@@ -35,7 +36,8 @@ impl<'a, T: Queryable> Args<'a, T> {
 
     /// Follows them by a value of its own.
     pub fn push_made(&mut self, value: Whole<T>) -> Result<(), AllocError>
-        ensures { OnOk result (map (λ a. T.tree (arg_value a)) self.new.list.items ≡ map (λ a. T.tree (arg_value a)) self.old.list.items ++ own_tree value ∷ []) }
+        ensures { OnOk result (map (λ a. T.tree (arg_value a)) self.new.list.items
+            ≡ map (λ a. T.tree (arg_value a)) self.old.list.items ++ own_tree value ∷ []) }
     {
         self.list.push(Arg::Owned(value.value))?;
         Ok(())

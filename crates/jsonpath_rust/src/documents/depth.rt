@@ -6,8 +6,9 @@ use crate::documents::halt::Walked;
 use crate::documents::queryable::Queryable;
 use std::alloc::Global;
 
-/// Whether lists and objects stand in one another more than `levels` deep, the value itself counted. Each value that is looked at
-/// takes one of `looks`. Where these run out the answer is that of what was looked at.
+/// Whether lists and objects stand in one another more than `levels` deep, the value itself
+/// counted. Each value that is looked at takes one of `looks`. Where these run out the answer is
+/// that of what was looked at.
 #[cycle(depth)]
 pub fn is_deeper<T: Queryable>(
     alloc: Global,

@@ -1,4 +1,5 @@
-//! Why a walk halts. It becomes an error once, where the walk began, so that no step of it carries a text.
+//! Why a walk halts. It becomes an error once, where the walk began, so that no step of it carries
+//! a text.
 ghost use Rattle.std.specs.Prelude.{◌≡◌};
 ghost use Rattle.jsonpath_parser.specs.declared.errors.JsonPathError.TheVariants as error;
 ghost use Rattle.jsonpath_base.specs.Pattern.{IsInvalid};

@@ -1,5 +1,5 @@
-//! The value that a reference means, lent for writing. The text is read first, and what it was found to mean is kept, a refusal
-//! too; then lending cannot fail.
+//! The value that a reference means, lent for writing. The text is read first, and what it was
+//! found to mean is kept, a refusal too; then lending cannot fail.
 ghost use Rattle.std.specs.Prelude.{◌≡◌, Some, IsTrue, IfOk, IfErr, IfSome, is_some, option_map};
 ghost use Rattle.std.specs.Borrow.{sem};
 ghost use Rattle.jsonpath_parser.specs.declared.errors.JsonPathError.TheVariants.{OutOfMemory};
@@ -22,8 +22,9 @@ struct Sought {
     steps: Queried<Option<Vec<Step>>>,
 }
 
-/// The value at the one location that a path of names and indexes means, lent for writing, or None. When the loan ends, what was
-/// written stands there, and nothing else has changed. It refuses by `OutOfMemory` alone.
+/// The value at the one location that a path of names and indexes means, lent for writing, or None.
+/// When the loan ends, what was written stands there, and nothing else has changed. It refuses by
+/// `OutOfMemory` alone.
 pub fn referred_mut<'v>(
     alloc: Global,
     value: &'v mut Value,

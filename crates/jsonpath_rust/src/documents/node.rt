@@ -32,7 +32,8 @@ impl<'a, T: Queryable> QueryRef<'a, T> {
         self.path
     }
 
-    /// The node of this value and a copy of this path, whatever text that is. It refuses by `OutOfMemory` alone.
+    /// The node of this value and a copy of this path, whatever text that is. It refuses by
+    /// `OutOfMemory` alone.
     pub fn from_str_path(alloc: Global, val: &'a T, path: &str) -> Queried<Self>
         ensures val { IfOk result (λ r. r.val.now ≡ val.now) }
         ensures path { IfOk result (λ r. string_bytes r.path ≡ path.now) }
@@ -42,17 +43,19 @@ impl<'a, T: Queryable> QueryRef<'a, T> {
         Ok(QueryRef { val, path })
     }
 
-    /// Whether two nodes have paths of the same text and values that are the same ([`Queryable::equal`]). It takes no
-    /// memory of its own.
+    /// Whether two nodes have paths of the same text and values that are the same
+    /// ([`Queryable::equal`]). It takes no memory of its own.
     pub fn equal(&self, other: &Self) -> bool
         requires left { IsTrue (T.is_whole self.now.val.now) }
         requires right { IsTrue (T.is_whole other.now.val.now) }
-        ensures { result ≡ bytes_eq (string_bytes self.now.path) (string_bytes other.now.path) && same (T.tree self.now.val.now) (T.tree other.now.val.now) }
+        ensures { result ≡ bytes_eq (string_bytes self.now.path) (string_bytes other.now.path)
+            && same (T.tree self.now.val.now) (T.tree other.now.val.now) }
     {
         self.path == other.path && self.val.equal(other.val)
     }
 
-    /// The same value, borrowed once more, and a copy of its path. It refuses by `OutOfMemory` alone.
+    /// The same value, borrowed once more, and a copy of its path. It refuses by `OutOfMemory`
+    /// alone.
     pub fn try_clone(&self, alloc: Global) -> Queried<Self>
         ensures val { IfOk result (λ r. r.val.now ≡ self.now.val.now) }
         ensures path { IfOk result (λ r. string_bytes r.path ≡ string_bytes self.now.path) }

@@ -1,4 +1,5 @@
-//! Lists of whole values, and of nodes that have them. What they hold goes out as it is, with no copy.
+//! Lists of whole values, and of nodes that have them. What they hold goes out as it is, with no
+//! copy.
 ghost use Rattle.std.proofs.Props.{props};
 ghost use Rattle.std.specs.Prelude.{◌≡◌, ◌++◌, [], ◌∷◌, map, All, IsTrue, OnOk, string_bytes};
 ghost use Rattle.jsonpath_rust.specs.documents.Answer.{shown};
@@ -37,7 +38,8 @@ impl<'a, T: Queryable> WholeNodes<'a, T> {
     /// Follows them by the node of this value at this path.
     #[inline(always)]
     pub fn push(&mut self, value: WholeRef<'a, T>, path: QueryPath) -> Result<(), AllocError>
-        ensures { OnOk result (shown T.tree self.new.list.items ≡ shown T.tree self.old.list.items ++ (string_bytes path, tree_of value.entry) ∷ []) }
+        ensures { OnOk result (shown T.tree self.new.list.items ≡ shown T.tree self.old.list.items
+            ++ (string_bytes path, tree_of value.entry) ∷ []) }
     {
         self.list.push(QueryRef {
             val: value.value,
@@ -68,7 +70,8 @@ impl<'a, T: Queryable> WholeValues<'a, T> {
     /// Follows them by this one.
     #[inline(always)]
     pub fn push(&mut self, value: WholeRef<'a, T>) -> Result<(), AllocError>
-        ensures { OnOk result (map (λ v. T.tree v.now) self.new.list.items ≡ map (λ v. T.tree v.now) self.old.list.items ++ tree_of value.entry ∷ []) }
+        ensures { OnOk result (map (λ v. T.tree v.now) self.new.list.items
+            ≡ map (λ v. T.tree v.now) self.old.list.items ++ tree_of value.entry ∷ []) }
     {
         self.list.push(value.value)?;
         Ok(())

@@ -1,6 +1,8 @@
 //! The types that are documents.
-ghost use Rattle.std.specs.Prelude.{◌≡◌, ℕ, Bool, false, List, map, length, Option, Some, None, option_map, All, IsTrue, IfOk, IfErr, IfSome};
-ghost use Rattle.jsonpath_base.specs.Tree.{Tree, null, truth, number, text, get, as_list, as_members, as_text, as_int, as_bool, has_distinct_names};
+ghost use Rattle.std.specs.Prelude.{◌≡◌, ℕ, Bool, false, List, map, length, Option, Some};
+ghost use Rattle.std.specs.Prelude.{None, option_map, All, IsTrue, IfOk, IfErr, IfSome};
+ghost use Rattle.jsonpath_base.specs.Tree.{Tree, null, truth, number, text, get, as_list, as_members};
+ghost use Rattle.jsonpath_base.specs.Tree.{as_text, as_int, as_bool, has_distinct_names};
 ghost use Rattle.jsonpath_base.specs.Same.{same};
 ghost use Rattle.jsonpath_parser.specs.declared.errors.JsonPathError.TheVariants.{OutOfMemory};
 ghost use Rattle.jsonpath_rust.specs.documents.Args.{arg_value};
@@ -12,7 +14,8 @@ use std::fmt::Debug;
 pub mod children;
 pub mod value;
 
-/// An argument of a custom function: a value of its own, as a literal has, or one that stands in the document.
+/// An argument of a custom function: a value of its own, as a literal has, or one that stands in
+/// the document.
 #[derive(Debug, Drop)]
 pub enum Arg<'a, T> {
     Owned(T),
@@ -31,8 +34,8 @@ impl<'a, T> Arg<'a, T> {
     }
 }
 
-/// A document. A value that passes `is_whole` has one tree, and each call agrees with it; what the calls return on any
-/// other value is left open. All calls refuse by `OutOfMemory` alone.
+/// A document. A value that passes `is_whole` has one tree, and each call agrees with it; what the
+/// calls return on any other value is left open. All calls refuse by `OutOfMemory` alone.
 pub trait Queryable: Sized + Debug + Drop {
     /// The tree of a value.
     ghost tree: { Self → Tree };
@@ -43,7 +46,8 @@ pub trait Queryable: Sized + Debug + Drop {
     /// What a custom function of that name returns, of the arguments' trees (RFC 9535, 2.4).
     ghost custom: { List ℕ → List Tree → Tree };
 
-    /// Whether `reference` looks for a location, and `reference_mut` may. Where they do not, they return None.
+    /// Whether `reference` looks for a location, and `reference_mut` may. Where they do not, they
+    /// return None.
     ghost refers: { Bool } = { false };
 
     /// The member of that name.
@@ -58,11 +62,14 @@ pub trait Queryable: Sized + Debug + Drop {
 
     /// The members of an object, in walk order. It refuses by `OutOfMemory` alone.
     fn as_object(&self, alloc: Global) -> Queried<Option<Vec<(&str, &Self)>>>
-        ensures value { IsTrue (is_whole self.now) → IfOk result (λ o. option_map (λ v. map (λ m. (m.0.now, tree m.1.now)) v.items) o ≡ as_members (tree self.now)) }
+        ensures value { IsTrue (is_whole self.now) →
+            IfOk result (λ o. option_map (λ v. map (λ m. (m.0.now, tree m.1.now)) v.items) o
+            ≡ as_members (tree self.now)) }
         ensures whole { IsTrue (is_whole self.now) → IfOk result (λ o. IfSome o (λ v. All (λ m. IsTrue (is_whole m.1.now)) v.items)) }
         ensures memory { IfErr result (λ e. e ≡ OutOfMemory) };
 
-    /// How many members an object has. By default their list is made for it. It refuses by `OutOfMemory` alone.
+    /// How many members an object has. By default their list is made for it. It refuses by
+    /// `OutOfMemory` alone.
     fn member_count(&self, alloc: Global) -> Queried<Option<usize>>
         ensures value { IsTrue (is_whole self.now) → IfOk result (λ o. o ≡ option_map (λ ms. length ms) (as_members (tree self.now))) }
         ensures memory { IfErr result (λ e. e ≡ OutOfMemory) }
@@ -125,8 +132,8 @@ pub trait Queryable: Sized + Debug + Drop {
         ensures whole { IsTrue (is_whole self.now) → IfOk result (λ v. IsTrue (is_whole v)) }
         ensures memory { IfErr result (λ e. e ≡ OutOfMemory) };
 
-    /// Whether two values are the same: of equal kinds and scalars, lists place by place, objects by name in any order
-    /// (RFC 9535, 2.3.5.2.2).
+    /// Whether two values are the same: of equal kinds and scalars, lists place by place, objects
+    /// by name in any order (RFC 9535, 2.3.5.2.2).
     fn equal(&self, other: &Self) -> bool
         requires left { IsTrue (is_whole self.now) }
         requires right { IsTrue (is_whole other.now) }
@@ -139,7 +146,8 @@ pub trait Queryable: Sized + Debug + Drop {
         ensures whole { IfOk result (λ v. IsTrue (is_whole v)) }
         ensures memory { IfErr result (λ e. e ≡ OutOfMemory) };
 
-    /// The value at the one location that a path means, such as a Normalized Path; by default None. It refuses by `OutOfMemory` alone.
+    /// The value at the one location that a path means, such as a Normalized Path; by default None.
+    /// It refuses by `OutOfMemory` alone.
     fn reference(&self, _alloc: Global, _path: &str) -> Queried<Option<&Self>>
         ensures whole { IsTrue (is_whole self.now) → IfOk result (λ o. IfSome o (λ v. IsTrue (is_whole v.now))) }
         ensures nowhere { refers ≡ false → IfOk result (λ o. o ≡ None) }
@@ -148,8 +156,8 @@ pub trait Queryable: Sized + Debug + Drop {
         Ok(None)
     }
 
-    /// The value at the one location that a path means, as [`Queryable::reference`], for writing; by default None. It refuses by
-    /// `OutOfMemory` alone.
+    /// The value at the one location that a path means, as [`Queryable::reference`], for writing;
+    /// by default None. It refuses by `OutOfMemory` alone.
     fn reference_mut(&mut self, _alloc: Global, _path: &str) -> Queried<Option<&mut Self>>
         ensures nowhere { refers ≡ false → IfOk result (λ o. o ≡ None) }
         ensures memory { IfErr result (λ e. e ≡ OutOfMemory) }

@@ -1,5 +1,6 @@
-//! Reading and writing at the one location that a singular query means (RFC 9535, 2.3.5.1): each of its segments is one
-//! name or one index. The steps are followed down from the root; the value is not walked.
+//! Reading and writing at the one location that a singular query means (RFC 9535, 2.3.5.1): each of
+//! its segments is one name or one index. The steps are followed down from the root; the value is
+//! not walked.
 ghost use Rattle.std.specs.Prelude.{◌≡◌, [], Some, IsTrue, IfOk, IfErr, IfSome, IsSome, OnErr, option_map};
 ghost use Rattle.jsonpath_parser.specs.Location as location;
 ghost use Rattle.jsonpath_parser.specs.Location.{Location};
@@ -39,16 +40,19 @@ struct Referent<'v> {
     value: &'v Value,
 }
 
-/// Puts a value at the one location that a path of names and indexes means, such as a Normalized Path, in the place of the
-/// one there, and returns true. Where the text means no location, as each other text does, it returns false and nothing is
-/// changed. It refuses by `OutOfMemory` alone, and then nothing is changed.
+/// Puts a value at the one location that a path of names and indexes means, such as a Normalized
+/// Path, in the place of the one there, and returns true. Where the text means no location, as each
+/// other text does, it returns false and nothing is changed. It refuses by `OutOfMemory` alone, and
+/// then nothing is changed.
 ///
 /// The time is linear in the length of the path, with a search by name in each object on the way.
 pub fn replace_by_path(alloc: Global, value: &mut Value, path: &str, new: Value) -> Queried<bool>
     ensures replaced { IfOk result (λ found. IsReplaced path.now (value_document value.old) (value_tree new) found (value_tree value.new)) }
 
     // The Normalized Path of a location means that location, wherever something is there.
-    ensures normal { (l : Location) → IsNormal l path.now → HasIndexesInRange l → IfOk result (λ found. IsPut l (value_tree value.old) (value_tree new) found (value_tree value.new)) }
+    ensures normal { (l : Location) → IsNormal l path.now → HasIndexesInRange l →
+        IfOk result (λ found. IsPut l (value_tree value.old) (value_tree new) found
+        (value_tree value.new)) }
     ensures whole { IsTrue (value_is_whole value.old) → IsTrue (value_is_whole new) → IsTrue (value_is_whole value.new) }
     ensures kept { OnErr result (value.new ≡ value.old) }
     ensures memory { IfErr result (λ e. e ≡ OutOfMemory) }
@@ -59,7 +63,8 @@ pub fn replace_by_path(alloc: Global, value: &mut Value, path: &str, new: Value)
     }
 }
 
-/// The value at the one location that a path of names and indexes means, or None. It refuses by `OutOfMemory` alone.
+/// The value at the one location that a path of names and indexes means, or None. It refuses by
+/// `OutOfMemory` alone.
 pub fn referred<'v>(alloc: Global, value: &'v Value, path: &str) -> Queried<Option<&'v Value>>
     ensures value { IfOk result (λ o. IsReferred path.now (value_document value.now) (option_map (λ v. value_tree v.now) o)) }
     ensures whole { IsTrue (value_is_whole value.now) → IfOk result (λ o. IfSome o (λ v. IsTrue (value_is_whole v.now))) }
@@ -71,8 +76,9 @@ pub fn referred<'v>(alloc: Global, value: &'v Value, path: &str) -> Queried<Opti
     }
 }
 
-/// The one location that a path of names and indexes means in a value, where something is: the steps to it from the root, an
-/// index below 0 counted from the end of its list; or None. It refuses by `OutOfMemory` alone.
+/// The one location that a path of names and indexes means in a value, where something is: the
+/// steps to it from the root, an index below 0 counted from the end of its list; or None. It
+/// refuses by `OutOfMemory` alone.
 ///
 /// The time is linear in the length of the path, with a search by name in each object on the way.
 pub fn referred_location(alloc: Global, value: &Value, path: &str) -> Queried<Option<Vec<Step>>>
@@ -80,7 +86,9 @@ pub fn referred_location(alloc: Global, value: &Value, path: &str) -> Queried<Op
     ensures there { IfOk result (λ o. IfSome o (λ v. IsSome (places.at (location_view v.items) (value_tree value.now)))) }
 
     // The Normalized Path of a location means that location, wherever something is there.
-    ensures normal { (l : Location) → IsNormal l path.now → HasIndexesInRange l → IfOk result (λ o. option_map (λ v. location_view v.items) o ≡ option_map (λ t. l) (places.at l (value_tree value.now))) }
+    ensures normal { (l : Location) → IsNormal l path.now → HasIndexesInRange l →
+        IfOk result (λ o. option_map (λ v. location_view v.items) o
+        ≡ option_map (λ t. l) (places.at l (value_tree value.now))) }
     ensures memory { IfErr result (λ e. e ≡ OutOfMemory) }
 {
     match referent_of(alloc, value, path)? {
@@ -92,7 +100,8 @@ pub fn referred_location(alloc: Global, value: &Value, path: &str) -> Queried<Op
 /// That value and the steps to it.
 fn referent_of<'v>(alloc: Global, value: &'v Value, path: &str) -> Queried<Option<Referent<'v>>>
     ensures means { IfOk result (λ o. IsReference path.now (value_document value.now) (option_map (λ p. location_view p.steps.items) o)) }
-    ensures there { IfOk result (λ o. IfSome o (λ p. places.at (location_view p.steps.items) (value_tree value.now) ≡ Some (value_tree p.value.now))) }
+    ensures there { IfOk result (λ o. IfSome o (λ p. places.at (location_view p.steps.items)
+        (value_tree value.now) ≡ Some (value_tree p.value.now))) }
     ensures whole { IsTrue (value_is_whole value.now) → IfOk result (λ o. IfSome o (λ p. IsTrue (value_is_whole p.value.now))) }
     ensures memory { IfErr result (λ e. e ≡ OutOfMemory) }
 {
@@ -148,7 +157,8 @@ fn selector_child<'v>(
     selector: &Selector,
     value: &'v Value,
 ) -> Queried<Option<Child<'v>>>
-    ensures value { IfOk result (λ o. option_map child_view o ≡ following.selector_child (selector_view selector.now) (value_tree value.now)) }
+    ensures value { IfOk result (λ o. option_map child_view o
+        ≡ following.selector_child (selector_view selector.now) (value_tree value.now)) }
     ensures whole { IsTrue (value_is_whole value.now) → IfOk result (λ o. IfSome o (λ c. IsTrue (value_is_whole c.value.now))) }
     ensures memory { IfErr result (λ e. e ≡ OutOfMemory) }
 {

@@ -17,16 +17,19 @@ use crate::selection::selected_count;
 use jsonpath_parser::{MAX_NESTING_DEPTH, let_go, parse_json_path};
 use std::alloc::Global;
 
-/// How many nodes a query text selects in a document (RFC 9535, 2.1.2), up to 2^63 - 1. No path and no list is made.
+/// How many nodes a query text selects in a document (RFC 9535, 2.1.2), up to 2^63 - 1. No path and
+/// no list is made.
 ///
 /// # Errors
 ///
 /// Those of [`js_path`](crate::query::js_path).
 pub fn js_path_count<T: Queryable>(alloc: Global, path: &str, value: &T) -> Queried<usize>
     requires { IsTrue (T.is_whole value.now) }
-    ensures answered { IfOk result (λ n. ByText MAX_NESTING_DEPTH path.now (λ q. n ≡ node_count q (document_of T.tree T.custom value.now))) }
+    ensures answered { IfOk result (λ n. ByText MAX_NESTING_DEPTH path.now (λ q. n
+        ≡ node_count q (document_of T.tree T.custom value.now))) }
 
-    // Whatever query the text derives, its nodes are counted, unless memory ran out or a pattern was refused.
+    // Whatever query the text derives, its nodes are counted, unless memory ran out or a pattern
+    // was refused.
     ensures only { (q : Query) → Derives MAX_NESTING_DEPTH path.now q → MatchResult result
         (λ n. n ≡ node_count q (document_of T.tree T.custom value.now))
         (IsStop q (document_of T.tree T.custom value.now)) }

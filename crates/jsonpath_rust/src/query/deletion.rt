@@ -33,8 +33,9 @@ pub trait Deletable: Queryable {
     /// Whether `delete_by_path` removes anything. Where it does not, it refuses.
     ghost deletes: { Bool } = { false };
 
-    /// Removes all locations that a query text selects, and returns how many distinct ones there were; by default it refuses
-    /// by `InvalidJsonPath`. After any refusal the value has the tree it had.
+    /// Removes all locations that a query text selects, and returns how many distinct ones there
+    /// were; by default it refuses by `InvalidJsonPath`. After any refusal the value has the tree
+    /// it had.
     fn delete_by_path(&mut self, alloc: Global, _path: &str) -> Queried<usize>
         requires { IsTrue (Self.is_whole self.old) }
         ensures kept { OnErr result (Self.tree self.new ≡ Self.tree self.old) }
@@ -48,17 +49,20 @@ pub trait Deletable: Queryable {
 impl Deletable for Value {
     ghost deletes = { true };
 
-    /// Removes all locations that a query text selects, as [`delete_within`], which this is at a depth of 128.
+    /// Removes all locations that a query text selects, as [`delete_within`], which this is at a
+    /// depth of 128.
     fn delete_by_path(&mut self, alloc: Global, path: &str) -> Queried<usize>
         requires { IsTrue (value_is_whole self.old) }
         ensures deleted { IfOk result (Deletes MAX_NESTING_DEPTH path.now (value_document self.old) (value_tree self.new)) }
 
-        // Whatever query the text derives, what it selects is removed, unless memory ran out or a pattern was refused.
+        // Whatever query the text derives, what it selects is removed, unless memory ran out or a
+        // pattern was refused.
         ensures only { (q : Query) → Derives MAX_NESTING_DEPTH path.now q → MatchResult result
             (IsDeletion q (value_document self.old) (value_tree self.new))
             (IsStop q (value_document self.old)) }
 
-        // A Normalized Path is refused by `OutOfMemory` alone. Its location is removed, and nothing where nothing is there.
+        // A Normalized Path is refused by `OutOfMemory` alone. Its location is removed, and nothing
+        // where nothing is there.
         ensures normal { (l : Location) → IsNormal l path.now → HasIndexesInRange l → MatchResult result
             (IsDeletionAt l (value_tree self.old) (value_tree self.new))
             (λ e. e ≡ OutOfMemory) }
@@ -70,13 +74,14 @@ impl Deletable for Value {
     }
 }
 
-/// Removes all locations that a query text selects in a document, at once and each by its original place, and returns how
-/// many distinct ones there are, those inside other ones counted too. Where the root is selected, null is left.
+/// Removes all locations that a query text selects in a document, at once and each by its original
+/// place, and returns how many distinct ones there are, those inside other ones counted too. Where
+/// the root is selected, null is left.
 ///
-/// All nodes are found, and all memory is taken, before anything is removed: a step that many locations begin with is held
-/// once. Time as [`js_path_within`], and n log n in the steps of the locations, of which the first that a location has from
-/// the one before count without their names; in a list that loses elements, each element behind the first of them is moved
-/// once.
+/// All nodes are found, and all memory is taken, before anything is removed: a step that many
+/// locations begin with is held once. Time as [`js_path_within`], and n log n in the steps of the
+/// locations, of which the first that a location has from the one before count without their names;
+/// in a list that loses elements, each element behind the first of them is moved once.
 ///
 /// # Errors
 ///
@@ -87,12 +92,14 @@ pub fn delete_within(alloc: Global, value: &mut Value, path: &str, depth: usize)
     requires { IsTrue (value_is_whole value.old) }
     ensures deleted { IfOk result (Deletes depth path.now (value_document value.old) (value_tree value.new)) }
 
-    // Whatever query the text derives, what it selects is removed, unless memory ran out or a pattern was refused.
+    // Whatever query the text derives, what it selects is removed, unless memory ran out or a
+    // pattern was refused.
     ensures only { (q : Query) → Derives depth path.now q → MatchResult result
         (IsDeletion q (value_document value.old) (value_tree value.new))
         (IsStop q (value_document value.old)) }
 
-    // A Normalized Path is refused by `OutOfMemory` alone. Its location is removed, and nothing where nothing is there.
+    // A Normalized Path is refused by `OutOfMemory` alone. Its location is removed, and nothing
+    // where nothing is there.
     ensures normal { (l : Location) → IsNormal l path.now → HasIndexesInRange l → 1 ≤ depth → MatchResult result
         (IsDeletionAt l (value_tree value.old) (value_tree value.new))
         (λ e. e ≡ OutOfMemory) }
@@ -106,17 +113,21 @@ pub fn delete_within(alloc: Global, value: &mut Value, path: &str, depth: usize)
     deleted
 }
 
-/// Removes all locations that a query selects in a document, and returns how many distinct ones there are, as
-/// [`delete_within`] does. A tree that is not well-typed is evaluated in the same way here, and not by `process`.
+/// Removes all locations that a query selects in a document, and returns how many distinct ones
+/// there are, as [`delete_within`] does. A tree that is not well-typed is evaluated in the same way
+/// here, and not by `process`.
 ///
 /// # Errors
 ///
-/// Those of [`js_path_process`] of a tree that is well-typed; after any of them the document is as it was.
+/// Those of [`js_path_process`] of a tree that is well-typed; after any of them the document is as
+/// it was.
 ///
 /// [`js_path_process`]: crate::query::js_path_process
 pub fn delete_selected(alloc: Global, value: &mut Value, query: &JpQuery) -> Queried<usize>
     requires { IsTrue (value_is_whole value.old) }
-    ensures removed { OnOk result (value_tree value.new ≡ without (is_among (selected (query_view query.now) (value_document value.old))) (value_tree value.old)) }
+    ensures removed { OnOk result (value_tree value.new
+        ≡ without (is_among (selected (query_view query.now) (value_document value.old)))
+        (value_tree value.old)) }
     ensures count { IfOk result (λ n. n ≡ distinct_count (selected (query_view query.now) (value_document value.old))) }
     ensures kept { OnErr result (value.new ≡ value.old) }
     ensures whole { IsTrue (value_is_whole value.new) }
@@ -128,15 +139,17 @@ pub fn delete_selected(alloc: Global, value: &mut Value, query: &JpQuery) -> Que
 }
 
 impl<'p> Runner<'p> {
-    /// Removes all locations that the query selects in a document, and returns how many distinct ones there are, as
-    /// [`delete_selected`] does.
+    /// Removes all locations that the query selects in a document, and returns how many distinct
+    /// ones there are, as [`delete_selected`] does.
     ///
     /// # Errors
     ///
     /// Those of [`delete_selected`]; after any of them the document is as it was.
     pub fn delete(&mut self, alloc: Global, value: &mut Value) -> Queried<usize>
         requires { IsTrue (value_is_whole value.old) }
-        ensures removed { OnOk result (value_tree value.new ≡ without (is_among (selected (runner_view self.old) (value_document value.old))) (value_tree value.old)) }
+        ensures removed { OnOk result (value_tree value.new
+            ≡ without (is_among (selected (runner_view self.old) (value_document value.old)))
+            (value_tree value.old)) }
         ensures count { IfOk result (λ n. n ≡ distinct_count (selected (runner_view self.old) (value_document value.old))) }
         ensures kept { OnErr result (value.new ≡ value.old) }
         ensures whole { IsTrue (value_is_whole value.new) }
@@ -157,7 +170,8 @@ impl<'p> Limited<'p> {
     /// Those of [`delete_selected`]; after any of them the document is as it was.
     pub fn delete(&mut self, alloc: Global, value: &mut Value) -> Queried<Within<usize>>
         requires { IsTrue (value_is_whole value.old) }
-        ensures deleted { IfOk result (λ w. IfDone w (λ n. IsDeletion (limited_view self.old) (value_document value.old) (value_tree value.new) n)) }
+        ensures deleted { IfOk result (λ w. IfDone w (λ n. IsDeletion (limited_view self.old)
+            (value_document value.old) (value_tree value.new) n)) }
         ensures spent { IfOk result (λ w. IfSpent w (value.new ≡ value.old)) }
         ensures kept { OnErr result (value.new ≡ value.old) }
         ensures whole { IsTrue (value_is_whole value.new) }

@@ -1,5 +1,6 @@
-//! Laws that proofs of callers cite: of query texts and trees, of locations, of what a query can reach, of both evaluators, of
-//! deletion and masking, and of what is written. Each function states laws and does nothing.
+//! Laws that proofs of callers cite: of query texts and trees, of locations, of what a query can
+//! reach, of both evaluators, of deletion and masking, and of what is written. Each function states
+//! laws and does nothing.
 ghost use Rattle.jsonpath_rust.specs.Deleting.{NothingSelectedDeletesNothing};
 ghost use Rattle.jsonpath_rust.specs.documents.Answer.{AsManyAreListed};
 ghost use Rattle.jsonpath_rust.specs.documents.Confining.{LocalIsConfined, SelectedBeginsWithFixedPart, SingularSelectsOneAtMost};
@@ -17,30 +18,32 @@ pub use jsonpath_parser::{
     no_text_derives_two_trees, no_text_spells_two_trees,
 };
 
-/// The Normalized Path of a location derives the query of its steps, where each index lies below 2^53, as in a query
-/// (RFC 9535, 2.1 and 2.7).
+/// The Normalized Path of a location derives the query of its steps, where each index lies below
+/// 2^53, as in a query (RFC 9535, 2.1 and 2.7).
 pub fn normalized_path_derives_its_steps()
     ensures { NormalizedPathDerivesItsSteps }
 {}
 
-/// The query of a location's steps selects that location alone where something is there, and else nothing.
+/// The query of a location's steps selects that location alone where something is there, and else
+/// nothing.
 pub fn steps_select_their_location()
     ensures { StepsSelectTheirLocation }
 {}
 
-/// Something is at each location that a query selects. It holds of documents whose objects have distinct names, as those of
-/// whole values.
+/// Something is at each location that a query selects. It holds of documents whose objects have
+/// distinct names, as those of whole values.
 pub fn selected_is_there()
     ensures { SelectedIsThere }
 {}
 
-/// A list of nodes, of values or of paths that a call returns for a query has as many items as the query selects locations. It
-/// is cited for the document's type: `as_many_are_listed::<Value>()`.
+/// A list of nodes, of values or of paths that a call returns for a query has as many items as the
+/// query selects locations. It is cited for the document's type: `as_many_are_listed::<Value>()`.
 pub fn as_many_are_listed<T: Queryable>()
     ensures { AsManyAreListed T.tree }
 {}
 
-/// A singular query, as [`is_singular`] tells it, selects nothing or one location (RFC 9535, 2.3.5.1).
+/// A singular query, as [`is_singular`] tells it, selects nothing or one location (RFC 9535,
+/// 2.3.5.1).
 ///
 /// [`is_singular`]: jsonpath_parser::is_singular
 pub fn singular_selects_one_at_most()
@@ -54,9 +57,9 @@ pub fn selected_begins_with_fixed_part()
     ensures { SelectedBeginsWithFixedPart }
 {}
 
-/// A query that is local, as [`is_local`] tells it, is confined to each part of a document with whose location its fixed part
-/// begins: what it selects lies there, and documents that agree there give the same locations with the same values, whatever
-/// else is in them.
+/// A query that is local, as [`is_local`] tells it, is confined to each part of a document with
+/// whose location its fixed part begins: what it selects lies there, and documents that agree there
+/// give the same locations with the same values, whatever else is in them.
 ///
 /// [`is_local`]: jsonpath_parser::is_local
 pub fn local_is_confined()
@@ -68,8 +71,8 @@ pub fn nothing_selected_deletes_nothing()
     ensures { NothingSelectedDeletesNothing }
 {}
 
-/// [`Query::process`] of a query that the typing of RFC 9535, 2.4.3 takes gives from the root the nodes that the query selects, in
-/// order, with their Normalized Paths (2.1.2, 2.7).
+/// [`Query::process`] of a query that the typing of RFC 9535, 2.4.3 takes gives from the root the
+/// nodes that the query selects, in order, with their Normalized Paths (2.1.2, 2.7).
 ///
 /// [`Query::process`]: crate::query::Query::process
 pub fn process_gives_the_nodelist()

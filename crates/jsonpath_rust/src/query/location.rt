@@ -1,4 +1,5 @@
-//! Locations, and the queries that are theirs: each segment is one name, or one index from 0 on (RFC 9535, 2.7).
+//! Locations, and the queries that are theirs: each segment is one name, or one index from 0 on
+//! (RFC 9535, 2.7).
 ghost use Rattle.std.specs.Prelude.{◌≡◌, Some, IfOk, IfErr, MatchResult, option_map};
 ghost use Rattle.jsonpath_parser.specs.Derives.{Derives, IsRefusal};
 ghost use Rattle.jsonpath_parser.specs.Location.{Location};
@@ -16,8 +17,8 @@ use jsonpath_parser::model::JpQuery;
 use jsonpath_parser::{MAX_NESTING_DEPTH, let_go, parse_json_path};
 use std::alloc::Global;
 
-/// The location that a query means in every document, or None: each of its segments is one name, or one index from 0 on. It
-/// refuses by `OutOfMemory` alone.
+/// The location that a query means in every document, or None: each of its segments is one name, or
+/// one index from 0 on. It refuses by `OutOfMemory` alone.
 ///
 /// The time is linear in the query.
 pub fn location_of(alloc: Global, query: &JpQuery) -> Queried<Option<Vec<Step>>>
@@ -32,8 +33,9 @@ pub fn location_of(alloc: Global, query: &JpQuery) -> Queried<Option<Vec<Step>>>
     }
 }
 
-/// The location that a query text means in every document, as [`location_of`]; of a Normalized Path with indexes below 2^53 it
-/// is the path's own. Where nothing needs to be in the document, this leads from the paths that queries return to steps.
+/// The location that a query text means in every document, as [`location_of`]; of a Normalized Path
+/// with indexes below 2^53 it is the path's own. Where nothing needs to be in the document, this
+/// leads from the paths that queries return to steps.
 ///
 /// # Errors
 ///

@@ -25,11 +25,13 @@ use jsonpath_parser::{let_go, parse_json_path_within};
 use serde_json::Value;
 use std::alloc::Global;
 
-/// Puts a copy of `new` at all locations that a query text selects in a document, at once, and returns how many distinct ones
-/// there are. Of locations that lie inside one another the outermost is replaced; the others are counted too.
+/// Puts a copy of `new` at all locations that a query text selects in a document, at once, and
+/// returns how many distinct ones there are. Of locations that lie inside one another the outermost
+/// is replaced; the others are counted too.
 ///
-/// All nodes are found, and all memory is taken, before anything is replaced. Time as [`js_path_within`], n log n in the steps of
-/// the locations as [`delete_within`], and the size of `new` for each location that lies inside no other.
+/// All nodes are found, and all memory is taken, before anything is replaced. Time as
+/// [`js_path_within`], n log n in the steps of the locations as [`delete_within`], and the size of
+/// `new` for each location that lies inside no other.
 ///
 /// # Errors
 ///
@@ -48,12 +50,14 @@ pub fn replace_within(
     requires new_whole { IsTrue (value_is_whole new.now) }
     ensures replaced { IfOk result (Replaces depth path.now (value_tree new.now) (value_document value.old) (value_tree value.new)) }
 
-    // Whatever query the text derives, what it selects is replaced, unless memory ran out or a pattern was refused.
+    // Whatever query the text derives, what it selects is replaced, unless memory ran out or a
+    // pattern was refused.
     ensures only { (q : Query) → Derives depth path.now q → MatchResult result
         (IsReplacement q (value_tree new.now) (value_document value.old) (value_tree value.new))
         (IsStop q (value_document value.old)) }
 
-    // A Normalized Path is refused by `OutOfMemory` alone. The copy stands at its location, and nowhere where nothing is there.
+    // A Normalized Path is refused by `OutOfMemory` alone. The copy stands at its location, and
+    // nowhere where nothing is there.
     ensures normal { (l : Location) → IsNormal l path.now → HasIndexesInRange l → 1 ≤ depth → MatchResult result
         (IsReplacementAt l (value_tree new.now) (value_tree value.old) (value_tree value.new))
         (λ e. e ≡ OutOfMemory) }
@@ -67,12 +71,14 @@ pub fn replace_within(
     replaced
 }
 
-/// Puts a copy of `new` at all locations that a query selects in a document, and returns how many distinct ones there are, as
-/// [`replace_within`] does. A tree that is not well-typed is evaluated in the same way here, and not by `process`.
+/// Puts a copy of `new` at all locations that a query selects in a document, and returns how many
+/// distinct ones there are, as [`replace_within`] does. A tree that is not well-typed is evaluated
+/// in the same way here, and not by `process`.
 ///
 /// # Errors
 ///
-/// Those of [`js_path_process`] of a tree that is well-typed; after any of them the document is as it was.
+/// Those of [`js_path_process`] of a tree that is well-typed; after any of them the document is as
+/// it was.
 ///
 /// [`js_path_process`]: crate::query::js_path_process
 pub fn replace_selected(
@@ -83,7 +89,9 @@ pub fn replace_selected(
 ) -> Queried<usize>
     requires value_whole { IsTrue (value_is_whole value.old) }
     requires new_whole { IsTrue (value_is_whole new.now) }
-    ensures replaced { OnOk result (value_tree value.new ≡ overwritten (is_among (selected (query_view query.now) (value_document value.old))) (value_tree new.now) (value_tree value.old)) }
+    ensures replaced { OnOk result (value_tree value.new
+        ≡ overwritten (is_among (selected (query_view query.now) (value_document value.old)))
+        (value_tree new.now) (value_tree value.old)) }
     ensures count { IfOk result (λ n. n ≡ distinct_count (selected (query_view query.now) (value_document value.old))) }
     ensures kept { OnErr result (value.new ≡ value.old) }
     ensures whole { IsTrue (value_is_whole value.new) }
@@ -95,8 +103,8 @@ pub fn replace_selected(
 }
 
 impl<'p> Runner<'p> {
-    /// Puts a copy of `new` at all locations that the query selects in a document, and returns how many distinct ones there are,
-    /// as [`replace_selected`] does.
+    /// Puts a copy of `new` at all locations that the query selects in a document, and returns how
+    /// many distinct ones there are, as [`replace_selected`] does.
     ///
     /// # Errors
     ///
@@ -104,7 +112,9 @@ impl<'p> Runner<'p> {
     pub fn replace(&mut self, alloc: Global, value: &mut Value, new: &Value) -> Queried<usize>
         requires value_whole { IsTrue (value_is_whole value.old) }
         requires new_whole { IsTrue (value_is_whole new.now) }
-        ensures replaced { OnOk result (value_tree value.new ≡ overwritten (is_among (selected (runner_view self.old) (value_document value.old))) (value_tree new.now) (value_tree value.old)) }
+        ensures replaced { OnOk result (value_tree value.new
+            ≡ overwritten (is_among (selected (runner_view self.old) (value_document value.old)))
+            (value_tree new.now) (value_tree value.old)) }
         ensures count { IfOk result (λ n. n ≡ distinct_count (selected (runner_view self.old) (value_document value.old))) }
         ensures kept { OnErr result (value.new ≡ value.old) }
         ensures whole { IsTrue (value_is_whole value.new) }
@@ -118,8 +128,8 @@ impl<'p> Runner<'p> {
 }
 
 impl<'p> Limited<'p> {
-    /// The same as [`Runner::replace`]. Where the units are not enough, the document is as it was. The size of the copies is not
-    /// limited.
+    /// The same as [`Runner::replace`]. Where the units are not enough, the document is as it was.
+    /// The size of the copies is not limited.
     ///
     /// # Errors
     ///
@@ -132,7 +142,8 @@ impl<'p> Limited<'p> {
     ) -> Queried<Within<usize>>
         requires value_whole { IsTrue (value_is_whole value.old) }
         requires new_whole { IsTrue (value_is_whole new.now) }
-        ensures replaced { IfOk result (λ w. IfDone w (λ n. IsReplacement (limited_view self.old) (value_tree new.now) (value_document value.old) (value_tree value.new) n)) }
+        ensures replaced { IfOk result (λ w. IfDone w (λ n. IsReplacement (limited_view self.old)
+            (value_tree new.now) (value_document value.old) (value_tree value.new) n)) }
         ensures spent { IfOk result (λ w. IfSpent w (value.new ≡ value.old)) }
         ensures kept { OnErr result (value.new ≡ value.old) }
         ensures whole { IsTrue (value_is_whole value.new) }

@@ -17,9 +17,10 @@ use crate::selection::{Only, selected_only};
 use jsonpath_parser::{MAX_NESTING_DEPTH, let_go, parse_json_path};
 use std::alloc::Global;
 
-/// The value of the only node that a query text selects in a document (RFC 9535, 2.1.2), or that it selects none, or several.
-/// A node that is selected twice counts twice: of `$['a','a']` there are several, where there is an `a`. The document is walked
-/// no further than to the second node, and no path is made.
+/// The value of the only node that a query text selects in a document (RFC 9535, 2.1.2), or that it
+/// selects none, or several. A node that is selected twice counts twice: of `$['a','a']` there are
+/// several, where there is an `a`. The document is walked no further than to the second node, and
+/// no path is made.
 ///
 /// # Errors
 ///
@@ -30,9 +31,11 @@ pub fn js_path_only<'a, T: Queryable>(
     value: &'a T,
 ) -> Queried<Only<'a, T>>
     requires { IsTrue (T.is_whole value.now) }
-    ensures answered { IfOk result (λ o. ByText MAX_NESTING_DEPTH path.now (λ q. IsOnly T.tree q (document_of T.tree T.custom value.now) o)) }
+    ensures answered { IfOk result (λ o. ByText MAX_NESTING_DEPTH path.now (λ q. IsOnly T.tree q
+        (document_of T.tree T.custom value.now) o)) }
 
-    // Whatever query the text derives, its only node is told, unless memory ran out or a pattern was refused.
+    // Whatever query the text derives, its only node is told, unless memory ran out or a pattern
+    // was refused.
     ensures only { (q : Query) → Derives MAX_NESTING_DEPTH path.now q → MatchResult result
         (λ o. IsOnly T.tree q (document_of T.tree T.custom value.now) o)
         (IsStop q (document_of T.tree T.custom value.now)) }

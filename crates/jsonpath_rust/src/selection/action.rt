@@ -25,7 +25,8 @@ pub enum Action<'s> {
 /// Whether the action surely makes no node of the value: a leaf has nothing below.
 #[inline(always)]
 pub fn is_idle<T: Queryable>(action: Action<'_>, value: WholeRef<'_, T>) -> bool
-    ensures { IsTrue result → (kept : Constants) (d : Document) (l : Location) → acted kept action.entry d (record { location = l; tree = tree_of value.entry }) ≡ [] }
+    ensures { IsTrue result → (kept : Constants) (d : Document) (l : Location) →
+        acted kept action.entry d (record { location = l; tree = tree_of value.entry }) ≡ [] }
 {
     match action {
         Action::Below(_) => value.is_leaf(),

@@ -92,7 +92,8 @@ impl<'a, 's, T: Queryable> Cache<'a, 's, T> {
         }
     }
 
-    /// Whether the constant of this number is worked out. Where a pattern in it is too large, the walk halts.
+    /// Whether the constant of this number is worked out. Where a pattern in it is too large, the
+    /// walk halts.
     #[inline(always)]
     pub fn has(&self, number: usize) -> Walked<bool>
         ensures given { (kept : Constants) (doc : Document) → Keeps kept doc self.now →
@@ -120,7 +121,8 @@ impl<'a, 's, T: Queryable> Cache<'a, 's, T> {
         }
     }
 
-    /// Follows the arguments of a custom function by the values that the constant of this number gave, where it gave these.
+    /// Follows the arguments of a custom function by the values that the constant of this number
+    /// gave, where it gave these.
     pub fn push_to(&self, number: usize, args: &mut Args<'a, T>) -> Walked<()>
         ensures value { OnOk result (arg_trees args.new ≡ arg_trees args.old ++ given_values (slot_at (slots_of self.now) number)) }
         ensures memory { IfErr result (λ h. h ≡ Memory) }
@@ -135,16 +137,21 @@ impl<'a, 's, T: Queryable> Cache<'a, 's, T> {
     pub fn keep(&mut self, number: usize, given: Given<'a, 's, T>)
         requires { number < length (slots_of self.old) }
         ensures value { slot_at (slots_of self.new) number ≡ Some (gave given.entry) }
-        ensures right { (kept : Constants) (doc : Document) → IsGiven (gave given.entry) (part_at kept number) doc → Keeps kept doc self.old → Keeps kept doc self.new }
+        ensures right { (kept : Constants) (doc : Document) →
+            IsGiven (gave given.entry) (part_at kept number) doc → Keeps kept doc self.old →
+            Keeps kept doc self.new }
     {
         self.slots[number] = Some(given);
     }
 
-    /// Keeps that the constant of this number is refused, where that is why the walk halts. Nothing works it out again.
+    /// Keeps that the constant of this number is refused, where that is why the walk halts. Nothing
+    /// works it out again.
     pub fn keep_halt(&mut self, number: usize, halt: Halt) -> Halt
         requires { number < length (slots_of self.old) }
         ensures same { result ≡ halt }
-        ensures right { (kept : Constants) (doc : Document) (limit : Limit) → IsHalt limit (part_patterns (part_at kept number)) doc halt → Keeps kept doc self.old → Keeps kept doc self.new }
+        ensures right { (kept : Constants) (doc : Document) (limit : Limit) →
+            IsHalt limit (part_patterns (part_at kept number)) doc halt → Keeps kept doc self.old →
+            Keeps kept doc self.new }
     {
         match halt {
             Halt::Pattern => {

@@ -50,7 +50,9 @@ impl<'a: 's, 's, T: Queryable> Task<'a, 's, T> {
     ) -> Walked<bool>
         requires { StandsAt self.now at trail.old }
         ensures gave { TakesAlong (sink.old, trail.old.way) (sink.new, trail.new.way)
-            (onward_from self.now onward.entry (flat_map (acted (kept_of self.now) onward.entry.next (document self.now)) (children (node_at trail.old at.entry)))) result }
+            (onward_from self.now onward.entry
+            (flat_map (acted (kept_of self.now) onward.entry.next (document self.now))
+            (children (node_at trail.old at.entry)))) result }
         ensures comes { Comes self.now trail.old trail.new
             (action_patterns (kept_of self.now) onward.entry.next ++ rest_patterns self.now onward.entry) result }
     {
@@ -86,7 +88,9 @@ impl<'a: 's, 's, T: Queryable> Task<'a, 's, T> {
         requires stands { StandsAt self.now members.now.of trail.old }
         requires listed { AreMembers members.now }
         ensures gave { TakesAlong (sink.old, trail.old.way) (sink.new, trail.new.way)
-            (onward_from self.now onward.entry (flat_map (acted (kept_of self.now) onward.entry.next (document self.now)) (children (node_at trail.old members.now.of)))) result }
+            (onward_from self.now onward.entry
+            (flat_map (acted (kept_of self.now) onward.entry.next (document self.now))
+            (children (node_at trail.old members.now.of)))) result }
         ensures comes { Comes self.now trail.old trail.new
             (action_patterns (kept_of self.now) onward.entry.next ++ rest_patterns self.now onward.entry) result }
     {
@@ -114,7 +118,10 @@ impl<'a: 's, 's, T: Queryable> Task<'a, 's, T> {
     ) -> Walked<bool>
         requires { Stands self.now child.value (trail.old.way.steps.items ++ child.step ∷ []) trail.old.cache }
         ensures gave { TakesAlong (sink.old, trail.old.way) (sink.new, trail.new.way)
-            (onward_from self.now onward.entry (acted (kept_of self.now) onward.entry.next (document self.now) (below (lent_location trail.old.way.steps.items) (lent_step child.entry.step) (tree_of child.entry.value)))) result }
+            (onward_from self.now onward.entry
+            (acted (kept_of self.now) onward.entry.next (document self.now)
+            (below (lent_location trail.old.way.steps.items) (lent_step child.entry.step)
+            (tree_of child.entry.value)))) result }
         ensures comes { Comes self.now trail.old trail.new
             (action_patterns (kept_of self.now) onward.entry.next ++ rest_patterns self.now onward.entry) result }
     {
@@ -160,8 +167,8 @@ impl<'a: 's, 's, T: Queryable> Task<'a, 's, T> {
         }
     }
 
-    /// The segment and then the rest, here and at each node below. Where the segment goes to each child, the members of an
-    /// object are listed once for both.
+    /// The segment and then the rest, here and at each node below. Where the segment goes to each
+    /// child, the members of an object are listed once for both.
     #[cycle(walk)]
     fn descend(
         &self,
@@ -172,7 +179,9 @@ impl<'a: 's, 's, T: Queryable> Task<'a, 's, T> {
     ) -> Walked<bool>
         requires { StandsAt self.now at trail.old }
         ensures gave { TakesAlong (sink.old, trail.old.way) (sink.new, trail.new.way)
-            (onward_from self.now onward.entry (flat_map (replaced (segment_view (kept_of self.now) onward.entry.next.now) (document self.now)) (subtree (node_at trail.old at.entry)))) result }
+            (onward_from self.now onward.entry
+            (flat_map (replaced (segment_view (kept_of self.now) onward.entry.next.now)
+            (document self.now)) (subtree (node_at trail.old at.entry)))) result }
         ensures comes { Comes self.now trail.old trail.new
             (segment_patterns (segment_view (kept_of self.now) onward.entry.next.now) ++ rest_patterns self.now onward.entry) result }
     {

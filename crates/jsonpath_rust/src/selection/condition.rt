@@ -11,7 +11,8 @@ ghost use Rattle.jsonpath_rust.specs.documents.Meaning.{holds};
 ghost use Rattle.jsonpath_rust.specs.documents.Node.{root_node};
 ghost use Rattle.jsonpath_rust.specs.documents.Patterns.{segments_patterns, IsStop};
 ghost use Rattle.jsonpath_rust.specs.documents.inner.Whole.{document_at, tree_of};
-ghost use Rattle.jsonpath_rust.specs.selection.Condition.{filter_query, in_filter, filter_of, segment_filter, condition_view, condition_runner_view, limited_condition_view, IsConditionRefusal};
+ghost use Rattle.jsonpath_rust.specs.selection.Condition.{filter_query, in_filter, filter_of, segment_filter, condition_view};
+ghost use Rattle.jsonpath_rust.specs.selection.Condition.{condition_runner_view, limited_condition_view, IsConditionRefusal};
 ghost use Rattle.jsonpath_rust.specs.selection.Prepared.{prepared_view};
 ghost use Rattle.jsonpath_rust.specs.selection.inner.Halting.{IsHalt};
 
@@ -34,8 +35,9 @@ use std::{fmt, mem};
 /// What stands before a filter in a query.
 const OPENING: &str = "$[?";
 
-/// A logical expression (RFC 9535, 2.3.5) that is asked of a document itself: `@` and `$` both are its root. A query cannot say
-/// that, for `$[?!$.error]` tests the children of the root, and selects nothing in `{}`.
+/// A logical expression (RFC 9535, 2.3.5) that is asked of a document itself: `@` and `$` both are
+/// its root. A query cannot say that, for `$[?!$.error]` tests the children of the root, and
+/// selects nothing in `{}`.
 ///
 /// What its patterns are built of stays from one document to the next, as in [`Prepared`].
 #[derive(Drop)]
@@ -44,8 +46,8 @@ pub struct Condition {
 }
 
 impl Condition {
-    /// The condition that is this expression, such as a tree of `jsonpath_build`. It refuses by `OutOfMemory` alone. The cost is linear
-    /// in the expression.
+    /// The condition that is this expression, such as a tree of `jsonpath_build`. It refuses by
+    /// `OutOfMemory` alone. The cost is linear in the expression.
     pub fn new(alloc: Global, filter: Filter) -> Queried<Self>
         ensures filter { IfOk result (λ c. condition_view c ≡ filter_view filter) }
         ensures memory { IfErr result (λ e. e ≡ OutOfMemory) }
@@ -56,18 +58,20 @@ impl Condition {
         Ok(Condition { prepared })
     }
 
-    /// The condition of a text, which is what may stand between `$[?` and `]` in a query, such as `@.type=='order'&&!@.error`.
+    /// The condition of a text, which is what may stand between `$[?` and `]` in a query, such as
+    /// `@.type=='order'&&!@.error`.
     ///
     /// # Errors
     ///
-    /// Those of `parse_json_path_within` of the query `$[?..]` around the text, whose `[` counts as one bracket; the place of
-    /// `PestError` is one in the text. A text whose query is not this one filter, such as `@.a][?@.b`, is refused by `PestError`, at
-    /// the text's end.
+    /// Those of `parse_json_path_within` of the query `$[?..]` around the text, whose `[` counts as
+    /// one bracket; the place of `PestError` is one in the text. A text whose query is not this one
+    /// filter, such as `@.a][?@.b`, is refused by `PestError`, at the text's end.
     pub fn read(alloc: Global, text: &str, depth: usize) -> Queried<Self>
         ensures read { IfOk result (λ c. Derives depth (in_filter text.now) (filter_query (condition_view c))) }
 
         // Whatever expression the text is, it is the one asked, unless memory ran out.
-        ensures only { (f : syntax.Filter) → Derives depth (in_filter text.now) (filter_query f) → MatchResult result (λ c. condition_view c ≡ f) (λ e. e ≡ OutOfMemory) }
+        ensures only { (f : syntax.Filter) → Derives depth (in_filter text.now) (filter_query f) →
+            MatchResult result (λ c. condition_view c ≡ f) (λ e. e ≡ OutOfMemory) }
         ensures refused { IfErr result (IsConditionRefusal depth text.now) }
     {
         let whole = query_text(alloc, text)?;
@@ -87,16 +91,20 @@ impl Condition {
     ///
     /// # Errors
     ///
-    /// Those of [`selected_nodes`](crate::query::selected_nodes) for the query `$[?..]` of the expression.
+    /// Those of [`selected_nodes`](crate::query::selected_nodes) for the query `$[?..]` of the
+    /// expression.
     pub fn holds<T: Queryable>(&self, alloc: Global, value: &T) -> Queried<bool>
         requires { IsTrue (T.is_whole value.now) }
-        ensures holds { IfOk result (λ b. b ≡ holds (condition_view self.now) (document_of T.tree T.custom value.now) (root_node (T.tree value.now))) }
+        ensures holds { IfOk result (λ b. b
+            ≡ holds (condition_view self.now) (document_of T.tree T.custom value.now) (root_node
+            (T.tree value.now))) }
         ensures refused { IfErr result (IsStop (filter_query (condition_view self.now)) (document_of T.tree T.custom value.now)) }
     {
         self.runner(alloc).holds(alloc, value)
     }
 
-    /// What asks the condition of one document after another, and keeps what searches for its patterns. Nothing is allocated yet.
+    /// What asks the condition of one document after another, and keeps what searches for its
+    /// patterns. Nothing is allocated yet.
     pub fn runner(&self, alloc: Global) -> ConditionRunner<'_>
         ensures { condition_runner_view result ≡ condition_view self.now }
     {
@@ -118,7 +126,8 @@ impl Debug for Condition {
 
 /// What asks a [`Condition`] of one document after another.
 ///
-/// For conditions of strangers the work of each call can be limited, by [`ConditionRunner::limited`].
+/// For conditions of strangers the work of each call can be limited, by
+/// [`ConditionRunner::limited`].
 #[derive(Drop)]
 pub struct ConditionRunner<'c> {
     condition: &'c Condition,
@@ -126,8 +135,8 @@ pub struct ConditionRunner<'c> {
 }
 
 impl<'c> ConditionRunner<'c> {
-    /// The runner, with a limit: each of its calls may take so many units of work. What these are spent for stands at
-    /// [`Limited`](crate::selection::Limited).
+    /// The runner, with a limit: each of its calls may take so many units of work. What these are
+    /// spent for stands at [`Limited`](crate::selection::Limited).
     pub fn limited(self, units: usize) -> LimitedCondition<'c>
         ensures { limited_condition_view result ≡ condition_runner_view self.entry }
     {
@@ -137,7 +146,9 @@ impl<'c> ConditionRunner<'c> {
     /// Whether the condition holds of a document, as [`Condition::holds`].
     pub fn holds<T: Queryable>(&mut self, alloc: Global, value: &T) -> Queried<bool>
         requires { IsTrue (T.is_whole value.now) }
-        ensures holds { IfOk result (λ b. b ≡ holds (condition_runner_view self.old) (document_of T.tree T.custom value.now) (root_node (T.tree value.now))) }
+        ensures holds { IfOk result (λ b. b
+            ≡ holds (condition_runner_view self.old) (document_of T.tree T.custom value.now)
+            (root_node (T.tree value.now))) }
         ensures same { condition_runner_view self.new ≡ condition_runner_view self.old }
         ensures refused { IfErr result (IsStop (filter_query (condition_runner_view self.old)) (document_of T.tree T.custom value.now)) }
     {
@@ -161,9 +172,13 @@ impl<'c> ConditionRunner<'c> {
         budget: Budget,
         value: WholeRef<'_, T>,
     ) -> Walked<bool>
-        ensures holds { IfOk result (λ b. b ≡ holds (condition_runner_view self.old) (document_at value.entry) (root_node (tree_of value.entry))) }
+        ensures holds { IfOk result (λ b. b
+            ≡ holds (condition_runner_view self.old) (document_at value.entry) (root_node
+            (tree_of value.entry))) }
         ensures same { condition_runner_view self.new ≡ condition_runner_view self.old }
-        ensures refused { IfErr result (IsHalt budget.limit (segments_patterns (filter_query (condition_runner_view self.old))) (document_at value.entry)) }
+        ensures refused { IfErr result (IsHalt budget.limit
+            (segments_patterns (filter_query (condition_runner_view self.old)))
+            (document_at value.entry)) }
     {
         let condition = self.condition;
         let finders = mem::replace(&mut self.finders, condition.prepared.finders(alloc));

@@ -27,7 +27,8 @@ impl<'a: 's, 's, T: Queryable> Task<'a, 's, T> {
     /// The value of the constant of this number, if it is worked out.
     fn kept(&self, number: usize, cache: &Cache<'a, 's, T>) -> Walked<Option<Operand<'a, 's, T>>>
         requires { IsReady self.now cache.now }
-        ensures value { IfOk result (λ o. IfSome o (λ v. operand_tree v ≡ value_by (part_at (kept_of self.now) number) (document self.now))) }
+        ensures value { IfOk result (λ o. IfSome o (λ v. operand_tree v
+            ≡ value_by (part_at (kept_of self.now) number) (document self.now))) }
         ensures memory { IfErr result (λ h. h ≡ Memory) }
     {
         match cache.get(number) {
@@ -67,7 +68,8 @@ impl<'a: 's, 's, T: Queryable> Task<'a, 's, T> {
         trail: &mut Trail<'a, 's, '_, T>,
     ) -> Walked<Operand<'a, 's, T>>
         requires { StandsAt self.now at trail.old }
-        ensures value { IfOk result (λ o. operand_tree o ≡ here self.now trail.old at.entry (answer (called_view (kept_of self.now) call.now))) }
+        ensures value { IfOk result (λ o. operand_tree o
+            ≡ here self.now trail.old at.entry (answer (called_view (kept_of self.now) call.now))) }
         ensures comes { Comes self.now trail.old trail.new (call_patterns (called_view (kept_of self.now) call.now)) result }
     {
         match call {
@@ -110,7 +112,8 @@ impl<'a: 's, 's, T: Queryable> Task<'a, 's, T> {
         trail: &mut Trail<'a, 's, '_, T>,
     ) -> Walked<bool>
         requires { IsReady self.now trail.old.cache }
-        ensures holds { (n : Node) → IfOk result (λ b. b ≡ comparison_holds (comparison_at (kept_of self.now) number) (document self.now) n) }
+        ensures holds { (n : Node) → IfOk result (λ b. b
+            ≡ comparison_holds (comparison_at (kept_of self.now) number) (document self.now) n) }
         ensures comes { Comes self.now trail.old trail.new (comparison_patterns (comparison_at (kept_of self.now) number)) result }
     {
         let Some(comparison) = self.plan.constant_comparison(number) else {

@@ -1,4 +1,5 @@
-//! What work is spent for values: where a walk is limited, comparisons, functions and patterns cost what they look at.
+//! What work is spent for values: where a walk is limited, comparisons, functions and patterns cost
+//! what they look at.
 ghost use Rattle.std.specs.Prelude.{◌≡◌, ◌≤◌, ◌-◌, min, None, map, length, option_map, All, IsTrue, IfOk, IfErr};
 ghost use Rattle.jsonpath_base.specs.Tree.{as_list, as_text};
 ghost use Rattle.jsonpath_rust.specs.documents.inner.Operands.{arg_trees};
@@ -27,7 +28,8 @@ const BYTES: usize = 16;
 const COPIED: usize = 64;
 
 impl Limit {
-    /// What `length` costs: a unit for each byte of a text of the document, and for each member of an object.
+    /// What `length` costs: a unit for each byte of a text of the document, and for each member of
+    /// an object.
     #[inline(always)]
     pub fn length_cost<T: Queryable>(self, alloc: Global, side: &Side<'_, '_, T>) -> Walked<usize>
         ensures memory { IfErr result (λ h. h ≡ Memory) }
@@ -38,7 +40,8 @@ impl Limit {
         }
     }
 
-    /// What `match` or `search` costs: what it costs to read both texts, and to ask the pattern ([`Finders::cost`]).
+    /// What `match` or `search` costs: what it costs to read both texts, and to ask the pattern
+    /// ([`Finders::cost`]).
     #[inline(always)]
     pub fn search_cost<T: Queryable>(
         self,
@@ -55,7 +58,8 @@ impl Limit {
         }
     }
 
-    /// What a comparison costs: the size of the smaller side, or `most` where that is less. No more of them is looked at.
+    /// What a comparison costs: the size of the smaller side, or `most` where that is less. No more
+    /// of them is looked at.
     #[inline(always)]
     pub fn comparison_cost<T: Queryable>(
         self,
@@ -63,7 +67,8 @@ impl Limit {
         sides: (&Side<'_, '_, T>, &Side<'_, '_, T>),
         most: usize,
     ) -> Walked<usize>
-        ensures cost { IfOk result (λ n. self ≡ Limited → n ≡ min (compared_cost (valued sides.entry.0.now) (valued sides.entry.1.now)) most) }
+        ensures cost { IfOk result (λ n. self ≡ Limited →
+            n ≡ min (compared_cost (valued sides.entry.0.now) (valued sides.entry.1.now)) most) }
         ensures memory { IfErr result (λ h. h ≡ Memory) }
     {
         match self {
@@ -75,8 +80,8 @@ impl Limit {
         }
     }
 
-    /// What a custom function costs: one for each value that it is given, and the product of their sizes; or at least `most`, where
-    /// no more of them is looked at.
+    /// What a custom function costs: one for each value that it is given, and the product of their
+    /// sizes; or at least `most`, where no more of them is looked at.
     #[inline(always)]
     pub fn custom_cost<T: Queryable>(
         self,
@@ -137,7 +142,8 @@ impl Budget {
     }
 }
 
-/// What it costs to give a node to a sink: where that keeps a path or a location, a unit for each few bytes of names in it.
+/// What it costs to give a node to a sink: where that keeps a path or a location, a unit for each
+/// few bytes of names in it.
 fn path_cost<T: Queryable>(sink: &Sink<'_, T>, way: &Way<'_>) -> usize {
     match sink {
         Sink::Nodes(_) => name_bytes(way) / COPIED,
@@ -159,8 +165,8 @@ fn name_bytes(way: &Way<'_>) -> usize {
     bytes
 }
 
-/// What it costs to read these texts, a unit for each byte of one of the document, and to ask the second as a pattern of the
-/// first.
+/// What it costs to read these texts, a unit for each byte of one of the document, and to ask the
+/// second as a pattern of the first.
 fn cost_of_search<T: Queryable>(
     alloc: Global,
     finders: &Finders<'_, '_>,
@@ -189,7 +195,8 @@ fn value_in<'k, T: Queryable>(side: &Side<'k, '_, T>) -> Option<WholeRef<'k, T>>
     }
 }
 
-/// The size of the smaller of two values, or `most` where that is less. The time goes with that, not with the larger one.
+/// The size of the smaller of two values, or `most` where that is less. The time goes with that,
+/// not with the larger one.
 #[inline(never)]
 fn smaller_size<T: Queryable>(
     alloc: Global,
@@ -205,8 +212,8 @@ fn smaller_size<T: Queryable>(
     size_within(alloc, right, size)
 }
 
-/// A bound that the size of the smaller of two values keeps, or `most`. Each is counted as far as some bound, which is raised
-/// until one of them lies below it.
+/// A bound that the size of the smaller of two values keeps, or `most`. Each is counted as far as
+/// some bound, which is raised until one of them lies below it.
 fn bound_of_smaller<T: Queryable>(
     alloc: Global,
     left: WholeRef<'_, T>,
@@ -230,7 +237,8 @@ fn bound_of_smaller<T: Queryable>(
     Ok(most)
 }
 
-/// How many these values are, and the product of their sizes; or at least `most`, where no more of them is looked at.
+/// How many these values are, and the product of their sizes; or at least `most`, where no more of
+/// them is looked at.
 fn size_of_arguments<T: Queryable>(alloc: Global, args: &Args<'_, T>, most: usize) -> Walked<usize>
     ensures each { IfOk result (λ n. min (length (arg_trees args.now)) most ≤ n) }
     ensures memory { IfErr result (λ h. h ≡ Memory) }
@@ -250,8 +258,9 @@ fn size_of_arguments<T: Queryable>(alloc: Global, args: &Args<'_, T>, most: usiz
     Ok(product.saturating_add(count))
 }
 
-/// The size of a value, or `most` where that is less: one for each value in it, and for each few bytes of its texts and names.
-/// It is not counted further than that, and of a value of which one is wanted nothing is looked at.
+/// The size of a value, or `most` where that is less: one for each value in it, and for each few
+/// bytes of its texts and names. It is not counted further than that, and of a value of which one
+/// is wanted nothing is looked at.
 #[cycle(size)]
 fn size_within<T: Queryable>(alloc: Global, value: WholeRef<'_, T>, most: usize) -> Walked<usize>
     ensures size { IfOk result (λ n. n ≡ min (cost (tree_of value.entry)) most) }
@@ -288,8 +297,8 @@ fn elements_size<T: Queryable>(alloc: Global, items: &Vec<T>, most: usize) -> Wa
     Ok(size)
 }
 
-/// The sizes of the members of a value together, with their names, or `most` where that is less. Where an object has so many
-/// members, they are not listed.
+/// The sizes of the members of a value together, with their names, or `most` where that is less.
+/// Where an object has so many members, they are not listed.
 #[cycle(size)]
 fn inside_size<T: Queryable>(alloc: Global, value: WholeRef<'_, T>, most: usize) -> Walked<usize>
     requires text { None ≡ as_text (tree_of value) }

@@ -18,15 +18,16 @@ use crate::selection::walk::Task;
 use jsonpath_parser::model::SingularQuerySegment;
 
 impl<'a: 's, 's, T: Queryable> Task<'a, 's, T> {
-    /// How many children the value has that these steps lead to; none where there is no such value. A member of an object costs
-    /// a unit, for its type may have to list them.
+    /// How many children the value has that these steps lead to; none where there is no such value.
+    /// A member of an object costs a unit, for its type may have to list them.
     pub fn count_children(
         &self,
         steps: &[SingularQuerySegment],
         at: WholeRef<'_, T>,
         budget: &mut Budget,
     ) -> Walked<usize>
-        ensures count { (d : Document) (n : Node) → n.tree ≡ tree_of at.entry → IfOk result (λ k. k ≡ length (through (children_query (map step_view steps.now)) d n)) }
+        ensures count { (d : Document) (n : Node) → n.tree ≡ tree_of at.entry →
+            IfOk result (λ k. k ≡ length (through (children_query (map step_view steps.now)) d n)) }
         ensures halts { IfErr result (IsHalt self.now.limit [] (document self.now)) }
     {
         match value_at(steps, at) {

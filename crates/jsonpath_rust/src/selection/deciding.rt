@@ -19,14 +19,19 @@ use crate::selection::walk::Task;
 use jsonpath_base::engine::{Finders, KeptFinders, LentCells};
 use std::alloc::Global;
 
-/// Whether the filter holds. The second result asks the patterns of the plan, and can do so for the next document.
+/// Whether the filter holds. The second result asks the patterns of the plan, and can do so for the
+/// next document.
 pub fn decide<'a, 'p, T: Queryable>(
     alloc: Global,
     request: Request<'_, 'p>,
     root: WholeRef<'a, T>,
 ) -> (Walked<bool>, KeptFinders<'p>)
-    ensures holds { IfOk result.0 (λ b. b ≡ holds (expression_of (plan_view request.entry.plan.now)) (document_at root.entry) (root_node (tree_of root.entry))) }
-    ensures refused { IfErr result.0 (IsHalt request.entry.budget.limit (segments_patterns (filter_query (expression_of (plan_view request.entry.plan.now)))) (document_at root.entry)) }
+    ensures holds { IfOk result.0 (λ b. b
+        ≡ holds (expression_of (plan_view request.entry.plan.now)) (document_at root.entry)
+        (root_node (tree_of root.entry))) }
+    ensures refused { IfErr result.0 (IsHalt request.entry.budget.limit
+        (segments_patterns (filter_query (expression_of (plan_view request.entry.plan.now))))
+        (document_at root.entry)) }
 {
     let Request {
         plan,

@@ -36,7 +36,8 @@ impl<'a: 's, 's, T: Queryable> Task<'a, 's, T> {
         at: WholeRef<'k, T>,
         budget: &mut Budget,
     ) -> Walked<Option<Side<'k, 's, T>>>
-        ensures value { (kept : Constants) (d : Document) (n : Node) → n.tree ≡ tree_of at.entry → IfOk result (λ o. IfSome o (λ s. side_tree s ≡ answer (call_view kept call.now) d n)) }
+        ensures value { (kept : Constants) (d : Document) (n : Node) → n.tree ≡ tree_of at.entry →
+            IfOk result (λ o. IfSome o (λ s. side_tree s ≡ answer (call_view kept call.now) d n)) }
         ensures halts { IfErr result (IsHalt self.now.limit [] (document self.now)) }
     {
         match call {
@@ -64,7 +65,8 @@ impl<'a: 's, 's, T: Queryable> Task<'a, 's, T> {
         at: WholeRef<'_, T>,
         budget: &mut Budget,
     ) -> Walked<Side<'k, 's, T>>
-        ensures value { IfOk result (λ s. side_tree s ≡ functions.length_of (meaning.value_at (map step_view steps.now) (tree_of at.entry))) }
+        ensures value { IfOk result (λ s. side_tree s
+            ≡ functions.length_of (meaning.value_at (map step_view steps.now) (tree_of at.entry))) }
         ensures halts { IfErr result (IsHalt self.now.limit [] (document self.now)) }
     {
         let Some(value) = value_at(steps, at) else {
@@ -93,7 +95,9 @@ pub fn is_direct(call: &Call) -> bool {
 /// The steps to the node that an argument is, if it is looked up.
 #[inline(always)]
 pub fn lookup_in(arg: &Argument) -> Option<&[SingularQuerySegment]>
-    ensures { (kept : Constants) (w : Wanted) → IfSome result (λ ss. argument_view kept arg.now w ≡ test_argument (relative (steps_query (map step_view ss.now)))) }
+    ensures { (kept : Constants) (w : Wanted) →
+        IfSome result (λ ss. argument_view kept arg.now w
+        ≡ test_argument (relative (steps_query (map step_view ss.now)))) }
 {
     match arg {
         Argument::Nodes(nodes) => match nodes {
@@ -104,10 +108,12 @@ pub fn lookup_in(arg: &Argument) -> Option<&[SingularQuerySegment]>
     }
 }
 
-/// Whether there is a node (2.3.5.2.1); None where that takes a walk or memory, and where it is kept of the root.
+/// Whether there is a node (2.3.5.2.1); None where that takes a walk or memory, and where it is
+/// kept of the root.
 #[inline(always)]
 pub fn is_there<T: Queryable>(nodes: &Nodes, at: WholeRef<'_, T>) -> Option<bool>
-    ensures { (kept : Constants) (d : Document) (n : Node) → n.tree ≡ tree_of at.entry → IfSome result (λ b. b ≡ as_truth (tested (nodes_view kept nodes.now Any) d n)) }
+    ensures { (kept : Constants) (d : Document) (n : Node) → n.tree ≡ tree_of at.entry →
+        IfSome result (λ b. b ≡ as_truth (tested (nodes_view kept nodes.now Any) d n)) }
 {
     match nodes {
         Nodes::Lookup(steps) => Some(value_at(steps, at).is_some()),

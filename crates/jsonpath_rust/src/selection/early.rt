@@ -1,4 +1,5 @@
-//! How a walk begins: constants are worked out before it, so that never more than a few queries are on their way at once.
+//! How a walk begins: constants are worked out before it, so that never more than a few queries are
+//! on their way at once.
 ghost use Rattle.std.specs.Prelude.{◌≡◌, [], IfErr, OnOk};
 ghost use Rattle.jsonpath_rust.specs.selection.inner.Halting.{IsHalt};
 ghost use Rattle.jsonpath_rust.specs.selection.inner.Keeping.{IsReady, document};
@@ -14,15 +15,16 @@ use crate::selection::trail::Trail;
 use crate::selection::walk::Task;
 use jsonpath_base::engine::Way;
 
-/// How many levels of a document the walks that are on their way at once may stand on, all together: as many as three take in
-/// a document of 127 levels.
+/// How many levels of a document the walks that are on their way at once may stand on, all
+/// together: as many as three take in a document of 127 levels.
 const MOST_LEVELS: usize = 405;
 
 /// What each of them takes beside the document, in levels.
 const LEVELS_BESIDE: usize = 8;
 
 impl<'a: 's, 's, T: Queryable> Task<'a, 's, T> {
-    /// Begins a walk at the root: there is room for what the constants give, and those that are early are worked out.
+    /// Begins a walk at the root: there is room for what the constants give, and those that are
+    /// early are worked out.
     pub fn begin(&self, trail: &mut Trail<'a, 's, '_, T>) -> Walked<()>
         ensures ready { OnOk result (IsReady self.now trail.new.cache) }
         ensures way { OnOk result (trail.new.way.steps.items ≡ []) }
@@ -33,7 +35,8 @@ impl<'a: 's, 's, T: Queryable> Task<'a, 's, T> {
         self.work_out_early(trail)
     }
 
-    /// Where that would stand too deep, works out the queries from the root that are early, inner ones first. It comes back to the root.
+    /// Where that would stand too deep, works out the queries from the root that are early, inner
+    /// ones first. It comes back to the root.
     fn work_out_early(&self, trail: &mut Trail<'a, 's, '_, T>) -> Walked<()>
         requires { IsReady self.now trail.old.cache }
         ensures ready { OnOk result (IsReady self.now trail.new.cache) }
@@ -53,8 +56,9 @@ impl<'a: 's, 's, T: Queryable> Task<'a, 's, T> {
         Ok(())
     }
 
-    /// Whether queries from the root that are asked in one another's walks could stand on more than `MOST_LEVELS` levels of the
-    /// document, all together. Only where so many stand in one another is the document looked at, for a unit a value.
+    /// Whether queries from the root that are asked in one another's walks could stand on more than
+    /// `MOST_LEVELS` levels of the document, all together. Only where so many stand in one another
+    /// is the document looked at, for a unit a value.
     fn stands_deep(&self, budget: &mut Budget) -> Walked<bool>
         ensures { IfErr result (IsHalt self.now.limit [] (document self.now)) }
     {
@@ -85,7 +89,8 @@ impl<'a: 's, 's, T: Queryable> Task<'a, 's, T> {
         }
     }
 
-    /// Works out a query from the root. Where a pattern in it is too large that is kept, for the walk may never ask it.
+    /// Works out a query from the root. Where a pattern in it is too large that is kept, for the
+    /// walk may never ask it.
     fn work_out(
         &self,
         number: usize,

@@ -95,7 +95,8 @@ impl<'a: 's, 's, T: Queryable> Task<'a, 's, T> {
         Ok(true)
     }
 
-    /// Whether there is a node (RFC 9535, 2.3.5.2.1). Names and indexes are looked up, and nothing is made for them.
+    /// Whether there is a node (RFC 9535, 2.3.5.2.1). Names and indexes are looked up, and nothing
+    /// is made for them.
     #[cycle(walk)]
     #[inline(always)]
     fn exists(
@@ -105,7 +106,9 @@ impl<'a: 's, 's, T: Queryable> Task<'a, 's, T> {
         trail: &mut Trail<'a, 's, '_, T>,
     ) -> Walked<bool>
         requires { StandsAt self.now at trail.old }
-        ensures holds { IfOk result (λ b. b ≡ as_truth (here self.now trail.old at.entry (tested (nodes_view (kept_of self.now) nodes.now Any)))) }
+        ensures holds { IfOk result (λ b. b
+            ≡ as_truth (here self.now trail.old at.entry (tested (nodes_view
+            (kept_of self.now) nodes.now Any)))) }
         ensures comes { Comes self.now trail.old trail.new (test_patterns (nodes_view (kept_of self.now) nodes.now Any)) result }
     {
         if let Some(there) = is_there(nodes, at) {
@@ -114,7 +117,8 @@ impl<'a: 's, 's, T: Queryable> Task<'a, 's, T> {
         Ok(self.nodes(nodes, Wanted::Any, at, trail)?.is_true())
     }
 
-    /// Whether the sides of a comparison compare so. What takes no walk is compared where it stands, and nothing is made for it.
+    /// Whether the sides of a comparison compare so. What takes no walk is compared where it
+    /// stands, and nothing is made for it.
     #[cycle(walk)]
     pub fn comparison_holds(
         &self,
@@ -127,7 +131,8 @@ impl<'a: 's, 's, T: Queryable> Task<'a, 's, T> {
             (here self.now trail.old at.entry (value_of (side_view (kept_of self.now) comparison.entry.1.now)))
             (here self.now trail.old at.entry (value_of (side_view (kept_of self.now) comparison.entry.2.now)))) }
         ensures comes { Comes self.now trail.old trail.new
-            (comparable_patterns (side_view (kept_of self.now) comparison.entry.1.now) ++ comparable_patterns (side_view (kept_of self.now) comparison.entry.2.now)) result }
+            (comparable_patterns (side_view (kept_of self.now) comparison.entry.1.now)
+            ++ comparable_patterns (side_view (kept_of self.now) comparison.entry.2.now)) result }
     {
         if let Some(held) = self.lent_compare(comparison, at, &trail.cache, &mut trail.budget)? {
             return Ok(held);
@@ -149,7 +154,8 @@ impl<'a: 's, 's, T: Queryable> Task<'a, 's, T> {
             (here self.now trail.old at.entry (value_of (side_view (kept_of self.now) comparison.entry.1.now)))
             (here self.now trail.old at.entry (value_of (side_view (kept_of self.now) comparison.entry.2.now)))) }
         ensures comes { Comes self.now trail.old trail.new
-            (comparable_patterns (side_view (kept_of self.now) comparison.entry.1.now) ++ comparable_patterns (side_view (kept_of self.now) comparison.entry.2.now)) result }
+            (comparable_patterns (side_view (kept_of self.now) comparison.entry.1.now)
+            ++ comparable_patterns (side_view (kept_of self.now) comparison.entry.2.now)) result }
     {
         let left = self.side(comparison.1, at, trail)?;
         let right = self.side(comparison.2, at, trail)?;
@@ -171,7 +177,8 @@ impl<'a: 's, 's, T: Queryable> Task<'a, 's, T> {
         trail: &mut Trail<'a, 's, '_, T>,
     ) -> Walked<Operand<'a, 's, T>>
         requires { StandsAt self.now at trail.old }
-        ensures value { IfOk result (λ o. operand_tree o ≡ here self.now trail.old at.entry (value_of (side_view (kept_of self.now) side.now))) }
+        ensures value { IfOk result (λ o. operand_tree o
+            ≡ here self.now trail.old at.entry (value_of (side_view (kept_of self.now) side.now))) }
         ensures comes { Comes self.now trail.old trail.new (comparable_patterns (side_view (kept_of self.now) side.now)) result }
     {
         match side {

@@ -41,7 +41,8 @@ impl<'a: 's, 's, T: Queryable> Task<'a, 's, T> {
         trail: &mut Trail<'a, 's, '_, T>,
     ) -> Walked<Operand<'a, 's, T>>
         requires { StandsAt self.now at trail.old }
-        ensures value { IfOk result (λ o. operand_tree o ≡ here self.now trail.old at.entry (answer (call_view (kept_of self.now) call.now))) }
+        ensures value { IfOk result (λ o. operand_tree o
+            ≡ here self.now trail.old at.entry (answer (call_view (kept_of self.now) call.now))) }
         ensures comes { Comes self.now trail.old trail.new (call_patterns (call_view (kept_of self.now) call.now)) result }
     {
         match call {
@@ -73,8 +74,8 @@ impl<'a: 's, 's, T: Queryable> Task<'a, 's, T> {
         }
     }
 
-    /// What `match` returns of an entire text, or `search` of its substrings: a text and a pattern (RFC 9535, 2.4.6 and
-    /// 2.4.7).
+    /// What `match` returns of an entire text, or `search` of its substrings: a text and a pattern
+    /// (RFC 9535, 2.4.6 and 2.4.7).
     #[cycle(walk)]
     fn match_or_search(
         &self,
@@ -88,7 +89,9 @@ impl<'a: 's, 's, T: Queryable> Task<'a, 's, T> {
             (as_value (here self.now trail.old at.entry (argued (argument_view (kept_of self.now) args.entry.0.now Only))))
             (as_value (here self.now trail.old at.entry (argued (argument_view (kept_of self.now) args.entry.1.now Only))))))) }
         ensures comes { Comes self.now trail.old trail.new
-            ((is_entire extent, argument_view (kept_of self.now) args.entry.1.now Only) ∷ (argument_patterns (argument_view (kept_of self.now) args.entry.0.now Only) ++ argument_patterns (argument_view (kept_of self.now) args.entry.1.now Only))) result }
+            ((is_entire extent, argument_view (kept_of self.now) args.entry.1.now Only)
+            ∷ (argument_patterns (argument_view (kept_of self.now) args.entry.0.now Only)
+            ++ argument_patterns (argument_view (kept_of self.now) args.entry.1.now Only))) result }
     {
         let origin = origin_of(args.1);
         let text = self.value(args.0, at, trail)?;
@@ -113,7 +116,10 @@ impl<'a: 's, 's, T: Queryable> Task<'a, 's, T> {
         trail: &mut Trail<'a, 's, '_, T>,
     ) -> Walked<Operand<'a, 's, T>>
         requires { StandsAt self.now at trail.old }
-        ensures value { IfOk result (λ o. operand_tree o ≡ Some ((document self.now).custom (string_bytes name.now) (here self.now trail.old at.entry (all_trees (arguments_meant (kept_of self.now) args.now))))) }
+        ensures value { IfOk result (λ o. operand_tree o
+            ≡ Some ((document self.now).custom (string_bytes name.now)
+            (here self.now trail.old at.entry (all_trees (arguments_meant
+            (kept_of self.now) args.now))))) }
         ensures comes { Comes self.now trail.old trail.new (arguments_patterns (arguments_meant (kept_of self.now) args.now)) result }
     {
         let mut values = Args::new(self.alloc);
@@ -127,8 +133,8 @@ impl<'a: 's, 's, T: Queryable> Task<'a, 's, T> {
         Ok(Operand::Made(Whole { value }))
     }
 
-    /// Follows the arguments of a custom function by this one (RFC 9535, 2.4.1): the values of the nodes of a query, or the
-    /// value, if it is not absent.
+    /// Follows the arguments of a custom function by this one (RFC 9535, 2.4.1): the values of the
+    /// nodes of a query, or the value, if it is not absent.
     #[cycle(walk)]
     fn push_argument(
         &self,
@@ -138,7 +144,9 @@ impl<'a: 's, 's, T: Queryable> Task<'a, 's, T> {
         args: &mut Args<'a, T>,
     ) -> Walked<()>
         requires { StandsAt self.now at trail.old }
-        ensures value { OnOk result (arg_trees args.new ≡ arg_trees args.old ++ as_trees (here self.now trail.old at.entry (argued (argument_view (kept_of self.now) arg.now Values)))) }
+        ensures value { OnOk result (arg_trees args.new ≡ arg_trees args.old
+            ++ as_trees (here self.now trail.old at.entry (argued (argument_view
+            (kept_of self.now) arg.now Values)))) }
         ensures comes { Comes self.now trail.old trail.new (argument_patterns (argument_view (kept_of self.now) arg.now Values)) result }
     {
         match nodes_in(arg) {
@@ -160,7 +168,9 @@ impl<'a: 's, 's, T: Queryable> Task<'a, 's, T> {
         trail: &mut Trail<'a, 's, '_, T>,
     ) -> Walked<Operand<'a, 's, T>>
         requires { StandsAt self.now at trail.old }
-        ensures value { IfOk result (λ o. operand_tree o ≡ as_value (here self.now trail.old at.entry (argued (argument_view (kept_of self.now) arg.now Only)))) }
+        ensures value { IfOk result (λ o. operand_tree o
+            ≡ as_value (here self.now trail.old at.entry (argued (argument_view
+            (kept_of self.now) arg.now Only)))) }
         ensures comes { Comes self.now trail.old trail.new (argument_patterns (argument_view (kept_of self.now) arg.now Only)) result }
     {
         if let Some(steps) = lookup_in(arg) {
@@ -182,7 +192,9 @@ impl<'a: 's, 's, T: Queryable> Task<'a, 's, T> {
 /// The query that an argument is, if it is one. Any other is a value, whatever is wanted.
 #[inline(always)]
 fn nodes_in(arg: &Argument) -> Option<&Nodes>
-    ensures nodes { (kept : Constants) (w : Wanted) → IfSome result (λ ns. argument_view kept arg.now w ≡ test_argument (nodes_view kept ns.now w)) }
+    ensures nodes { (kept : Constants) (w : Wanted) →
+        IfSome result (λ ns. argument_view kept arg.now w
+        ≡ test_argument (nodes_view kept ns.now w)) }
     ensures value { (kept : Constants) → IfNone result (IsValue kept arg.now) }
 {
     match arg {
@@ -203,8 +215,8 @@ fn origin_of(arg: &Argument) -> Origin {
     }
 }
 
-/// What `match` or `search` returns for a value and a pattern. It refuses where the pattern cannot be built, and where
-/// memory ran out.
+/// What `match` or `search` returns for a value and a pattern. It refuses where the pattern cannot
+/// be built, and where memory ran out.
 fn is_matched<T: Queryable>(
     alloc: Global,
     finders: &mut Finders<'_, '_>,

@@ -80,8 +80,8 @@ fn give_once<'a, T: Queryable>(
     }
 }
 
-/// Gives to the sink the nodes of what is asked. The first result says whether to go on; the second asks the patterns of the
-/// plan, and can do so for the next document.
+/// Gives to the sink the nodes of what is asked. The first result says whether to go on; the second
+/// asks the patterns of the plan, and can do so for the next document.
 pub fn give_requested<'a, 'p, T: Queryable>(
     alloc: Global,
     request: Request<'_, 'p>,
@@ -89,7 +89,8 @@ pub fn give_requested<'a, 'p, T: Queryable>(
     sink: &mut Sink<'a, T>,
 ) -> (Walked<bool>, KeptFinders<'p>)
     ensures gave { Takes sink.old sink.new (nodelist (plan_view request.entry.plan.now) (document_at root.entry)) result.0 }
-    ensures refused { IfErr result.0 (IsHalt request.entry.budget.limit (segments_patterns (plan_view request.entry.plan.now)) (document_at root.entry)) }
+    ensures refused { IfErr result.0 (IsHalt request.entry.budget.limit
+        (segments_patterns (plan_view request.entry.plan.now)) (document_at root.entry)) }
 {
     let Request {
         plan,

@@ -1,4 +1,5 @@
-//! A prepared query that is asked of one document after another, and may take only so much work for each.
+//! A prepared query that is asked of one document after another, and may take only so much work for
+//! each.
 ghost use Rattle.std.specs.Prelude.{◌≡◌, ◌↔◌, [], ◌++◌, map, All, Some, IsTrue, IsFalse, IfOk, IfErr, IfSome, IfNone, codes, string_bytes};
 ghost use Rattle.std.specs.List.{AllZip};
 ghost use Rattle.jsonpath_parser.specs.tree.Shown.{query_shown};
@@ -32,9 +33,10 @@ use std::fmt::{Debug, Formatter, Write};
 
 /// A [`Runner`] each of whose calls may take so many units of work: for queries of strangers.
 ///
-/// Each call returns and refuses as that of `Runner` does, under [`Within::Done`], or returns [`Within::Spent`] where so many
-/// units are not enough. A singular query, such as `$.a[0]` (RFC 9535, 2.3.5.1), looks up no more than the names and indexes that
-/// it has: it spends nothing, and no call returns `Spent` for it. For other queries these are spent:
+/// Each call returns and refuses as that of `Runner` does, under [`Within::Done`], or returns
+/// [`Within::Spent`] where so many units are not enough. A singular query, such as `$.a[0]` (RFC
+/// 9535, 2.3.5.1), looks up no more than the names and indexes that it has: it spends nothing, and
+/// no call returns `Spent` for it. For other queries these are spent:
 ///
 /// - one for each child that a `*`, a slice or `..` looks at, and two for each that a filter is tried on;
 /// - one for each selector of several in one segment, and for each operand of `&&` and `||`;
@@ -51,9 +53,10 @@ use std::fmt::{Debug, Formatter, Write};
 /// - where three queries from the root stand in one another, one for each value of the document that is looked at to see how
 ///   deep it is.
 ///
-/// Names and indexes cost nothing by themselves, so a unit takes longer where the query is longer. How long it takes is
-/// measured, and no clause says it. What is spent at once is counted first, as far as what is left; so a call that returns
-/// `Spent` may have listed the members of one object, and looked at a few times as many values more as it had units.
+/// Names and indexes cost nothing by themselves, so a unit takes longer where the query is longer.
+/// How long it takes is measured, and no clause says it. What is spent at once is counted first, as
+/// far as what is left; so a call that returns `Spent` may have listed the members of one object,
+/// and looked at a few times as many values more as it had units.
 #[derive(Drop)]
 pub struct Limited<'p> {
     runner: Runner<'p>,
@@ -147,7 +150,9 @@ impl<'p> Limited<'p> {
         value: &T,
     ) -> Queried<Within<Vec<Vec<Step>>>>
         requires { IsTrue (T.is_whole value.now) }
-        ensures locations { IfOk result (λ w. IfDone w (λ v. map (λ l. location_view l.items) v.items ≡ selected (limited_view self.old) (document_of T.tree T.custom value.now))) }
+        ensures locations { IfOk result (λ w. IfDone w (λ v. map
+            (λ l. location_view l.items) v.items
+            ≡ selected (limited_view self.old) (document_of T.tree T.custom value.now))) }
         ensures enough { IsTrue (typing.is_singular (limited_view self.old)) → IfOk result (λ w. IfSpent w ⊥) }
         ensures same { limited_view self.new ≡ limited_view self.old }
         ensures refused { IfErr result (IsStop (limited_view self.old) (document_of T.tree T.custom value.now)) }
@@ -167,8 +172,11 @@ impl<'p> Limited<'p> {
         value: &'a T,
     ) -> Queried<Within<Option<QueryRef<'a, T>>>>
         requires { IsTrue (T.is_whole value.now) }
-        ensures first { IfOk result (λ w. IfDone w (λ o. IfSome o (λ r. IsFirstNode (limited_view self.old) (document_of T.tree T.custom value.now) (string_bytes r.path, T.tree r.val.now)))) }
-        ensures none { IfOk result (λ w. IfDone w (λ o. IfNone o (selected (limited_view self.old) (document_of T.tree T.custom value.now) ≡ []))) }
+        ensures first { IfOk result (λ w. IfDone w (λ o. IfSome o (λ r. IsFirstNode
+            (limited_view self.old) (document_of T.tree T.custom value.now)
+            (string_bytes r.path, T.tree r.val.now)))) }
+        ensures none { IfOk result (λ w. IfDone w (λ o. IfNone o (selected (limited_view self.old)
+            (document_of T.tree T.custom value.now) ≡ []))) }
         ensures whole { IfOk result (λ w. IfDone w (λ o. IfSome o (λ r. IsTrue (T.is_whole r.val.now)))) }
         ensures enough { IsTrue (typing.is_singular (limited_view self.old)) → IfOk result (λ w. IfSpent w ⊥) }
         ensures same { limited_view self.new ≡ limited_view self.old }
@@ -222,7 +230,8 @@ impl<'p> Limited<'p> {
     /// The same as [`Runner::has_node`].
     pub fn has_node<T: Queryable>(&mut self, alloc: Global, value: &T) -> Queried<Within<bool>>
         requires { IsTrue (T.is_whole value.now) }
-        ensures none { IfOk result (λ w. IfDone w (λ b. IsFalse b ↔ (selected (limited_view self.old) (document_of T.tree T.custom value.now) ≡ []))) }
+        ensures none { IfOk result (λ w. IfDone w (λ b. IsFalse b
+            ↔ (selected (limited_view self.old) (document_of T.tree T.custom value.now) ≡ []))) }
         ensures enough { IsTrue (typing.is_singular (limited_view self.old)) → IfOk result (λ w. IfSpent w ⊥) }
         ensures same { limited_view self.new ≡ limited_view self.old }
         ensures refused { IfErr result (IsStop (limited_view self.old) (document_of T.tree T.custom value.now)) }
@@ -242,7 +251,8 @@ impl<'p> Limited<'p> {
         value: &T,
     ) -> Queried<Within<Removal>>
         requires { IsTrue (T.is_whole value.now) }
-        ensures removal { IfOk result (λ w. IfDone w (λ r. IsRemovalOf r (selected (limited_view self.old) (document_of T.tree T.custom value.now)))) }
+        ensures removal { IfOk result (λ w. IfDone w (λ r. IsRemovalOf r (selected
+            (limited_view self.old) (document_of T.tree T.custom value.now)))) }
         ensures enough { IsTrue (typing.is_singular (limited_view self.old)) → IfOk result (λ w. IfSpent w ⊥) }
         ensures same { limited_view self.new ≡ limited_view self.old }
         ensures refused { IfErr result (IsStop (limited_view self.old) (document_of T.tree T.custom value.now)) }
@@ -265,7 +275,9 @@ impl<'p> Limited<'p> {
         value: WholeRef<'a, T>,
         mut sink: Sink<'a, T>,
     ) -> Queried<Within<Sink<'a, T>>>
-        ensures gave { IfOk result (λ w. IfDone w (λ s. seen s ≡ give (seen sink.entry) (nodelist (limited_view self.old) (document_at value.entry)))) }
+        ensures gave { IfOk result (λ w. IfDone w (λ s. seen s
+            ≡ give (seen sink.entry) (nodelist (limited_view self.old)
+            (document_at value.entry)))) }
         ensures enough { IsTrue (typing.is_singular (limited_view self.old)) → IfOk result (λ w. IfSpent w ⊥) }
         ensures same { limited_view self.new ≡ limited_view self.old }
         ensures refused { IfErr result (IsStop (limited_view self.old) (document_at value.entry)) }

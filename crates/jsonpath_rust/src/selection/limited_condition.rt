@@ -1,4 +1,5 @@
-//! A condition that is asked of one document after another, and may take only so much work for each.
+//! A condition that is asked of one document after another, and may take only so much work for
+//! each.
 ghost use Rattle.std.specs.Prelude.{◌≡◌, ◌++◌, Some, IsTrue, IfOk, IfErr, codes};
 ghost use Rattle.jsonpath_parser.specs.tree.Shown.{query_shown};
 ghost use Rattle.jsonpath_rust.specs.documents.Document.{document_of};
@@ -19,8 +20,9 @@ use std::alloc::Global;
 use std::fmt;
 use std::fmt::{Debug, Formatter, Write};
 
-/// A [`ConditionRunner`] each of whose calls may take so many units of work: for conditions of strangers. What these are spent
-/// for stands at [`Limited`](crate::selection::Limited); a name, an index and the truth of a query of them alone spend nothing.
+/// A [`ConditionRunner`] each of whose calls may take so many units of work: for conditions of
+/// strangers. What these are spent for stands at [`Limited`](crate::selection::Limited); a name, an
+/// index and the truth of a query of them alone spend nothing.
 #[derive(Drop)]
 pub struct LimitedCondition<'c> {
     runner: ConditionRunner<'c>,
@@ -42,14 +44,17 @@ impl<'c> LimitedCondition<'c> {
         self.runner
     }
 
-    /// Whether the condition holds of a document, or [`Within::Spent`] where so many units of work are not enough.
+    /// Whether the condition holds of a document, or [`Within::Spent`] where so many units of work
+    /// are not enough.
     ///
     /// # Errors
     ///
     /// Those of [`Condition::holds`](crate::selection::Condition::holds).
     pub fn holds<T: Queryable>(&mut self, alloc: Global, value: &T) -> Queried<Within<bool>>
         requires { IsTrue (T.is_whole value.now) }
-        ensures holds { IfOk result (λ w. IfDone w (λ b. b ≡ holds (limited_condition_view self.old) (document_of T.tree T.custom value.now) (root_node (T.tree value.now)))) }
+        ensures holds { IfOk result (λ w. IfDone w (λ b. b
+            ≡ holds (limited_condition_view self.old) (document_of T.tree T.custom value.now)
+            (root_node (T.tree value.now)))) }
         ensures same { limited_condition_view self.new ≡ limited_condition_view self.old }
         ensures refused { IfErr result (IsStop (filter_query (limited_condition_view self.old)) (document_of T.tree T.custom value.now)) }
     {
@@ -63,7 +68,9 @@ impl<'c> LimitedCondition<'c> {
 
 /// `LimitedCondition` and its query between parentheses, as that is shown.
 impl<'c> Debug for LimitedCondition<'c> {
-    ghost debug_output = { λ l. Some (codes "LimitedCondition(" ++ query_shown (prepared_view l.runner.condition.now.prepared) ++ codes ")") };
+    ghost debug_output = { λ l. Some
+        (codes "LimitedCondition(" ++ query_shown (prepared_view l.runner.condition.now.prepared)
+        ++ codes ")") };
 
     fn fmt<W: Write>(&self, f: &mut Formatter<W>) -> fmt::Result {
         write!(f, "LimitedCondition({})", self.runner.query())

@@ -22,9 +22,10 @@ use jsonpath_base::{Removal, Step};
 use jsonpath_parser::model::JpQuery;
 use std::alloc::Global;
 
-/// The nodes that a query tree selects in a document, in order (RFC 9535, 2.1.2): what `js_path_process` returns of a tree
-/// that [`is_typed`], with no test of that. A tree that is not typed is evaluated in the same way: where a function takes a
-/// value and is given a query, that is the value of its only node, and what is no query has no nodes.
+/// The nodes that a query tree selects in a document, in order (RFC 9535, 2.1.2): what
+/// `js_path_process` returns of a tree that [`is_typed`], with no test of that. A tree that is not
+/// typed is evaluated in the same way: where a function takes a value and is given a query, that is
+/// the value of its only node, and what is no query has no nodes.
 ///
 /// # Errors
 ///
@@ -99,7 +100,8 @@ pub fn selected_locations<T: Queryable>(
     value: &T,
 ) -> Queried<Vec<Vec<Step>>>
     requires { IsTrue (T.is_whole value.now) }
-    ensures locations { IfOk result (λ v. map (λ l. location_view l.items) v.items ≡ selected (query_view query.now) (document_of T.tree T.custom value.now)) }
+    ensures locations { IfOk result (λ v. map (λ l. location_view l.items) v.items
+        ≡ selected (query_view query.now) (document_of T.tree T.custom value.now)) }
     ensures refused { IfErr result (IsStop (query_view query.now) (document_of T.tree T.custom value.now)) }
 {
     let begun = Sink::Locations(Vec::new(alloc));
@@ -107,8 +109,8 @@ pub fn selected_locations<T: Queryable>(
     Ok(sink.into_locations(alloc))
 }
 
-/// The first of the nodes that [`selected_nodes`] returns, or None where there is none. The document is walked no further than
-/// to that node.
+/// The first of the nodes that [`selected_nodes`] returns, or None where there is none. The
+/// document is walked no further than to that node.
 ///
 /// # Errors
 ///
@@ -119,7 +121,8 @@ pub fn selected_first<'a, T: Queryable>(
     value: &'a T,
 ) -> Queried<Option<QueryRef<'a, T>>>
     requires { IsTrue (T.is_whole value.now) }
-    ensures first { IfOk result (λ o. IfSome o (λ r. IsFirstNode (query_view query.now) (document_of T.tree T.custom value.now) (string_bytes r.path, T.tree r.val.now))) }
+    ensures first { IfOk result (λ o. IfSome o (λ r. IsFirstNode (query_view query.now)
+        (document_of T.tree T.custom value.now) (string_bytes r.path, T.tree r.val.now))) }
     ensures none { IfOk result (λ o. IfNone o (selected (query_view query.now) (document_of T.tree T.custom value.now) ≡ [])) }
     ensures whole { IfOk result (λ o. IfSome o (λ r. IsTrue (T.is_whole r.val.now))) }
     ensures refused { IfErr result (IsStop (query_view query.now) (document_of T.tree T.custom value.now)) }
@@ -128,8 +131,8 @@ pub fn selected_first<'a, T: Queryable>(
     Ok(sink.into_first())
 }
 
-/// The value of the only node that [`selected_nodes`] returns, or that there is none, or several. The document is walked no
-/// further than to the second node, and no path is made.
+/// The value of the only node that [`selected_nodes`] returns, or that there is none, or several.
+/// The document is walked no further than to the second node, and no path is made.
 ///
 /// # Errors
 ///

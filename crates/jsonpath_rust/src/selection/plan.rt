@@ -1,5 +1,6 @@
-//! A plan of a query: what is to be done at a node, found out once and not at each node. It says which queries inside filters
-//! are looked up and which are walked, which queries from the root are one, and which patterns are one.
+//! A plan of a query: what is to be done at a node, found out once and not at each node. It says
+//! which queries inside filters are looked up and which are walked, which queries from the root are
+//! one, and which patterns are one.
 ghost use Rattle.jsonpath_rust.specs.selection.inner.PlanViews.{IsSettled, IsSettled-prop, IsRooted, IsRooted-prop};
 
 mod constants;
@@ -22,7 +23,8 @@ pub fn release(plan: Plan) {
 #[derive(Drop)]
 pub struct Plan {
     pub segments: Vec<Segment>,
-    /// The constants of the query, by number. One that stands in the filters of another has the smaller number.
+    /// The constants of the query, by number. One that stands in the filters of another has the
+    /// smaller number.
     pub constants: Vec<Constant>,
     /// How many queries from the root stand in one another.
     pub nesting: usize,
@@ -98,7 +100,8 @@ pub enum Filter {
         nodes: Nodes,
         not: bool,
     },
-    /// The value that these steps lead to from the current node has a child, turned round where `not`.
+    /// The value that these steps lead to from the current node has a child, turned round where
+    /// `not`.
     HasChild {
         steps: Vec<SingularQuerySegment>,
         not: bool,
@@ -114,7 +117,8 @@ pub enum Filter {
     Constant(usize),
 }
 
-/// The nodes of a query inside a filter, by how they are found. The place where they stand tells what is wanted of them.
+/// The nodes of a query inside a filter, by how they are found. The place where they stand tells
+/// what is wanted of them.
 #[derive(Drop, PartialEq)]
 #[cycle(plan)]
 pub enum Nodes {

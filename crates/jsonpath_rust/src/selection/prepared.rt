@@ -24,10 +24,12 @@ use std::alloc::Global;
 use std::fmt;
 use std::fmt::{Debug, Formatter, Write};
 
-/// A query, to be run on any number of documents, of any types, by the [`Runner`]s that [`Prepared::runner`] makes.
+/// A query, to be run on any number of documents, of any types, by the [`Runner`]s that
+/// [`Prepared::runner`] makes.
 ///
-/// A pattern that stands in it, as the second argument of `match` or of `search` (RFC 9535, 2.4.6 and 2.4.7), is built by
-/// the first call that needs it, and then stays built, for all its runners. Nothing of a document outlasts a call.
+/// A pattern that stands in it, as the second argument of `match` or of `search` (RFC 9535, 2.4.6
+/// and 2.4.7), is built by the first call that needs it, and then stays built, for all its runners.
+/// Nothing of a document outlasts a call.
 #[derive(Drop)]
 pub struct Prepared {
     planned: Planned,
@@ -36,8 +38,8 @@ pub struct Prepared {
 }
 
 impl Prepared {
-    /// Prepares a query. No pattern is built yet: the cost is linear in the query. It refuses by `OutOfMemory` alone, and
-    /// lets the query go then.
+    /// Prepares a query. No pattern is built yet: the cost is linear in the query. It refuses by
+    /// `OutOfMemory` alone, and lets the query go then.
     pub fn new(alloc: Global, query: JpQuery) -> Queried<Self>
         ensures query { IfOk result (λ p. prepared_view p ≡ query_view query) }
         ensures memory { IfErr result (λ e. e ≡ OutOfMemory) }
@@ -61,10 +63,12 @@ impl Prepared {
         ensures query { IfOk result (λ p. Derives MAX_NESTING_DEPTH text.now (prepared_view p)) }
 
         // Every tree that the text derives is that of the query, unless memory ran out.
-        ensures only { (t : Query) → Derives MAX_NESTING_DEPTH text.now t → MatchResult result (λ p. prepared_view p ≡ t) (λ e. e ≡ OutOfMemory) }
+        ensures only { (t : Query) → Derives MAX_NESTING_DEPTH text.now t →
+            MatchResult result (λ p. prepared_view p ≡ t) (λ e. e ≡ OutOfMemory) }
 
         // A Normalized Path is refused by `OutOfMemory` alone.
-        ensures normal { (l : Location) → IsNormal l text.now → HasIndexesInRange l → MatchResult result (λ p. prepared_view p ≡ steps_query l) (λ e. e ≡ OutOfMemory) }
+        ensures normal { (l : Location) → IsNormal l text.now → HasIndexesInRange l →
+            MatchResult result (λ p. prepared_view p ≡ steps_query l) (λ e. e ≡ OutOfMemory) }
         ensures refused { IfErr result (IsRefusal MAX_NESTING_DEPTH text.now) }
     {
         Prepared::read_within(alloc, text, MAX_NESTING_DEPTH)
@@ -82,7 +86,8 @@ impl Prepared {
         ensures only { (t : Query) → Derives depth text.now t → MatchResult result (λ p. prepared_view p ≡ t) (λ e. e ≡ OutOfMemory) }
 
         // A Normalized Path is refused by `OutOfMemory` alone.
-        ensures normal { (l : Location) → IsNormal l text.now → HasIndexesInRange l → 1 ≤ depth → MatchResult result (λ p. prepared_view p ≡ steps_query l) (λ e. e ≡ OutOfMemory) }
+        ensures normal { (l : Location) → IsNormal l text.now → HasIndexesInRange l → 1 ≤ depth →
+            MatchResult result (λ p. prepared_view p ≡ steps_query l) (λ e. e ≡ OutOfMemory) }
         ensures refused { IfErr result (IsRefusal depth text.now) }
     {
         let query = parse_json_path_within(alloc, text, depth)?;
@@ -96,7 +101,8 @@ impl Prepared {
         &self.planned.query
     }
 
-    /// What asks the query of one document after another, and keeps what searches for its patterns. Nothing is allocated yet.
+    /// What asks the query of one document after another, and keeps what searches for its patterns.
+    /// Nothing is allocated yet.
     pub fn runner(&self, alloc: Global) -> Runner<'_>
         ensures { runner_view result ≡ prepared_view self.now }
     {

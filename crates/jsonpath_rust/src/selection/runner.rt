@@ -32,15 +32,15 @@ use std::alloc::Global;
 use std::fmt::{Debug, Formatter, Write};
 use std::{fmt, mem};
 
-/// What runs a [`Prepared`] query on one document after another. Beside what `Prepared` keeps, what searches for its patterns
-/// stays from one call to the next, so that only the first call makes it.
+/// What runs a [`Prepared`] query on one document after another. Beside what `Prepared` keeps, what
+/// searches for its patterns stays from one call to the next, so that only the first call makes it.
 ///
 /// For queries of strangers the work of each call can be limited, by [`Runner::limited`].
 ///
 /// # Errors
 ///
-/// Each call has those of [`selected_nodes`]: `InvalidJsonPath` where `regex` refuses a pattern for its size, and
-/// `OutOfMemory`. The query can be run again after that.
+/// Each call has those of [`selected_nodes`]: `InvalidJsonPath` where `regex` refuses a pattern for
+/// its size, and `OutOfMemory`. The query can be run again after that.
 ///
 /// [`selected_nodes`]: crate::selection::selected_nodes
 #[derive(Drop)]
@@ -67,7 +67,8 @@ impl<'p> Runner<'p> {
         self.prepared.query()
     }
 
-    /// The runner, with a limit: each of its calls may take so many units of work. What these are spent for stands at [`Limited`].
+    /// The runner, with a limit: each of its calls may take so many units of work. What these are
+    /// spent for stands at [`Limited`].
     pub fn limited(self, units: usize) -> Limited<'p>
         ensures { limited_view result ≡ runner_view self.entry }
     {
@@ -121,7 +122,8 @@ impl<'p> Runner<'p> {
     /// The locations of these nodes, in order.
     pub fn locations<T: Queryable>(&mut self, alloc: Global, value: &T) -> Queried<Vec<Vec<Step>>>
         requires { IsTrue (T.is_whole value.now) }
-        ensures locations { IfOk result (λ v. map (λ l. location_view l.items) v.items ≡ selected (runner_view self.old) (document_of T.tree T.custom value.now)) }
+        ensures locations { IfOk result (λ v. map (λ l. location_view l.items) v.items
+            ≡ selected (runner_view self.old) (document_of T.tree T.custom value.now)) }
         ensures same { runner_view self.new ≡ runner_view self.old }
         ensures refused { IfErr result (IsStop (runner_view self.old) (document_of T.tree T.custom value.now)) }
     {
@@ -130,14 +132,16 @@ impl<'p> Runner<'p> {
         Ok(sink.into_locations(alloc))
     }
 
-    /// The first of these nodes, or None where the query selects none. The document is walked no further than to that node.
+    /// The first of these nodes, or None where the query selects none. The document is walked no
+    /// further than to that node.
     pub fn first<'a, T: Queryable>(
         &mut self,
         alloc: Global,
         value: &'a T,
     ) -> Queried<Option<QueryRef<'a, T>>>
         requires { IsTrue (T.is_whole value.now) }
-        ensures first { IfOk result (λ o. IfSome o (λ r. IsFirstNode (runner_view self.old) (document_of T.tree T.custom value.now) (string_bytes r.path, T.tree r.val.now))) }
+        ensures first { IfOk result (λ o. IfSome o (λ r. IsFirstNode (runner_view self.old)
+            (document_of T.tree T.custom value.now) (string_bytes r.path, T.tree r.val.now))) }
         ensures none { IfOk result (λ o. IfNone o (selected (runner_view self.old) (document_of T.tree T.custom value.now) ≡ [])) }
         ensures whole { IfOk result (λ o. IfSome o (λ r. IsTrue (T.is_whole r.val.now))) }
         ensures same { runner_view self.new ≡ runner_view self.old }
@@ -147,8 +151,8 @@ impl<'p> Runner<'p> {
         Ok(sink.into_first())
     }
 
-    /// The value of the only one of these nodes, or that there is none, or several. The document is walked no further than to
-    /// the second node, and no path is made.
+    /// The value of the only one of these nodes, or that there is none, or several. The document is
+    /// walked no further than to the second node, and no path is made.
     pub fn only<'a, T: Queryable>(&mut self, alloc: Global, value: &'a T) -> Queried<Only<'a, T>>
         requires { IsTrue (T.is_whole value.now) }
         ensures only { IfOk result (λ o. IsOnly T.tree (runner_view self.old) (document_of T.tree T.custom value.now) o) }
@@ -172,7 +176,8 @@ impl<'p> Runner<'p> {
         Ok(sink.into_count())
     }
 
-    /// Whether the query selects a node. The document is walked no further than to the first, and no path is made.
+    /// Whether the query selects a node. The document is walked no further than to the first, and
+    /// no path is made.
     pub fn has_node<T: Queryable>(&mut self, alloc: Global, value: &T) -> Queried<bool>
         requires { IsTrue (T.is_whole value.now) }
         ensures none { IfOk result (λ b. IsFalse b ↔ (selected (runner_view self.old) (document_of T.tree T.custom value.now) ≡ [])) }

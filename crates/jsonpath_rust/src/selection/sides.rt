@@ -35,7 +35,8 @@ impl<'a: 's, 's, T: Queryable> Task<'a, 's, T> {
         budget: &mut Budget,
     ) -> Walked<Option<bool>>
         requires { IsReady self.now cache.now }
-        ensures holds { (n : Node) → n.tree ≡ tree_of at.entry → IfOk result (λ o. IfSome o (λ b. b ≡ compares (operator_view comparison.entry.0)
+        ensures holds { (n : Node) → n.tree ≡ tree_of at.entry →
+            IfOk result (λ o. IfSome o (λ b. b ≡ compares (operator_view comparison.entry.0)
             (value_of (side_view (kept_of self.now) comparison.entry.1.now) (document self.now) n)
             (value_of (side_view (kept_of self.now) comparison.entry.2.now) (document self.now) n))) }
         ensures halts { IfErr result (IsHalt self.now.limit [] (document self.now)) }
@@ -83,7 +84,9 @@ impl<'a: 's, 's, T: Queryable> Task<'a, 's, T> {
         budget: &mut Budget,
     ) -> Walked<Option<Side<'k, 's, T>>>
         requires { IsReady self.now cache.now }
-        ensures value { (n : Node) → n.tree ≡ tree_of at.entry → IfOk result (λ o. IfSome o (λ s. side_tree s ≡ value_of (side_view (kept_of self.now) side.now) (document self.now) n)) }
+        ensures value { (n : Node) → n.tree ≡ tree_of at.entry →
+            IfOk result (λ o. IfSome o (λ s. side_tree s
+            ≡ value_of (side_view (kept_of self.now) side.now) (document self.now) n)) }
         ensures halts { IfErr result (IsHalt self.now.limit [] (document self.now)) }
     {
         match side {
@@ -107,7 +110,9 @@ impl<'a: 's, 's, T: Queryable> Task<'a, 's, T> {
         budget: &mut Budget,
     ) -> Walked<Option<Side<'k, 's, T>>>
         requires { IsReady self.now cache.now }
-        ensures value { (n : Node) → n.tree ≡ tree_of at.entry → IfOk result (λ o. IfSome o (λ s. side_tree s ≡ answer (called_view (kept_of self.now) call.now) (document self.now) n)) }
+        ensures value { (n : Node) → n.tree ≡ tree_of at.entry →
+            IfOk result (λ o. IfSome o (λ s. side_tree s
+            ≡ answer (called_view (kept_of self.now) call.now) (document self.now) n)) }
         ensures halts { IfErr result (IsHalt self.now.limit [] (document self.now)) }
     {
         match call {

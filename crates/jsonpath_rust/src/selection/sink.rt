@@ -1,5 +1,6 @@
 //! What is done with the nodes that a walk meets.
-ghost use Rattle.std.specs.Prelude.{◌≡◌, suc, min, ◌∷◌, [], map, option_map, option_to_list, All, IsTrue, false, IfErr, IfSome, OnOk, string_bytes};
+ghost use Rattle.std.specs.Prelude.{◌≡◌, suc, min, ◌∷◌, [], map, option_map, option_to_list};
+ghost use Rattle.std.specs.Prelude.{All, IsTrue, false, IfErr, IfSome, OnOk, string_bytes};
 ghost use Rattle.jsonpath_base.specs.Steps.{location_view};
 ghost use Rattle.jsonpath_base.specs.RemovalViews.{removal_set, removal_count};
 ghost use Rattle.jsonpath_rust.specs.declared.documents.halt.Halt.TheVariants.{Memory};
@@ -10,7 +11,8 @@ ghost use Rattle.jsonpath_rust.specs.documents.inner.Operands.{operand_tree};
 ghost use Rattle.jsonpath_rust.specs.documents.inner.Whole.{tree_of};
 ghost use Rattle.jsonpath_rust.specs.selection.Only.{sole_value};
 ghost use Rattle.jsonpath_rust.specs.selection.inner.Only.{only_seen, only_told};
-ghost use Rattle.jsonpath_rust.specs.selection.inner.Sinks.{Took, TakesAlong, seen, seen_only, seen_first, start, any_in, count_in, first_in, nodes_in, values_in, paths_in, locations_in, removal_in};
+ghost use Rattle.jsonpath_rust.specs.selection.inner.Sinks.{Took, TakesAlong, seen, seen_only, seen_first, start, any_in, count_in};
+ghost use Rattle.jsonpath_rust.specs.selection.inner.Sinks.{first_in, nodes_in, values_in, paths_in, locations_in, removal_in};
 ghost use Rattle.jsonpath_rust.specs.selection.inner.Walking.{node_of};
 ghost use Rattle.jsonpath_rust.specs.selection.inner.Wanting.{gave, finished, wanted_of};
 
@@ -90,7 +92,8 @@ pub enum Sink<'a, T: Queryable> {
     Values(WholeValues<'a, T>),
     /// Keeps each node's location, with names of its own.
     Locations(Vec<Vec<Step>>),
-    /// Marks each node's location to be removed. It stands in a box, so that the other sinks stay small.
+    /// Marks each node's location to be removed. It stands in a box, so that the other sinks stay
+    /// small.
     Removal(Box<Removal>),
     /// Whether a node came. It stops at the first.
     Any(bool),

@@ -38,7 +38,9 @@ impl<'a: 's, 's, T: Queryable> Task<'a, 's, T> {
         trail: &mut Trail<'a, 's, '_, T>,
     ) -> Walked<Operand<'a, 's, T>>
         requires { StandsAt self.now at trail.old }
-        ensures value { IfOk result (λ o. operand_tree o ≡ wanted_of wanted (here self.now trail.old at.entry (tested (nodes_view (kept_of self.now) nodes.now wanted)))) }
+        ensures value { IfOk result (λ o. operand_tree o
+            ≡ wanted_of wanted (here self.now trail.old at.entry (tested (nodes_view
+            (kept_of self.now) nodes.now wanted)))) }
         ensures comes { Comes self.now trail.old trail.new (test_patterns (nodes_view (kept_of self.now) nodes.now wanted)) result }
     {
         match nodes {
@@ -57,7 +59,8 @@ impl<'a: 's, 's, T: Queryable> Task<'a, 's, T> {
         }
     }
 
-    /// Follows the arguments of a custom function by the values of the nodes of a query (RFC 9535, 2.4.1).
+    /// Follows the arguments of a custom function by the values of the nodes of a query (RFC 9535,
+    /// 2.4.1).
     #[cycle(walk)]
     pub fn push_nodes(
         &self,
@@ -67,7 +70,9 @@ impl<'a: 's, 's, T: Queryable> Task<'a, 's, T> {
         args: &mut Args<'a, T>,
     ) -> Walked<()>
         requires { StandsAt self.now at trail.old }
-        ensures value { OnOk result (arg_trees args.new ≡ arg_trees args.old ++ as_trees (here self.now trail.old at.entry (tested (nodes_view (kept_of self.now) nodes.now Values)))) }
+        ensures value { OnOk result (arg_trees args.new ≡ arg_trees args.old
+            ++ as_trees (here self.now trail.old at.entry (tested (nodes_view
+            (kept_of self.now) nodes.now Values)))) }
         ensures comes { Comes self.now trail.old trail.new (test_patterns (nodes_view (kept_of self.now) nodes.now Values)) result }
     {
         match nodes {
@@ -102,7 +107,9 @@ impl<'a: 's, 's, T: Queryable> Task<'a, 's, T> {
         trail: &mut Trail<'a, 's, '_, T>,
     ) -> Walked<Given<'a, 's, T>>
         requires { StandsAt self.now at trail.old }
-        ensures given { IfOk result (λ g. gave g ≡ given_of wanted (of_nodes (here self.now trail.old at.entry (through (segments_meant (kept_of self.now) segments.now))))) }
+        ensures given { IfOk result (λ g. gave g
+            ≡ given_of wanted (of_nodes (here self.now trail.old at.entry (through (segments_meant
+            (kept_of self.now) segments.now))))) }
         ensures comes { Comes self.now trail.old trail.new (segments_patterns (segments_meant (kept_of self.now) segments.now)) result }
     {
         let mut sink = Sink::start(self.alloc, wanted);
@@ -110,8 +117,9 @@ impl<'a: 's, 's, T: Queryable> Task<'a, 's, T> {
         Ok(sink.finish())
     }
 
-    /// Keeps what is wanted of the nodes of the query from the root that has this number, found when that is first asked; so
-    /// is that a pattern in it is too large. The result says whether there is such a query, for it is `$` where there is none.
+    /// Keeps what is wanted of the nodes of the query from the root that has this number, found
+    /// when that is first asked; so is that a pattern in it is too large. The result says whether
+    /// there is such a query, for it is `$` where there is none.
     #[cycle(walk)]
     pub fn keep_nodes(
         &self,
@@ -120,7 +128,10 @@ impl<'a: 's, 's, T: Queryable> Task<'a, 's, T> {
         trail: &mut Trail<'a, 's, '_, T>,
     ) -> Walked<bool>
         requires { IsReady self.now trail.old.cache }
-        ensures kept { IfOk result (λ b. IsTrue b → slot_at (slots_of trail.new.cache) number ≡ Some (given_of wanted (of_nodes (nodelist (query_at (kept_of self.now) wanted number) (document self.now))))) }
+        ensures kept { IfOk result (λ b. IsTrue b →
+            slot_at (slots_of trail.new.cache) number
+            ≡ Some (given_of wanted (of_nodes (nodelist (query_at (kept_of self.now) wanted number)
+            (document self.now))))) }
         ensures none { IfOk result (λ b. IsFalse b → query_at (kept_of self.now) wanted number ≡ no_segments) }
         ensures comes { Comes self.now trail.old trail.new (segments_patterns (query_at (kept_of self.now) wanted number)) result }
     {

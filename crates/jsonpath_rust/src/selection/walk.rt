@@ -1,8 +1,10 @@
-//! The evaluator: a walk that meets the nodes of a query depth-first, in the order of its nodelist (RFC 9535, 2.1.2).
+//! The evaluator: a walk that meets the nodes of a query depth-first, in the order of its nodelist
+//! (RFC 9535, 2.1.2).
 //!
-//! The way to the value at hand stands on a stack of borrowed steps, so nothing is kept for a node that is only passed.
-//! Every method of the cycle asks for a value at hand (`StandsAt`), and comes back with the way as it was and what is kept
-//! still right (`Comes`). Where it halts, what is kept is right too, and it says why.
+//! The way to the value at hand stands on a stack of borrowed steps, so nothing is kept for a node
+//! that is only passed. Every method of the cycle asks for a value at hand (`StandsAt`), and comes
+//! back with the way as it was and what is kept still right (`Comes`). Where it halts, what is kept
+//! is right too, and it says why.
 ghost use Rattle.std.specs.Prelude.{◌++◌};
 ghost use Rattle.jsonpath_rust.specs.documents.Meaning.{picks, all_pick, replaced, sliced};
 ghost use Rattle.jsonpath_rust.specs.documents.Patterns.{segments_patterns, segment_patterns, selectors_patterns, selector_patterns};
@@ -39,8 +41,9 @@ pub struct Task<'a, 's, T: Queryable> {
 }
 
 impl<'a: 's, 's, T: Queryable> Task<'a, 's, T> {
-    /// Gives to the sink what the segments select from a value on, to which the way leads. The result says whether to
-    /// go on. Where no segment is left the value is taken here, with no call for it.
+    /// Gives to the sink what the segments select from a value on, to which the way leads. The
+    /// result says whether to go on. Where no segment is left the value is taken here, with no call
+    /// for it.
     #[cycle(walk)]
     #[inline(always)]
     pub fn walk(
@@ -75,7 +78,9 @@ impl<'a: 's, 's, T: Queryable> Task<'a, 's, T> {
     ) -> Walked<bool>
         requires { StandsAt self.now at trail.old }
         ensures gave { TakesAlong (sink.old, trail.old.way) (sink.new, trail.new.way)
-            (onward_from self.now onward.entry (here self.now trail.old at.entry (replaced (segment_view (kept_of self.now) onward.entry.next.now)))) result }
+            (onward_from self.now onward.entry
+            (here self.now trail.old at.entry
+            (replaced (segment_view (kept_of self.now) onward.entry.next.now)))) result }
         ensures comes { Comes self.now trail.old trail.new
             (segment_patterns (segment_view (kept_of self.now) onward.entry.next.now) ++ rest_patterns self.now onward.entry) result }
     {
@@ -104,7 +109,9 @@ impl<'a: 's, 's, T: Queryable> Task<'a, 's, T> {
     ) -> Walked<bool>
         requires { StandsAt self.now at trail.old }
         ensures gave { TakesAlong (sink.old, trail.old.way) (sink.new, trail.new.way)
-            (onward_from self.now onward.entry (here self.now trail.old at.entry (all_pick (selectors_meant (kept_of self.now) onward.entry.next.now)))) result }
+            (onward_from self.now onward.entry
+            (here self.now trail.old at.entry
+            (all_pick (selectors_meant (kept_of self.now) onward.entry.next.now)))) result }
         ensures comes { Comes self.now trail.old trail.new
             (selectors_patterns (selectors_meant (kept_of self.now) onward.entry.next.now) ++ rest_patterns self.now onward.entry) result }
     {
@@ -133,7 +140,9 @@ impl<'a: 's, 's, T: Queryable> Task<'a, 's, T> {
     ) -> Walked<bool>
         requires { StandsAt self.now at trail.old }
         ensures gave { TakesAlong (sink.old, trail.old.way) (sink.new, trail.new.way)
-            (onward_from self.now onward.entry (here self.now trail.old at.entry (picks (selector_view (kept_of self.now) onward.entry.next.now)))) result }
+            (onward_from self.now onward.entry
+            (here self.now trail.old at.entry
+            (picks (selector_view (kept_of self.now) onward.entry.next.now)))) result }
         ensures comes { Comes self.now trail.old trail.new
             (selector_patterns (selector_view (kept_of self.now) onward.entry.next.now) ++ rest_patterns self.now onward.entry) result }
     {
@@ -169,7 +178,8 @@ impl<'a: 's, 's, T: Queryable> Task<'a, 's, T> {
         }
     }
 
-    /// The rest from each element that a slice of these bounds picks, in its order (RFC 9535, 2.3.4).
+    /// The rest from each element that a slice of these bounds picks, in its order (RFC 9535,
+    /// 2.3.4).
     #[cycle(walk)]
     fn pick_slice(
         &self,
@@ -180,7 +190,9 @@ impl<'a: 's, 's, T: Queryable> Task<'a, 's, T> {
     ) -> Walked<bool>
         requires { StandsAt self.now at trail.old }
         ensures gave { TakesAlong (sink.old, trail.old.way) (sink.new, trail.new.way)
-            (onward_from self.now onward.entry (sliced onward.entry.next.0 onward.entry.next.1 onward.entry.next.2 (node_at trail.old at.entry))) result }
+            (onward_from self.now onward.entry
+            (sliced onward.entry.next.0 onward.entry.next.1 onward.entry.next.2
+            (node_at trail.old at.entry))) result }
         ensures comes { Comes self.now trail.old trail.new (rest_patterns self.now onward.entry) result }
     {
         let Some(items) = at.elements() else {

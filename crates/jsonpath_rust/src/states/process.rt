@@ -1,13 +1,19 @@
 //! What can be asked of a state: each part of a query.
 ghost use Rattle.std.specs.Prelude.{◌≡◌, [], List, Bool, map, IsTrue, IfOk, IfErr};
 ghost use Rattle.jsonpath_parser.specs.tree.Syntax.{Argument};
-ghost use Rattle.jsonpath_parser.specs.tree.View.{segment_view, selector_view, filter_view, atom_view, comparison_view, comparable_view, test_view, call_view, argument_view, query_view, singular_view, step_view, literal_view, segments_view};
+ghost use Rattle.jsonpath_parser.specs.tree.View.{segment_view, selector_view, filter_view, atom_view, comparison_view};
+ghost use Rattle.jsonpath_parser.specs.tree.View.{comparable_view, test_view, call_view, argument_view, query_view};
+ghost use Rattle.jsonpath_parser.specs.tree.View.{singular_view, step_view, literal_view, segments_view};
 ghost use Rattle.jsonpath_base.specs.Tree.{truth};
 ghost use Rattle.jsonpath_rust.specs.states.Asking.{IsProcessStop};
 ghost use Rattle.jsonpath_rust.specs.documents.Document.{Document, document_of};
 ghost use Rattle.jsonpath_rust.specs.documents.Meaning.{literal_tree};
-ghost use Rattle.jsonpath_rust.specs.states.Process.{segments_content, segment_content, selector_content, filter_content, atom_content, comparison_holds_at, comparable_content, test_content, call_content, argument_content, steps_content, step_content, singular_content};
-ghost use Rattle.jsonpath_rust.specs.documents.Patterns.{segments_patterns, segment_patterns, selector_patterns, filter_patterns, atom_patterns, comparison_patterns, comparable_patterns, test_patterns, call_patterns, argument_patterns};
+ghost use Rattle.jsonpath_rust.specs.states.Process.{segments_content, segment_content, selector_content, filter_content};
+ghost use Rattle.jsonpath_rust.specs.states.Process.{atom_content, comparison_holds_at, comparable_content, test_content};
+ghost use Rattle.jsonpath_rust.specs.states.Process.{call_content, argument_content, steps_content, step_content, singular_content};
+ghost use Rattle.jsonpath_rust.specs.documents.Patterns.{segments_patterns, segment_patterns, selector_patterns};
+ghost use Rattle.jsonpath_rust.specs.documents.Patterns.{filter_patterns, atom_patterns, comparison_patterns};
+ghost use Rattle.jsonpath_rust.specs.documents.Patterns.{comparable_patterns, test_patterns, call_patterns, argument_patterns};
 ghost use Rattle.jsonpath_rust.specs.states.State.{Content, value, content_of, DataIsWhole};
 ghost use Rattle.jsonpath_rust.specs.declared.documents.halt.Halt.TheVariants.{Memory};
 ghost use Rattle.jsonpath_rust.specs.states.inner.Evaluating.{document, content_at, HaltsAt, HaltsBelow};
@@ -28,13 +34,14 @@ use jsonpath_parser::model::{
 };
 use std::alloc::Global;
 
-/// What can be asked of a state: a query, and each part of one. It has a result on every state, hand-made ones included, and on
-/// trees that the typing of RFC 9535, 2.4.3 refuses.
+/// What can be asked of a state: a query, and each part of one. It has a result on every state,
+/// hand-made ones included, and on trees that the typing of RFC 9535, 2.4.3 refuses.
 pub trait Query {
     /// What it returns, of a document and what a state holds.
     ghost answers: { Self → Document → Content → Content };
 
-    /// The patterns that stand in it: the second argument of each call of `match`, with true, and of `search`, with false.
+    /// The patterns that stand in it: the second argument of each call of `match`, with true, and
+    /// of `search`, with false.
     ghost patterns: { Self → List (Bool × Argument) };
 
     /// The result, in the same document.
@@ -47,10 +54,14 @@ pub trait Query {
     fn process<'a, T: Queryable>(&self, alloc: Global, state: State<'a, T>) -> Queried<State<'a, T>>
         requires root { IsTrue (T.is_whole state.root.now) }
         requires whole { DataIsWhole T.is_whole state.content }
-        ensures content { IfOk result (λ s. content_of T.tree s.content ≡ answers self.now (document_of T.tree T.custom state.entry.root.now) (content_of T.tree state.entry.content)) }
+        ensures content { IfOk result (λ s. content_of T.tree s.content
+            ≡ answers self.now (document_of T.tree T.custom state.entry.root.now)
+            (content_of T.tree state.entry.content)) }
         ensures root { IfOk result (λ s. s.root.now ≡ state.entry.root.now) }
         ensures whole { IfOk result (λ s. DataIsWhole T.is_whole s.content) }
-        ensures refused { IfErr result (IsProcessStop (patterns self.now) (document_of T.tree T.custom state.entry.root.now) (content_of T.tree state.entry.content)) };
+        ensures refused { IfErr result
+            (IsProcessStop (patterns self.now) (document_of T.tree T.custom state.entry.root.now)
+            (content_of T.tree state.entry.content)) };
 }
 
 /// The state of the result, or a refusal.
@@ -62,9 +73,12 @@ impl<'a, T: Queryable> Evaluation<'a, T> {
         ensures content { (c : Content) → IfOk answer.entry (λ d. content_at d ≡ c) → IfOk result (λ s. content_of T.tree s.content ≡ c) }
         ensures root { IfOk result (λ s. s.root.now ≡ self.now.root.value.now) }
         ensures whole { IfOk result (λ s. DataIsWhole T.is_whole s.content) }
-        ensures below { (ps : List (Bool × Argument)) → (d : Document) → (c : Content) → IfErr answer.entry (HaltsBelow ps d c) → IfErr result (IsProcessStop ps d c) }
-        ensures refused { (ps : List (Bool × Argument)) → (d : Document) → (c : Content) → IfErr answer.entry (HaltsAt ps d c) → IfErr result (IsProcessStop ps d c) }
-        ensures memory { (ps : List (Bool × Argument)) → (d : Document) → (c : Content) → IfErr answer.entry (λ h. h ≡ Memory) → IfErr result (IsProcessStop ps d c) }
+        ensures below { (ps : List (Bool × Argument)) → (d : Document) → (c : Content) →
+            IfErr answer.entry (HaltsBelow ps d c) → IfErr result (IsProcessStop ps d c) }
+        ensures refused { (ps : List (Bool × Argument)) → (d : Document) → (c : Content) →
+            IfErr answer.entry (HaltsAt ps d c) → IfErr result (IsProcessStop ps d c) }
+        ensures memory { (ps : List (Bool × Argument)) → (d : Document) → (c : Content) →
+            IfErr answer.entry (λ h. h ≡ Memory) → IfErr result (IsProcessStop ps d c) }
     {
         match answer {
             Ok(found) => Ok(State {
@@ -104,7 +118,8 @@ impl Query for Vec<Segment> {
     }
 }
 
-/// Its selector; its selectors node by node; or, of a descendant segment, the inner one on the lists and objects there and below.
+/// Its selector; its selectors node by node; or, of a descendant segment, the inner one on the
+/// lists and objects there and below.
 impl Query for Segment {
     ghost answers = { λ q. segment_content (segment_view q) };
 
@@ -310,10 +325,14 @@ pub fn apply<'a, T: Queryable>(
 ) -> Queried<State<'a, T>>
     requires root { IsTrue (T.is_whole state.root.now) }
     requires whole { DataIsWhole T.is_whole state.content }
-    ensures content { IfOk result (λ s. content_of T.tree s.content ≡ call_content (call_view function.now) (document_of T.tree T.custom state.entry.root.now) (content_of T.tree state.entry.content)) }
+    ensures content { IfOk result (λ s. content_of T.tree s.content
+        ≡ call_content (call_view function.now) (document_of T.tree T.custom state.entry.root.now)
+        (content_of T.tree state.entry.content)) }
     ensures root { IfOk result (λ s. s.root.now ≡ state.entry.root.now) }
     ensures whole { IfOk result (λ s. DataIsWhole T.is_whole s.content) }
-    ensures refused { IfErr result (IsProcessStop (call_patterns (call_view function.now)) (document_of T.tree T.custom state.entry.root.now) (content_of T.tree state.entry.content)) }
+    ensures refused { IfErr result (IsProcessStop (call_patterns (call_view function.now))
+        (document_of T.tree T.custom state.entry.root.now)
+        (content_of T.tree state.entry.content)) }
 {
     function.process(alloc, state)
 }

@@ -1,4 +1,5 @@
-//! The nodes that [`Query::process`] returns from the root, as a caller of `js_path_process` wants them.
+//! The nodes that [`Query::process`] returns from the root, as a caller of `js_path_process` wants
+//! them.
 ghost use Rattle.std.specs.Prelude.{◌≡◌, map, All, IsTrue, IfOk, IfErr};
 ghost use Rattle.jsonpath_parser.specs.tree.View.{query_view};
 ghost use Rattle.jsonpath_rust.specs.documents.Answer.{shown};
@@ -16,7 +17,8 @@ use crate::states::state::{Data, Pointer, State};
 use jsonpath_parser::model::JpQuery;
 use std::alloc::Global;
 
-/// The nodes, with their values and the texts of their paths. It refuses as [`Query::process`] does.
+/// The nodes, with their values and the texts of their paths. It refuses as [`Query::process`]
+/// does.
 pub fn processed_nodes<'a, T: Queryable>(
     alloc: Global,
     query: &JpQuery,
@@ -25,7 +27,9 @@ pub fn processed_nodes<'a, T: Queryable>(
     requires { IsTrue (T.is_whole root.now) }
     ensures nodes { IfOk result (λ v. shown T.tree v.items ≡ processed (query_view query.now) (document_of T.tree T.custom root.now)) }
     ensures whole { IfOk result (λ v. All (λ r. IsTrue (T.is_whole r.val.now)) v.items) }
-    ensures refused { IfErr result (IsProcessStop (segments_patterns (query_view query.now)) (document_of T.tree T.custom root.now) (root_content (document_of T.tree T.custom root.now))) }
+    ensures refused { IfErr result (IsProcessStop (segments_patterns (query_view query.now))
+        (document_of T.tree T.custom root.now) (root_content
+        (document_of T.tree T.custom root.now))) }
 {
     let pointers = pointers_from_root(alloc, query, root)?;
     let mut nodes = Vec::new(alloc);
@@ -42,9 +46,13 @@ pub fn processed_values<'a, T: Queryable>(
     root: &'a T,
 ) -> Queried<Vec<&'a T>>
     requires { IsTrue (T.is_whole root.now) }
-    ensures values { IfOk result (λ v. map (λ x. T.tree x.now) v.items ≡ map (λ n. n.1) (processed (query_view query.now) (document_of T.tree T.custom root.now))) }
+    ensures values { IfOk result (λ v. map (λ x. T.tree x.now) v.items
+        ≡ map (λ n. n.1) (processed (query_view query.now)
+        (document_of T.tree T.custom root.now))) }
     ensures whole { IfOk result (λ v. All (λ x. IsTrue (T.is_whole x.now)) v.items) }
-    ensures refused { IfErr result (IsProcessStop (segments_patterns (query_view query.now)) (document_of T.tree T.custom root.now) (root_content (document_of T.tree T.custom root.now))) }
+    ensures refused { IfErr result (IsProcessStop (segments_patterns (query_view query.now))
+        (document_of T.tree T.custom root.now) (root_content
+        (document_of T.tree T.custom root.now))) }
 {
     let pointers = pointers_from_root(alloc, query, root)?;
     let mut values = Vec::new(alloc);
@@ -61,9 +69,13 @@ fn pointers_from_root<'a, T: Queryable>(
     root: &'a T,
 ) -> Queried<Vec<Pointer<'a, T>>>
     requires { IsTrue (T.is_whole root.now) }
-    ensures targets { IfOk result (λ v. targets_of T.tree v.items ≡ targets (segments_content (query_view query.now) (document_of T.tree T.custom root.now) (root_content (document_of T.tree T.custom root.now)))) }
+    ensures targets { IfOk result (λ v. targets_of T.tree v.items
+        ≡ targets (segments_content (query_view query.now) (document_of T.tree T.custom root.now)
+        (root_content (document_of T.tree T.custom root.now)))) }
     ensures whole { IfOk result (λ v. PointersAreWhole T.is_whole v.items) }
-    ensures refused { IfErr result (IsProcessStop (segments_patterns (query_view query.now)) (document_of T.tree T.custom root.now) (root_content (document_of T.tree T.custom root.now))) }
+    ensures refused { IfErr result (IsProcessStop (segments_patterns (query_view query.now))
+        (document_of T.tree T.custom root.now) (root_content
+        (document_of T.tree T.custom root.now))) }
 {
     let state = query.process(alloc, State::root(alloc, root)?)?;
     match state.content {

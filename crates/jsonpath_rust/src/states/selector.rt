@@ -9,8 +9,8 @@ use crate::states::state::{Data, Pointer};
 use crate::states::whole::WholePointerRef;
 use std::alloc::Global;
 
-/// The member of that name, under the pointer's path and one step more; nothing where there is none. It refuses by
-/// `OutOfMemory` alone.
+/// The member of that name, under the pointer's path and one step more; nothing where there is
+/// none. It refuses by `OutOfMemory` alone.
 pub fn process_key<'a, T: Queryable>(
     alloc: Global,
     pointer: Pointer<'a, T>,
@@ -25,8 +25,8 @@ pub fn process_key<'a, T: Queryable>(
     Ok(from.named(alloc, key)?.content)
 }
 
-/// The element that the index means, from the end where it is negative, under the pointer's path and one step more;
-/// nothing where there is none. It refuses by `OutOfMemory` alone.
+/// The element that the index means, from the end where it is negative, under the pointer's path
+/// and one step more; nothing where there is none. It refuses by `OutOfMemory` alone.
 pub fn process_index<'a, T: Queryable>(
     alloc: Global,
     pointer: Pointer<'a, T>,

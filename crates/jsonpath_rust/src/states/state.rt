@@ -4,7 +4,8 @@ ghost use Rattle.std.specs.List.{AllByRecursion};
 ghost use Rattle.jsonpath_parser.specs.declared.errors.JsonPathError.TheVariants.{OutOfMemory};
 ghost use Rattle.jsonpath_base.specs.Same.{same};
 ghost use Rattle.jsonpath_base.specs.Tree.{truth, number, text};
-ghost use Rattle.jsonpath_rust.specs.states.State.{Content, ref, value, nothing, content_of, pointers, DataIsWhole, ok_refs, ok_value, contents_same, reduced, Made, GivesWhole, SomeHas};
+ghost use Rattle.jsonpath_rust.specs.states.State.{Content, ref, value, nothing, content_of, pointers, DataIsWhole, ok_refs};
+ghost use Rattle.jsonpath_rust.specs.states.State.{ok_value, contents_same, reduced, Made, GivesWhole, SomeHas};
 
 mod data;
 mod pointer;
@@ -99,9 +100,11 @@ impl<'a, T: Queryable> State<'a, T> {
         })
     }
 
-    /// The state of its document itself, as [`State::root`] makes it. It refuses by `OutOfMemory` alone.
+    /// The state of its document itself, as [`State::root`] makes it. It refuses by `OutOfMemory`
+    /// alone.
     pub fn shift_to_root(self, alloc: Global) -> Queried<Self>
-        ensures content { IfOk result (λ s. content_of T.tree s.content ≡ ref (record { path = codes "$"; tree = T.tree self.entry.root.now })) }
+        ensures content { IfOk result (λ s. content_of T.tree s.content
+            ≡ ref (record { path = codes "$"; tree = T.tree self.entry.root.now })) }
         ensures whole { IsTrue (T.is_whole self.entry.root.now) → IfOk result (λ s. DataIsWhole T.is_whole s.content) }
         ensures root { IfOk result (λ s. s.root.now ≡ self.entry.root.now) }
         ensures memory { IfErr result (λ e. e ≡ OutOfMemory) }
@@ -133,8 +136,12 @@ impl<'a, T: Queryable> State<'a, T> {
 
     /// The data of both as [`Data::reduce`] joins it, in the document of this one.
     pub fn reduce(self, alloc: Global, other: State<'a, T>) -> Queried<Self>
-        ensures content { IfOk result (λ s. content_of T.tree s.content ≡ reduced (content_of T.tree self.entry.content) (content_of T.tree other.entry.content)) }
-        ensures whole { DataIsWhole T.is_whole self.entry.content → DataIsWhole T.is_whole other.entry.content → IfOk result (λ s. DataIsWhole T.is_whole s.content) }
+        ensures content { IfOk result (λ s. content_of T.tree s.content
+            ≡ reduced (content_of T.tree self.entry.content)
+            (content_of T.tree other.entry.content)) }
+        ensures whole { DataIsWhole T.is_whole self.entry.content →
+            DataIsWhole T.is_whole other.entry.content →
+            IfOk result (λ s. DataIsWhole T.is_whole s.content) }
         ensures root { IfOk result (λ s. s.root.now ≡ self.entry.root.now) }
         ensures memory { IfErr result (λ e. e ≡ OutOfMemory) }
     {
@@ -159,7 +166,9 @@ impl<'a, T: Queryable> State<'a, T> {
         ensures made { IfOk result (λ s. Made (λ p r. F.post f p (Ok r)) self.entry.content s.content) }
 
         // What is made of whole values is whole, where what the closure makes of them is.
-        ensures whole { GivesWhole T.is_whole (λ p r. F.post f p (Ok r)) → DataIsWhole T.is_whole self.entry.content → IfOk result (λ s. DataIsWhole T.is_whole s.content) }
+        ensures whole { GivesWhole T.is_whole (λ p r. F.post f p (Ok r)) →
+            DataIsWhole T.is_whole self.entry.content →
+            IfOk result (λ s. DataIsWhole T.is_whole s.content) }
         ensures root { IfOk result (λ s. s.root.now ≡ self.entry.root.now) }
         ensures refused { IfErr result (λ e. (e ≡ OutOfMemory) ⊎ SomeHas (λ p. F.post f p (Err e)) (pointers self.entry.content)) }
     {
@@ -170,20 +179,25 @@ impl<'a, T: Queryable> State<'a, T> {
         })
     }
 
-    /// Whether the data is equal ([`Data::equal`]) and the documents are the same ([`Queryable::equal`]).
+    /// Whether the data is equal ([`Data::equal`]) and the documents are the same
+    /// ([`Queryable::equal`]).
     pub fn equal(&self, other: &Self) -> bool
         requires left { DataIsWhole T.is_whole self.now.content }
         requires right { DataIsWhole T.is_whole other.now.content }
         requires left_root { IsTrue (T.is_whole self.now.root.now) }
         requires right_root { IsTrue (T.is_whole other.now.root.now) }
-        ensures { result ≡ (contents_same (content_of T.tree self.now.content) (content_of T.tree other.now.content) && same (T.tree self.now.root.now) (T.tree other.now.root.now)) }
+        ensures { result ≡ (contents_same (content_of T.tree self.now.content)
+            (content_of T.tree other.now.content)
+            && same (T.tree self.now.root.now) (T.tree other.now.root.now)) }
     {
         self.content.equal(&other.content) && self.root.equal(other.root)
     }
 
-    /// A copy of the data, as [`Data::try_clone`] makes it, in the same document. It refuses by `OutOfMemory` alone.
+    /// A copy of the data, as [`Data::try_clone`] makes it, in the same document. It refuses by
+    /// `OutOfMemory` alone.
     pub fn try_clone(&self, alloc: Global) -> Queried<Self>
-        ensures content { DataIsWhole T.is_whole self.now.content → IfOk result (λ s. content_of T.tree s.content ≡ content_of T.tree self.now.content) }
+        ensures content { DataIsWhole T.is_whole self.now.content →
+            IfOk result (λ s. content_of T.tree s.content ≡ content_of T.tree self.now.content) }
         ensures whole { DataIsWhole T.is_whole self.now.content → IfOk result (λ s. DataIsWhole T.is_whole s.content) }
         ensures root { IfOk result (λ s. s.root.now ≡ self.now.root.now) }
         ensures memory { IfErr result (λ e. e ≡ OutOfMemory) }

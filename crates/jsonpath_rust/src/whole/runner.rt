@@ -21,7 +21,9 @@ use std::alloc::Global;
 impl Whole<Value> {
     /// Removes all locations that the runner's query selects, as [`Runner::delete`].
     pub fn delete_by_runner(&mut self, alloc: Global, runner: &mut Runner<'_>) -> Queried<usize>
-        ensures removed { OnOk result (value_tree self.new.value ≡ without (is_among (selected (runner_view runner.old) (value_document self.old.value))) (value_tree self.old.value)) }
+        ensures removed { OnOk result (value_tree self.new.value
+            ≡ without (is_among (selected (runner_view runner.old) (value_document self.old.value)))
+            (value_tree self.old.value)) }
         ensures count { IfOk result (λ n. n ≡ distinct_count (selected (runner_view runner.old) (value_document self.old.value))) }
         ensures kept { OnErr result (self.new.value ≡ self.old.value) }
         ensures same { runner_view runner.new ≡ runner_view runner.old }
@@ -30,14 +32,18 @@ impl Whole<Value> {
         runner.delete(alloc, &mut self.value)
     }
 
-    /// Puts a copy of `new` at all locations that the runner's query selects, as [`Runner::replace`].
+    /// Puts a copy of `new` at all locations that the runner's query selects, as
+    /// [`Runner::replace`].
     pub fn replace_by_runner(
         &mut self,
         alloc: Global,
         runner: &mut Runner<'_>,
         new: &Whole<Value>,
     ) -> Queried<usize>
-        ensures replaced { OnOk result (value_tree self.new.value ≡ overwritten (is_among (selected (runner_view runner.old) (value_document self.old.value))) (value_tree new.now.value) (value_tree self.old.value)) }
+        ensures replaced { OnOk result (value_tree self.new.value
+            ≡ overwritten (is_among (selected (runner_view runner.old)
+            (value_document self.old.value))) (value_tree new.now.value)
+            (value_tree self.old.value)) }
         ensures count { IfOk result (λ n. n ≡ distinct_count (selected (runner_view runner.old) (value_document self.old.value))) }
         ensures kept { OnErr result (self.new.value ≡ self.old.value) }
         ensures same { runner_view runner.new ≡ runner_view runner.old }
@@ -46,13 +52,15 @@ impl Whole<Value> {
         runner.replace(alloc, &mut self.value, &new.value)
     }
 
-    /// The same as `delete_by_runner` under a limit, as [`Limited::delete`]. Where the units are not enough, the document is as it was.
+    /// The same as `delete_by_runner` under a limit, as [`Limited::delete`]. Where the units are
+    /// not enough, the document is as it was.
     pub fn delete_limited(
         &mut self,
         alloc: Global,
         limited: &mut Limited<'_>,
     ) -> Queried<Within<usize>>
-        ensures deleted { IfOk result (λ w. IfDone w (λ n. IsDeletion (limited_view limited.old) (value_document self.old.value) (value_tree self.new.value) n)) }
+        ensures deleted { IfOk result (λ w. IfDone w (λ n. IsDeletion (limited_view limited.old)
+            (value_document self.old.value) (value_tree self.new.value) n)) }
         ensures spent { IfOk result (λ w. IfSpent w (self.new.value ≡ self.old.value)) }
         ensures kept { OnErr result (self.new.value ≡ self.old.value) }
         ensures enough { IsTrue (typing.is_singular (limited_view limited.old)) → IfOk result (λ w. IfSpent w ⊥) }
@@ -62,15 +70,17 @@ impl Whole<Value> {
         limited.delete(alloc, &mut self.value)
     }
 
-    /// The same as `replace_by_runner` under a limit, as [`Limited::replace`]. Where the units are not enough, the document is as it
-    /// was.
+    /// The same as `replace_by_runner` under a limit, as [`Limited::replace`]. Where the units are
+    /// not enough, the document is as it was.
     pub fn replace_limited(
         &mut self,
         alloc: Global,
         limited: &mut Limited<'_>,
         new: &Whole<Value>,
     ) -> Queried<Within<usize>>
-        ensures replaced { IfOk result (λ w. IfDone w (λ n. IsReplacement (limited_view limited.old) (value_tree new.now.value) (value_document self.old.value) (value_tree self.new.value) n)) }
+        ensures replaced { IfOk result (λ w. IfDone w (λ n. IsReplacement (limited_view limited.old)
+            (value_tree new.now.value) (value_document self.old.value)
+            (value_tree self.new.value) n)) }
         ensures spent { IfOk result (λ w. IfSpent w (self.new.value ≡ self.old.value)) }
         ensures kept { OnErr result (self.new.value ≡ self.old.value) }
         ensures enough { IsTrue (typing.is_singular (limited_view limited.old)) → IfOk result (λ w. IfSpent w ⊥) }

@@ -36,25 +36,31 @@ use serde_json::Value;
 use std::alloc::Global;
 
 impl Whole<Value> {
-    /// The value at the one location that a path of names and indexes means, as [`Queryable::reference`]. It refuses by `OutOfMemory`
-    /// alone.
+    /// The value at the one location that a path of names and indexes means, as
+    /// [`Queryable::reference`]. It refuses by `OutOfMemory` alone.
     pub fn reference(&self, alloc: Global, path: &str) -> Queried<Option<&Value>>
         ensures value { IfOk result (λ o. IsReferred path.now (value_document self.now.value) (option_map (λ v. value_tree v.now) o)) }
 
         // The Normalized Path of a location gives what stands there.
-        ensures normal { (l : Location) → IsNormal l path.now → HasIndexesInRange l → IfOk result (λ o. option_map (λ v. value_tree v.now) o ≡ places.at l (value_tree self.now.value)) }
+        ensures normal { (l : Location) → IsNormal l path.now → HasIndexesInRange l →
+            IfOk result (λ o. option_map (λ v. value_tree v.now) o
+            ≡ places.at l (value_tree self.now.value)) }
         ensures whole { IfOk result (λ o. IfSome o (λ v. IsTrue (value_is_whole v.now))) }
         ensures memory { IfErr result (λ e. e ≡ OutOfMemory) }
     {
         self.value.reference(alloc, path)
     }
 
-    /// Puts a value at the one location that a path of names and indexes means, as [`replace_by_path`].
+    /// Puts a value at the one location that a path of names and indexes means, as
+    /// [`replace_by_path`].
     pub fn replace_by_path(&mut self, alloc: Global, path: &str, new: Whole<Value>) -> Queried<bool>
-        ensures replaced { IfOk result (λ found. IsReplaced path.now (value_document self.old.value) (value_tree new.value) found (value_tree self.new.value)) }
+        ensures replaced { IfOk result (λ found. IsReplaced path.now (value_document self.old.value)
+            (value_tree new.value) found (value_tree self.new.value)) }
 
         // The Normalized Path of a location means that location, wherever something is there.
-        ensures normal { (l : Location) → IsNormal l path.now → HasIndexesInRange l → IfOk result (λ found. IsPut l (value_tree self.old.value) (value_tree new.value) found (value_tree self.new.value)) }
+        ensures normal { (l : Location) → IsNormal l path.now → HasIndexesInRange l →
+            IfOk result (λ found. IsPut l (value_tree self.old.value) (value_tree new.value) found
+            (value_tree self.new.value)) }
         ensures kept { OnErr result (self.new.value ≡ self.old.value) }
         ensures memory { IfErr result (λ e. e ≡ OutOfMemory) }
     {
@@ -77,7 +83,9 @@ impl Whole<Value> {
         step: Step,
         new: Whole<Value>,
     ) -> Queried<bool>
-        ensures value { OnOk result (value_tree self.new.value ≡ added (location_view parent.now) (owned_step step) (value_tree new.value) (value_tree self.old.value)) }
+        ensures value { OnOk result (value_tree self.new.value
+            ≡ added (location_view parent.now) (owned_step step) (value_tree new.value)
+            (value_tree self.old.value)) }
         ensures found { IfOk result (λ b. b ≡ takes_at (location_view parent.now) (owned_step step) (value_tree self.old.value)) }
         ensures unchanged { IfOk result (λ b. b ≡ false → view self.new.value ≡ view self.old.value) }
         ensures kept { OnErr result (view self.new.value ≡ view self.old.value) }
@@ -97,16 +105,19 @@ impl Whole<Value> {
         }
     }
 
-    /// Removes all locations that a query text selects, at once, as [`delete_within`] at a depth of 128.
+    /// Removes all locations that a query text selects, at once, as [`delete_within`] at a depth of
+    /// 128.
     pub fn delete_by_path(&mut self, alloc: Global, path: &str) -> Queried<usize>
         ensures deleted { IfOk result (Deletes MAX_NESTING_DEPTH path.now (value_document self.old.value) (value_tree self.new.value)) }
 
-        // Whatever query the text derives, what it selects is removed, unless memory ran out or a pattern was refused.
+        // Whatever query the text derives, what it selects is removed, unless memory ran out or a
+        // pattern was refused.
         ensures only { (q : Query) → Derives MAX_NESTING_DEPTH path.now q → MatchResult result
             (IsDeletion q (value_document self.old.value) (value_tree self.new.value))
             (IsStop q (value_document self.old.value)) }
 
-        // A Normalized Path is refused by `OutOfMemory` alone. Its location is removed, and nothing where nothing is there.
+        // A Normalized Path is refused by `OutOfMemory` alone. Its location is removed, and nothing
+        // where nothing is there.
         ensures normal { (l : Location) → IsNormal l path.now → HasIndexesInRange l → MatchResult result
             (IsDeletionAt l (value_tree self.old.value) (value_tree self.new.value))
             (λ e. e ≡ OutOfMemory) }
@@ -120,12 +131,14 @@ impl Whole<Value> {
     pub fn delete_within(&mut self, alloc: Global, path: &str, depth: usize) -> Queried<usize>
         ensures deleted { IfOk result (Deletes depth path.now (value_document self.old.value) (value_tree self.new.value)) }
 
-        // Whatever query the text derives, what it selects is removed, unless memory ran out or a pattern was refused.
+        // Whatever query the text derives, what it selects is removed, unless memory ran out or a
+        // pattern was refused.
         ensures only { (q : Query) → Derives depth path.now q → MatchResult result
             (IsDeletion q (value_document self.old.value) (value_tree self.new.value))
             (IsStop q (value_document self.old.value)) }
 
-        // A Normalized Path is refused by `OutOfMemory` alone. Its location is removed, and nothing where nothing is there.
+        // A Normalized Path is refused by `OutOfMemory` alone. Its location is removed, and nothing
+        // where nothing is there.
         ensures normal { (l : Location) → IsNormal l path.now → HasIndexesInRange l → 1 ≤ depth → MatchResult result
             (IsDeletionAt l (value_tree self.old.value) (value_tree self.new.value))
             (λ e. e ≡ OutOfMemory) }
@@ -137,7 +150,9 @@ impl Whole<Value> {
 
     /// Removes all locations that a query selects, as [`delete_selected`].
     pub fn delete_selected(&mut self, alloc: Global, query: &JpQuery) -> Queried<usize>
-        ensures removed { OnOk result (value_tree self.new.value ≡ without (is_among (selected (query_view query.now) (value_document self.old.value))) (value_tree self.old.value)) }
+        ensures removed { OnOk result (value_tree self.new.value
+            ≡ without (is_among (selected (query_view query.now) (value_document self.old.value)))
+            (value_tree self.old.value)) }
         ensures count { IfOk result (λ n. n ≡ distinct_count (selected (query_view query.now) (value_document self.old.value))) }
         ensures kept { OnErr result (self.new.value ≡ self.old.value) }
         ensures refused { IfErr result (IsStop (query_view query.now) (value_document self.old.value)) }
@@ -147,7 +162,9 @@ impl Whole<Value> {
 
     /// Removes all these locations, at once, as [`remove_all`].
     pub fn remove_all(&mut self, alloc: Global, places: &[Vec<Step>]) -> Queried<usize>
-        ensures removed { OnOk result (value_tree self.new.value ≡ without (is_among (map (λ p. location_view p.items) places.now)) (value_tree self.old.value)) }
+        ensures removed { OnOk result (value_tree self.new.value
+            ≡ without (is_among (map (λ p. location_view p.items) places.now))
+            (value_tree self.old.value)) }
         ensures count { IfOk result (λ n. n ≡ distinct_count (map (λ p. location_view p.items) places.now)) }
         ensures kept { OnErr result (self.new.value ≡ self.old.value) }
         ensures memory { IfErr result (λ e. e ≡ OutOfMemory) }
@@ -155,7 +172,8 @@ impl Whole<Value> {
         remove_all(alloc, &mut self.value, places)
     }
 
-    /// Puts a copy of `new` at all locations that a query text selects, at once, as [`replace_within`].
+    /// Puts a copy of `new` at all locations that a query text selects, at once, as
+    /// [`replace_within`].
     pub fn replace_within(
         &mut self,
         alloc: Global,
@@ -163,14 +181,17 @@ impl Whole<Value> {
         depth: usize,
         new: &Whole<Value>,
     ) -> Queried<usize>
-        ensures replaced { IfOk result (Replaces depth path.now (value_tree new.now.value) (value_document self.old.value) (value_tree self.new.value)) }
+        ensures replaced { IfOk result (Replaces depth path.now (value_tree new.now.value)
+            (value_document self.old.value) (value_tree self.new.value)) }
 
-        // Whatever query the text derives, what it selects is replaced, unless memory ran out or a pattern was refused.
+        // Whatever query the text derives, what it selects is replaced, unless memory ran out or a
+        // pattern was refused.
         ensures only { (q : Query) → Derives depth path.now q → MatchResult result
             (IsReplacement q (value_tree new.now.value) (value_document self.old.value) (value_tree self.new.value))
             (IsStop q (value_document self.old.value)) }
 
-        // A Normalized Path is refused by `OutOfMemory` alone. The copy stands at its location, and nowhere where nothing is there.
+        // A Normalized Path is refused by `OutOfMemory` alone. The copy stands at its location, and
+        // nowhere where nothing is there.
         ensures normal { (l : Location) → IsNormal l path.now → HasIndexesInRange l → 1 ≤ depth → MatchResult result
             (IsReplacementAt l (value_tree new.now.value) (value_tree self.old.value) (value_tree self.new.value))
             (λ e. e ≡ OutOfMemory) }
@@ -187,7 +208,10 @@ impl Whole<Value> {
         query: &JpQuery,
         new: &Whole<Value>,
     ) -> Queried<usize>
-        ensures replaced { OnOk result (value_tree self.new.value ≡ overwritten (is_among (selected (query_view query.now) (value_document self.old.value))) (value_tree new.now.value) (value_tree self.old.value)) }
+        ensures replaced { OnOk result (value_tree self.new.value
+            ≡ overwritten (is_among (selected (query_view query.now)
+            (value_document self.old.value))) (value_tree new.now.value)
+            (value_tree self.old.value)) }
         ensures count { IfOk result (λ n. n ≡ distinct_count (selected (query_view query.now) (value_document self.old.value))) }
         ensures kept { OnErr result (self.new.value ≡ self.old.value) }
         ensures refused { IfErr result (IsStop (query_view query.now) (value_document self.old.value)) }
@@ -202,7 +226,9 @@ impl Whole<Value> {
         places: &[Vec<Step>],
         new: &Whole<Value>,
     ) -> Queried<usize>
-        ensures replaced { OnOk result (value_tree self.new.value ≡ overwritten (is_among (map (λ p. location_view p.items) places.now)) (value_tree new.now.value) (value_tree self.old.value)) }
+        ensures replaced { OnOk result (value_tree self.new.value
+            ≡ overwritten (is_among (map (λ p. location_view p.items) places.now))
+            (value_tree new.now.value) (value_tree self.old.value)) }
         ensures count { IfOk result (λ n. n ≡ distinct_count (map (λ p. location_view p.items) places.now)) }
         ensures kept { OnErr result (self.new.value ≡ self.old.value) }
         ensures memory { IfErr result (λ e. e ≡ OutOfMemory) }

@@ -35,7 +35,8 @@ pub fn element<T: Queryable>(at: &T, index: i64) -> Option<(usize, &T)>
     Some((position, child))
 }
 
-/// The position from 0 that an index means in a list of this length: a negative one counts from the end.
+/// The position from 0 that an index means in a list of this length: a negative one counts from the
+/// end.
 #[inline(always)]
 pub fn element_of(index: i64, length: usize) -> Option<usize>
     ensures { result ≡ meaning.element_of index length }

@@ -26,7 +26,8 @@ use crate::documents::reference::referred;
 use serde_json::{Map, Value};
 use std::alloc::{AllocError, Global};
 
-/// Up to how many members are gone through for a name, which takes less time in few than to compare by order.
+/// Up to how many members are gone through for a name, which takes less time in few than to compare
+/// by order.
 const FEW_MEMBERS: usize = 11;
 
 impl Queryable for Value {
@@ -53,9 +54,12 @@ impl Queryable for Value {
 
     /// The members in the order of their names' bytes.
     fn as_object(&self, alloc: Global) -> Queried<Option<Vec<(&str, &Value)>>>
-        ensures value { IsTrue (value_is_whole self.now) → IfOk result (λ o. option_map (λ v. map (λ m. (m.0.now, value_tree m.1.now)) v.items) o ≡ as_members (value_tree self.now)) }
+        ensures value { IsTrue (value_is_whole self.now) →
+            IfOk result (λ o. option_map (λ v. map (λ m. (m.0.now, value_tree m.1.now)) v.items) o
+            ≡ as_members (value_tree self.now)) }
         ensures ordered { IfOk result (λ o. IfSome o (λ v. IsStrictlySortedBy (slice_cmp nat_cmp) (map (λ m. m.0.now) v.items))) }
-        ensures whole { IsTrue (value_is_whole self.now) → IfOk result (λ o. IfSome o (λ v. All (λ m. IsTrue (value_is_whole m.1.now)) v.items)) }
+        ensures whole { IsTrue (value_is_whole self.now) →
+            IfOk result (λ o. IfSome o (λ v. All (λ m. IsTrue (value_is_whole m.1.now)) v.items)) }
         ensures memory { IfErr result (λ e. e ≡ OutOfMemory) }
     {
         match self.as_object() {
@@ -123,8 +127,8 @@ impl Queryable for Value {
         jsonpath_base::same(self, other)
     }
 
-    /// The five set functions: `in`, `nin`, `none_of`, `any_of`, `subset_of`. Any other name, and another number or kind
-    /// of arguments, gives null.
+    /// The five set functions: `in`, `nin`, `none_of`, `any_of`, `subset_of`. Any other name, and
+    /// another number or kind of arguments, gives null.
     fn extension_custom(_alloc: Global, name: &str, args: &[Arg<'_, Value>]) -> Queried<Value> {
         match args {
             [left, right] => match jsonpath_base::set_function(name, left.get(), right.get()) {
@@ -135,28 +139,31 @@ impl Queryable for Value {
         }
     }
 
-    /// The value at the one location that a path of names and indexes means, such as a Normalized Path. Each other text gives
-    /// None, and so does one that is no query. The steps are followed down; the value is not walked.
+    /// The value at the one location that a path of names and indexes means, such as a Normalized
+    /// Path. Each other text gives None, and so does one that is no query. The steps are followed
+    /// down; the value is not walked.
     fn reference(&self, alloc: Global, path: &str) -> Queried<Option<&Value>>
         ensures value { IfOk result (λ o. IsReferred path.now (value_document self.now) (option_map (λ v. value_tree v.now) o)) }
 
         // A Normalized Path leads to its own location, if something is there.
-        ensures normal { (l : Location) → IsNormal l path.now → HasIndexesInRange l → IfOk result (λ o. option_map (λ v. value_tree v.now) o ≡ at l (value_tree self.now)) }
+        ensures normal { (l : Location) → IsNormal l path.now → HasIndexesInRange l →
+            IfOk result (λ o. option_map (λ v. value_tree v.now) o ≡ at l (value_tree self.now)) }
         ensures whole { IsTrue (value_is_whole self.now) → IfOk result (λ o. IfSome o (λ v. IsTrue (value_is_whole v.now))) }
         ensures memory { IfErr result (λ e. e ≡ OutOfMemory) }
     {
         referred(alloc, self, path)
     }
 
-    /// The value at the one location that a path of names and indexes means, which `reference` returns, lent for writing. When
-    /// the loan ends, what was written stands there, and nothing else has changed. None and a refusal leave the value as it
-    /// was.
+    /// The value at the one location that a path of names and indexes means, which `reference`
+    /// returns, lent for writing. When the loan ends, what was written stands there, and nothing
+    /// else has changed. None and a refusal leave the value as it was.
     fn reference_mut(&mut self, alloc: Global, path: &str) -> Queried<Option<&mut Value>>
         ensures* writes_back { sem 𝓛 (LendsReferred path.now self.entry (lent_in result)) }
         ensures value { IfOk result (λ o. IsReferred path.now (value_document self.old) (option_map (λ v. value_tree v.now) o)) }
 
         // A Normalized Path leads to its own location, if something is there.
-        ensures normal { (l : Location) → IsNormal l path.now → HasIndexesInRange l → IfOk result (λ o. option_map (λ v. value_tree v.now) o ≡ at l (value_tree self.old)) }
+        ensures normal { (l : Location) → IsNormal l path.now → HasIndexesInRange l →
+            IfOk result (λ o. option_map (λ v. value_tree v.now) o ≡ at l (value_tree self.old)) }
         ensures whole { IsTrue (value_is_whole self.old) → IfOk result (λ o. IfSome o (λ v. IsTrue (value_is_whole v.now))) }
         ensures memory { IfErr result (λ e. e ≡ OutOfMemory) }
     {
@@ -169,7 +176,8 @@ impl Queryable for Value {
 /// The member of that name.
 fn found_among<'a>(members: &'a Map<String, Value>, key: &str) -> Option<&'a Value>
     ensures value { option_map (λ v. value_tree v.now) result ≡ find key.now (pairs (members_of (members_view members.now.entries))) }
-    ensures whole { AllByRecursion (λ e. IsTrue (value_is_whole e.1)) members.now.entries → IfSome result (λ v. IsTrue (value_is_whole v.now)) }
+    ensures whole { AllByRecursion (λ e. IsTrue (value_is_whole e.1)) members.now.entries →
+        IfSome result (λ v. IsTrue (value_is_whole v.now)) }
 {
     for (name, member) in members.iter() {
         if key == name.as_str() {
@@ -183,7 +191,8 @@ fn lent_members<'a>(
     alloc: Global,
     members: &'a Map<String, Value>,
 ) -> Result<Vec<(&'a str, &'a Value)>, AllocError>
-    ensures value { IfOk result (λ v. map (λ m. (m.0.now, value_tree m.1.now)) v.items ≡ pairs (members_of (members_view members.now.entries))) }
+    ensures value { IfOk result (λ v. map (λ m. (m.0.now, value_tree m.1.now)) v.items
+        ≡ pairs (members_of (members_view members.now.entries))) }
     ensures ordered { IfOk result (λ v. IsStrictlySortedBy (slice_cmp nat_cmp) (map (λ m. m.0.now) v.items)) }
     ensures lent { IfOk result (λ v. map (λ m. m.1.now) v.items ≡ map (λ m. m.1) members.now.entries) }
 {

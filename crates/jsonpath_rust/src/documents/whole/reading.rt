@@ -48,7 +48,8 @@ impl<'a, T: Queryable> WholeRef<'a, T> {
         }
     }
 
-    /// The element that an index means in a list, with its position, counted from 0 (RFC 9535, 2.3.3).
+    /// The element that an index means in a list, with its position, counted from 0 (RFC 9535,
+    /// 2.3.3).
     #[inline(always)]
     pub(crate) fn element(self, index: i64) -> Option<(usize, Self)>
         ensures value { (l : Location) → map (λ p. below l (location.index p.0) (tree_of p.1)) (option_to_list result)
@@ -73,7 +74,9 @@ impl<'a, T: Queryable> WholeRef<'a, T> {
     /// The members of an object, in walk order. It refuses by `OutOfMemory` alone.
     #[inline(always)]
     pub(crate) fn members(self, alloc: Global) -> Queried<Option<Vec<(&'a str, &'a T)>>>
-        ensures value { IfOk result (λ o. option_map (λ v. map (λ m. (m.0.now, T.tree m.1.now)) v.items) o ≡ as_members (tree_of self.entry)) }
+        ensures value { IfOk result (λ o. option_map
+            (λ v. map (λ m. (m.0.now, T.tree m.1.now)) v.items) o
+            ≡ as_members (tree_of self.entry)) }
         ensures whole { IfOk result (λ o. IfSome o (λ v. All (λ m. IsTrue (T.is_whole m.1.now)) v.items)) }
         ensures memory { MemoryAlone result }
     {

@@ -2,7 +2,9 @@
 ghost use Rattle.std.specs.Prelude.{◌≡◌, ◌<◌, length, map, IfSome, IfNone, IsTrue, []};
 ghost use Rattle.jsonpath_parser.specs.tree.Syntax as tree;
 ghost use Rattle.jsonpath_parser.specs.tree.View.{operator_view, step_view};
-ghost use Rattle.jsonpath_rust.specs.selection.inner.PlanViews.{is_same_wanted, kept_view, part_at, nodes, value, answered, compared, constant_view, query_at, segments_meant, steps_at, call_at, call_view, comparison_at, side_view};
+ghost use Rattle.jsonpath_rust.specs.selection.inner.PlanViews.{is_same_wanted, kept_view, part_at, nodes, value, answered};
+ghost use Rattle.jsonpath_rust.specs.selection.inner.PlanViews.{compared, constant_view, query_at, segments_meant, steps_at};
+ghost use Rattle.jsonpath_rust.specs.selection.inner.PlanViews.{call_at, call_view, comparison_at, side_view};
 
 use super::{Call, Comparison, Constant, Plan, Segment};
 use crate::selection::sink::Wanted;
@@ -12,17 +14,20 @@ impl Plan {
     /// The constant of this number.
     #[inline(always)]
     fn constant(&self, number: usize) -> Option<&Constant>
-        ensures part { IfSome result (λ c. part_at (kept_view self.now.constants.items) number ≡ constant_view (kept_view self.now.constants.items) c.now) }
+        ensures part { IfSome result (λ c. part_at (kept_view self.now.constants.items) number
+            ≡ constant_view (kept_view self.now.constants.items) c.now) }
         ensures within { IfSome result (λ c. number < length (kept_view self.now.constants.items)) }
         ensures none { IfNone result (part_at (kept_view self.now.constants.items) number ≡ value []) }
     {
         self.constants.get(number)
     }
 
-    /// The segments of the query from the root that has this number, where this is wanted of its nodes.
+    /// The segments of the query from the root that has this number, where this is wanted of its
+    /// nodes.
     #[inline(always)]
     pub fn constant_segments(&self, number: usize, wanted: Wanted) -> Option<&[Segment]>
-        ensures part { IfSome result (λ gs. part_at (kept_view self.now.constants.items) number ≡ nodes wanted (segments_meant (kept_view self.now.constants.items) gs.now)) }
+        ensures part { IfSome result (λ gs. part_at (kept_view self.now.constants.items) number
+            ≡ nodes wanted (segments_meant (kept_view self.now.constants.items) gs.now)) }
         ensures within { IfSome result (λ gs. number < length (kept_view self.now.constants.items)) }
         ensures none { IfNone result (query_at (kept_view self.now.constants.items) wanted number ≡ tree.no_segments) }
     {
@@ -52,9 +57,11 @@ impl Plan {
     /// The call that has this number.
     #[inline(always)]
     pub fn constant_call(&self, number: usize) -> Option<&Call>
-        ensures part { IfSome result (λ c. part_at (kept_view self.now.constants.items) number ≡ answered (call_view (kept_view self.now.constants.items) c.now)) }
+        ensures part { IfSome result (λ c. part_at (kept_view self.now.constants.items) number
+            ≡ answered (call_view (kept_view self.now.constants.items) c.now)) }
         ensures within { IfSome result (λ c. number < length (kept_view self.now.constants.items)) }
-        ensures none { IfNone result (call_at (kept_view self.now.constants.items) number ≡ tree.length_call (tree.literal_argument tree.null)) }
+        ensures none { IfNone result (call_at (kept_view self.now.constants.items) number
+            ≡ tree.length_call (tree.literal_argument tree.null)) }
     {
         match self.constant(number)? {
             Constant::Answer(call) => Some(call),
@@ -65,9 +72,13 @@ impl Plan {
     /// The comparison that has this number.
     #[inline(always)]
     pub fn constant_comparison(&self, number: usize) -> Option<Comparison<'_>>
-        ensures part { IfSome result (λ p. part_at (kept_view self.now.constants.items) number ≡ compared (tree.compare (operator_view p.0) (side_view (kept_view self.now.constants.items) p.1.now) (side_view (kept_view self.now.constants.items) p.2.now))) }
+        ensures part { IfSome result (λ p. part_at (kept_view self.now.constants.items) number
+            ≡ compared (tree.compare (operator_view p.0)
+            (side_view (kept_view self.now.constants.items) p.1.now) (side_view
+            (kept_view self.now.constants.items) p.2.now))) }
         ensures within { IfSome result (λ p. number < length (kept_view self.now.constants.items)) }
-        ensures none { IfNone result (comparison_at (kept_view self.now.constants.items) number ≡ tree.compare tree.less (tree.literal tree.null) (tree.literal tree.null)) }
+        ensures none { IfNone result (comparison_at (kept_view self.now.constants.items) number
+            ≡ tree.compare tree.less (tree.literal tree.null) (tree.literal tree.null)) }
     {
         match self.constant(number)? {
             Constant::Comparison(operator, left, right) => Some((*operator, left, right)),

@@ -7,7 +7,8 @@ ghost use Rattle.jsonpath_rust.specs.documents.inner.Refusing.{MemoryAlone};
 ghost use Rattle.jsonpath_rust.specs.selection.inner.PlanViews as plan;
 ghost use Rattle.jsonpath_rust.specs.selection.inner.PlanMaking.{Made, every};
 ghost use Rattle.jsonpath_rust.specs.selection.inner.Planned.{plan_view};
-ghost use Rattle.jsonpath_rust.specs.selection.inner.Rooted.{argument_is_rooted, call_is_rooted, comparable_is_rooted, filter_is_rooted, test_is_rooted};
+ghost use Rattle.jsonpath_rust.specs.selection.inner.Rooted.{argument_is_rooted, call_is_rooted, comparable_is_rooted};
+ghost use Rattle.jsonpath_rust.specs.selection.inner.Rooted.{filter_is_rooted, test_is_rooted};
 ghost use Rattle.jsonpath_rust.specs.declared.selection.sink.Wanted.{Wanted};
 ghost use Rattle.jsonpath_rust.specs.declared.selection.sink.Wanted.TheVariants.{Only, Values};
 
@@ -22,8 +23,8 @@ use jsonpath_parser::model as tree;
 use jsonpath_parser::model::{JpQuery, Operator, SingularQuery};
 use std::alloc::Global;
 
-/// The plan of a query. Linear in the query: each part without `@` is compared with a few others, each by itself, without what
-/// has a number in it.
+/// The plan of a query. Linear in the query: each part without `@` is compared with a few others,
+/// each by itself, without what has a number in it.
 pub fn plan_of(alloc: Global, query: &JpQuery) -> Parsed<Plan>
     ensures same { IfOk result (λ p. plan_view p ≡ tree.query_view query.now) }
     ensures memory { MemoryAlone result }
@@ -270,7 +271,8 @@ impl<'q> Maker<'q> {
     /// A call: the number of the constant, where it has no `@`.
     #[cycle(make)]
     fn called(&mut self, call: &'q tree::TestFunction) -> Parsed<Called>
-        ensures made { IfOk result (λ c. Made call_is_rooted self.old self.new (λ kept. plan.called_view kept c) (tree.call_view call.now)) }
+        ensures made { IfOk result (λ c. Made call_is_rooted self.old self.new
+            (λ kept. plan.called_view kept c) (tree.call_view call.now)) }
         ensures memory { MemoryAlone result }
     {
         let around = self.begin();
@@ -325,7 +327,8 @@ impl<'q> Maker<'q> {
     /// The arguments of a custom function.
     #[cycle(make)]
     fn arguments(&mut self, arguments: &'q [tree::FnArg]) -> Parsed<Vec<Argument>>
-        ensures made { IfOk result (λ v. Made (list_all argument_is_rooted) self.old self.new (λ kept. map (λ a. plan.argument_view kept a Values) v.items)
+        ensures made { IfOk result (λ v. Made (list_all argument_is_rooted) self.old self.new
+            (λ kept. map (λ a. plan.argument_view kept a Values) v.items)
             (map tree.argument_view arguments.now)) }
         ensures memory { MemoryAlone result }
     {

@@ -1,5 +1,5 @@
-//! The numbers of constants. Equal ones have one, and what stands in them has its number already, so each is compared by
-//! itself.
+//! The numbers of constants. Equal ones have one, and what stands in them has its number already,
+//! so each is compared by itself.
 ghost use Rattle.std.specs.Prelude.{◌≡◌, ◌&&◌, false, IfOk, IfSome};
 ghost use Rattle.jsonpath_rust.specs.documents.inner.Refusing.{MemoryAlone};
 ghost use Rattle.jsonpath_rust.specs.selection.inner.PlanMaking.{IsBeside, IsCompared, IsNumbered, IsNumberOf};
@@ -11,8 +11,8 @@ use jsonpath_parser::errors::Parsed;
 use jsonpath_parser::model::Operator;
 use std::mem;
 
-/// How many queries from the root may be on their way at once when a constant is first asked: it, where it is one, and those
-/// that stand in it, one in the other. 0 where it is a value.
+/// How many queries from the root may be on their way at once when a constant is first asked: it,
+/// where it is one, and those that stand in it, one in the other. 0 where it is a value.
 #[derive(Clone, Copy, PartialEq)]
 pub struct Nesting {
     /// Where those are worked out before the walk that are early. 0 where it is one of them.
@@ -44,8 +44,8 @@ impl Nesting {
         }
     }
 
-    /// Whether a query from the root that has it is worked out before the walk, where the document is deep: so never more
-    /// than a few are on their way at once.
+    /// Whether a query from the root that has it is worked out before the walk, where the document
+    /// is deep: so never more than a few are on their way at once.
     pub fn is_early(self) -> bool {
         self.run == 0
     }
@@ -96,7 +96,8 @@ impl<'q> Maker<'q> {
         part.rooted
     }
 
-    /// Ends a query from the root, each `@` of which is in a filter of its own. The result is its nesting.
+    /// Ends a query from the root, each `@` of which is in a filter of its own. The result is its
+    /// nesting.
     pub fn end_query(&mut self, around: Met) -> Nesting
         ensures { IsBeside self.old self.new around.rooted }
     {
@@ -144,8 +145,8 @@ impl<'q> Maker<'q> {
 /// How many constants are near.
 const NEAR: usize = 8;
 
-/// The number of an equal constant among the last ones. They alone are looked at, so a query costs a few comparisons, however
-/// many there are.
+/// The number of an equal constant among the last ones. They alone are looked at, so a query costs
+/// a few comparisons, however many there are.
 #[tactic(auto, using(crate::proofs::laws::selection::PlanEquality::constant_same))]
 fn near_constant(constants: &Vec<Constant>, constant: &Constant) -> Option<usize>
     ensures { IfSome result (IsNumberOf constants.now.items constant.now) }

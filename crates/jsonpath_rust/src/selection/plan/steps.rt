@@ -36,7 +36,8 @@ pub fn steps_to_children(
     alloc: Global,
     segments: &[tree::Segment],
 ) -> Parsed<Option<Vec<SingularQuerySegment>>>
-    ensures same { IfOk result (λ o. IfSome o (λ v. plan.children_query (map step_view v.items) ≡ segments_of (map segment_view segments.now))) }
+    ensures same { IfOk result (λ o. IfSome o (λ v. plan.children_query (map step_view v.items)
+        ≡ segments_of (map segment_view segments.now))) }
     ensures memory { MemoryAlone result }
 {
     let Some((last, before)) = segments.split_last() else {
@@ -63,7 +64,8 @@ pub fn steps_to_counted(
     alloc: Global,
     argument: &tree::FnArg,
 ) -> Parsed<Option<Vec<SingularQuerySegment>>>
-    ensures same { IfOk result (λ o. IfSome o (λ v. test_argument (relative (plan.children_query (map step_view v.items))) ≡ argument_view argument.now)) }
+    ensures same { IfOk result (λ o. IfSome o (λ v. test_argument
+        (relative (plan.children_query (map step_view v.items))) ≡ argument_view argument.now)) }
     ensures memory { MemoryAlone result }
 {
     match argument {

@@ -1,7 +1,8 @@
 //! How the data of two states compares.
 ghost use Rattle.std.specs.Prelude.{◌≡◌, Some, All, map, IsTrue};
 ghost use Rattle.jsonpath_parser.specs.tree.View.{operator_view};
-ghost use Rattle.jsonpath_rust.specs.states.Process.{plain, lists_same, lists_targets, values_same, contents_equal, is_content_below, contents_compare};
+ghost use Rattle.jsonpath_rust.specs.states.Process.{plain, lists_same, lists_targets, values_same};
+ghost use Rattle.jsonpath_rust.specs.states.Process.{contents_equal, is_content_below, contents_compare};
 ghost use Rattle.jsonpath_rust.specs.states.State.{targets_of, PointersAreWhole};
 ghost use Rattle.jsonpath_rust.specs.states.inner.Evaluating.{content_at};
 ghost use Rattle.jsonpath_rust.specs.documents.inner.Whole.{tree_of};

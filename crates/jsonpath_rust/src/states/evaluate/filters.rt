@@ -1,8 +1,12 @@
 //! Filters, comparisons, functions and their arguments, at any state.
 ghost use Rattle.std.specs.Prelude.{◌≡◌, IfOk, IfErr};
-ghost use Rattle.jsonpath_parser.specs.tree.View.{filter_view, atom_view, comparison_view, comparable_view, test_view, call_view, argument_view};
-ghost use Rattle.jsonpath_rust.specs.documents.Patterns.{filter_patterns, filters_patterns, atom_patterns, comparison_patterns, comparable_patterns, test_patterns, call_patterns, arguments_patterns, argument_patterns};
-ghost use Rattle.jsonpath_rust.specs.states.Process.{holds_at, some_holds_at, each_holds_at, atom_content, comparison_holds_at, comparable_content, test_content, call_content, argument_content, arguments_trees};
+ghost use Rattle.jsonpath_parser.specs.tree.View.{filter_view, atom_view, comparison_view, comparable_view};
+ghost use Rattle.jsonpath_parser.specs.tree.View.{test_view, call_view, argument_view};
+ghost use Rattle.jsonpath_rust.specs.documents.Patterns.{filter_patterns, filters_patterns, atom_patterns, comparison_patterns};
+ghost use Rattle.jsonpath_rust.specs.documents.Patterns.{comparable_patterns, test_patterns, call_patterns, arguments_patterns};
+ghost use Rattle.jsonpath_rust.specs.documents.Patterns.{argument_patterns};
+ghost use Rattle.jsonpath_rust.specs.states.Process.{holds_at, some_holds_at, each_holds_at, atom_content, comparison_holds_at};
+ghost use Rattle.jsonpath_rust.specs.states.Process.{comparable_content, test_content, call_content, argument_content, arguments_trees};
 ghost use Rattle.jsonpath_base.specs.Tree.{truth};
 ghost use Rattle.jsonpath_rust.specs.states.State.{value};
 ghost use Rattle.jsonpath_rust.specs.states.inner.Evaluating.{document, content_at, HaltsAt};
@@ -97,8 +101,12 @@ impl<'a, T: Queryable> Evaluation<'a, T> {
         comparison: &Comparison,
         given: &WholeData<'a, T>,
     ) -> Walked<bool>
-        ensures value { IfOk result (λ b. b ≡ comparison_holds_at (comparison_view comparison.now) (document self.now) (content_at given.now)) }
-        ensures refused { IfErr result (HaltsAt (comparison_patterns (comparison_view comparison.now)) (document self.now) (content_at given.now)) }
+        ensures value { IfOk result (λ b. b
+            ≡ comparison_holds_at (comparison_view comparison.now) (document self.now)
+            (content_at given.now)) }
+        ensures refused { IfErr result (HaltsAt
+            (comparison_patterns (comparison_view comparison.now)) (document self.now)
+            (content_at given.now)) }
     {
         let (operator, left, right) = comparison.parts();
         let left = self.comparable_data(left, given)?;
@@ -112,8 +120,12 @@ impl<'a, T: Queryable> Evaluation<'a, T> {
         comparison: &Comparison,
         given: &WholeData<'a, T>,
     ) -> Returned<'a, T>
-        ensures value { IfOk result (λ d. content_at d ≡ value (truth (comparison_holds_at (comparison_view comparison.now) (document self.now) (content_at given.now)))) }
-        ensures refused { IfErr result (HaltsAt (comparison_patterns (comparison_view comparison.now)) (document self.now) (content_at given.now)) }
+        ensures value { IfOk result (λ d. content_at d
+            ≡ value (truth (comparison_holds_at (comparison_view comparison.now) (document self.now)
+            (content_at given.now)))) }
+        ensures refused { IfErr result (HaltsAt
+            (comparison_patterns (comparison_view comparison.now)) (document self.now)
+            (content_at given.now)) }
     {
         let truth = self.comparison_holds(comparison, given)?;
         truth_data(self.alloc, truth)
@@ -126,8 +138,12 @@ impl<'a, T: Queryable> Evaluation<'a, T> {
         comparable: &Comparable,
         given: &WholeData<'a, T>,
     ) -> Returned<'a, T>
-        ensures value { IfOk result (λ d. content_at d ≡ comparable_content (comparable_view comparable.now) (document self.now) (content_at given.now)) }
-        ensures refused { IfErr result (HaltsAt (comparable_patterns (comparable_view comparable.now)) (document self.now) (content_at given.now)) }
+        ensures value { IfOk result (λ d. content_at d
+            ≡ comparable_content (comparable_view comparable.now) (document self.now)
+            (content_at given.now)) }
+        ensures refused { IfErr result (HaltsAt
+            (comparable_patterns (comparable_view comparable.now)) (document self.now)
+            (content_at given.now)) }
     {
         match comparable {
             Comparable::Literal(literal) => literal_data(self.alloc, literal),
@@ -187,7 +203,8 @@ impl<'a, T: Queryable> Evaluation<'a, T> {
     /// What the arguments of a custom function stand for.
     #[cycle(evaluate)]
     fn arguments(&self, args: &[FnArg], given: &WholeData<'a, T>) -> Walked<Args<'a, T>>
-        ensures value { IfOk result (λ v. arg_trees v ≡ arguments_trees (arguments_in args.now) (document self.now) (content_at given.now)) }
+        ensures value { IfOk result (λ v. arg_trees v
+            ≡ arguments_trees (arguments_in args.now) (document self.now) (content_at given.now)) }
         ensures refused { IfErr result (HaltsAt (arguments_patterns (arguments_in args.now)) (document self.now) (content_at given.now)) }
     {
         let mut values = Args::new(self.alloc);
@@ -201,7 +218,8 @@ impl<'a, T: Queryable> Evaluation<'a, T> {
     /// What an argument returns.
     #[cycle(evaluate)]
     pub fn argument_data(&self, arg: &FnArg, given: &WholeData<'a, T>) -> Returned<'a, T>
-        ensures value { IfOk result (λ d. content_at d ≡ argument_content (argument_view arg.now) (document self.now) (content_at given.now)) }
+        ensures value { IfOk result (λ d. content_at d
+            ≡ argument_content (argument_view arg.now) (document self.now) (content_at given.now)) }
         ensures refused { IfErr result (HaltsAt (argument_patterns (argument_view arg.now)) (document self.now) (content_at given.now)) }
     {
         match arg {

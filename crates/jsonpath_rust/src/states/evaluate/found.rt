@@ -1,4 +1,5 @@
-//! What is found from a pointer: nodes below its value, each under the pointer's path and the steps to it.
+//! What is found from a pointer: nodes below its value, each under the pointer's path and the steps
+//! to it.
 ghost use Rattle.std.specs.Prelude.{◌≡◌, ◌++◌, [], All, map, option_map, IsTrue, IfOk, OnOk};
 ghost use Rattle.jsonpath_parser.specs.Location as location;
 ghost use Rattle.jsonpath_rust.specs.documents.Node.{below, element_nodes, member_nodes};
@@ -126,7 +127,8 @@ impl<'p, 'a, T: Queryable> WholePointerRef<'p, 'a, T> {
 
     fn elements(self, alloc: Global, items: &'a [T]) -> Queried<WholePointers<'a, T>>
         requires { All (λ x. IsTrue (T.is_whole x)) items.now }
-        ensures value { IfOk result (λ v. targets_at v ≡ map (under (target_at self.entry).path) (element_nodes [] 0 (map T.tree items.now))) }
+        ensures value { IfOk result (λ v. targets_at v
+            ≡ map (under (target_at self.entry).path) (element_nodes [] 0 (map T.tree items.now))) }
         ensures memory { MemoryAlone result }
     {
         let mut found = WholePointers::new(alloc);
@@ -138,7 +140,9 @@ impl<'p, 'a, T: Queryable> WholePointerRef<'p, 'a, T> {
 
     fn members(self, alloc: Global, pairs: &[(&'a str, &'a T)]) -> Queried<WholePointers<'a, T>>
         requires { All (λ m. IsTrue (T.is_whole m.1.now)) pairs.now }
-        ensures value { IfOk result (λ v. targets_at v ≡ map (under (target_at self.entry).path) (member_nodes [] (map (λ m. (m.0.now, T.tree m.1.now)) pairs.now))) }
+        ensures value { IfOk result (λ v. targets_at v
+            ≡ map (under (target_at self.entry).path) (member_nodes [] (map
+            (λ m. (m.0.now, T.tree m.1.now)) pairs.now))) }
         ensures memory { MemoryAlone result }
     {
         let mut found = WholePointers::new(alloc);
@@ -156,7 +160,9 @@ impl<'p, 'a, T: Queryable> WholePointerRef<'p, 'a, T> {
         key: &str,
         child: WholeRef<'a, T>,
     ) -> Queried<WholePointer<'a, T>>
-        ensures value { IfOk result (λ p. own_target p ≡ under (target_at self.entry).path (below [] (location.name key.now) (tree_of child.entry))) }
+        ensures value { IfOk result (λ p. own_target p
+            ≡ under (target_at self.entry).path (below [] (location.name key.now)
+            (tree_of child.entry))) }
         ensures memory { MemoryAlone result }
     {
         let path = String::from_str(alloc, &self.pointer.path)?;
@@ -171,7 +177,9 @@ impl<'p, 'a, T: Queryable> WholePointerRef<'p, 'a, T> {
         index: usize,
         child: WholeRef<'a, T>,
     ) -> Queried<WholePointer<'a, T>>
-        ensures value { IfOk result (λ p. own_target p ≡ under (target_at self.entry).path (below [] (location.index index) (tree_of child.entry))) }
+        ensures value { IfOk result (λ p. own_target p
+            ≡ under (target_at self.entry).path (below [] (location.index index)
+            (tree_of child.entry))) }
         ensures memory { MemoryAlone result }
     {
         let path = String::from_str(alloc, &self.pointer.path)?;

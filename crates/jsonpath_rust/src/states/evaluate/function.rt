@@ -92,7 +92,9 @@ pub fn found_data<'a, T: Queryable>(
     pattern: &WholeData<'a, T>,
     extent: Extent,
 ) -> Returned<'a, T>
-    ensures value { IfOk result (λ d. content_at d ≡ value (truth (functions.is_matched (is_entire extent) (plain (content_at text.now)) (plain (content_at pattern.now))))) }
+    ensures value { IfOk result (λ d. content_at d
+        ≡ value (truth (functions.is_matched (is_entire extent) (plain (content_at text.now)) (plain
+        (content_at pattern.now))))) }
     ensures refused { IfErr result (λ h. (h ≡ Memory → ⊥) → IsPattern (is_entire extent) (plain (content_at pattern.now))) }
 {
     let found = is_matched(alloc, plain_value(text), plain_value(pattern), extent)?;
@@ -105,7 +107,9 @@ fn is_matched<T: Queryable>(
     pattern: Option<WholeRef<'_, T>>,
     extent: Extent,
 ) -> Walked<bool>
-    ensures value { IfOk result (λ b. b ≡ functions.is_matched (is_entire extent) (option_map tree_of text.entry) (option_map tree_of pattern.entry)) }
+    ensures value { IfOk result (λ b. b
+        ≡ functions.is_matched (is_entire extent) (option_map tree_of text.entry)
+        (option_map tree_of pattern.entry)) }
     ensures refused { IfErr result (λ h. (h ≡ Memory → ⊥) → IsPattern (is_entire extent) (option_map tree_of pattern.entry)) }
 {
     match (text, pattern) {
@@ -133,7 +137,8 @@ pub fn custom_data<'a, T: Queryable>(
     Ok(WholeData { content })
 }
 
-/// Follows the arguments of a custom function by what a result stands for: its value, or the values of its nodes.
+/// Follows the arguments of a custom function by what a result stands for: its value, or the values
+/// of its nodes.
 pub fn push_values<'a, T: Queryable>(
     values: &mut Args<'a, T>,
     answer: WholeData<'a, T>,

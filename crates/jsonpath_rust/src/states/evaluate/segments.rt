@@ -1,8 +1,10 @@
 //! Segments and selectors, on any state: each on the result before, node by node.
 ghost use Rattle.std.specs.Prelude.{◌≡◌, IfOk, IfErr};
 ghost use Rattle.jsonpath_parser.specs.tree.View.{segment_view, selector_view, filter_view};
-ghost use Rattle.jsonpath_rust.specs.documents.Patterns.{segments_patterns, segment_patterns, selectors_patterns, selector_patterns, filter_patterns};
-ghost use Rattle.jsonpath_rust.specs.states.Process.{several_content, segments_content, segment_content, selector_content, joined_from, holds_at};
+ghost use Rattle.jsonpath_rust.specs.documents.Patterns.{segments_patterns, segment_patterns, selectors_patterns};
+ghost use Rattle.jsonpath_rust.specs.documents.Patterns.{selector_patterns, filter_patterns};
+ghost use Rattle.jsonpath_rust.specs.states.Process.{several_content, segments_content, segment_content};
+ghost use Rattle.jsonpath_rust.specs.states.Process.{selector_content, joined_from, holds_at};
 ghost use Rattle.jsonpath_rust.specs.states.State.{nothing, ref, mapped, kept_from};
 ghost use Rattle.jsonpath_rust.specs.states.inner.Evaluating.{document, content_at, target_at, part_content, part_patterns, HaltsBelow};
 ghost use Rattle.jsonpath_rust.specs.documents.inner.Parts.{segments_in, selectors_in};
@@ -33,8 +35,11 @@ impl<'a, T: Queryable> Evaluation<'a, T> {
     /// The segments, each on the result before.
     #[cycle(evaluate)]
     pub fn segments_data(&self, segments: &[Segment], given: WholeData<'a, T>) -> Returned<'a, T>
-        ensures value { IfOk result (λ d. content_at d ≡ segments_content (segments_in segments.now) (document self.now) (content_at given.entry)) }
-        ensures refused { IfErr result (HaltsBelow (segments_patterns (segments_in segments.now)) (document self.now) (content_at given.entry)) }
+        ensures value { IfOk result (λ d. content_at d
+            ≡ segments_content (segments_in segments.now) (document self.now)
+            (content_at given.entry)) }
+        ensures refused { IfErr result (HaltsBelow (segments_patterns (segments_in segments.now))
+            (document self.now) (content_at given.entry)) }
     {
         let mut answer = given;
         for segment in segments {
@@ -46,8 +51,11 @@ impl<'a, T: Queryable> Evaluation<'a, T> {
     /// A segment.
     #[cycle(evaluate)]
     pub fn segment_data(&self, segment: &Segment, given: WholeData<'a, T>) -> Returned<'a, T>
-        ensures value { IfOk result (λ d. content_at d ≡ segment_content (segment_view segment.now) (document self.now) (content_at given.entry)) }
-        ensures refused { IfErr result (HaltsBelow (segment_patterns (segment_view segment.now)) (document self.now) (content_at given.entry)) }
+        ensures value { IfOk result (λ d. content_at d
+            ≡ segment_content (segment_view segment.now) (document self.now)
+            (content_at given.entry)) }
+        ensures refused { IfErr result (HaltsBelow (segment_patterns (segment_view segment.now))
+            (document self.now) (content_at given.entry)) }
     {
         match segment {
             Segment::Selector(one) => self.selector_data(one, given),
@@ -62,8 +70,11 @@ impl<'a, T: Queryable> Evaluation<'a, T> {
     /// Several selectors, node by node; none of them is nothing on every state.
     #[cycle(evaluate)]
     fn several_data(&self, selectors: &[Selector], given: WholeData<'a, T>) -> Returned<'a, T>
-        ensures value { IfOk result (λ d. content_at d ≡ several_content (selectors_in selectors.now) (document self.now) (content_at given.entry)) }
-        ensures refused { IfErr result (HaltsBelow (selectors_patterns (selectors_in selectors.now)) (document self.now) (content_at given.entry)) }
+        ensures value { IfOk result (λ d. content_at d
+            ≡ several_content (selectors_in selectors.now) (document self.now)
+            (content_at given.entry)) }
+        ensures refused { IfErr result (HaltsBelow (selectors_patterns (selectors_in selectors.now))
+            (document self.now) (content_at given.entry)) }
     {
         match selectors.split_first() {
             None => Ok(WholeData::nothing()),
@@ -74,8 +85,11 @@ impl<'a, T: Queryable> Evaluation<'a, T> {
     /// A selector.
     #[cycle(evaluate)]
     pub fn selector_data(&self, selector: &Selector, given: WholeData<'a, T>) -> Returned<'a, T>
-        ensures value { IfOk result (λ d. content_at d ≡ selector_content (selector_view selector.now) (document self.now) (content_at given.entry)) }
-        ensures refused { IfErr result (HaltsBelow (selector_patterns (selector_view selector.now)) (document self.now) (content_at given.entry)) }
+        ensures value { IfOk result (λ d. content_at d
+            ≡ selector_content (selector_view selector.now) (document self.now)
+            (content_at given.entry)) }
+        ensures refused { IfErr result (HaltsBelow (selector_patterns (selector_view selector.now))
+            (document self.now) (content_at given.entry)) }
     {
         match selector {
             Selector::Name(name) => self.each_target(Part::Name(name), given),
@@ -130,8 +144,11 @@ impl<'a, T: Queryable> Evaluation<'a, T> {
     /// The children at which the filter holds.
     #[cycle(evaluate)]
     fn kept(&self, filter: &Filter, from: WholePointerRef<'_, 'a, T>) -> Returned<'a, T>
-        ensures value { IfOk result (λ d. content_at d ≡ kept_from (holds_at (filter_view filter.now) (document self.now)) (target_at from.entry)) }
-        ensures refused { IfErr result (HaltsBelow (filter_patterns (filter_view filter.now)) (document self.now) (ref (target_at from.entry))) }
+        ensures value { IfOk result (λ d. content_at d
+            ≡ kept_from (holds_at (filter_view filter.now) (document self.now))
+            (target_at from.entry)) }
+        ensures refused { IfErr result (HaltsBelow (filter_patterns (filter_view filter.now))
+            (document self.now) (ref (target_at from.entry))) }
     {
         match from.parts(self.alloc)? {
             Some(children) => {
@@ -156,8 +173,11 @@ impl<'a, T: Queryable> Evaluation<'a, T> {
     /// What each of the selectors picks at a node, one behind the other.
     #[cycle(evaluate)]
     fn joined(&self, selectors: &[Selector], from: WholePointerRef<'_, 'a, T>) -> Returned<'a, T>
-        ensures value { IfOk result (λ d. content_at d ≡ joined_from (selectors_in selectors.now) (document self.now) nothing (target_at from.entry)) }
-        ensures refused { IfErr result (HaltsBelow (selectors_patterns (selectors_in selectors.now)) (document self.now) (ref (target_at from.entry))) }
+        ensures value { IfOk result (λ d. content_at d
+            ≡ joined_from (selectors_in selectors.now) (document self.now) nothing
+            (target_at from.entry)) }
+        ensures refused { IfErr result (HaltsBelow (selectors_patterns (selectors_in selectors.now))
+            (document self.now) (ref (target_at from.entry))) }
     {
         let mut all = WholeData::nothing();
         for selector in selectors {

@@ -22,7 +22,9 @@ pub fn singular_data<'a, T: Queryable>(
     given: &WholeData<'a, T>,
     root: WholeRef<'a, T>,
 ) -> Queried<WholeData<'a, T>>
-    ensures value { IfOk result (λ d. content_at d ≡ singular_content (singular_view query.now) (document_at root.entry) (content_at given.now)) }
+    ensures value { IfOk result (λ d. content_at d
+        ≡ singular_content (singular_view query.now) (document_at root.entry)
+        (content_at given.now)) }
     ensures memory { MemoryAlone result }
 {
     match query {

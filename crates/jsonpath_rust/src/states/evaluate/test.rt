@@ -40,8 +40,8 @@ fn has_target<'a, T: Queryable>(given: &WholeData<'a, T>) -> bool
     }
 }
 
-/// What a test in a filter returns: a call that returns a truth, that truth; else whether it exists. Both are turned round
-/// behind `!`.
+/// What a test in a filter returns: a call that returns a truth, that truth; else whether it
+/// exists. Both are turned round behind `!`.
 pub fn test_answer<'a, T: Queryable>(
     alloc: Global,
     not: bool,

@@ -2,7 +2,9 @@
 ghost use Rattle.std.specs.Prelude.{◌≡◌, ◌⊎◌, [], ◌∷◌, ◌++◌, map, Ok, Err, IsTrue, IfOk, IfErr, OnOk, option_map};
 ghost use Rattle.std.specs.List.{AllByRecursion};
 ghost use Rattle.jsonpath_parser.specs.declared.errors.JsonPathError.TheVariants.{OutOfMemory};
-ghost use Rattle.jsonpath_rust.specs.states.State.{Content, ref, refs, nothing, target_of, targets_of, content_of, pointers, PointersAreWhole, DataIsWhole, ok_refs, ok_value, contents_same, targets_same, reduced, Made, GivesWhole, SomeHas};
+ghost use Rattle.jsonpath_rust.specs.states.State.{Content, ref, refs, nothing, target_of, targets_of, content_of};
+ghost use Rattle.jsonpath_rust.specs.states.State.{pointers, PointersAreWhole, DataIsWhole, ok_refs, ok_value};
+ghost use Rattle.jsonpath_rust.specs.states.State.{contents_same, targets_same, reduced, Made, GivesWhole, SomeHas};
 
 use crate::documents::Queried;
 use crate::documents::queryable::Queryable;
@@ -39,11 +41,12 @@ impl<'a, T: Queryable> Data<'a, T> {
         Data::Refs(pointers)
     }
 
-    /// The nodes of both, this one's first, where both have nodes; the one that has nodes, where the other is nothing; and
-    /// else nothing. It refuses by `OutOfMemory` alone.
+    /// The nodes of both, this one's first, where both have nodes; the one that has nodes, where
+    /// the other is nothing; and else nothing. It refuses by `OutOfMemory` alone.
     pub fn reduce(self, alloc: Global, other: Data<'a, T>) -> Queried<Data<'a, T>>
         ensures value { IfOk result (λ d. content_of T.tree d ≡ reduced (content_of T.tree self.entry) (content_of T.tree other.entry)) }
-        ensures whole { DataIsWhole T.is_whole self.entry → DataIsWhole T.is_whole other.entry → IfOk result (λ d. DataIsWhole T.is_whole d) }
+        ensures whole { DataIsWhole T.is_whole self.entry → DataIsWhole T.is_whole other.entry →
+            IfOk result (λ d. DataIsWhole T.is_whole d) }
         ensures memory { IfErr result (λ e. e ≡ OutOfMemory) }
     {
         match self {
@@ -94,8 +97,9 @@ impl<'a, T: Queryable> Data<'a, T> {
         }
     }
 
-    /// What the closure returns at the node; of several nodes, the nodes of what it returns at each, in order; and else
-    /// nothing. A refusal of the closure is returned as it is; its own are `OutOfMemory` alone.
+    /// What the closure returns at the node; of several nodes, the nodes of what it returns at
+    /// each, in order; and else nothing. A refusal of the closure is returned as it is; its own are
+    /// `OutOfMemory` alone.
     pub fn flat_map<F: Fn(Pointer<'a, T>) -> Queried<Data<'a, T>> + Drop>(
         self,
         alloc: Global,
@@ -105,7 +109,8 @@ impl<'a, T: Queryable> Data<'a, T> {
         ensures made { IfOk result (λ d. Made (λ p r. F.post f p (Ok r)) self.entry d) }
 
         // What is made of whole values is whole, where what the closure makes of them is.
-        ensures whole { GivesWhole T.is_whole (λ p r. F.post f p (Ok r)) → DataIsWhole T.is_whole self.entry → IfOk result (λ d. DataIsWhole T.is_whole d) }
+        ensures whole { GivesWhole T.is_whole (λ p r. F.post f p (Ok r)) →
+            DataIsWhole T.is_whole self.entry → IfOk result (λ d. DataIsWhole T.is_whole d) }
         ensures refused { IfErr result (λ e. (e ≡ OutOfMemory) ⊎ SomeHas (λ p. F.post f p (Err e)) (pointers self.entry)) }
     {
         match self {
@@ -123,8 +128,8 @@ impl<'a, T: Queryable> Data<'a, T> {
         }
     }
 
-    /// Whether they are of one kind, with values that are the same ([`Queryable::equal`]) and paths of the same text, in the
-    /// same order. It takes no memory of its own.
+    /// Whether they are of one kind, with values that are the same ([`Queryable::equal`]) and paths
+    /// of the same text, in the same order. It takes no memory of its own.
     pub fn equal(&self, other: &Self) -> bool
         requires left { DataIsWhole T.is_whole self.now }
         requires right { DataIsWhole T.is_whole other.now }
@@ -150,8 +155,8 @@ impl<'a, T: Queryable> Data<'a, T> {
         }
     }
 
-    /// The same nodes, borrowed once more, with copies of their paths, or a copy of the value. It refuses by `OutOfMemory`
-    /// alone.
+    /// The same nodes, borrowed once more, with copies of their paths, or a copy of the value. It
+    /// refuses by `OutOfMemory` alone.
     pub fn try_clone(&self, alloc: Global) -> Queried<Self>
         ensures value { DataIsWhole T.is_whole self.now → IfOk result (λ d. content_of T.tree d ≡ content_of T.tree self.now) }
         ensures whole { DataIsWhole T.is_whole self.now → IfOk result (λ d. DataIsWhole T.is_whole d) }
@@ -228,8 +233,10 @@ fn one_pointer<'a, T: Queryable>(
 
 /// These nodes, and the other's behind them, where it has nodes or is nothing; and else nothing.
 fn behind<'a, T: Queryable>(nodes: Vec<Pointer<'a, T>>, other: Data<'a, T>) -> Queried<Data<'a, T>>
-    ensures value { IfOk result (λ d. content_of T.tree d ≡ reduced (refs (targets_of T.tree nodes.entry.items)) (content_of T.tree other.entry)) }
-    ensures whole { PointersAreWhole T.is_whole nodes.entry.items → DataIsWhole T.is_whole other.entry → IfOk result (λ d. DataIsWhole T.is_whole d) }
+    ensures value { IfOk result (λ d. content_of T.tree d
+        ≡ reduced (refs (targets_of T.tree nodes.entry.items)) (content_of T.tree other.entry)) }
+    ensures whole { PointersAreWhole T.is_whole nodes.entry.items →
+        DataIsWhole T.is_whole other.entry → IfOk result (λ d. DataIsWhole T.is_whole d) }
     ensures memory { IfErr result (λ e. e ≡ OutOfMemory) }
 {
     let mut all = nodes;

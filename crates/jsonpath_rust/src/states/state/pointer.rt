@@ -11,8 +11,8 @@ use jsonpath_base::{add_index, add_name};
 use std::alloc::Global;
 use std::fmt::{self, Debug, Display, Formatter, Write};
 
-/// A value in a document, and the text of its path. From [`State::root`](super::State::root) on it is the Normalized
-/// Path; a hand-made one may have any text.
+/// A value in a document, and the text of its path. From [`State::root`](super::State::root) on it
+/// is the Normalized Path; a hand-made one may have any text.
 #[derive(Debug, Drop)]
 pub struct Pointer<'a, T> {
     pub inner: &'a T,
@@ -28,7 +28,8 @@ impl<'a, T: Queryable> Pointer<'a, T> {
         Pointer { inner, path }
     }
 
-    /// The value, at the path and one step to a member behind it (RFC 9535, 2.7). It refuses by `OutOfMemory` alone.
+    /// The value, at the path and one step to a member behind it (RFC 9535, 2.7). It refuses by
+    /// `OutOfMemory` alone.
     pub fn key(alloc: Global, inner: &'a T, mut path: QueryPath, key: &str) -> Queried<Self>
         ensures inner { IfOk result (λ p. p.inner.now ≡ inner.now) }
         ensures path { IfOk result (λ p. string_bytes p.path ≡ string_bytes path ++ step_text (name key.now)) }
@@ -38,7 +39,8 @@ impl<'a, T: Queryable> Pointer<'a, T> {
         Ok(Pointer { inner, path })
     }
 
-    /// The value, at the path and one step to an element behind it (RFC 9535, 2.7). It refuses by `OutOfMemory` alone.
+    /// The value, at the path and one step to an element behind it (RFC 9535, 2.7). It refuses by
+    /// `OutOfMemory` alone.
     pub fn idx(alloc: Global, inner: &'a T, mut path: QueryPath, position: usize) -> Queried<Self>
         ensures inner { IfOk result (λ p. p.inner.now ≡ inner.now) }
         ensures path { IfOk result (λ p. string_bytes p.path ≡ string_bytes path ++ step_text (index position)) }
@@ -67,7 +69,8 @@ impl<'a, T: Queryable> Pointer<'a, T> {
         self.path.is_empty()
     }
 
-    /// The same value, borrowed once more, and a copy of its path. It refuses by `OutOfMemory` alone.
+    /// The same value, borrowed once more, and a copy of its path. It refuses by `OutOfMemory`
+    /// alone.
     pub fn try_clone(&self, alloc: Global) -> Queried<Self>
         ensures inner { IfOk result (λ p. p.inner.now ≡ self.now.inner.now) }
         ensures path { IfOk result (λ p. string_bytes p.path ≡ string_bytes self.now.path) }
@@ -80,8 +83,8 @@ impl<'a, T: Queryable> Pointer<'a, T> {
         })
     }
 
-    /// Whether the values are the same ([`Queryable::equal`]) and the paths have the same text. It takes no memory of its
-    /// own.
+    /// Whether the values are the same ([`Queryable::equal`]) and the paths have the same text. It
+    /// takes no memory of its own.
     pub fn equal(&self, other: &Self) -> bool
         requires left { IsTrue (T.is_whole self.now.inner.now) }
         requires right { IsTrue (T.is_whole other.now.inner.now) }
