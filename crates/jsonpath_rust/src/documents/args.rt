@@ -25,7 +25,7 @@ impl<'a, T: Queryable> Args<'a, T> {
         }
     }
 
-    /// Follows them by a value of the document.
+    /// Adds a value of the document.
     pub fn push_lent(&mut self, value: WholeRef<'a, T>) -> Result<(), AllocError>
         ensures { OnOk result (map (λ a. T.tree (arg_value a)) self.new.list.items
             ≡ map (λ a. T.tree (arg_value a)) self.old.list.items ++ tree_of value.entry ∷ []) }
@@ -34,7 +34,7 @@ impl<'a, T: Queryable> Args<'a, T> {
         Ok(())
     }
 
-    /// Follows them by a value of its own.
+    /// Adds a value of its own.
     pub fn push_made(&mut self, value: Whole<T>) -> Result<(), AllocError>
         ensures { OnOk result (map (λ a. T.tree (arg_value a)) self.new.list.items
             ≡ map (λ a. T.tree (arg_value a)) self.old.list.items ++ own_tree value ∷ []) }

@@ -1,7 +1,8 @@
-//! Lists of whole values, and of nodes that have them. What they hold goes out as it is, with no
-//! copy.
+//! Whole values and nodes of them: one, lists, and the only one. What they hold goes out as it is,
+//! with no copy.
 ghost use Rattle.std.proofs.Props.{props};
-ghost use Rattle.std.specs.Prelude.{◌≡◌, ◌++◌, [], ◌∷◌, map, All, IsTrue, OnOk, string_bytes};
+ghost use Rattle.std.specs.Prelude.{◌≡◌, ◌++◌, ℕ, List, [], ◌∷◌, map, option_map, All, IsTrue, IfSome, OnOk, string_bytes};
+ghost use Rattle.jsonpath_base.specs.Tree.{Tree};
 ghost use Rattle.jsonpath_rust.specs.documents.Answer.{shown};
 ghost use Rattle.jsonpath_rust.specs.documents.inner.Whole.{tree_of};
 
@@ -15,6 +16,42 @@ use std::alloc::{AllocError, Global};
 pub struct WholeNode<'a, T: Queryable> {
     pub node: QueryRef<'a, T>,
     ghost whole: { IsTrue (T.is_whole node.val.now) },
+}
+
+impl<'a, T: Queryable> WholeNode<'a, T> {
+    /// As a caller is told, if there is one.
+    pub fn told(found: Option<Self>) -> Option<QueryRef<'a, T>>
+        ensures node { option_map {U = List ℕ × Tree} (λ r. (string_bytes r.path, T.tree r.val.now)) result
+            ≡ option_map {U = List ℕ × Tree} (λ w. (string_bytes w.node.path, T.tree w.node.val.now)) found.entry }
+        ensures whole { IfSome result (λ r. IsTrue (T.is_whole r.val.now)) }
+    {
+        match found {
+            Some(found) => Some(found.node),
+            None => None,
+        }
+    }
+}
+
+/// The only value of a list, if it has one alone.
+#[derive(Clone, Copy)]
+pub enum WholeOnly<'a, T: Queryable> {
+    Nothing,
+    One(WholeRef<'a, T>),
+    Several,
+}
+
+/// The elements of a list, each whole.
+#[derive(Drop)]
+pub struct WholeElements<'l, T: Queryable> {
+    pub list: &'l [T],
+    ghost whole: { All (λ x. IsTrue (T.is_whole x)) list.now } by { Prim.hlevel props },
+}
+
+/// The members of an object, each whole, in walk order.
+#[derive(Drop)]
+pub struct WholeMembers<'l, 'a, T: Queryable> {
+    pub list: &'l [(&'a str, &'a T)],
+    ghost whole: { All (λ m. IsTrue (T.is_whole m.1.now)) list.now } by { Prim.hlevel props },
 }
 
 /// Nodes of whole values.
@@ -35,7 +72,7 @@ impl<'a, T: Queryable> WholeNodes<'a, T> {
         }
     }
 
-    /// Follows them by the node of this value at this path.
+    /// Adds the node of this value at this path.
     #[inline(always)]
     pub fn push(&mut self, value: WholeRef<'a, T>, path: QueryPath) -> Result<(), AllocError>
         ensures { OnOk result (shown T.tree self.new.list.items ≡ shown T.tree self.old.list.items
@@ -67,7 +104,7 @@ impl<'a, T: Queryable> WholeValues<'a, T> {
         }
     }
 
-    /// Follows them by this one.
+    /// Adds this one.
     #[inline(always)]
     pub fn push(&mut self, value: WholeRef<'a, T>) -> Result<(), AllocError>
         ensures { OnOk result (map (λ v. T.tree v.now) self.new.list.items

@@ -1,21 +1,20 @@
 //! Values inside the evaluator: the sides of a comparison, and what functions take and return.
-ghost use Rattle.std.specs.Prelude.{◌≡◌, ◌++◌, [], ◌∷◌, Some, IfOk, IfErr, OnOk, option_map, option_and_then, option_to_list};
+ghost use Rattle.std.specs.Prelude.{◌≡◌, ◌++◌, Some, IfOk, IfErr, OnOk, option_map, option_and_then, option_to_list};
 ghost use Rattle.jsonpath_parser.specs.tree.View.{literal_view};
 ghost use Rattle.jsonpath_rust.specs.declared.documents.halt.Halt.TheVariants.{Memory};
-ghost use Rattle.jsonpath_base.specs.Tree.{as_text};
+ghost use Rattle.jsonpath_base.specs.Tree.{as_int, as_text};
 ghost use Rattle.jsonpath_rust.specs.documents.Functions.{length_of, count_value, is_true};
 ghost use Rattle.jsonpath_rust.specs.documents.Meaning.{literal_tree};
 ghost use Rattle.jsonpath_rust.specs.documents.inner.Operands.{scalar_tree, operand_tree, side_tree, arg_trees};
 ghost use Rattle.jsonpath_rust.specs.documents.inner.Whole.{tree_of, own_tree};
 
 use crate::documents::args::Args;
-use crate::documents::comparison::Side;
 use crate::documents::halt::Walked;
 use crate::documents::queryable::Queryable;
 use crate::documents::whole::{Whole, WholeRef};
 use jsonpath_base::text_length;
 use jsonpath_parser::model::Literal;
-use std::alloc::Global;
+use std::alloc::{AllocError, Global};
 
 /// Where counts stop: the greatest whole number of 64 bits.
 pub const GREATEST_COUNT: usize = 9223372036854775807;
@@ -29,15 +28,42 @@ pub enum Scalar<'s> {
     Text(&'s str),
 }
 
-/// A side of a comparison, or what a function returns.
+impl<'s> Scalar<'s> {
+    /// The text, where it is one.
+    #[inline(always)]
+    fn as_text(&self) -> Option<&str>
+        ensures { option_map (λ s. s.now) result ≡ as_text (scalar_tree self.now) }
+    {
+        match self {
+            Scalar::Text(text) => Some(*text),
+            _ => None,
+        }
+    }
+}
+
+/// A value or none: a side of a comparison, lent.
+pub enum Side<'a, 's, T: Queryable> {
+    Absent,
+    /// A value in the document, or one that a custom function made.
+    Lent(WholeRef<'a, T>),
+    Plain(Scalar<'s>),
+}
+
+impl<'a, 's, T: Queryable> Clone for Side<'a, 's, T> {
+    fn clone(&self) -> Result<Self, AllocError> {
+        Ok(*self)
+    }
+}
+
+impl<'a, 's, T: Queryable> Copy for Side<'a, 's, T> {}
+
+/// What a part of a filter gives.
 #[derive(Drop)]
 pub enum Operand<'a, 's, T: Queryable> {
-    Absent,
-    /// A value in the document.
-    Lent(WholeRef<'a, T>),
+    /// A value in the document or one without parts, or none.
+    Side(Side<'a, 's, T>),
     /// A value that a custom function made.
     Made(Whole<T>),
-    Plain(Scalar<'s>),
 }
 
 /// The value of a literal.
@@ -61,16 +87,93 @@ pub fn count_scalar<'s>(count: usize) -> Scalar<'s>
     Scalar::Number(count.min(GREATEST_COUNT) as i64)
 }
 
+impl<'a, 's, T: Queryable> Side<'a, 's, T> {
+    /// A value, if there is one.
+    #[inline(always)]
+    pub fn lent(value: Option<WholeRef<'a, T>>) -> Self
+        ensures { side_tree result ≡ option_map tree_of value.entry }
+    {
+        match value {
+            Some(value) => Side::Lent(value),
+            None => Side::Absent,
+        }
+    }
+
+    /// The number, where it is one.
+    #[inline(always)]
+    pub fn as_number(&self) -> Option<i64>
+        ensures { result ≡ option_and_then as_int (side_tree self.now) }
+    {
+        match self {
+            Side::Lent(value) => value.as_i64(),
+            Side::Plain(Scalar::Number(number)) => Some(*number),
+            _ => None,
+        }
+    }
+
+    /// The text, where it is one.
+    #[inline(always)]
+    pub fn as_text(&self) -> Option<&str>
+        ensures { option_map (λ s. s.now) result ≡ option_and_then as_text (side_tree self.now) }
+    {
+        match self {
+            Side::Absent => None,
+            Side::Lent(value) => value.as_str(),
+            Side::Plain(scalar) => scalar.as_text(),
+        }
+    }
+
+    /// Whether it is the truth true.
+    #[inline(always)]
+    pub fn is_true(&self) -> bool
+        ensures { result ≡ is_true (side_tree self.now) }
+    {
+        match self {
+            Side::Lent(value) => value.as_bool() == Some(true),
+            Side::Plain(Scalar::Truth(truth)) => *truth,
+            _ => false,
+        }
+    }
+
+    /// The length of a text, a list or an object (RFC 9535, 2.4.4).
+    pub fn length<'l>(&self, alloc: Global) -> Walked<Side<'l, 's, T>>
+        ensures value { IfOk result (λ s. side_tree s ≡ length_of (side_tree self.now)) }
+        ensures memory { IfErr result (λ h. h ≡ Memory) }
+    {
+        match self {
+            Side::Lent(value) => Ok(counted(length_of(alloc, *value)?)),
+            Side::Plain(Scalar::Text(text)) => Ok(Side::Plain(count_scalar(text_length(text)))),
+            _ => Ok(Side::Absent),
+        }
+    }
+
+    /// Adds it to the arguments of a custom function, if it is not absent.
+    pub fn push_to(self, alloc: Global, args: &mut Args<'a, T>) -> Walked<()>
+        ensures value { OnOk result (arg_trees args.new ≡ arg_trees args.old ++ option_to_list (side_tree self.entry)) }
+        ensures memory { IfErr result (λ h. h ≡ Memory) }
+    {
+        match self {
+            Side::Absent => Ok(()),
+            Side::Lent(value) => {
+                args.push_lent(value)?;
+                Ok(())
+            }
+            Side::Plain(scalar) => {
+                let value = made(alloc, scalar)?;
+                args.push_made(value)?;
+                Ok(())
+            }
+        }
+    }
+}
+
 impl<'a, 's, T: Queryable> Operand<'a, 's, T> {
     /// A value in the document, if there is one.
     #[inline(always)]
     pub fn lent(value: Option<WholeRef<'a, T>>) -> Self
         ensures { operand_tree result ≡ option_map tree_of value.entry }
     {
-        match value {
-            Some(value) => Operand::Lent(value),
-            None => Operand::Absent,
-        }
+        Operand::Side(Side::lent(value))
     }
 
     /// The same value: a copy, where a custom function made it.
@@ -80,23 +183,8 @@ impl<'a, 's, T: Queryable> Operand<'a, 's, T> {
         ensures memory { IfErr result (λ h. h ≡ Memory) }
     {
         match self {
-            Operand::Absent => Ok(Operand::Absent),
-            Operand::Lent(value) => Ok(Operand::Lent(*value)),
+            Operand::Side(side) => Ok(Operand::Side(*side)),
             Operand::Made(value) => Ok(Operand::Made(value.try_clone(alloc)?)),
-            Operand::Plain(scalar) => Ok(Operand::Plain(*scalar)),
-        }
-    }
-
-    /// The text, where it is one.
-    #[inline(always)]
-    pub fn as_text(&self) -> Option<&str>
-        ensures { option_map (λ s. s.now) result ≡ option_and_then as_text (operand_tree self.now) }
-    {
-        match self {
-            Operand::Lent(value) => value.as_str(),
-            Operand::Made(value) => value.lent().as_str(),
-            Operand::Plain(Scalar::Text(text)) => Some(*text),
-            _ => None,
         }
     }
 
@@ -106,10 +194,8 @@ impl<'a, 's, T: Queryable> Operand<'a, 's, T> {
         ensures { side_tree result ≡ operand_tree self.now }
     {
         match self {
-            Operand::Absent => Side::Absent,
-            Operand::Lent(value) => Side::Lent(*value),
+            Operand::Side(side) => *side,
             Operand::Made(value) => Side::Lent(value.lent()),
-            Operand::Plain(scalar) => Side::Plain(*scalar),
         }
     }
 
@@ -118,61 +204,32 @@ impl<'a, 's, T: Queryable> Operand<'a, 's, T> {
     pub fn is_true(&self) -> bool
         ensures { result ≡ is_true (operand_tree self.now) }
     {
-        match self {
-            Operand::Lent(value) => value.as_bool() == Some(true),
-            Operand::Made(value) => value.lent().as_bool() == Some(true),
-            Operand::Plain(Scalar::Truth(truth)) => *truth,
-            _ => false,
-        }
+        self.as_side().is_true()
     }
 
     /// The length of a text, a list or an object (RFC 9535, 2.4.4).
+    #[inline(always)]
     pub fn length(&self, alloc: Global) -> Walked<Operand<'a, 's, T>>
         ensures value { IfOk result (λ o. operand_tree o ≡ length_of (operand_tree self.now)) }
         ensures memory { IfErr result (λ h. h ≡ Memory) }
     {
-        match self {
-            Operand::Lent(value) => Ok(counted(length_of(alloc, *value)?)),
-            Operand::Made(value) => Ok(counted(length_of(alloc, value.lent())?)),
-            Operand::Plain(Scalar::Text(text)) => Ok(Operand::Plain(count_scalar(text_length(
-                text,
-            )))),
-            _ => Ok(Operand::Absent),
-        }
+        let length = self.as_side().length(alloc)?;
+        Ok(Operand::Side(length))
     }
 
-    /// Follows the arguments of a custom function by this one, if it is not absent.
+    /// Adds it to the arguments of a custom function, if it is not absent.
     pub fn push_to(self, alloc: Global, args: &mut Args<'a, T>) -> Walked<()>
         ensures value { OnOk result (arg_trees args.new ≡ arg_trees args.old ++ option_to_list (operand_tree self.entry)) }
         ensures memory { IfErr result (λ h. h ≡ Memory) }
     {
         match self {
-            Operand::Absent => Ok(()),
-            Operand::Lent(value) => {
-                args.push_lent(value)?;
-                Ok(())
-            }
+            Operand::Side(side) => side.push_to(alloc, args),
             Operand::Made(value) => {
                 args.push_made(value)?;
                 Ok(())
             }
-            Operand::Plain(scalar) => push_scalar(alloc, scalar, args),
         }
     }
-}
-
-/// Follows the arguments of a custom function by a value without parts.
-pub fn push_scalar<'a, T: Queryable>(
-    alloc: Global,
-    scalar: Scalar<'_>,
-    args: &mut Args<'a, T>,
-) -> Walked<()>
-    ensures value { OnOk result (arg_trees args.new ≡ arg_trees args.old ++ scalar_tree scalar.entry ∷ []) }
-    ensures memory { IfErr result (λ h. h ≡ Memory) }
-{
-    let value = made(alloc, scalar)?;
-    args.push_made(value)?;
-    Ok(())
 }
 
 /// A value without parts, as a value of the document's type.
@@ -209,11 +266,11 @@ pub fn length_of<T: Queryable>(alloc: Global, value: WholeRef<'_, T>) -> Walked<
 }
 
 /// A count, if there is one.
-fn counted<'a, 's, T: Queryable>(count: Option<usize>) -> Operand<'a, 's, T>
-    ensures value { operand_tree result ≡ option_map count_value count }
+fn counted<'a, 's, T: Queryable>(count: Option<usize>) -> Side<'a, 's, T>
+    ensures { side_tree result ≡ option_map count_value count }
 {
     match count {
-        Some(count) => Operand::Plain(count_scalar(count)),
-        None => Operand::Absent,
+        Some(count) => Side::Plain(count_scalar(count)),
+        None => Side::Absent,
     }
 }

@@ -13,7 +13,7 @@ use crate::documents::args::Args;
 use crate::documents::halt::{Halt, Walked};
 use crate::documents::nodes::WholeValues;
 use crate::documents::queryable::Queryable;
-use crate::documents::value::Operand;
+use crate::documents::value::{Operand, Side};
 use crate::documents::whole::WholeRef;
 use std::alloc::{AllocError, Global};
 
@@ -45,12 +45,12 @@ impl<'a, 's, T: Queryable> Given<'a, 's, T> {
             Given::Value(value) => value,
             other => {
                 drop(other);
-                Operand::Absent
+                Operand::Side(Side::Absent)
             }
         }
     }
 
-    /// Follows the arguments of a custom function by the values, where these are given.
+    /// Adds the values to the arguments of a custom function, where these are given.
     pub fn push_to(&self, args: &mut Args<'a, T>) -> Walked<()>
         ensures value { OnOk result (arg_trees args.new ≡ arg_trees args.old ++ given_values (Some (gave self.now))) }
         ensures memory { IfErr result (λ h. h ≡ Memory) }
@@ -117,12 +117,12 @@ impl<'a, 's, T: Queryable> Cache<'a, 's, T> {
     {
         match self.get(number) {
             Some(Given::Value(value)) => value.try_clone(alloc),
-            _ => Ok(Operand::Absent),
+            _ => Ok(Operand::Side(Side::Absent)),
         }
     }
 
-    /// Follows the arguments of a custom function by the values that the constant of this number
-    /// gave, where it gave these.
+    /// Adds the values that the constant of this number gave to the arguments of a custom function,
+    /// where it gave these.
     pub fn push_to(&self, number: usize, args: &mut Args<'a, T>) -> Walked<()>
         ensures value { OnOk result (arg_trees args.new ≡ arg_trees args.old ++ given_values (slot_at (slots_of self.now) number)) }
         ensures memory { IfErr result (λ h. h ≡ Memory) }

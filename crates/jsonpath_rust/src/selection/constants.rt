@@ -1,4 +1,5 @@
-//! Constants: each is worked out when it is first asked, and then kept.
+//! Constants that are one value, an answer or a comparison: each is worked out when it is first
+//! asked, and then kept.
 ghost use Rattle.std.specs.Prelude.{◌≡◌, IfOk, IfErr, IfSome};
 ghost use Rattle.jsonpath_rust.specs.documents.Meaning.{answer, comparison_holds, value_at};
 ghost use Rattle.jsonpath_rust.specs.documents.Node.{Node};
@@ -13,7 +14,7 @@ ghost use Rattle.jsonpath_rust.specs.selection.inner.AtHand.{StandsAt, here};
 
 use crate::documents::halt::Walked;
 use crate::documents::queryable::Queryable;
-use crate::documents::value::{Operand, Scalar};
+use crate::documents::value::{Operand, Scalar, Side};
 use crate::documents::whole::WholeRef;
 use crate::selection::cache::{Cache, Given};
 use crate::selection::plan::Called;
@@ -25,7 +26,11 @@ use std::mem;
 
 impl<'a: 's, 's, T: Queryable> Task<'a, 's, T> {
     /// The value of the constant of this number, if it is worked out.
-    fn kept(&self, number: usize, cache: &Cache<'a, 's, T>) -> Walked<Option<Operand<'a, 's, T>>>
+    fn kept_value(
+        &self,
+        number: usize,
+        cache: &Cache<'a, 's, T>,
+    ) -> Walked<Option<Operand<'a, 's, T>>>
         requires { IsReady self.now cache.now }
         ensures value { IfOk result (λ o. IfSome o (λ v. operand_tree v
             ≡ value_by (part_at (kept_of self.now) number) (document self.now))) }
@@ -49,9 +54,9 @@ impl<'a: 's, 's, T: Queryable> Task<'a, 's, T> {
         ensures memory { IfErr result (λ h. h ≡ Memory) }
     {
         let Some(steps) = self.plan.constant_steps(number) else {
-            return Ok(Operand::Lent(self.root));
+            return Ok(Operand::Side(Side::Lent(self.root)));
         };
-        if let Some(value) = self.kept(number, cache)? {
+        if let Some(value) = self.kept_value(number, cache)? {
             return Ok(value);
         }
         let value = value_at(steps, self.root);
@@ -59,7 +64,8 @@ impl<'a: 's, 's, T: Queryable> Task<'a, 's, T> {
         Ok(Operand::lent(value))
     }
 
-    /// What a call returns at a value, to which the way leads.
+    /// What a call returns at a value, to which the way leads, or what is kept of it, where it is a
+    /// constant.
     #[cycle(walk)]
     pub fn called(
         &self,
@@ -90,9 +96,9 @@ impl<'a: 's, 's, T: Queryable> Task<'a, 's, T> {
         ensures comes { Comes self.now trail.old trail.new (call_patterns (call_at (kept_of self.now) number)) result }
     {
         let Some(call) = self.plan.constant_call(number) else {
-            return Ok(Operand::Absent);
+            return Ok(Operand::Side(Side::Absent));
         };
-        if let Some(value) = self.kept(number, &trail.cache)? {
+        if let Some(value) = self.kept_value(number, &trail.cache)? {
             return Ok(value);
         }
         let root = Way::new(self.alloc);
@@ -119,14 +125,14 @@ impl<'a: 's, 's, T: Queryable> Task<'a, 's, T> {
         let Some(comparison) = self.plan.constant_comparison(number) else {
             return Ok(false);
         };
-        if let Some(value) = self.kept(number, &trail.cache)? {
+        if let Some(value) = self.kept_value(number, &trail.cache)? {
             return Ok(value.is_true());
         }
         let root = Way::new(self.alloc);
         let here = mem::replace(&mut trail.way, root);
         let held = self.comparison_holds(comparison, self.root, trail)?;
         trail.way = here;
-        let truth = Operand::Plain(Scalar::Truth(held));
+        let truth = Operand::Side(Side::Plain(Scalar::Truth(held)));
         trail.cache.keep(number, Given::Value(truth));
         Ok(held)
     }

@@ -1,6 +1,6 @@
 //! What work is spent for values: where a walk is limited, comparisons, functions and patterns cost
 //! what they look at.
-ghost use Rattle.std.specs.Prelude.{◌≡◌, ◌≤◌, ◌-◌, min, None, map, length, option_map, All, IsTrue, IfOk, IfErr};
+ghost use Rattle.std.specs.Prelude.{◌≡◌, ◌≤◌, ◌-◌, min, None, map, length, option_map, IfOk, IfErr};
 ghost use Rattle.jsonpath_base.specs.Tree.{as_list, as_text};
 ghost use Rattle.jsonpath_rust.specs.documents.inner.Operands.{arg_trees};
 ghost use Rattle.jsonpath_rust.specs.documents.inner.Whole.{tree_of};
@@ -10,10 +10,10 @@ ghost use Rattle.jsonpath_rust.specs.declared.documents.halt.Halt.TheVariants.{M
 ghost use Rattle.jsonpath_rust.specs.declared.selection.budget.Limit.TheVariants.{Limited};
 
 use crate::documents::args::Args;
-use crate::documents::comparison::Side;
 use crate::documents::halt::Walked;
+use crate::documents::nodes::{WholeElements, WholeMembers};
 use crate::documents::queryable::Queryable;
-use crate::documents::value::Operand;
+use crate::documents::value::{Operand, Side};
 use crate::documents::whole::WholeRef;
 use crate::selection::budget::{Budget, Limit};
 use crate::selection::sink::Sink;
@@ -28,8 +28,8 @@ const BYTES: usize = 16;
 const COPIED: usize = 64;
 
 impl Limit {
-    /// What `length` costs: a unit for each byte of a text of the document, and for each member of
-    /// an object.
+    /// What `length` costs: a unit for each byte of a text and for each member of an object, of the
+    /// document or made by a custom function.
     #[inline(always)]
     pub fn length_cost<T: Queryable>(self, alloc: Global, side: &Side<'_, '_, T>) -> Walked<usize>
         ensures memory { IfErr result (λ h. h ≡ Memory) }
@@ -99,7 +99,8 @@ impl Limit {
     }
 }
 
-/// How many bytes the text has, if it is one of the document.
+/// How many bytes the text has, if it is one of the document or one that a custom function made;
+/// else 0.
 fn text_bytes<T: Queryable>(side: &Side<'_, '_, T>) -> usize {
     match value_in(side) {
         Some(value) => match value.as_str() {
@@ -110,7 +111,8 @@ fn text_bytes<T: Queryable>(side: &Side<'_, '_, T>) -> usize {
     }
 }
 
-/// How many bytes the text has, or how many members the object, if it is one of the document.
+/// How many bytes the text has, or how many members the object, if it is one of the document or one
+/// that a custom function made; else 0.
 #[inline(never)]
 fn cost_of_length<T: Queryable>(alloc: Global, side: &Side<'_, '_, T>) -> Walked<usize>
     ensures memory { IfErr result (λ h. h ≡ Memory) }
@@ -165,8 +167,8 @@ fn name_bytes(way: &Way<'_>) -> usize {
     bytes
 }
 
-/// What it costs to read these texts, a unit for each byte of one of the document, and to ask the
-/// second as a pattern of the first.
+/// What it costs to read these texts, a unit for each byte of one of the document or made by a
+/// custom function, and to ask the second as a pattern of the first.
 fn cost_of_search<T: Queryable>(
     alloc: Global,
     finders: &Finders<'_, '_>,
@@ -175,8 +177,9 @@ fn cost_of_search<T: Queryable>(
 ) -> Walked<usize>
     ensures memory { IfErr result (λ h. h ≡ Memory) }
 {
-    let read = text_bytes(&sides.0.as_side()).saturating_add(text_bytes(&sides.1.as_side()));
-    let (Some(text), Some(pattern)) = (sides.0.as_text(), sides.1.as_text()) else {
+    let (text, pattern) = (sides.0.as_side(), sides.1.as_side());
+    let read = text_bytes(&text).saturating_add(text_bytes(&pattern));
+    let (Some(text), Some(pattern)) = (text.as_text(), pattern.as_text()) else {
         return Ok(read);
     };
     let (extent, origin) = how;
@@ -273,7 +276,8 @@ fn size_within<T: Queryable>(alloc: Global, value: WholeRef<'_, T>, most: usize)
         return Ok((text.len() / BYTES).saturating_add(1).min(most));
     }
     if let Some(items) = value.elements() {
-        let inside = elements_size(alloc, items, most - 1)?;
+        let items = WholeElements { list: items };
+        let inside = elements_size(alloc, &items, most - 1)?;
         return Ok(inside.saturating_add(1));
     }
     let inside = inside_size(alloc, value, most - 1)?;
@@ -282,13 +286,16 @@ fn size_within<T: Queryable>(alloc: Global, value: WholeRef<'_, T>, most: usize)
 
 /// The sizes of these elements together, or `most` where that is less.
 #[cycle(size)]
-fn elements_size<T: Queryable>(alloc: Global, items: &Vec<T>, most: usize) -> Walked<usize>
-    requires { All (λ x. IsTrue (T.is_whole x)) items.now.items }
-    ensures size { IfOk result (λ n. n ≡ min (elements_cost (map T.tree items.now.items)) most) }
+fn elements_size<T: Queryable>(
+    alloc: Global,
+    items: &WholeElements<'_, T>,
+    most: usize,
+) -> Walked<usize>
+    ensures size { IfOk result (λ n. n ≡ min (elements_cost (map T.tree items.now.list.now)) most) }
     ensures memory { IfErr result (λ h. h ≡ Memory) }
 {
     let mut size: usize = 0;
-    for item in items {
+    for item in items.list {
         if size >= most {
             return Ok(most);
         }
@@ -311,7 +318,10 @@ fn inside_size<T: Queryable>(alloc: Global, value: WholeRef<'_, T>, most: usize)
         return Ok(most);
     }
     match value.members(alloc)? {
-        Some(members) => members_size(alloc, &members, most),
+        Some(listed) => {
+            let members = WholeMembers { list: &listed };
+            members_size(alloc, &members, most)
+        }
         None => Ok(0),
     }
 }
@@ -320,15 +330,14 @@ fn inside_size<T: Queryable>(alloc: Global, value: WholeRef<'_, T>, most: usize)
 #[cycle(size)]
 fn members_size<T: Queryable>(
     alloc: Global,
-    members: &Vec<(&str, &T)>,
+    members: &WholeMembers<'_, '_, T>,
     most: usize,
 ) -> Walked<usize>
-    requires { All (λ m. IsTrue (T.is_whole m.1.now)) members.now.items }
-    ensures size { IfOk result (λ n. n ≡ min (pairs_cost (map (λ m. (m.0.now, T.tree m.1.now)) members.now.items)) most) }
+    ensures size { IfOk result (λ n. n ≡ min (pairs_cost (map (λ m. (m.0.now, T.tree m.1.now)) members.now.list.now)) most) }
     ensures memory { IfErr result (λ h. h ≡ Memory) }
 {
     let mut size: usize = 0;
-    for member in members {
+    for member in members.list {
         size = size.saturating_add(member.0.len() / BYTES);
         if size >= most {
             return Ok(most);

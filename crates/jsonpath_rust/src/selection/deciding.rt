@@ -13,7 +13,7 @@ use crate::documents::halt::Walked;
 use crate::documents::queryable::Queryable;
 use crate::documents::whole::WholeRef;
 use crate::selection::give::Request;
-use crate::selection::plan::{Filter, Plan, Segment, Selector};
+use crate::selection::plan::{Filter, Segment, Selector};
 use crate::selection::trail::Trail;
 use crate::selection::walk::Task;
 use jsonpath_base::engine::{Finders, KeptFinders, LentCells};

@@ -1,4 +1,5 @@
-//! Functions of what is looked up (RFC 9535, 2.4): they take no walk, and nothing is made for them.
+//! What is found without a walk, and makes no value: `length` and `value` of a node that is looked
+//! up, `count` of its children (RFC 9535, 2.4), and whether it is there.
 ghost use Rattle.std.specs.Prelude.{◌≡◌, [], map, IfOk, IfErr, IfSome};
 ghost use Rattle.jsonpath_parser.specs.tree.Syntax.{relative, test_argument};
 ghost use Rattle.jsonpath_parser.specs.tree.View.{step_view};
@@ -16,10 +17,9 @@ ghost use Rattle.jsonpath_rust.specs.selection.inner.PlanViews.{Constants, argum
 ghost use Rattle.jsonpath_rust.specs.declared.selection.sink.Wanted.{Wanted};
 ghost use Rattle.jsonpath_rust.specs.declared.selection.sink.Wanted.TheVariants.{Any};
 
-use crate::documents::comparison::Side;
 use crate::documents::halt::Walked;
 use crate::documents::queryable::Queryable;
-use crate::documents::value::{count_scalar, length_of};
+use crate::documents::value::{Side, count_scalar, length_of};
 use crate::documents::whole::WholeRef;
 use crate::selection::budget::Budget;
 use crate::selection::plan::{Argument, Call, Nodes};
@@ -28,7 +28,7 @@ use crate::selection::walk::Task;
 use jsonpath_parser::model::SingularQuerySegment;
 
 impl<'a: 's, 's, T: Queryable> Task<'a, 's, T> {
-    /// What a function of nodes that are looked up returns; None where that takes a walk.
+    /// What a call returns that [`is_direct`]; None of any other.
     #[inline(always)]
     pub fn direct_answer<'k>(
         &self,
@@ -81,7 +81,7 @@ impl<'a: 's, 's, T: Queryable> Task<'a, 's, T> {
     }
 }
 
-/// Whether a call is a function of nodes that are looked up.
+/// Whether a call is `length` or `value` of a node that is looked up, or `count` of its children.
 #[inline(always)]
 pub fn is_direct(call: &Call) -> bool {
     match call {
@@ -108,8 +108,8 @@ pub fn lookup_in(arg: &Argument) -> Option<&[SingularQuerySegment]>
     }
 }
 
-/// Whether there is a node (2.3.5.2.1); None where that takes a walk or memory, and where it is
-/// kept of the root.
+/// Whether there is a node (2.3.5.2.1), where it is looked up from the value; None where a query is
+/// walked, and where it is a constant.
 #[inline(always)]
 pub fn is_there<T: Queryable>(nodes: &Nodes, at: WholeRef<'_, T>) -> Option<bool>
     ensures { (kept : Constants) (d : Document) (n : Node) → n.tree ≡ tree_of at.entry →

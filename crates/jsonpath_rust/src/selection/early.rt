@@ -1,5 +1,5 @@
-//! How a walk begins: constants are worked out before it, so that never more than a few queries are
-//! on their way at once.
+//! How a walk begins. Where queries from the root could stand too deep in the document, some of
+//! them are worked out before it, so that never more than a few are on their way at once.
 ghost use Rattle.std.specs.Prelude.{◌≡◌, [], IfErr, OnOk};
 ghost use Rattle.jsonpath_rust.specs.selection.inner.Halting.{IsHalt};
 ghost use Rattle.jsonpath_rust.specs.selection.inner.Keeping.{IsReady, document};
@@ -23,8 +23,8 @@ const MOST_LEVELS: usize = 405;
 const LEVELS_BESIDE: usize = 8;
 
 impl<'a: 's, 's, T: Queryable> Task<'a, 's, T> {
-    /// Begins a walk at the root: there is room for what the constants give, and those that are
-    /// early are worked out.
+    /// Begins a walk at the root, with room for what the constants give. Where queries from the
+    /// root could stand too deep, those that are early are worked out.
     pub fn begin(&self, trail: &mut Trail<'a, 's, '_, T>) -> Walked<()>
         ensures ready { OnOk result (IsReady self.now trail.new.cache) }
         ensures way { OnOk result (trail.new.way.steps.items ≡ []) }
@@ -35,8 +35,8 @@ impl<'a: 's, 's, T: Queryable> Task<'a, 's, T> {
         self.work_out_early(trail)
     }
 
-    /// Where that would stand too deep, works out the queries from the root that are early, inner
-    /// ones first. It comes back to the root.
+    /// Works out the queries from the root that are early, inner ones first, where queries could
+    /// stand too deep without that. The way is at the root then.
     fn work_out_early(&self, trail: &mut Trail<'a, 's, '_, T>) -> Walked<()>
         requires { IsReady self.now trail.old.cache }
         ensures ready { OnOk result (IsReady self.now trail.new.cache) }

@@ -14,10 +14,11 @@ ghost use Rattle.jsonpath_rust.specs.selection.inner.AtHand.{StandsAt, here};
 
 use crate::documents::halt::Walked;
 use crate::documents::queryable::Queryable;
-use crate::documents::value::{Operand, scalar_of};
+use crate::documents::value::{Operand, Side, scalar_of};
 use crate::documents::whole::WholeRef;
 use crate::selection::direct::is_there;
-use crate::selection::plan::{Comparison, Filter, Nodes, Side};
+use crate::selection::plan;
+use crate::selection::plan::{Comparison, Filter, Nodes};
 use crate::selection::singular::value_at;
 use crate::selection::sink::Wanted;
 use crate::selection::trail::Trail;
@@ -172,7 +173,7 @@ impl<'a: 's, 's, T: Queryable> Task<'a, 's, T> {
     #[cycle(walk)]
     fn side(
         &self,
-        side: &'s Side,
+        side: &'s plan::Side,
         at: WholeRef<'a, T>,
         trail: &mut Trail<'a, 's, '_, T>,
     ) -> Walked<Operand<'a, 's, T>>
@@ -182,10 +183,10 @@ impl<'a: 's, 's, T: Queryable> Task<'a, 's, T> {
         ensures comes { Comes self.now trail.old trail.new (comparable_patterns (side_view (kept_of self.now) side.now)) result }
     {
         match side {
-            Side::Literal(literal) => Ok(Operand::Plain(scalar_of(literal))),
-            Side::Lookup(steps) => Ok(Operand::lent(value_at(steps, at))),
-            Side::Constant(number) => Ok(self.constant_value(*number, &mut trail.cache)?),
-            Side::Call(call) => self.called(call, at, trail),
+            plan::Side::Literal(literal) => Ok(Operand::Side(Side::Plain(scalar_of(literal)))),
+            plan::Side::Lookup(steps) => Ok(Operand::lent(value_at(steps, at))),
+            plan::Side::Constant(number) => Ok(self.constant_value(*number, &mut trail.cache)?),
+            plan::Side::Call(call) => self.called(call, at, trail),
         }
     }
 }

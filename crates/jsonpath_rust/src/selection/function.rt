@@ -19,7 +19,7 @@ ghost use Rattle.jsonpath_rust.specs.declared.selection.sink.Wanted.TheVariants.
 use crate::documents::args::Args;
 use crate::documents::halt::Walked;
 use crate::documents::queryable::Queryable;
-use crate::documents::value::{Operand, Scalar, count_scalar, scalar_of};
+use crate::documents::value::{Operand, Scalar, Side, count_scalar, scalar_of};
 use crate::documents::whole::{Whole, WholeRef};
 use crate::selection::direct::lookup_in;
 use crate::selection::plan::{Argument, Call, Nodes};
@@ -55,15 +55,15 @@ impl<'a: 's, 's, T: Queryable> Task<'a, 's, T> {
             }
             Call::Value(arg) => match nodes_in(arg) {
                 Some(nodes) => self.nodes(nodes, Wanted::Only, at, trail),
-                None => Ok(Operand::Absent),
+                None => Ok(Operand::Side(Side::Absent)),
             },
             Call::Count(arg) => match nodes_in(arg) {
                 Some(nodes) => self.nodes(nodes, Wanted::Count, at, trail),
-                None => Ok(Operand::Plain(count_scalar(0))),
+                None => Ok(Operand::Side(Side::Plain(count_scalar(0)))),
             },
             Call::CountChildren(steps) => {
                 let count = self.count_children(steps, at, &mut trail.budget)?;
-                Ok(Operand::Plain(count_scalar(count)))
+                Ok(Operand::Side(Side::Plain(count_scalar(count))))
             }
             Call::Search(text, pattern) => {
                 self.match_or_search((text, pattern), Extent::Substring, at, trail)
@@ -103,7 +103,7 @@ impl<'a: 's, 's, T: Queryable> Task<'a, 's, T> {
         trail.budget.spend(self.limit, cost)?;
         let finders = &mut trail.finders;
         let found = is_matched(self.alloc, finders, (&text, &pattern), extent, origin)?;
-        Ok(Operand::Plain(Scalar::Truth(found)))
+        Ok(Operand::Side(Side::Plain(Scalar::Truth(found))))
     }
 
     /// What a custom function returns.
@@ -133,8 +133,8 @@ impl<'a: 's, 's, T: Queryable> Task<'a, 's, T> {
         Ok(Operand::Made(Whole { value }))
     }
 
-    /// Follows the arguments of a custom function by this one (RFC 9535, 2.4.1): the values of the
-    /// nodes of a query, or the value, if it is not absent.
+    /// Adds an argument to those of a custom function (RFC 9535, 2.4.1): the values of the nodes of
+    /// a query, or the value, if it is not absent.
     #[cycle(walk)]
     fn push_argument(
         &self,
@@ -177,13 +177,13 @@ impl<'a: 's, 's, T: Queryable> Task<'a, 's, T> {
             return Ok(Operand::lent(value_at(steps, at)));
         }
         match arg {
-            Argument::Literal(literal) => Ok(Operand::Plain(scalar_of(literal))),
-            Argument::Pattern(text, _number) => Ok(Operand::Plain(Scalar::Text(text))),
+            Argument::Literal(literal) => Ok(Operand::Side(Side::Plain(scalar_of(literal)))),
+            Argument::Pattern(text, _number) => Ok(Operand::Side(Side::Plain(Scalar::Text(text)))),
             Argument::Nodes(nodes) => self.nodes(nodes, Wanted::Only, at, trail),
             Argument::Call(call) => self.called(call, at, trail),
             Argument::Filter(filter) => {
                 let truth = self.filter_holds(filter, at, trail)?;
-                Ok(Operand::Plain(Scalar::Truth(truth)))
+                Ok(Operand::Side(Side::Plain(Scalar::Truth(truth))))
             }
         }
     }
@@ -227,7 +227,8 @@ fn is_matched<T: Queryable>(
     ensures value { IfOk result (λ b. b ≡ is_matched (is_entire extent) (operand_tree sides.entry.0.now) (operand_tree sides.entry.1.now)) }
     ensures refused { IfErr result (λ h. (h ≡ Memory → ⊥) → IsPattern (is_entire extent) (operand_tree sides.entry.1.now)) }
 {
-    let (Some(text), Some(pattern)) = (sides.0.as_text(), sides.1.as_text()) else {
+    let (text, pattern) = (sides.0.as_side(), sides.1.as_side());
+    let (Some(text), Some(pattern)) = (text.as_text(), pattern.as_text()) else {
         return Ok(false);
     };
     let asked = Asked { pattern, extent };

@@ -16,14 +16,14 @@ ghost use Rattle.jsonpath_rust.specs.selection.Within.{IfDone, IfSpent};
 ghost use Rattle.jsonpath_rust.specs.selection.inner.Sinks.{IsRemovalOf, give, seen};
 ghost use Rattle.jsonpath_rust.specs.declared.selection.budget.Limit.TheVariants.{Unlimited};
 
-use crate::documents::nodes::{WholeNodes, WholeValues};
+use crate::documents::nodes::{WholeNode, WholeNodes, WholeOnly, WholeValues};
 use crate::documents::queryable::Queryable;
 use crate::documents::whole::WholeRef;
 use crate::documents::{Queried, QueryPath, QueryRef};
 use crate::selection::budget::Budget;
 use crate::selection::only::Only;
 use crate::selection::runner::Runner;
-use crate::selection::sink::{Only as OnlyKept, Sink};
+use crate::selection::sink::Sink;
 use crate::selection::within::Within;
 use jsonpath_base::{Removal, Step};
 use jsonpath_parser::is_singular;
@@ -95,7 +95,7 @@ impl<'p> Limited<'p> {
         let begun = Sink::Nodes(WholeNodes::new(alloc));
         let within = self.give(alloc, WholeRef { value }, begun)?;
         match within {
-            Within::Done(sink) => Ok(Within::Done(sink.into_nodes(alloc))),
+            Within::Done(sink) => Ok(Within::Done(sink.into_nodes(alloc).list)),
             Within::Spent => Ok(Within::Spent),
         }
     }
@@ -117,7 +117,7 @@ impl<'p> Limited<'p> {
         let begun = Sink::Values(WholeValues::new(alloc));
         let within = self.give(alloc, WholeRef { value }, begun)?;
         match within {
-            Within::Done(sink) => Ok(Within::Done(sink.into_values(alloc))),
+            Within::Done(sink) => Ok(Within::Done(sink.into_values(alloc).list)),
             Within::Spent => Ok(Within::Spent),
         }
     }
@@ -185,7 +185,7 @@ impl<'p> Limited<'p> {
         let begun = Sink::First(None);
         let within = self.give(alloc, WholeRef { value }, begun)?;
         match within {
-            Within::Done(sink) => Ok(Within::Done(sink.into_first())),
+            Within::Done(sink) => Ok(Within::Done(WholeNode::told(sink.into_first()))),
             Within::Spent => Ok(Within::Spent),
         }
     }
@@ -203,10 +203,10 @@ impl<'p> Limited<'p> {
         ensures same { limited_view self.new ≡ limited_view self.old }
         ensures refused { IfErr result (IsStop (limited_view self.old) (document_of T.tree T.custom value.now)) }
     {
-        let begun = Sink::Only(OnlyKept::Nothing);
+        let begun = Sink::Only(WholeOnly::Nothing);
         let within = self.give(alloc, WholeRef { value }, begun)?;
         match within {
-            Within::Done(sink) => Ok(Within::Done(sink.into_only())),
+            Within::Done(sink) => Ok(Within::Done(sink.into_only().told())),
             Within::Spent => Ok(Within::Spent),
         }
     }

@@ -11,13 +11,13 @@ ghost use Rattle.jsonpath_rust.specs.selection.Only.{IsOnly, sole_value, node_co
 ghost use Rattle.jsonpath_rust.specs.selection.Prepared.{IsFirstNode};
 ghost use Rattle.jsonpath_rust.specs.selection.inner.Sinks.{IsRemovalOf};
 
-use crate::documents::nodes::{WholeNodes, WholeValues};
+use crate::documents::nodes::{WholeNode, WholeNodes, WholeOnly, WholeValues};
 use crate::documents::queryable::Queryable;
 use crate::documents::whole::WholeRef;
 use crate::documents::{Queried, QueryPath, QueryRef};
 use crate::selection::give::give_nodes;
 use crate::selection::only::Only;
-use crate::selection::sink::{Only as OnlyKept, Sink};
+use crate::selection::sink::Sink;
 use jsonpath_base::{Removal, Step};
 use jsonpath_parser::model::JpQuery;
 use std::alloc::Global;
@@ -45,7 +45,7 @@ pub fn selected_nodes<'a, T: Queryable>(
 {
     let begun = Sink::Nodes(WholeNodes::new(alloc));
     let sink = give_nodes(alloc, query, WholeRef { value }, begun)?;
-    Ok(sink.into_nodes(alloc))
+    Ok(sink.into_nodes(alloc).list)
 }
 
 /// The values of the nodes that [`selected_nodes`] returns, in order. No path is made.
@@ -66,7 +66,7 @@ pub fn selected_values<'a, T: Queryable>(
 {
     let begun = Sink::Values(WholeValues::new(alloc));
     let sink = give_nodes(alloc, query, WholeRef { value }, begun)?;
-    Ok(sink.into_values(alloc))
+    Ok(sink.into_values(alloc).list)
 }
 
 /// The Normalized Paths of the nodes that [`selected_nodes`] returns, in order.
@@ -128,7 +128,7 @@ pub fn selected_first<'a, T: Queryable>(
     ensures refused { IfErr result (IsStop (query_view query.now) (document_of T.tree T.custom value.now)) }
 {
     let sink = give_nodes(alloc, query, WholeRef { value }, Sink::First(None))?;
-    Ok(sink.into_first())
+    Ok(WholeNode::told(sink.into_first()))
 }
 
 /// The value of the only node that [`selected_nodes`] returns, or that there is none, or several.
@@ -147,9 +147,9 @@ pub fn selected_only<'a, T: Queryable>(
     ensures whole { IfOk result (λ o. IfSome (sole_value o) (λ x. IsTrue (T.is_whole x))) }
     ensures refused { IfErr result (IsStop (query_view query.now) (document_of T.tree T.custom value.now)) }
 {
-    let begun = Sink::Only(OnlyKept::Nothing);
+    let begun = Sink::Only(WholeOnly::Nothing);
     let sink = give_nodes(alloc, query, WholeRef { value }, begun)?;
-    Ok(sink.into_only())
+    Ok(sink.into_only().told())
 }
 
 /// How many nodes [`selected_nodes`] returns, up to 2^63 - 1. No path and no list is made.

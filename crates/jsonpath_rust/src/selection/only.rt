@@ -1,4 +1,11 @@
 //! The only node of a query.
+ghost use Rattle.std.specs.Prelude.{◌≡◌, IsTrue, IfSome};
+ghost use Rattle.jsonpath_rust.specs.selection.Only.{sole_value};
+ghost use Rattle.jsonpath_rust.specs.selection.inner.Only.{only_seen, only_told};
+ghost use Rattle.jsonpath_rust.specs.selection.inner.Sinks.{seen_only};
+
+use crate::documents::nodes::WholeOnly;
+use crate::documents::queryable::Queryable;
 
 /// What is told of the only node that a query selects, where only one is wanted.
 ///
@@ -12,4 +19,18 @@ pub enum Only<'a, T> {
     One(&'a T),
     /// It selects more than one.
     Several,
+}
+
+impl<'a, T: Queryable> WholeOnly<'a, T> {
+    /// As a caller is told.
+    pub fn told(self) -> Only<'a, T>
+        ensures only { only_seen T.tree result ≡ only_told (seen_only self.entry) }
+        ensures whole { IfSome (sole_value result) (λ x. IsTrue (T.is_whole x)) }
+    {
+        match self {
+            WholeOnly::Nothing => Only::Nothing,
+            WholeOnly::One(value) => Only::One(value.value),
+            WholeOnly::Several => Only::Several,
+        }
+    }
 }

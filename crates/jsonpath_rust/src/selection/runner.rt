@@ -15,7 +15,7 @@ ghost use Rattle.jsonpath_rust.specs.selection.inner.Halting.{IsHalt};
 ghost use Rattle.jsonpath_rust.specs.selection.inner.Sinks.{Takes, IsRemovalOf, give, seen};
 
 use crate::documents::halt::Walked;
-use crate::documents::nodes::{WholeNodes, WholeValues};
+use crate::documents::nodes::{WholeNode, WholeNodes, WholeOnly, WholeValues};
 use crate::documents::queryable::Queryable;
 use crate::documents::whole::WholeRef;
 use crate::documents::{Queried, QueryPath, QueryRef};
@@ -24,7 +24,7 @@ use crate::selection::give::give_requested;
 use crate::selection::limited::Limited;
 use crate::selection::only::Only;
 use crate::selection::prepared::Prepared;
-use crate::selection::sink::{Only as OnlyKept, Sink};
+use crate::selection::sink::Sink;
 use jsonpath_base::engine::KeptFinders;
 use jsonpath_base::{Removal, Step};
 use jsonpath_parser::model::JpQuery;
@@ -90,7 +90,7 @@ impl<'p> Runner<'p> {
     {
         let begun = Sink::Nodes(WholeNodes::new(alloc));
         let sink = self.give_all(alloc, WholeRef { value }, begun)?;
-        Ok(sink.into_nodes(alloc))
+        Ok(sink.into_nodes(alloc).list)
     }
 
     /// The values of these nodes, in order. No path is made.
@@ -104,7 +104,7 @@ impl<'p> Runner<'p> {
     {
         let begun = Sink::Values(WholeValues::new(alloc));
         let sink = self.give_all(alloc, WholeRef { value }, begun)?;
-        Ok(sink.into_values(alloc))
+        Ok(sink.into_values(alloc).list)
     }
 
     /// The Normalized Paths of these nodes (RFC 9535, 2.7), in order.
@@ -148,7 +148,7 @@ impl<'p> Runner<'p> {
         ensures refused { IfErr result (IsStop (runner_view self.old) (document_of T.tree T.custom value.now)) }
     {
         let sink = self.give_all(alloc, WholeRef { value }, Sink::First(None))?;
-        Ok(sink.into_first())
+        Ok(WholeNode::told(sink.into_first()))
     }
 
     /// The value of the only one of these nodes, or that there is none, or several. The document is
@@ -160,9 +160,9 @@ impl<'p> Runner<'p> {
         ensures same { runner_view self.new ≡ runner_view self.old }
         ensures refused { IfErr result (IsStop (runner_view self.old) (document_of T.tree T.custom value.now)) }
     {
-        let begun = Sink::Only(OnlyKept::Nothing);
+        let begun = Sink::Only(WholeOnly::Nothing);
         let sink = self.give_all(alloc, WholeRef { value }, begun)?;
-        Ok(sink.into_only())
+        Ok(sink.into_only().told())
     }
 
     /// How many these nodes are, up to 2^63 - 1. No path and no list is made.

@@ -10,10 +10,10 @@ ghost use Rattle.jsonpath_rust.specs.selection.inner.Halting.{IsHalt};
 ghost use Rattle.jsonpath_rust.specs.selection.inner.Keeping.{IsReady, document, kept_of, value_by};
 ghost use Rattle.jsonpath_rust.specs.selection.inner.PlanViews.{called_view, part_at, side_view};
 
-use crate::documents::comparison::{Side, compares};
+use crate::documents::comparison::compares;
 use crate::documents::halt::Walked;
 use crate::documents::queryable::Queryable;
-use crate::documents::value::scalar_of;
+use crate::documents::value::{Side, scalar_of};
 use crate::documents::whole::WholeRef;
 use crate::selection::budget::Budget;
 use crate::selection::cache::{Cache, Given};

@@ -1,6 +1,5 @@
 //! What is done with the nodes that a walk meets.
-ghost use Rattle.std.specs.Prelude.{◌≡◌, suc, min, ◌∷◌, [], map, option_map, option_to_list};
-ghost use Rattle.std.specs.Prelude.{All, IsTrue, false, IfErr, IfSome, OnOk, string_bytes};
+ghost use Rattle.std.specs.Prelude.{◌≡◌, suc, min, ◌∷◌, [], map, option_map, option_to_list, IfErr, IfOk, string_bytes};
 ghost use Rattle.jsonpath_base.specs.Steps.{location_view};
 ghost use Rattle.jsonpath_base.specs.RemovalViews.{removal_set, removal_count};
 ghost use Rattle.jsonpath_rust.specs.declared.documents.halt.Halt.TheVariants.{Memory};
@@ -9,46 +8,22 @@ ghost use Rattle.jsonpath_rust.specs.documents.Functions.{greatest_count, of_nod
 ghost use Rattle.jsonpath_rust.specs.documents.Node.{Node, root_node};
 ghost use Rattle.jsonpath_rust.specs.documents.inner.Operands.{operand_tree};
 ghost use Rattle.jsonpath_rust.specs.documents.inner.Whole.{tree_of};
-ghost use Rattle.jsonpath_rust.specs.selection.Only.{sole_value};
-ghost use Rattle.jsonpath_rust.specs.selection.inner.Only.{only_seen, only_told};
+ghost use Rattle.jsonpath_rust.specs.selection.inner.Only.{only_told};
 ghost use Rattle.jsonpath_rust.specs.selection.inner.Sinks.{Took, TakesAlong, seen, seen_only, seen_first, start, any_in, count_in};
 ghost use Rattle.jsonpath_rust.specs.selection.inner.Sinks.{first_in, nodes_in, values_in, paths_in, locations_in, removal_in};
 ghost use Rattle.jsonpath_rust.specs.selection.inner.Walking.{node_of};
 ghost use Rattle.jsonpath_rust.specs.selection.inner.Wanting.{gave, finished, wanted_of};
 
 use crate::documents::halt::Walked;
-use crate::documents::nodes::{WholeNode, WholeNodes, WholeValues};
+use crate::documents::nodes::{WholeNode, WholeNodes, WholeOnly, WholeValues};
 use crate::documents::queryable::Queryable;
-use crate::documents::value::{GREATEST_COUNT, Operand, Scalar, count_scalar};
+use crate::documents::value::{GREATEST_COUNT, Operand, Scalar, Side, count_scalar};
 use crate::documents::whole::WholeRef;
 use crate::documents::{QueryPath, QueryRef};
 use crate::selection::cache::Given;
-use crate::selection::only::Only as OnlyNode;
 use jsonpath_base::engine::Way;
 use jsonpath_base::{Removal, Step};
 use std::alloc::Global;
-
-/// The only node of a list, if it has one alone.
-#[derive(Clone, Copy)]
-pub enum Only<'a, T: Queryable> {
-    Nothing,
-    One(WholeRef<'a, T>),
-    Several,
-}
-
-impl<'a, T: Queryable> Only<'a, T> {
-    /// As a caller is told.
-    fn told(self) -> OnlyNode<'a, T>
-        ensures only { only_seen T.tree result ≡ only_told (seen_only self.entry) }
-        ensures whole { IfSome (sole_value result) (λ x. IsTrue (T.is_whole x)) }
-    {
-        match self {
-            Only::Nothing => OnlyNode::Nothing,
-            Only::One(value) => OnlyNode::One(value.value),
-            Only::Several => OnlyNode::Several,
-        }
-    }
-}
 
 /// What is wanted of the nodes of a query inside a filter.
 #[derive(Clone, Copy, Debug, PartialEq)]
@@ -64,19 +39,20 @@ pub enum Wanted {
 }
 
 impl Wanted {
-    /// That of one node, of this value, or of none.
+    /// What is wanted of one node, which has this value, or of none, as a value. All values are not
+    /// one: nothing.
     #[inline(always)]
     pub fn of<'a, 's, T: Queryable>(self, value: Option<WholeRef<'a, T>>) -> Operand<'a, 's, T>
         ensures { operand_tree result ≡ wanted_of self (of_nodes (map root_node (option_to_list (option_map tree_of value.entry)))) }
     {
         match self {
-            Wanted::Any => Operand::Plain(Scalar::Truth(value.is_some())),
+            Wanted::Any => Operand::Side(Side::Plain(Scalar::Truth(value.is_some()))),
             Wanted::Count => match value {
-                Some(_value) => Operand::Plain(count_scalar(1)),
-                None => Operand::Plain(count_scalar(0)),
+                Some(_value) => Operand::Side(Side::Plain(count_scalar(1))),
+                None => Operand::Side(Side::Plain(count_scalar(0))),
             },
             Wanted::Only => Operand::lent(value),
-            Wanted::Values => Operand::Absent,
+            Wanted::Values => Operand::Side(Side::Absent),
         }
     }
 }
@@ -100,7 +76,7 @@ pub enum Sink<'a, T: Queryable> {
     /// How many nodes came, up to [`GREATEST_COUNT`].
     Count(usize),
     /// The only node. It stops at the second.
-    Only(Only<'a, T>),
+    Only(WholeOnly<'a, T>),
     /// The first node's value and Normalized Path. It stops there.
     First(Option<WholeNode<'a, T>>),
 }
@@ -114,7 +90,7 @@ impl<'a, T: Queryable> Sink<'a, T> {
         match wanted {
             Wanted::Any => Sink::Any(false),
             Wanted::Count => Sink::Count(0),
-            Wanted::Only => Sink::Only(Only::Nothing),
+            Wanted::Only => Sink::Only(WholeOnly::Nothing),
             Wanted::Values => Sink::Values(WholeValues::new(alloc)),
         }
     }
@@ -128,13 +104,11 @@ impl<'a, T: Queryable> Sink<'a, T> {
     {
         match self {
             Sink::Nodes(nodes) => {
-                let path = way.path(alloc)?;
-                nodes.push(value, path)?;
+                nodes.push(value, way.path(alloc)?)?;
                 Ok(true)
             }
             Sink::Paths(paths) => {
-                let path = way.path(alloc)?;
-                paths.push(path)?;
+                paths.push(way.path(alloc)?)?;
                 Ok(true)
             }
             Sink::Values(values) => {
@@ -142,8 +116,7 @@ impl<'a, T: Queryable> Sink<'a, T> {
                 Ok(true)
             }
             Sink::Locations(locations) => {
-                let location = way.location(alloc)?;
-                locations.push(location)?;
+                locations.push(way.location(alloc)?)?;
                 Ok(true)
             }
             Sink::Removal(removal) => {
@@ -160,10 +133,7 @@ impl<'a, T: Queryable> Sink<'a, T> {
                 Ok(true)
             }
             Sink::Only(only) => Ok(take_only(only, value)),
-            Sink::First(first) => {
-                take_first(first, alloc, value, way)?;
-                Ok(false)
-            }
+            Sink::First(first) => Ok(take_first(first, alloc, value, way)?),
         }
     }
 
@@ -173,13 +143,13 @@ impl<'a, T: Queryable> Sink<'a, T> {
         ensures { gave result ≡ finished (seen self.entry) }
     {
         match self {
-            Sink::Any(any) => Given::Value(Operand::Plain(Scalar::Truth(any))),
-            Sink::Count(count) => Given::Value(Operand::Plain(count_scalar(count))),
-            Sink::Only(Only::One(value)) => Given::Value(Operand::Lent(value)),
+            Sink::Any(any) => Given::Value(Operand::Side(Side::Plain(Scalar::Truth(any)))),
+            Sink::Count(count) => Given::Value(Operand::Side(Side::Plain(count_scalar(count)))),
+            Sink::Only(WholeOnly::One(value)) => Given::Value(Operand::Side(Side::Lent(value))),
             Sink::Values(values) => Given::Values(values),
             other => {
                 drop(other);
-                Given::Value(Operand::Absent)
+                Given::Value(Operand::Side(Side::Absent))
             }
         }
     }
@@ -210,30 +180,28 @@ impl<'a, T: Queryable> Sink<'a, T> {
         }
     }
 
-    /// What a caller is told of the only node that an `Only` was given.
-    pub fn into_only(self) -> OnlyNode<'a, T>
-        ensures only { only_seen T.tree result ≡ only_told (seen self.entry) }
-        ensures whole { IfSome (sole_value result) (λ x. IsTrue (T.is_whole x)) }
+    /// The only node that an `Only` was given.
+    pub fn into_only(self) -> WholeOnly<'a, T>
+        ensures { only_told (seen_only result) ≡ only_told (seen self.entry) }
     {
         match self {
-            Sink::Only(only) => only.told(),
+            Sink::Only(only) => only,
             other => {
                 drop(other);
-                OnlyNode::Nothing
+                WholeOnly::Nothing
             }
         }
     }
 
     /// The nodes that a `Nodes` was given.
-    pub fn into_nodes(self, alloc: Global) -> Vec<QueryRef<'a, T>>
-        ensures nodes { shown T.tree result.items ≡ nodes_in (seen self.entry) }
-        ensures whole { All (λ r. IsTrue (T.is_whole r.val.now)) result.items }
+    pub fn into_nodes(self, alloc: Global) -> WholeNodes<'a, T>
+        ensures { shown T.tree result.list.items ≡ nodes_in (seen self.entry) }
     {
         match self {
-            Sink::Nodes(nodes) => nodes.list,
+            Sink::Nodes(nodes) => nodes,
             other => {
                 drop(other);
-                Vec::new(alloc)
+                WholeNodes::new(alloc)
             }
         }
     }
@@ -278,26 +246,24 @@ impl<'a, T: Queryable> Sink<'a, T> {
     }
 
     /// The values that a `Values` was given.
-    pub fn into_values(self, alloc: Global) -> Vec<&'a T>
-        ensures values { map (λ v. T.tree v.now) result.items ≡ values_in (seen self.entry) }
-        ensures whole { All (λ v. IsTrue (T.is_whole v.now)) result.items }
+    pub fn into_values(self, alloc: Global) -> WholeValues<'a, T>
+        ensures { map (λ v. T.tree v.now) result.list.items ≡ values_in (seen self.entry) }
     {
         match self {
-            Sink::Values(values) => values.list,
+            Sink::Values(values) => values,
             other => {
                 drop(other);
-                Vec::new(alloc)
+                WholeValues::new(alloc)
             }
         }
     }
 
     /// The node that a `First` was given.
-    pub fn into_first(self) -> Option<QueryRef<'a, T>>
-        ensures node { option_map (λ r. (string_bytes r.path, T.tree r.val.now)) result ≡ first_in (seen self.entry) }
-        ensures whole { IfSome result (λ r. IsTrue (T.is_whole r.val.now)) }
+    pub fn into_first(self) -> Option<WholeNode<'a, T>>
+        ensures { option_map (λ w. (string_bytes w.node.path, T.tree w.node.val.now)) result ≡ first_in (seen self.entry) }
     {
         match self {
-            Sink::First(Some(node)) => Some(node.node),
+            Sink::First(first) => first,
             other => {
                 drop(other);
                 None
@@ -320,29 +286,29 @@ fn one_more(count: usize) -> usize
 
 /// Takes a node; it goes on if that is the first.
 #[inline(always)]
-fn take_only<'a, T: Queryable>(only: &mut Only<'a, T>, value: WholeRef<'a, T>) -> bool
+fn take_only<'a, T: Queryable>(only: &mut WholeOnly<'a, T>, value: WholeRef<'a, T>) -> bool
     ensures { (n : Node) → n.tree ≡ tree_of value.entry → Took (seen_only only.old) (n ∷ []) (seen_only only.new) result }
 {
     match only {
-        Only::Nothing => {
-            *only = Only::One(value);
+        WholeOnly::Nothing => {
+            *only = WholeOnly::One(value);
             true
         }
         _ => {
-            *only = Only::Several;
+            *only = WholeOnly::Several;
             false
         }
     }
 }
 
-/// Takes a node, if that is the first.
+/// Takes a node, if that is the first; it never goes on.
 fn take_first<'a, T: Queryable>(
     first: &mut Option<WholeNode<'a, T>>,
     alloc: Global,
     value: WholeRef<'a, T>,
     way: &mut Way<'_>,
-) -> Walked<()>
-    ensures gave { OnOk result (Took (seen_first first.old) (node_of way.old.steps.items value.entry ∷ []) (seen_first first.new) false) }
+) -> Walked<bool>
+    ensures gave { IfOk result (λ b. Took (seen_first first.old) (node_of way.old.steps.items value.entry ∷ []) (seen_first first.new) b) }
     ensures same { way.new.steps.items ≡ way.old.steps.items }
     ensures memory { IfErr result (λ h. h ≡ Memory) }
 {
@@ -355,5 +321,5 @@ fn take_first<'a, T: Queryable>(
             },
         });
     }
-    Ok(())
+    Ok(false)
 }

@@ -59,7 +59,7 @@ impl<'a: 's, 's, T: Queryable> Task<'a, 's, T> {
         }
     }
 
-    /// Follows the arguments of a custom function by the values of the nodes of a query (RFC 9535,
+    /// Adds the values of the nodes of a query to the arguments of a custom function (RFC 9535,
     /// 2.4.1).
     #[cycle(walk)]
     pub fn push_nodes(
@@ -117,9 +117,10 @@ impl<'a: 's, 's, T: Queryable> Task<'a, 's, T> {
         Ok(sink.finish())
     }
 
-    /// Keeps what is wanted of the nodes of the query from the root that has this number, found
-    /// when that is first asked; so is that a pattern in it is too large. The result says whether
-    /// there is such a query, for it is `$` where there is none.
+    /// Keeps what is wanted of the nodes of the query from the root that has this number. They are
+    /// found when that is first asked; where a pattern in it is too large, that is kept, and the
+    /// walk halts. The result is false where the plan has no such query, which then is `$`: nothing
+    /// is kept of it.
     #[cycle(walk)]
     pub fn keep_nodes(
         &self,

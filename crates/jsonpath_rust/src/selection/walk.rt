@@ -2,15 +2,16 @@
 //! (RFC 9535, 2.1.2).
 //!
 //! The way to the value at hand stands on a stack of borrowed steps, so nothing is kept for a node
-//! that is only passed. Every method of the cycle asks for a value at hand (`StandsAt`), and comes
-//! back with the way as it was and what is kept still right (`Comes`). Where it halts, what is kept
-//! is right too, and it says why.
+//! that is only passed. Most methods of the cycle ask for a value at hand (`StandsAt`), those of
+//! constants only that what is kept is right (`IsReady`). Each comes back with the way as it was
+//! and what is kept still right (`Comes`). Where it halts, what is kept is right too, and it says
+//! why; the way may then be another.
 ghost use Rattle.std.specs.Prelude.{◌++◌};
 ghost use Rattle.jsonpath_rust.specs.documents.Meaning.{picks, all_pick, replaced, sliced};
 ghost use Rattle.jsonpath_rust.specs.documents.Patterns.{segments_patterns, segment_patterns, selectors_patterns, selector_patterns};
 ghost use Rattle.jsonpath_rust.specs.selection.inner.PlanViews.{segments_meant, segment_view, selectors_meant, selector_view};
 ghost use Rattle.jsonpath_rust.specs.selection.inner.Sinks.{TakesAlong};
-ghost use Rattle.jsonpath_rust.specs.selection.inner.Keeping.{document, kept_of};
+ghost use Rattle.jsonpath_rust.specs.selection.inner.Keeping.{kept_of};
 ghost use Rattle.jsonpath_rust.specs.selection.inner.Standing.{Comes};
 ghost use Rattle.jsonpath_rust.specs.selection.inner.Walking.{through};
 ghost use Rattle.jsonpath_rust.specs.selection.inner.AtHand.{StandsAt, node_at, here, onward_from, rest_patterns};

@@ -16,7 +16,7 @@ ghost use Rattle.jsonpath_rust.specs.documents.Patterns.{filter_patterns, atom_p
 ghost use Rattle.jsonpath_rust.specs.documents.Patterns.{comparable_patterns, test_patterns, call_patterns, argument_patterns};
 ghost use Rattle.jsonpath_rust.specs.states.State.{Content, value, content_of, DataIsWhole};
 ghost use Rattle.jsonpath_rust.specs.declared.documents.halt.Halt.TheVariants.{Memory};
-ghost use Rattle.jsonpath_rust.specs.states.inner.Evaluating.{document, content_at, HaltsAt, HaltsBelow};
+ghost use Rattle.jsonpath_rust.specs.states.inner.Evaluating.{content_at, HaltsAt, HaltsBelow};
 
 use crate::documents::Queried;
 use crate::documents::halt::Walked;

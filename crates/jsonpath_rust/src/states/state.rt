@@ -4,7 +4,7 @@ ghost use Rattle.std.specs.List.{AllByRecursion};
 ghost use Rattle.jsonpath_parser.specs.declared.errors.JsonPathError.TheVariants.{OutOfMemory};
 ghost use Rattle.jsonpath_base.specs.Same.{same};
 ghost use Rattle.jsonpath_base.specs.Tree.{truth, number, text};
-ghost use Rattle.jsonpath_rust.specs.states.State.{Content, ref, value, nothing, content_of, pointers, DataIsWhole, ok_refs};
+ghost use Rattle.jsonpath_rust.specs.states.State.{ref, value, nothing, content_of, pointers, DataIsWhole, ok_refs};
 ghost use Rattle.jsonpath_rust.specs.states.State.{ok_value, contents_same, reduced, Made, GivesWhole, SomeHas};
 
 mod data;

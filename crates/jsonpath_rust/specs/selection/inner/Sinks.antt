@@ -15,11 +15,11 @@ use Rattle.jsonpath_rust.specs.documents.Functions.{greatest_count}
 use Rattle.jsonpath_rust.specs.documents.inner.Whole.{tree_of}
 use Rattle.jsonpath_rust.specs.declared.selection.sink.Sink.{Sink}
 use Rattle.jsonpath_rust.specs.declared.selection.sink.Sink.TheVariants as sink
-use Rattle.jsonpath_rust.specs.declared.selection.sink.Only.{Only}
-use Rattle.jsonpath_rust.specs.declared.selection.sink.Only.TheVariants.{Nothing, One, Several}
 use Rattle.jsonpath_rust.specs.declared.selection.sink.Wanted.{Wanted}
 use Rattle.jsonpath_rust.specs.declared.selection.sink.Wanted.TheVariants as wanted
 use Rattle.jsonpath_rust.specs.declared.documents.nodes.WholeNode.{WholeNode}
+use Rattle.jsonpath_rust.specs.declared.documents.nodes.WholeOnly.{WholeOnly}
+use Rattle.jsonpath_rust.specs.declared.documents.nodes.WholeOnly.TheVariants.{Nothing, One, Several}
 use Rattle.jsonpath_rust.specs.declared.documents.queryable.Queryable.{Ghosts}
 
 -- a node as it is answered: its Normalized Path and its tree
@@ -40,7 +40,7 @@ pub data Seen : Type 0 where
   several : Seen
   first : Option (List ℕ × Tree) → Seen
 
-abbrev pub seen_only : {A : Type 0} {R : Ghosts A} {D : debug.Ghosts A} → Only A R D → Seen
+abbrev pub seen_only : {A : Type 0} {R : Ghosts A} {D : debug.Ghosts A} → WholeOnly A R D → Seen
 seen_only Nothing = nothing
 seen_only (One v) = one (tree_of v)
 seen_only Several = several

@@ -7,8 +7,9 @@ ghost use Rattle.jsonpath_rust.specs.states.State.{targets_of, PointersAreWhole}
 ghost use Rattle.jsonpath_rust.specs.states.inner.Evaluating.{content_at};
 ghost use Rattle.jsonpath_rust.specs.documents.inner.Whole.{tree_of};
 
-use crate::documents::comparison::{Side, is_below};
+use crate::documents::comparison::is_below;
 use crate::documents::queryable::Queryable;
+use crate::documents::value::Side;
 use crate::documents::whole::WholeRef;
 use crate::states::evaluate::value::plain_value;
 use crate::states::state::{Data, Pointer, are_same};

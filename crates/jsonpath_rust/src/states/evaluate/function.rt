@@ -137,8 +137,8 @@ pub fn custom_data<'a, T: Queryable>(
     Ok(WholeData { content })
 }
 
-/// Follows the arguments of a custom function by what a result stands for: its value, or the values
-/// of its nodes.
+/// Adds what a result stands for to the arguments of a custom function: its value, or the values of
+/// its nodes.
 pub fn push_values<'a, T: Queryable>(
     values: &mut Args<'a, T>,
     answer: WholeData<'a, T>,

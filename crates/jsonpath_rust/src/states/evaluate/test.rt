@@ -2,7 +2,6 @@
 ghost use Rattle.std.specs.Prelude.{◌≡◌, ◌∷◌, [], ◌++◌, cond, IfOk, IfErr, OnOk};
 ghost use Rattle.jsonpath_parser.specs.tree.Making.{is_truth_call};
 ghost use Rattle.jsonpath_parser.specs.tree.View.{test_view};
-ghost use Rattle.jsonpath_parser.specs.declared.errors.JsonPathError.TheVariants.{OutOfMemory};
 ghost use Rattle.jsonpath_rust.specs.documents.inner.Refusing.{MemoryAlone};
 ghost use Rattle.jsonpath_rust.specs.states.Process as process;
 ghost use Rattle.jsonpath_rust.specs.states.Process.{is_truth, test_truth};
@@ -60,7 +59,7 @@ pub fn test_answer<'a, T: Queryable>(
     }
 }
 
-/// Follows the pointers by this one, if it is kept. It refuses by `OutOfMemory` alone.
+/// Adds this one to the pointers, if it is kept. It refuses by `OutOfMemory` alone.
 pub fn keep_if<'a, T: Queryable>(
     alloc: Global,
     is_kept: bool,

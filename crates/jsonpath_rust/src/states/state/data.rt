@@ -1,10 +1,10 @@
 //! What a state holds.
-ghost use Rattle.std.specs.Prelude.{◌≡◌, ◌⊎◌, [], ◌∷◌, ◌++◌, map, Ok, Err, IsTrue, IfOk, IfErr, OnOk, option_map};
+ghost use Rattle.std.specs.Prelude.{◌≡◌, ◌⊎◌, [], ◌∷◌, ◌++◌, Ok, Err, IsTrue, IfOk, IfErr, OnOk, option_map};
 ghost use Rattle.std.specs.List.{AllByRecursion};
 ghost use Rattle.jsonpath_parser.specs.declared.errors.JsonPathError.TheVariants.{OutOfMemory};
-ghost use Rattle.jsonpath_rust.specs.states.State.{Content, ref, refs, nothing, target_of, targets_of, content_of};
-ghost use Rattle.jsonpath_rust.specs.states.State.{pointers, PointersAreWhole, DataIsWhole, ok_refs, ok_value};
-ghost use Rattle.jsonpath_rust.specs.states.State.{contents_same, targets_same, reduced, Made, GivesWhole, SomeHas};
+ghost use Rattle.jsonpath_rust.specs.states.State.{ref, refs, nothing, target_of, targets_of, content_of, pointers};
+ghost use Rattle.jsonpath_rust.specs.states.State.{PointersAreWhole, DataIsWhole, ok_refs, ok_value, contents_same};
+ghost use Rattle.jsonpath_rust.specs.states.State.{targets_same, reduced, Made, GivesWhole, SomeHas};
 
 use crate::documents::Queried;
 use crate::documents::queryable::Queryable;
@@ -204,7 +204,7 @@ fn write_joined<'a, T: Debug, W: Write>(
     Ok(())
 }
 
-/// Follows the nodes by those of a result.
+/// Adds the nodes of a result.
 fn push_nodes<'a, T: Queryable>(all: &mut Vec<Pointer<'a, T>>, found: Data<'a, T>) -> Queried<()>
     ensures ok { OnOk result (all.new.items ≡ all.old.items ++ pointers found.entry) }
     ensures err { IfErr result (λ e. e ≡ OutOfMemory) }

@@ -1,6 +1,5 @@
 //! How whole data and pointers are made of one another.
 ghost use Rattle.std.specs.Prelude.{◌≡◌, ◌++◌, [], ◌∷◌, IfOk, OnOk};
-ghost use Rattle.jsonpath_parser.specs.declared.errors.JsonPathError.TheVariants.{OutOfMemory};
 ghost use Rattle.jsonpath_rust.specs.documents.inner.Refusing.{MemoryAlone};
 ghost use Rattle.jsonpath_rust.specs.documents.inner.Whole.{tree_of, own_tree, document_at};
 ghost use Rattle.jsonpath_rust.specs.states.State.{ref, refs, value, nothing, reduced, targets, root_content};
@@ -103,7 +102,7 @@ impl<'a, T: Queryable> WholePointers<'a, T> {
         }
     }
 
-    /// Follows them by this one.
+    /// Adds this one.
     pub fn push(&mut self, one: WholePointer<'a, T>) -> Result<(), AllocError>
         ensures { OnOk result (targets_at self.new ≡ targets_at self.old ++ own_target one.entry ∷ []) }
     {
@@ -111,7 +110,7 @@ impl<'a, T: Queryable> WholePointers<'a, T> {
         Ok(())
     }
 
-    /// Follows them by the nodes of a result.
+    /// Adds the nodes of a result.
     pub fn append(&mut self, found: WholeData<'a, T>) -> Result<(), AllocError>
         ensures { OnOk result (targets_at self.new ≡ targets_at self.old ++ targets (content_at found.entry)) }
     {

@@ -11,4 +11,4 @@ returns-clause-values g c =
     let tree = g.T.Queryable.tree in
     let q = query_view c.args.query.now in
     let doc = document_of tree g.T.Queryable.custom c.args.value.now in
-    values_answered q doc _ (g.met.T.Queryable.distinct c.args.value.now c.requires) (c.into_values.ensures.values ∙ given_values (λ x. tree x.now) c.new.result.list.items _ (nodelist q doc) c.new.ensures c.in_ok-sink.ensures.gave)
+    values_answered q doc _ (g.met.T.Queryable.distinct c.args.value.now c.requires) (c.into_values.ensures ∙ given_values (λ x. tree x.now) c.new.result.list.items _ (nodelist q doc) c.new.ensures c.in_ok-sink.ensures.gave)

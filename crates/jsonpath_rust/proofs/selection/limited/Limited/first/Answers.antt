@@ -10,13 +10,13 @@ pub returns-in-Done-clause-first : goal.returns-in-Done-clause-first
 returns-in-Done-clause-first g c =
     let tree = g.T.Queryable.tree in
     let doc = document_of tree g.T.Queryable.custom c.args.value.now in
-    first_answered (λ r. (string_bytes r.path, tree r.val.now)) (limited_view c.args.self.now) doc _ (g.met.T.Queryable.distinct c.args.value.now c.requires) (c.into_first.ensures.node ∙ ap first_in (of_done _ _ _ c.in-Done.is c.in_ok-within.ensures.gave))
+    first_answered (λ r. (string_bytes r.path, tree r.val.now)) (limited_view c.args.self.now) doc _ (g.met.T.Queryable.distinct c.args.value.now c.requires) (c.told.ensures.node ∙ c.into_first.ensures ∙ ap first_in (of_done _ _ _ c.in-Done.is c.in_ok-within.ensures.gave))
 
 pub returns-in-Done-clause-none : goal.returns-in-Done-clause-none
 returns-in-Done-clause-none g c =
     let tree = g.T.Queryable.tree in
     let doc = document_of tree g.T.Queryable.custom c.args.value.now in
-    none_answered (λ r. (string_bytes r.path, tree r.val.now)) (limited_view c.args.self.now) doc _ (c.into_first.ensures.node ∙ ap first_in (of_done _ _ _ c.in-Done.is c.in_ok-within.ensures.gave))
+    none_answered (λ r. (string_bytes r.path, tree r.val.now)) (limited_view c.args.self.now) doc _ (c.told.ensures.node ∙ c.into_first.ensures ∙ ap first_in (of_done _ _ _ c.in-Done.is c.in_ok-within.ensures.gave))
 
 pub returns-in-Spent-clause-enough : goal.returns-in-Spent-clause-enough
 returns-in-Spent-clause-enough g c singular = of_spent _ c.in-Spent.is (c.in_ok-within.ensures.enough singular)

@@ -9,10 +9,10 @@ pub returns-clause-first : goal.returns-clause-first
 returns-clause-first g c =
     let tree = g.T.Queryable.tree in
     let doc = document_of tree g.T.Queryable.custom c.args.value.now in
-    first_answered (λ r. (string_bytes r.path, tree r.val.now)) (runner_view c.args.self.now) doc _ (g.met.T.Queryable.distinct c.args.value.now c.requires) (c.into_first.ensures.node ∙ ap first_in c.in_ok-sink.ensures.gave)
+    first_answered (λ r. (string_bytes r.path, tree r.val.now)) (runner_view c.args.self.now) doc _ (g.met.T.Queryable.distinct c.args.value.now c.requires) (c.told.ensures.node ∙ c.into_first.ensures ∙ ap first_in c.in_ok-sink.ensures.gave)
 
 pub returns-clause-none : goal.returns-clause-none
 returns-clause-none g c =
     let tree = g.T.Queryable.tree in
     let doc = document_of tree g.T.Queryable.custom c.args.value.now in
-    none_answered (λ r. (string_bytes r.path, tree r.val.now)) (runner_view c.args.self.now) doc _ (c.into_first.ensures.node ∙ ap first_in c.in_ok-sink.ensures.gave)
+    none_answered (λ r. (string_bytes r.path, tree r.val.now)) (runner_view c.args.self.now) doc _ (c.told.ensures.node ∙ c.into_first.ensures ∙ ap first_in c.in_ok-sink.ensures.gave)

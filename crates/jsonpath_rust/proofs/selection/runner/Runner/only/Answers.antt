@@ -9,4 +9,4 @@ pub returns-clause-only : goal.returns-clause-only
 returns-clause-only g c =
     let tree = g.T.Queryable.tree in
     let doc = document_of tree g.T.Queryable.custom c.args.value.now in
-    only_answered tree (runner_view c.args.self.now) doc c.into_only.result (g.met.T.Queryable.distinct c.args.value.now c.requires) (c.into_only.ensures.only ∙ ap only_told c.in_ok-sink.ensures.gave)
+    only_answered tree (runner_view c.args.self.now) doc c.told.result (g.met.T.Queryable.distinct c.args.value.now c.requires) (c.told.ensures.only ∙ c.into_only.ensures ∙ ap only_told c.in_ok-sink.ensures.gave)

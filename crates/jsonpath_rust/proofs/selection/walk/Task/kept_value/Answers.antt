@@ -3,7 +3,7 @@ use Rattle.jsonpath_rust.specs.selection.inner.Keeping.{document, kept_of}
 use Rattle.jsonpath_rust.specs.selection.inner.Wanting.{gave}
 use Rattle.jsonpath_rust.specs.selection.inner.PlanViews.{part_at}
 use Rattle.jsonpath_rust.proofs.laws.selection.Kept.{value_given}
-use Rattle.jsonpath_rust.proofs.selection.walk.Task.kept.Goals as goal
+use Rattle.jsonpath_rust.proofs.selection.walk.Task.kept_value.Goals as goal
 
 pub returns-in_ok-try_clone-in-Some-Value-clause-value : goal.returns-in_ok-try_clone-in-Some-Value-clause-value
 returns-in_ok-try_clone-in-Some-Value-clause-value g c =
