@@ -6,4 +6,3 @@ pub mod Parts
 pub mod Comparing
 pub mod Whole
 pub mod OfValues
-pub mod Agreeing

@@ -1,14 +1,6 @@
 //! Trees that are made by hand, by `jsonpath_build`: whether each is written as the one that a grammar function reads of its text.
-use crate::grammar::{self, tree};
-use jsonpath_rust::build::{
-    and, arg_filter, arg_lit, arg_test, atom, atom_cmp, atom_not, atom_test, atom_test_not, cmp,
-    comparable_fn, comparable_lit, comparable_query, filter, jq, lit_bool, lit_int, lit_null,
-    lit_str, or, q_index, q_name, q_segments, q_segments_one, segment_descendant, segment_many,
-    segment_one, selector_filter, selector_index, selector_name, selector_slice, selector_wildcard,
-    singular_current, singular_root, slice_all, slice_end, slice_end_step, slice_full, slice_start,
-    slice_start_end, slice_start_step, slice_step, test_abs, test_fn1, test_fn2, test_function,
-    test_rel,
-};
+use crate::trees::{self, Form, tree};
+use jsonpath_rust::build::*;
 use jsonpath_rust::parser::errors::Parsed;
 use jsonpath_rust::parser::model::{Comparable, Filter, FilterAtom, FnArg, Literal, Segment};
 use rows_common::answers::are_same;
@@ -16,13 +8,11 @@ use rows_common::arguments::text;
 use rows_common::{Given, Refusal};
 use serde_json::Value;
 use std::alloc::Global;
-use std::slice;
 
 /// Whether it is, for the grammar function of a name, and a text.
-pub fn answer(alloc: Global, name: &Value, query: &Value) -> Given<Value> {
-    let (name, spelled) = (text(name)?, text(query)?);
-    let made = made(alloc, name, spelled)?;
-    let read = grammar::answer(alloc, name, slice::from_ref(query))?;
+pub fn answer(alloc: Global, name: &str, query: &Value) -> Given<Value> {
+    let made = made(alloc, name, text(query)?)?;
+    let read = trees::grammar(alloc, name, query, Form::Tree)?;
     Ok(Value::from(are_same(&read, &made)))
 }
 

@@ -1,117 +1,114 @@
-//! The calls that rows name, with what each takes; what it answers, its function tells. A location is a list of names and indexes.
+//! The calls that rows name, in a table for each number of arguments; what a call answers, its function tells. A location is a list of
+//! names and indexes.
 use crate::doc::Doc;
 use crate::doc::document::Document;
-use crate::{
-    built, changes, conditions, errors, grammar, limits, locations, makers, methods, nodes,
-    patterns, process, states, trees, types,
-};
-use jsonpath_base::{same, set_function, text_length, text_less};
+use crate::locations::{self, located};
+use crate::trees::{self, Form};
+use crate::{built, changes, errors, limits, makers, patterns, process, states, types};
+use jsonpath_base::{same, set_function, step_by_token, text_length, text_less};
 use jsonpath_rust::query::queryable::Deletable;
-use rows_common::answers::{answered, are_same, pair};
+use jsonpath_rust::query::{js_path_count, location_by_path, referred_location};
+use rows_common::answers::{answered, are_same, location, pair};
 use rows_common::arguments::{text, whole};
 use rows_common::{Given, Refusal};
 use serde_json::Value;
 use std::alloc::Global;
 
 /// What the call of that name answers.
-pub fn answer(alloc: Global, name: &str, arguments: &[Value]) -> Given<Value> {
-    match (name, arguments) {
-        ("text_length", [value]) => Ok(Value::from(text_length(text(value)?))),
-        ("text_less", [left, right]) => Ok(Value::from(text_less(text(left)?, text(right)?))),
-        ("whole", [value]) => Ok(Value::from(jsonpath_base::whole(value))),
-        ("same", [left, right]) => Ok(Value::from(same(whole(left)?.get(), whole(right)?.get()))),
-        ("set_function", [name, left, right]) => {
-            let (left, right) = (whole(left)?, whole(right)?);
-            Ok(Value::from(set_function(text(name)?, left.get(), right.get())))
-        }
-        ("found", [text, pattern, whole]) => patterns::is_found(alloc, text, pattern, whole),
-        ("pattern", [text, pattern, whole]) => patterns::asked(alloc, text, pattern, whole),
-        ("finder", [pattern, whole, texts]) => patterns::finder(alloc, pattern, whole, texts),
-        _ => of_locations(alloc, name, arguments),
+pub fn answer(alloc: Global, name: &str, asked: &[Value]) -> Given<Value> {
+    if changes::is_change(name) {
+        return changes::changed(alloc, name, asked);
+    }
+    let given = match asked {
+        [] => makers::made(alloc, name),
+        [asked] => of_one(alloc, name, asked),
+        [first, second] => of_two(alloc, name, first, second),
+        [first, second, third] => of_three(alloc, name, [first, second, third]),
+        [start, end, step, length] => locations::sliced(alloc, name, [start, end, step, length]),
+        _ => Err(Refusal::NoAnswer),
+    };
+    match given {
+        Err(Refusal::NoAnswer) => of_types(alloc, name, asked),
+        given => given,
     }
 }
 
-/// The same of slices, of locations and of values at them.
-fn of_locations(alloc: Global, name: &str, arguments: &[Value]) -> Given<Value> {
-    match (name, arguments) {
-        ("picked" | "slice_places", parts) => locations::sliced(alloc, name, parts),
-        ("add_name" | "add_index", [path, step]) => locations::longer(alloc, name, path, step),
-        ("try_clone", [step, other]) => locations::copied(alloc, step, other),
-        ("begins", [location, prefix]) => locations::begun(alloc, location, prefix),
-        ("path_of" | "pointer_of", [location]) => locations::written(alloc, name, location),
-        ("location_by_pointer", [value, pointer]) => locations::pointed(alloc, value, pointer),
-        ("step_by_token", [value, token]) => locations::stepped(alloc, value, token),
-        ("location_by_path", [path]) => locations::by_path(alloc, path),
-        ("referred_location", [value, path]) => locations::referred(alloc, value, path),
-        ("at", [value, location]) => changes::value_at(alloc, value, location),
-        ("take_at", [value, location]) => changes::taken(alloc, value, location),
-        ("Whole::take_at", [value, location]) => changes::taken_whole(alloc, value, location),
-        _ => of_trees(alloc, name, arguments),
+fn of_one(alloc: Global, name: &str, asked: &Value) -> Given<Value> {
+    match name {
+        "text_length" => Ok(Value::from(text_length(text(asked)?))),
+        "whole" => Ok(Value::from(jsonpath_base::whole(asked))),
+        "path_of" | "pointer_of" => locations::written(alloc, name, asked),
+        "location_by_path" => located(alloc, location_by_path(alloc, text(asked)?)?),
+        "error" => errors::shown(alloc, text(asked)?),
+        "kind" => makers::kind(alloc, text(asked)?),
+        "FilterAtom::cmp" | "Comparison::vals" | "Comparison::try_new" | "cmp" => {
+            makers::compared(alloc, name, text(asked)?)
+        }
+        "Whole::read" => types::read(alloc, asked),
+        "parse_json_path" => trees::parsed(alloc, asked),
+        "is_singular" | "is_local" | "fixed_steps" | "to_query_text" => {
+            trees::answer(alloc, name, asked, &Value::Null)
+        }
+        _ => trees::grammar(alloc, name, asked, Form::Tree),
     }
 }
 
-/// The same of changes, of errors, and of query texts and their trees.
-fn of_trees(alloc: Global, name: &str, arguments: &[Value]) -> Given<Value> {
-    match (name, arguments) {
-        ("put_at" | "add_at" | "remove_all" | "replace_all", [value, change @ ..]) => {
-            changes::changed(alloc, name, value, change)
+fn of_two(alloc: Global, name: &str, first: &Value, second: &Value) -> Given<Value> {
+    match name {
+        "text_less" => Ok(Value::from(text_less(text(first)?, text(second)?))),
+        "same" => Ok(Value::from(same(whole(first)?.get(), whole(second)?.get()))),
+        "add_name" | "add_index" => locations::longer(alloc, name, first, second),
+        "try_clone" => locations::copied(alloc, first, second),
+        "begins" => locations::begun(alloc, first, second),
+        "location_by_pointer" => locations::pointed(alloc, first, text(second)?),
+        "step_by_token" => {
+            let step = step_by_token(alloc, first, text(second)?)?;
+            location(alloc, step.as_slice())
         }
-        ("reference_mut" | "replace_by_path" | "replace_within", [value, change @ ..]) => {
-            changes::changed(alloc, name, value, change)
+        "referred_location" => located(alloc, referred_location(alloc, first, text(second)?)?),
+        "at" => changes::value_at(alloc, first, second),
+        "take_at" => changes::taken(alloc, first, second),
+        "to_query_text" => trees::unspelled(alloc, text(first)?, text(second)?),
+        "same_tree" | "calls_only" => trees::answer(alloc, name, first, second),
+        "cursor" => trees::each(alloc, first, second),
+        "built" => built::answer(alloc, text(first)?, second),
+        "TestFunction::try_new" => makers::call(alloc, text(first)?, text(second)?),
+        "js_path_only" => types::only(alloc, text(first)?, second),
+        "js_path_count" => {
+            Ok(Value::from(js_path_count(alloc, text(first)?, whole(second)?.get())?))
         }
-        ("Whole::add_at" | "Whole::delete_within", [value, change @ ..]) => {
-            changes::changed_whole(alloc, name, value, change)
-        }
-        ("to_query_text", [name, part]) => trees::unspelled(alloc, name, part),
-        ("error", [name]) => errors::shown(alloc, name),
-        ("same_tree" | "parse_json_path" | "to_query_text", [query, rest @ ..]) => {
-            trees::answer(alloc, name, query, rest)
-        }
-        ("is_singular" | "is_local" | "calls_only" | "fixed_steps", [query, rest @ ..]) => {
-            trees::answer(alloc, name, query, rest)
-        }
-        ("cursor", [query, names]) => grammar::each(alloc, query, names),
-        ("built", [name, query]) => built::answer(alloc, name, query),
-        ("kind", [argument]) => makers::kind(alloc, argument),
-        ("TestFunction::try_new", [name, arguments]) => makers::call(alloc, name, arguments),
-        (
-            "JpQuery::new" | "slice_from" | "FilterAtom::filter" | "FilterAtom::test" | "atom_test",
-            [],
-        ) => makers::made(alloc, name, &Value::Null),
-        ("FilterAtom::cmp" | "Comparison::vals" | "Comparison::try_new" | "cmp", [operator]) =>
-            makers::made(alloc, name, operator),
-        _ => of_documents(alloc, name, arguments),
+        "enough" => limits::enough(alloc, first, second),
+        "Condition::read" => limits::condition(alloc, name, [first, second, &Value::Null]),
+        _ if second.as_str() == Some("shown") => trees::grammar(alloc, name, first, Form::Shown),
+        _ => Err(Refusal::NoAnswer),
     }
 }
 
-/// The same of documents and of conditions on them.
-fn of_documents(alloc: Global, name: &str, arguments: &[Value]) -> Given<Value> {
-    match (name, arguments) {
-        ("Whole::read", [json]) => nodes::read(alloc, json),
-        ("query_with_path", [document, query]) => methods::answer(alloc, document, query),
-        ("js_path_only", [query, document]) => nodes::only(alloc, query, document),
-        ("js_path_count", [query, document]) => nodes::count(alloc, query, document),
-        ("enough", [query, document]) => limits::enough(alloc, query, document),
-        ("Condition::read" | "Condition::holds" | "Condition::enough", [text, rest @ ..]) => {
-            conditions::answer(alloc, name, text, rest)
+fn of_three(alloc: Global, name: &str, asked: [&Value; 3]) -> Given<Value> {
+    let [first, second, third] = asked;
+    match name {
+        "set_function" => {
+            let (left, right) = (whole(second)?, whole(third)?);
+            Ok(Value::from(set_function(text(first)?, left.get(), right.get())))
         }
-        _ => match grammar::answer(alloc, name, arguments) {
-            Err(Refusal::NoAnswer) => of_types(alloc, name, arguments),
-            answer => answer,
-        },
+        "found" => patterns::is_found(alloc, first, second, third),
+        "pattern" => patterns::asked(alloc, first, second, third),
+        "finder" => patterns::finder(alloc, first, second, third),
+        "Condition::holds" | "Condition::enough" => limits::condition(alloc, name, asked),
+        _ => Err(Refusal::NoAnswer),
     }
 }
 
 /// The same of a document type. `Value::NAME` and `Doc::NAME` ask one type, and NAME both, which have to answer the same.
-fn of_types(alloc: Global, name: &str, arguments: &[Value]) -> Given<Value> {
+fn of_types(alloc: Global, name: &str, asked: &[Value]) -> Given<Value> {
     if let Some(name) = name.strip_prefix("Value::") {
-        return of_type::<Value>(alloc, name, arguments);
+        return of_type::<Value>(alloc, name, asked);
     }
     if let Some(name) = name.strip_prefix("Doc::") {
-        return of_type::<Doc>(alloc, name, arguments);
+        return of_type::<Doc>(alloc, name, asked);
     }
-    let by_value = answered(alloc, of_type::<Value>(alloc, name, arguments))?;
-    let by_doc = answered(alloc, of_type::<Doc>(alloc, name, arguments))?;
+    let by_value = answered(alloc, of_type::<Value>(alloc, name, asked))?;
+    let by_doc = answered(alloc, of_type::<Doc>(alloc, name, asked))?;
     if are_same(&by_value, &by_doc) {
         drop(by_doc);
         Ok(by_value)
@@ -120,29 +117,18 @@ fn of_types(alloc: Global, name: &str, arguments: &[Value]) -> Given<Value> {
     }
 }
 
-fn of_type<T: Document + Deletable>(
-    alloc: Global,
-    name: &str,
-    arguments: &[Value],
-) -> Given<Value> {
-    match (name, arguments) {
-        ("js_path", [query, document]) => nodes::found::<T>(alloc, query, document),
-        ("js_path_process", [part, query, document]) => {
-            process::found::<T>(alloc, part, query, document)
-        }
-        ("process", [part, query, document]) => {
-            process::answer::<T>(alloc, part, query, (None, document))
-        }
-        ("process", [part, query, document, content]) => {
-            process::answer::<T>(alloc, part, query, (Some(content), document))
-        }
-        ("reference", [document, path]) => changes::referred::<T>(alloc, document, path),
-        ("delete_by_path", [document, query]) => changes::deleted::<T>(alloc, document, query),
-        ("equal", [left, right]) => types::equal::<T>(alloc, left, right),
-        ("from_list", values) => types::list::<T>(alloc, values),
-        ("extension_custom", [name, values @ ..]) => types::custom::<T>(alloc, name, values),
-        ("not_a_reference", [value]) => types::refused::<T>(alloc, value),
-        ("QueryRef::equal", [left, right]) => types::equal_nodes::<T>(alloc, left, right),
-        _ => states::answer::<T>(alloc, name, arguments),
+fn of_type<T: Document + Deletable>(alloc: Global, name: &str, asked: &[Value]) -> Given<Value> {
+    match name {
+        "js_path" => types::found::<T>(alloc, asked),
+        "js_path_process" => process::found::<T>(alloc, asked),
+        "process" => process::answer::<T>(alloc, asked),
+        "reference" => types::referred::<T>(alloc, asked),
+        "delete_by_path" => types::deleted::<T>(alloc, asked),
+        "equal" => types::equal::<T>(alloc, asked),
+        "from_list" => types::list::<T>(alloc, asked),
+        "extension_custom" => types::custom::<T>(alloc, asked),
+        "not_a_reference" => types::refused::<T>(alloc, asked),
+        "QueryRef::equal" => types::equal_nodes::<T>(alloc, asked),
+        _ => states::answer::<T>(alloc, name, asked),
     }
 }

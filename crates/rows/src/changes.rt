@@ -1,12 +1,10 @@
 //! Values at locations, at paths, and at all that a query selects: read, changed and taken. What is answered of a change is a list of
 //! what the call returns and what it leaves.
-use crate::doc::document::{Document, document_of};
 use jsonpath_base::{Step, add_at, at, put_at, remove_all, replace_all, take_at};
-use jsonpath_rust::Whole;
-use jsonpath_rust::query::queryable::{Deletable, Queryable};
-use jsonpath_rust::query::{Queried, replace_by_path, replace_within};
+use jsonpath_rust::query::queryable::Queryable;
+use jsonpath_rust::query::{replace_by_path, replace_within};
 use rows_common::answers::{optional, pair, with_left};
-use rows_common::arguments::{given, list, size, steps, text, whole_copy};
+use rows_common::arguments::{each, exactly, given, list, size, steps, text};
 use rows_common::{Given, Refusal};
 use serde_json::Value;
 use std::alloc::Global;
@@ -14,8 +12,7 @@ use std::mem;
 
 /// A list of the value at the location, empty for None.
 pub fn value_at(alloc: Global, value: &Value, location: &Value) -> Given<Value> {
-    let steps = steps(alloc, location)?;
-    optional(alloc, at(value, &steps))
+    optional(alloc, at(value, &steps(alloc, location)?))
 }
 
 /// A list of the value that `take_at` takes, empty for None, and what it leaves.
@@ -26,63 +23,50 @@ pub fn taken(alloc: Global, value: &Value, location: &Value) -> Given<Value> {
     pair(alloc, taken, left)
 }
 
-/// The same of `Whole::take_at`.
-pub fn taken_whole(alloc: Global, value: &Value, location: &Value) -> Given<Value> {
-    let steps = steps(alloc, location)?;
-    let mut left = whole_copy(value)?;
-    let taken = left.take_at(&steps).map(|taken| taken.into_inner());
-    pair(alloc, optional(alloc, taken)?, left.into_inner())
+/// Whether that is the name of a call of `changed`.
+pub fn is_change(name: &str) -> bool {
+    matches!(name, "put_at" | "add_at" | "remove_all" | "replace_all")
+        || matches!(name, "reference_mut" | "replace_by_path" | "replace_within")
 }
 
-/// What the call of that name answers and leaves.
-pub fn changed(alloc: Global, name: &str, value: &Value, change: &[Value]) -> Given<Value> {
+/// What the call of that name answers and leaves of a value, which is its first argument.
+pub fn changed(alloc: Global, name: &str, asked: &[Value]) -> Given<Value> {
+    let (value, change) = given(asked.split_first())?;
     let mut left = value.clone()?;
-    let answer = change_by(alloc, name, &mut left, change);
+    let answer = match name {
+        "remove_all" => removed(alloc, &mut left, change),
+        "replace_within" => masked(alloc, &mut left, change),
+        _ => put(alloc, name, &mut left, change),
+    };
     with_left(alloc, answer, left, value)
 }
 
-fn change_by(alloc: Global, name: &str, left: &mut Value, change: &[Value]) -> Given<Value> {
-    match (name, change) {
-        ("put_at", [location, new]) => {
-            let steps = steps(alloc, location)?;
-            Ok(Value::from(put_at(left, &steps, new.clone()?)))
-        }
-        ("add_at", [location, new]) => {
-            let (parent, step) = new_place(alloc, location)?;
+fn removed(alloc: Global, left: &mut Value, change: &[Value]) -> Given<Value> {
+    let [places] = exactly::<1>(change)?;
+    Ok(Value::from(remove_all(alloc, left, &places_of(alloc, places)?)?))
+}
+
+fn places_of(alloc: Global, places: &Value) -> Given<Vec<Vec<Step>>> {
+    each(alloc, list(places)?, |place| steps(alloc, place))
+}
+
+/// What the call answers that puts the new value at a place, or at several.
+fn put(alloc: Global, name: &str, left: &mut Value, change: &[Value]) -> Given<Value> {
+    let [at, new] = exactly::<2>(change)?;
+    match name {
+        "put_at" => Ok(Value::from(put_at(left, &steps(alloc, at)?, new.clone()?))),
+        "add_at" => {
+            let mut parent = steps(alloc, at)?;
+            let step = given(parent.pop())?;
             Ok(Value::from(add_at(alloc, left, &parent, step, new.clone()?)?))
         }
-        ("remove_all", [locations]) => {
-            let places = places(alloc, locations)?;
-            Ok(Value::from(remove_all(alloc, left, &places)?))
-        }
-        ("replace_all", [locations, new]) => {
-            let places = places(alloc, locations)?;
-            Ok(Value::from(replace_all(alloc, left, &places, new)?))
-        }
-        ("reference_mut", [path, new]) => written(alloc, left, text(path)?, new.clone()?),
-        ("replace_by_path", [path, new]) => {
-            Ok(Value::from(replace_by_path(alloc, left, text(path)?, new.clone()?)?))
-        }
-        ("replace_within", [query, depth, new]) => {
-            masked(alloc, left, (text(query)?, size(depth)?), new)
+        "replace_all" => { Ok(Value::from(replace_all(alloc, left, &places_of(alloc, at)?, new)?)) }
+        "reference_mut" => written(alloc, left, text(at)?, new.clone()?),
+        "replace_by_path" => {
+            Ok(Value::from(replace_by_path(alloc, left, text(at)?, new.clone()?)?))
         }
         _ => Err(Refusal::NoAnswer),
     }
-}
-
-/// The location of the parent, and the last step.
-fn new_place(alloc: Global, location: &Value) -> Given<(Vec<Step>, Step)> {
-    let mut parent = steps(alloc, location)?;
-    let step = given(parent.pop())?;
-    Ok((parent, step))
-}
-
-fn places(alloc: Global, locations: &Value) -> Given<Vec<Vec<Step>>> {
-    let mut places = Vec::new(alloc);
-    for location in list(locations)? {
-        places.push(steps(alloc, location)?)?;
-    }
-    Ok(places)
 }
 
 /// Whether `reference_mut` lends the place at which the new value is written then.
@@ -97,65 +81,12 @@ fn written(alloc: Global, left: &mut Value, path: &str, new: Value) -> Given<Val
 }
 
 /// How many locations `replace_within` puts the new value at. Both values have to be whole.
-fn masked(
-    alloc: Global,
-    left: &mut Value,
-    (query, depth): (&str, usize),
-    new: &Value,
-) -> Given<Value> {
+fn masked(alloc: Global, left: &mut Value, change: &[Value]) -> Given<Value> {
+    let [query, depth, new] = exactly::<3>(change)?;
+    let (query, depth) = (text(query)?, size(depth)?);
     if left.is_whole() && new.is_whole() {
         Ok(Value::from(replace_within(alloc, left, query, depth, new)?))
     } else {
         Err(Refusal::NoAnswer)
     }
-}
-
-/// What the call of that name, of a whole document, answers and leaves.
-pub fn changed_whole(alloc: Global, name: &str, value: &Value, change: &[Value]) -> Given<Value> {
-    let mut left = whole_copy(value)?;
-    let answer = change_whole(alloc, name, &mut left, change);
-    with_left(alloc, answer, left.into_inner(), value)
-}
-
-fn change_whole(
-    alloc: Global,
-    name: &str,
-    left: &mut Whole<Value>,
-    change: &[Value],
-) -> Given<Value> {
-    match (name, change) {
-        ("Whole::add_at", [location, new]) => {
-            let (parent, step) = new_place(alloc, location)?;
-            Ok(Value::from(left.add_at(alloc, &parent, step, whole_copy(new)?)?))
-        }
-        ("Whole::delete_within", [query, depth]) => {
-            Ok(Value::from(left.delete_within(alloc, text(query)?, size(depth)?)?))
-        }
-        _ => Err(Refusal::NoAnswer),
-    }
-}
-
-/// A list of the value that `reference` finds, empty for None.
-pub fn referred<T: Document>(alloc: Global, document: &Value, path: &Value) -> Given<Value> {
-    let document = document_of::<T>(alloc, document)?;
-    match document.get().reference(alloc, text(path)?)? {
-        Some(found) => optional(alloc, Some(found.value(alloc)?)),
-        None => optional(alloc, None::<Value>),
-    }
-}
-
-/// What `delete_by_path` answers and leaves.
-pub fn deleted<T: Document + Deletable>(
-    alloc: Global,
-    value: &Value,
-    query: &Value,
-) -> Given<Value> {
-    let query = text(query)?;
-    let mut document = document_of::<T>(alloc, value)?.into_inner();
-    let count = document.delete_by_path(alloc, query);
-    with_left(alloc, counted(count), document.value(alloc)?, value)
-}
-
-fn counted(count: Queried<usize>) -> Given<Value> {
-    Ok(Value::from(count?))
 }

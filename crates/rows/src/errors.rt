@@ -1,14 +1,14 @@
 //! Errors: the text of each, which is made by its maker where it has one.
 use jsonpath_rust::parser::errors::JsonPathError;
-use rows_common::arguments::{given, text};
+use rows_common::arguments::{given, given_if};
 use rows_common::{Given, Refusal};
 use serde_json::Value;
 use std::alloc::Global;
 
 /// The text of the error of that name, whose copy has to be equal to it. Beside the thirteen variants there are the names of two makers,
 /// `from_text` and `bad_bool`.
-pub fn shown(alloc: Global, name: &Value) -> Given<Value> {
-    let error = named(alloc, text(name)?)?;
+pub fn shown(alloc: Global, name: &str) -> Given<Value> {
+    let error = named(alloc, name)?;
     let shown = shown_alike(alloc, &error);
     drop(error);
     shown
@@ -18,11 +18,7 @@ fn shown_alike(alloc: Global, error: &JsonPathError) -> Given<Value> {
     let copy = error.try_clone(alloc)?;
     let is_alike = copy == *error;
     drop(copy);
-    if is_alike {
-        Ok(Value::String(error.to_string(alloc)?))
-    } else {
-        Err(Refusal::NoAnswer)
-    }
+    given_if(is_alike, Value::String(error.to_string(alloc)?))
 }
 
 fn named(alloc: Global, name: &str) -> Given<JsonPathError> {

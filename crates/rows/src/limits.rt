@@ -1,14 +1,14 @@
-//! How much work is just enough for a query or a condition.
+//! Conditions on a document, and how much work is just enough for a query or a condition.
 use jsonpath_rust::query::{Limited, Prepared, Queried, Within, js_path_limited};
-use jsonpath_rust::{Queryable, WholeRef};
-use rows_common::answers::{are_same, unchanged};
-use rows_common::arguments::{spelled, whole};
+use jsonpath_rust::{Condition, Queryable};
+use rows_common::answers::{are_same, pair, unchanged};
+use rows_common::arguments::{Lent, given_if, size, spelled, text, whole};
 use rows_common::{Given, Refusal};
 use serde_json::Value;
 use std::alloc::Global;
 
 /// The least number of units that is enough, if that is below 2^16. Each step halves where it may lie.
-pub fn least<F: Fn(usize) -> Given<bool>>(is_enough: F) -> Given<usize>
+fn least<F: Fn(usize) -> Given<bool>>(is_enough: F) -> Given<usize>
     requires { F.IsAlwaysCallable is_enough }
 {
     let mut least = 0usize;
@@ -25,7 +25,7 @@ pub fn least<F: Fn(usize) -> Given<bool>>(is_enough: F) -> Given<usize>
 }
 
 /// Whether something was returned, and the work not spent before.
-pub fn done<T: Drop>(answer: Queried<Within<T>>) -> Given<bool> {
+fn done<T: Drop>(answer: Queried<Within<T>>) -> Given<bool> {
     match answer? {
         Within::Done(value) => {
             drop(value);
@@ -43,37 +43,19 @@ pub fn enough(alloc: Global, query: &Value, document: &Value) -> Given<Value> {
     let prepared = Prepared::read(alloc, &query)?;
     let is_least = is_least(alloc, &prepared, units, document);
     drop(prepared);
-    if is_least? {
-        Ok(Value::from(units))
-    } else {
-        Err(Refusal::NoAnswer)
-    }
+    given_if(is_least?, Value::from(units))
 }
 
-fn is_least(
-    alloc: Global,
-    prepared: &Prepared,
-    units: usize,
-    document: WholeRef<'_, Value>,
-) -> Given<bool> {
-    if units > 0 {
-        let mut runner = prepared.runner(alloc).limited(units.saturating_sub(1));
-        if done(runner.nodes(alloc, document.get()))? {
-            return Ok(false);
-        }
-    }
-    let mut runner = prepared.runner(alloc).limited(units);
-    let is_enough = is_enough(alloc, &mut runner, document);
+fn is_least(alloc: Global, prepared: &Prepared, units: usize, document: Lent<'_>) -> Given<bool> {
+    let mut runner = prepared.runner(alloc).limited(units.saturating_sub(1));
+    let is_spent = units == 0 || !done(runner.nodes(alloc, document.get()))?;
     drop(runner);
-    is_enough
+    let mut runner = prepared.runner(alloc).limited(units);
+    Ok(is_spent && is_enough(alloc, &mut runner, document)?)
 }
 
 /// Whether each call of the runner returns something.
-fn is_enough(
-    alloc: Global,
-    runner: &mut Limited<'_>,
-    document: WholeRef<'_, Value>,
-) -> Given<bool> {
+fn is_enough(alloc: Global, runner: &mut Limited<'_>, document: Lent<'_>) -> Given<bool> {
     let asked = document.get();
     Ok(
         done(runner.nodes(alloc, asked))?
@@ -84,25 +66,57 @@ fn is_enough(
             && done(runner.only(alloc, asked))?
             && done(runner.count(alloc, asked))?
             && done(runner.has_node(alloc, asked))?
-            && changes(alloc, runner, document, None)?
-            && changes(alloc, runner, document, Some(document))?,
+            && changes(alloc, runner, document, false)?
+            && changes(alloc, runner, document, true)?,
     )
 }
 
-/// Whether the runner deletes in a copy of the document, or puts the new value there.
-fn changes(
-    alloc: Global,
-    runner: &mut Limited<'_>,
-    document: WholeRef<'_, Value>,
-    new: Option<WholeRef<'_, Value>>,
-) -> Given<bool> {
+/// Whether the runner deletes in a copy of the document, or puts the document there.
+fn changes(alloc: Global, runner: &mut Limited<'_>, document: Lent<'_>, puts: bool) -> Given<bool> {
     let mut copy = document.get().clone()?;
-    let answer = match new {
+    let answer = match puts {
         _ if !copy.is_whole() => Err(Refusal::NoAnswer),
-        Some(new) => done(runner.replace(alloc, &mut copy, new.get())),
-        None => done(runner.delete(alloc, &mut copy)),
+        true => done(runner.replace(alloc, &mut copy, document.get())),
+        false => done(runner.delete(alloc, &mut copy)),
     };
     let is_kept = are_same(&copy, document.get());
     drop(copy);
     unchanged(answer, is_kept)
+}
+
+/// What the call of that name answers of a text and a depth, and of a document: `Condition::read`, which takes no document, the `Debug`
+/// text; `Condition::holds`, whether it holds; `Condition::enough`, that, and the least number of units with which a runner tells it.
+pub fn condition(alloc: Global, name: &str, asked: [&Value; 3]) -> Given<Value> {
+    let [asked, depth, document] = asked;
+    let document = whole(document)?;
+    let condition = Condition::read(alloc, text(asked)?, size(depth)?)?;
+    let answer = answer_of(alloc, name, &condition, document);
+    drop(condition);
+    answer
+}
+
+fn answer_of(alloc: Global, name: &str, condition: &Condition, document: Lent<'_>) -> Given<Value> {
+    if name == "Condition::read" {
+        return Ok(Value::String(format!(in alloc; "{condition:?}")?));
+    }
+    let held = Value::from(is_held(alloc, condition, document)?);
+    if name == "Condition::holds" {
+        return Ok(held);
+    }
+    let units = least(|units| is_told(alloc, condition, document, units))?;
+    pair(alloc, held, Value::from(units))
+}
+
+/// Whether it holds, which a runner has to tell too.
+fn is_held(alloc: Global, condition: &Condition, document: Lent<'_>) -> Given<bool> {
+    let held = condition.holds(alloc, document.get())?;
+    let mut runner = condition.runner(alloc);
+    let told = runner.holds(alloc, document.get());
+    drop(runner);
+    given_if(told? == held, held)
+}
+
+fn is_told(alloc: Global, condition: &Condition, document: Lent<'_>, units: usize) -> Given<bool> {
+    let mut runner = condition.runner(alloc).limited(units);
+    done(runner.holds(alloc, document.get()))
 }

@@ -1,25 +1,23 @@
 //! Slices, steps, and locations, which are lists of names and indexes.
 use jsonpath_base::{
     SlicePlaces, Step, add_index, add_name, begins, location_by_pointer, path_of, picked,
-    pointer_of, slice_places, step_by_token,
+    pointer_of, slice_places,
 };
-use jsonpath_rust::query::{location_by_path, referred_location};
-use rows_common::answers::{listed, location, pair};
-use rows_common::arguments::{number, size, step, steps, text};
+use rows_common::answers::{list_of, listed, location, pair};
+use rows_common::arguments::{given_if, number, size, step, steps, text, text_copy};
 use rows_common::{Given, Refusal};
 use serde_json::Value;
 use std::alloc::Global;
 
 /// The places that the slice of a start, an end and a step picks of so many elements, null where a part is left out; for `slice_places`
 /// how many there are, and which.
-pub fn sliced(alloc: Global, name: &str, parts: &[Value]) -> Given<Value> {
-    let [start, end, step, length] = parts else {
-        return Err(Refusal::NoAnswer);
-    };
+pub fn sliced(alloc: Global, name: &str, parts: [&Value; 4]) -> Given<Value> {
+    let [start, end, step, length] = parts;
     let (start, end, step, length) = (part(start)?, part(end)?, part(step)?, size(length)?);
     match name {
         "picked" => listed(alloc, picked(alloc, start, end, step, length)?),
-        _ => told(alloc, slice_places(start, end, step, length)),
+        "slice_places" => told(alloc, slice_places(start, end, step, length)),
+        _ => Err(Refusal::NoAnswer),
     }
 }
 
@@ -41,7 +39,7 @@ fn told(alloc: Global, places: SlicePlaces) -> Given<Value> {
 
 /// The path with that step behind it: a name or an index, as the call has it.
 pub fn longer(alloc: Global, name: &str, path: &Value, step: &Value) -> Given<Value> {
-    let mut path = String::from_str(alloc, text(path)?)?;
+    let mut path = text_copy(alloc, path)?;
     match name {
         "add_name" => add_name(alloc, &mut path, text(step)?)?,
         _ => add_index(alloc, &mut path, size(step)?)?,
@@ -53,17 +51,12 @@ pub fn longer(alloc: Global, name: &str, path: &Value, step: &Value) -> Given<Va
 pub fn copied(alloc: Global, original: &Value, other: &Value) -> Given<Value> {
     let (original, other) = (step(original)?, step(other)?);
     let copy = original.try_clone(alloc)?;
-    if copy == original {
-        Ok(Value::from(copy == other))
-    } else {
-        Err(Refusal::NoAnswer)
-    }
+    given_if(copy == original, Value::from(copy == other))
 }
 
 /// Whether the location begins with the prefix.
 pub fn begun(alloc: Global, location: &Value, prefix: &Value) -> Given<Value> {
-    let (location, prefix) = (steps(alloc, location)?, steps(alloc, prefix)?);
-    Ok(Value::from(begins(&location, &prefix)))
+    Ok(Value::from(begins(&steps(alloc, location)?, &steps(alloc, prefix)?)))
 }
 
 /// The path of the location, or its pointer.
@@ -76,34 +69,13 @@ pub fn written(alloc: Global, name: &str, location: &Value) -> Given<Value> {
 }
 
 /// A list of the location that the pointer means, empty for None.
-pub fn pointed(alloc: Global, value: &Value, pointer: &Value) -> Given<Value> {
-    let mut found = Vec::new(alloc);
-    if let Some(steps) = location_by_pointer(alloc, value, text(pointer)?)? {
-        found.push(location(alloc, &steps)?)?;
-    }
-    Ok(Value::Array(found))
+pub fn pointed(alloc: Global, value: &Value, pointer: &str) -> Given<Value> {
+    let found = location_by_pointer(alloc, value, pointer)?;
+    list_of(alloc, found.as_slice(), |steps| location(alloc, steps))
 }
 
-/// A list of the step that the token means, empty for None.
-pub fn stepped(alloc: Global, value: &Value, token: &Value) -> Given<Value> {
-    let mut found = Vec::new(alloc);
-    if let Some(step) = step_by_token(alloc, value, text(token)?)? {
-        found.push(step)?;
-    }
-    location(alloc, &found)
-}
-
-/// The location that the path means, null for None.
-pub fn by_path(alloc: Global, path: &Value) -> Given<Value> {
-    located(alloc, location_by_path(alloc, text(path)?)?)
-}
-
-/// The location that the path means in the value, null for None.
-pub fn referred(alloc: Global, value: &Value, path: &Value) -> Given<Value> {
-    located(alloc, referred_location(alloc, value, text(path)?)?)
-}
-
-fn located(alloc: Global, found: Option<Vec<Step>>) -> Given<Value> {
+/// The location that is there, null for None.
+pub fn located(alloc: Global, found: Option<Vec<Step>>) -> Given<Value> {
     match found {
         Some(steps) => location(alloc, &steps),
         None => Ok(Value::Null),

@@ -5,21 +5,16 @@
 mod built;
 mod calls;
 mod changes;
-mod conditions;
 mod doc;
 mod errors;
-mod grammar;
 mod limits;
 mod locations;
 mod makers;
-mod methods;
-mod nodes;
 mod patterns;
 mod process;
 mod states;
 mod trees;
 mod types;
-mod unspelled;
 
 use rows_common::ask_calls;
 use std::io;

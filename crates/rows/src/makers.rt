@@ -1,19 +1,18 @@
-//! Makers of parts of trees, and what an argument is.
-use crate::grammar::{Form, told, tree};
-use jsonpath_rust::build::{atom_test, cmp, comparable_lit, lit_int, test_rel};
+//! Trees that no text spells, or that a maker makes; and what an argument is.
+use crate::trees::{Form, told, tree};
+use jsonpath_rust::build::*;
 use jsonpath_rust::parser::errors::Parsed;
 use jsonpath_rust::parser::model::{
     Comparison, Filter, FilterAtom, FnArg, JpQuery, Segment, Test, TestFunction, slice_from,
 };
-use jsonpath_rust::parser::{Cursor, function_expr};
-use rows_common::arguments::text;
+use jsonpath_rust::parser::{Cursor, function_expr, literal};
+use rows_common::arguments::given;
 use rows_common::{Given, Refusal, answers};
 use serde_json::Value;
 use std::alloc::Global;
 
-/// What the maker of that name makes, of an operator between 1 and 2 where it takes one.
-pub fn made(alloc: Global, name: &str, operator: &Value) -> Given<Value> {
-    let operator = operator.as_str().unwrap_or("");
+/// What the maker of that name makes of nothing.
+pub fn made(alloc: Global, name: &str) -> Given<Value> {
     match name {
         "JpQuery::new" => {
             let segments = vec![in alloc; Segment::name(alloc, "a")?]?;
@@ -29,6 +28,13 @@ pub fn made(alloc: Global, name: &str, operator: &Value) -> Given<Value> {
             told(alloc, Form::Shown, test)
         }
         "atom_test" => tree(alloc, atom_test(alloc, test_rel(Vec::new(alloc)))),
+        _ => Err(Refusal::NoAnswer),
+    }
+}
+
+/// What the maker of that name makes of an operator between 1 and 2.
+pub fn compared(alloc: Global, name: &str, operator: &str) -> Given<Value> {
+    match name {
         "FilterAtom::cmp" => {
             let comparison = Box::new(alloc, comparison(alloc, operator)?)?;
             told(alloc, Form::Shown, Ok(FilterAtom::cmp(comparison)))
@@ -50,9 +56,8 @@ fn comparison(alloc: Global, operator: &str) -> Parsed<Comparison> {
 }
 
 /// What `TestFunction::try_new` makes of a name and of arguments as they are written.
-pub fn call(alloc: Global, name: &Value, arguments: &Value) -> Given<Value> {
-    let name = text(name)?;
-    let arguments = arguments_of(alloc, text(arguments)?)?;
+pub fn call(alloc: Global, name: &str, arguments: &str) -> Given<Value> {
+    let arguments = arguments_of(alloc, arguments)?;
     tree(alloc, TestFunction::try_new(alloc, name, arguments))
 }
 
@@ -69,12 +74,9 @@ pub fn arguments_of(alloc: Global, text: &str) -> Given<Vec<FnArg>> {
 }
 
 /// What the argument of this text is, by its own calls and those of the test that it holds.
-pub fn kind(alloc: Global, argument: &Value) -> Given<Value> {
-    let arguments = arguments_of(alloc, text(argument)?)?;
-    let kind = match arguments.first() {
-        Some(argument) => kind_of(argument),
-        None => "no argument",
-    };
+pub fn kind(alloc: Global, argument: &str) -> Given<Value> {
+    let arguments = arguments_of(alloc, argument)?;
+    let kind = arguments.first().map_or("no argument", kind_of);
     drop(arguments);
     answers::text(alloc, kind)
 }
@@ -94,5 +96,93 @@ fn kind_of_test(test: &Test) -> &'static str {
         (Test::Function(call), false) if call.is_comparable() => "a value",
         (Test::RelQuery(_) | Test::AbsQuery(_), false) => "a query",
         _ => "a test of two kinds",
+    }
+}
+
+/// The query of that name: of an index or a slice of any numbers, where those of a text lie between -(2^53) and 2^53; of nothing where a
+/// text has something; of a function by a name that no text has; or one that the typing of RFC 9535, 2.4.3 may refuse.
+pub fn unspelled(alloc: Global, name: &str, text: &str) -> Given<JpQuery> {
+    match name {
+        "index" => of_one(alloc, segment_one(selector_index(number_in(text)?))),
+        "slice" => of_one(alloc, segment_one(slice_from(slice_in(text)?))),
+        "query_of_no_selectors" => of_one(alloc, segment_many(Vec::new(alloc))),
+        "descendant_of_descendant" => {
+            let below = segment_descendant(alloc, segment_one(selector_wildcard()))?;
+            of_one(alloc, segment_descendant(alloc, below)?)
+        }
+        "or_of_nothing" => of_filter(alloc, or(Vec::new(alloc))),
+        "and_of_nothing" => of_filter(alloc, and(Vec::new(alloc))),
+        "function" => {
+            let name = String::from_str(alloc, text)?;
+            of_call(alloc, TestFunction::Custom(name, Vec::new(alloc)))
+        }
+        "test_alone_as_expression" => {
+            let test = atom_test(alloc, test_rel(Vec::new(alloc)))?;
+            let arguments = vec![in alloc; FnArg::Filter(filter(test))]?;
+            of_call(
+                alloc,
+                TestFunction::Custom(String::from_str(alloc, text)?, arguments),
+            )
+        }
+        "untyped_test" => of_call(alloc, untyped_call(alloc, text)?),
+        "untyped_comparison" => comparing(alloc, text),
+        _ => Err(Refusal::NoAnswer),
+    }
+}
+
+fn of_one(alloc: Global, segment: Segment) -> Given<JpQuery> {
+    Ok(jq(vec![in alloc; segment]?))
+}
+
+fn of_filter(alloc: Global, filter: Filter) -> Given<JpQuery> {
+    of_one(alloc, segment_one(selector_filter(filter)))
+}
+
+/// `$[?CALL]`.
+fn of_call(alloc: Global, call: TestFunction) -> Given<JpQuery> {
+    let test = test_function(alloc, call)?;
+    of_filter(alloc, filter(atom_test(alloc, test)?))
+}
+
+/// `$[?CALL==LITERAL]`, of the text `CALL==LITERAL`.
+fn comparing(alloc: Global, text: &str) -> Given<JpQuery> {
+    let (left, right) = given(text.split_once("=="))?;
+    let right = literal(alloc, &mut Cursor::new(right))?;
+    let left = comparable_fn(untyped_call(alloc, left)?);
+    let compared = atom_cmp(alloc, left, "==", comparable_lit(right))?;
+    of_filter(alloc, filter(compared))
+}
+
+/// The call of this text, whatever its arguments are.
+pub fn untyped_call(alloc: Global, text: &str) -> Given<TestFunction> {
+    let (name, arguments) = given(text.split_once('('))?;
+    let mut arguments = arguments_of(alloc, given(arguments.strip_suffix(')'))?)?;
+    let last = given(arguments.pop())?;
+    match (name, arguments.pop()) {
+        ("length", None) => Ok(TestFunction::Length(Box::new(alloc, last)?)),
+        ("value", None) => Ok(TestFunction::Value(last)),
+        ("count", None) => Ok(TestFunction::Count(last)),
+        ("match", Some(first)) => Ok(TestFunction::Match(first, last)),
+        ("search", Some(first)) => Ok(TestFunction::Search(first, last)),
+        _ => Err(Refusal::NoAnswer),
+    }
+}
+
+fn number_in(text: &str) -> Given<i64> {
+    given(text.parse::<i64>().ok())
+}
+
+/// The parts of the slice `START:END:STEP`, where each may be empty.
+fn slice_in(text: &str) -> Given<(Option<i64>, Option<i64>, Option<i64>)> {
+    let (start, rest) = given(text.split_once(':'))?;
+    let (end, step) = given(rest.split_once(':'))?;
+    Ok((part(start)?, part(end)?, part(step)?))
+}
+
+fn part(text: &str) -> Given<Option<i64>> {
+    if text.is_empty() {
+        Ok(None)
+    } else {
+        Ok(Some(number_in(text)?))
     }
 }

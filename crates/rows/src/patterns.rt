@@ -1,29 +1,28 @@
 //! Patterns. A search is of a text, a pattern, and whether the pattern has to match the whole text.
 use jsonpath_base::{Extent, Pattern, found};
-use rows_common::arguments::{list, text, truth};
-use rows_common::{Given, Refusal};
+use rows_common::Given;
+use rows_common::answers::listed;
+use rows_common::arguments::{given_if, list, text, truth};
 use serde_json::Value;
 use std::alloc::Global;
 
 /// Whether the search finds something.
 pub fn is_found(alloc: Global, subject: &Value, pattern: &Value, whole: &Value) -> Given<Value> {
-    let found = found(alloc, text(subject)?, text(pattern)?, truth(whole)?)?;
-    Ok(Value::from(found))
+    Ok(Value::from(found(alloc, text(subject)?, text(pattern)?, truth(whole)?)?))
 }
 
 /// The same of a `Pattern` that was read before, which has to tell what it was read of.
 pub fn asked(alloc: Global, subject: &Value, pattern: &Value, whole: &Value) -> Given<Value> {
-    let (pattern, whole) = (text(pattern)?, truth(whole)?);
+    let (subject, pattern, whole) = (text(subject)?, text(pattern)?, truth(whole)?);
     let read = Pattern::new(alloc, pattern, extent_of(whole))?;
     let tells_its_source = read.source() == pattern
         && read.extent().is_entire() == whole
         && read.is_of(pattern, extent_of(whole))
         && !read.is_of(pattern, extent_of(!whole));
-    if tells_its_source {
-        Ok(Value::from(read.is_found(alloc, text(subject)?)?))
-    } else {
-        Err(Refusal::NoAnswer)
-    }
+    given_if(
+        tells_its_source,
+        Value::from(read.is_found(alloc, subject)?),
+    )
 }
 
 /// What of a text has to match: where `whole`, the entire text.
@@ -38,20 +37,19 @@ fn extent_of(whole: bool) -> Extent {
 /// In which of the texts one finder of the pattern finds something.
 pub fn finder(alloc: Global, pattern: &Value, whole: &Value, texts: &Value) -> Given<Value> {
     let read = Pattern::new(alloc, text(pattern)?, extent_of(truth(whole)?))?;
-    let answers = found_in(alloc, &read, list(texts)?);
+    let answers = found_in(alloc, &read, texts);
     drop(read);
     answers
 }
 
-fn found_in(alloc: Global, read: &Pattern, texts: &[Value]) -> Given<Value> {
+fn found_in(alloc: Global, read: &Pattern, subjects: &Value) -> Given<Value> {
     let mut finder = read.finder(alloc)?;
     let mut answers = Vec::new(alloc);
-    for subject in texts {
-        answers.push(Value::from(finder.is_found(text(subject)?)))?;
+    for subject in list(subjects)? {
+        answers.push(finder.is_found(text(subject)?))?;
     }
-    if finder.is_of(read.source(), read.extent()) {
-        Ok(Value::Array(answers))
-    } else {
-        Err(Refusal::NoAnswer)
-    }
+    given_if(
+        finder.is_of(read.source(), read.extent()),
+        listed(alloc, answers)?,
+    )
 }

@@ -1,113 +1,91 @@
 //! Calls of states, of what they hold and of pointers: of a content, or of two, and of what the call takes beside. The document of a
 //! state is null where no argument tells it.
-mod content;
-mod pointers;
+ghost use Rattle.std.specs.Prelude.{IsTrue, IfOk};
 
-use crate::doc::document::{Document, document_of};
-use crate::states::content::nodes;
-pub use crate::states::content::{Ground, content_of, ground_of, state_of};
+mod content;
+
+use crate::doc::document::Document;
+use crate::states::content::{data_of, nodes};
+pub use crate::states::content::{Ground, Place, content_of, ground_of, state_of};
 use jsonpath_rust::parser::errors::JsonPathError;
 use jsonpath_rust::query::Queried;
+use jsonpath_rust::query::queryable::Queryable;
+use jsonpath_rust::query::selector::{process_index, process_key};
 use jsonpath_rust::query::state::{Data, Pointer, State};
 use rows_common::answers::member;
-use rows_common::arguments::{number, text, truth};
+use rows_common::arguments::{given_if, number, size, text, truth};
 use rows_common::{Given, Refusal};
 use serde_json::Value;
 use std::alloc::Global;
 
 /// What the call of that name answers.
-pub fn answer<T: Document>(alloc: Global, name: &str, arguments: &[Value]) -> Given<Value> {
+pub fn answer<T: Document>(alloc: Global, name: &str, asked: &[Value]) -> Given<Value> {
     let null = &Value::Null;
-    match (name, arguments) {
-        ("State::root" | "State::nothing" | "Data::default", [document]) => {
-            made::<T>(alloc, name, null, document)
-        }
-        ("State::bool" | "State::i64" | "State::str", [argument, document]) => {
-            made::<T>(alloc, name, argument, document)
-        }
-        ("State::reduce" | "State::equal", [left, right]) => {
-            of_two::<T>(alloc, name, (left, null), (right, null))
-        }
-        ("State::reduce" | "State::equal", [left, right, document, other]) => {
-            of_two::<T>(alloc, name, (left, document), (right, other))
-        }
-        ("State::shift_to_root", [content, document]) => {
+    match asked {
+        [document] if is_maker(name) => of_one::<T>(alloc, name, (null, document), null),
+        [content] => of_one::<T>(alloc, name, (content, null), null),
+        [asked, document] if is_maker(name) => of_one::<T>(alloc, name, (null, document), asked),
+        [content, document] if name == "State::shift_to_root" => {
             of_one::<T>(alloc, name, (content, document), null)
         }
-        (_, [content]) => of_one::<T>(alloc, name, (content, null), null),
-        (_, [content, argument]) => of_one::<T>(alloc, name, (content, null), argument),
+        [left, right] if matches!(name, "State::reduce" | "State::equal") => {
+            both::<T>(alloc, name, (left, null), (right, null))
+        }
+        [content, asked] => of_one::<T>(alloc, name, (content, null), asked),
+        [left, right, document, other] => {
+            both::<T>(alloc, name, (left, document), (right, other))
+        }
         _ => Err(Refusal::NoAnswer),
     }
 }
 
-/// What the state holds that the call makes.
-fn made<T: Document>(
-    alloc: Global,
-    name: &str,
-    argument: &Value,
-    document: &Value,
-) -> Given<Value> {
-    let document = document_of::<T>(alloc, document)?;
-    let root = document.get();
-    let state = match name {
-        "State::root" => State::root(alloc, root)?,
-        "State::nothing" => State::nothing(root),
-        "State::bool" => State::bool(alloc, truth(argument)?, root)?,
-        "State::i64" => State::i64(alloc, number(argument)?, root)?,
-        "State::str" => State::str(alloc, text(argument)?, root)?,
-        _ => State::data(root, Data::default()),
-    };
-    content_of(alloc, root, state)
+/// Whether the call takes no content.
+fn is_maker(name: &str) -> bool {
+    matches!(name, "State::root" | "State::nothing" | "Data::default")
+        || matches!(name, "State::bool" | "State::i64" | "State::str")
 }
 
-/// What the call of a state, or of its one pointer, and of an argument answers.
-fn of_one<T: Document>(
-    alloc: Global,
-    name: &str,
-    (content, document): (&Value, &Value),
-    argument: &Value,
-) -> Given<Value> {
-    let ground = ground_of::<T>(alloc, Some(content), document)?;
-    let answer = of_state(alloc, name, &ground, argument);
-    drop(ground);
-    answer
+fn of_one<T: Document>(alloc: Global, name: &str, place: Place<'_>, asked: &Value) -> Given<Value> {
+    let ground = ground_of::<T>(alloc, place)?;
+    of_state(&ground, name, asked)
 }
 
-fn of_state<T: Document>(
-    alloc: Global,
-    name: &str,
-    ground: &Ground<'_, T>,
-    argument: &Value,
-) -> Given<Value> {
+/// What the call makes of the document, or answers of the state.
+fn of_state<T: Document>(ground: &Ground<'_, T>, name: &str, argument: &Value) -> Given<Value> {
+    let (alloc, root) = (ground.alloc, ground.document.get());
     match name {
-        "State::is_nothing" => Ok(Value::from(state_of(alloc, ground)?.is_nothing())),
+        "State::root" => content_of(ground, State::root(alloc, root)?),
+        "State::nothing" => content_of(ground, State::nothing(root)),
+        "State::bool" => content_of(ground, State::bool(alloc, truth(argument)?, root)?),
+        "State::i64" => content_of(ground, State::i64(alloc, number(argument)?, root)?),
+        "State::str" => content_of(ground, State::str(alloc, text(argument)?, root)?),
+        "Data::default" => content_of(ground, State::data(root, Data::default())),
+        "State::is_nothing" => Ok(Value::from(state_of(ground)?.is_nothing())),
         "State::to_string" => {
-            let state = state_of(alloc, ground)?;
+            let state = state_of(ground)?;
             Ok(Value::String(format!(in alloc; "{state}")?))
         }
-        "State::ok_ref" => match state_of(alloc, ground)?.ok_ref(alloc)? {
+        "State::ok_ref" => match state_of(ground)?.ok_ref(alloc)? {
             Some(pointers) => nodes(alloc, &pointers),
             None => Ok(Value::Null),
         },
-        "State::ok_val" => match state_of(alloc, ground)?.ok_val() {
+        "State::ok_val" => match state_of(ground)?.ok_val() {
             Some(value) => member(alloc, "value", value.value(alloc)?),
             None => Ok(Value::Null),
         },
-        "State::shift_to_root" => {
-            let root = state_of(alloc, ground)?.shift_to_root(alloc)?;
-            content_of(alloc, ground.document.get(), root)
-        }
-        "State::flat_map" => mapped(alloc, ground, text(argument)?),
-        _ => pointers::answer(alloc, name, ground, argument),
+        "State::shift_to_root" => content_of(ground, state_of(ground)?.shift_to_root(alloc)?),
+        "State::flat_map" => mapped(ground, text(argument)?),
+        _ => of_pointer(ground, name, argument),
     }
 }
 
 /// What `flat_map` answers by a closure that no row has: `doubled` the content, and `refused` whether the closure's refusal is returned.
-fn mapped<T: Document>(alloc: Global, ground: &Ground<'_, T>, closure: &str) -> Given<Value> {
-    let state = state_of(alloc, ground)?;
+fn mapped<T: Document>(ground: &Ground<'_, T>, closure: &str) -> Given<Value> {
+    let alloc = ground.alloc;
+    let state = state_of(ground)?;
     if closure == "doubled" {
         let doubled = state.flat_map(alloc, |pointer| doubled(alloc, pointer))?;
-        content_of(alloc, ground.document.get(), doubled)
+        content_of(ground, doubled)
     } else {
         let refused = state.flat_map(alloc, |_pointer| Err(JsonPathError::NoRulePath));
         Ok(Value::from(is_refused(refused)?))
@@ -132,34 +110,73 @@ fn is_refused<T: Drop>(answer: Queried<T>) -> Given<bool> {
 }
 
 /// What the call of two states answers.
-fn of_two<T: Document>(
-    alloc: Global,
-    name: &str,
-    left: (&Value, &Value),
-    right: (&Value, &Value),
-) -> Given<Value> {
-    let left = ground_of::<T>(alloc, Some(left.0), left.1)?;
-    let right = ground_of::<T>(alloc, Some(right.0), right.1)?;
-    of_states(alloc, name, &left, &right)
+fn both<T: Document>(alloc: Global, name: &str, left: Place<'_>, right: Place<'_>) -> Given<Value> {
+    let left = ground_of::<T>(alloc, left)?;
+    let right = ground_of::<T>(alloc, right)?;
+    of_states(name, &left, &right)
 }
 
 /// What both reduce to, or whether they are equal, which they have to be from both sides.
 fn of_states<'d, T: Document>(
-    alloc: Global,
     name: &str,
     left: &'d Ground<'_, T>,
     right: &'d Ground<'_, T>,
 ) -> Given<Value> {
-    let state = state_of(alloc, left)?;
-    let other = state_of(alloc, right)?;
-    if name == "State::reduce" {
-        let reduced = state.reduce(alloc, other)?;
-        return content_of(alloc, left.document.get(), reduced);
+    let (state, other) = (state_of(left)?, state_of(right)?);
+    match name {
+        "State::reduce" => content_of(left, state.reduce(left.alloc, other)?),
+        "State::equal" => {
+            let is_equal = state.equal(&other);
+            given_if(other.equal(&state) == is_equal, Value::from(is_equal))
+        }
+        _ => Err(Refusal::NoAnswer),
     }
-    let is_equal = state.equal(&other);
-    if other.equal(&state) == is_equal {
-        Ok(Value::from(is_equal))
-    } else {
-        Err(Refusal::NoAnswer)
+}
+
+/// What the call, of nothing, of a name or of an index, makes of the pointer, finds from it, or tells of it.
+fn of_pointer<T: Document>(ground: &Ground<'_, T>, name: &str, argument: &Value) -> Given<Value> {
+    let pointer = pointer_of(ground)?;
+    if name == "Pointer::is_internal" {
+        return Ok(Value::from(pointer.is_internal()));
+    }
+    let data = found(ground.alloc, name, pointer, argument)?;
+    content_of(ground, State::data(ground.document.get(), data))
+}
+
+/// The pointer, whose value is whole.
+fn pointer_of<'d, T: Document>(ground: &'d Ground<'_, T>) -> Given<Pointer<'d, T>>
+    ensures { IfOk result (λ p. IsTrue (T.is_whole p.inner.now)) }
+{
+    match data_of(ground)? {
+        Data::Ref(pointer) if pointer.inner.is_whole() => Ok(pointer),
+        other => {
+            drop(other);
+            Err(Refusal::NoAnswer)
+        }
+    }
+}
+
+/// What the call makes of the pointer, or finds from it.
+fn found<'d, T: Document>(
+    alloc: Global,
+    name: &str,
+    pointer: Pointer<'d, T>,
+    argument: &Value,
+) -> Given<Data<'d, T>>
+    requires { IsTrue (T.is_whole pointer.inner.now) }
+{
+    match name {
+        "process_key" => Ok(process_key(alloc, pointer, text(argument)?)?),
+        "process_index" => Ok(process_index(alloc, pointer, &number(argument)?)?),
+        "Pointer::key" => {
+            let key = text(argument)?;
+            Ok(Data::new_ref(Pointer::key(alloc, pointer.inner, pointer.path, key)?))
+        }
+        "Pointer::idx" => {
+            let index = size(argument)?;
+            Ok(Data::new_ref(Pointer::idx(alloc, pointer.inner, pointer.path, index)?))
+        }
+        "Pointer::empty" => Ok(Data::new_ref(Pointer::empty(alloc, pointer.inner))),
+        _ => Err(Refusal::NoAnswer),
     }
 }

@@ -1,17 +1,65 @@
-//! Calls of a document type, and of nodes made by hand.
+//! Documents: what a query selects in one, calls of a document type, and nodes, each a list of its path and its value.
 ghost use Rattle.std.specs.Prelude.{All, IsTrue};
 ghost use Rattle.jsonpath_rust.specs.documents.Args.{arg_value};
 
 use crate::doc::document::{Document, document_of};
-use jsonpath_rust::query::queryable::{Arg, Queryable};
-use jsonpath_rust::query::{QueryRef, not_a_reference};
-use rows_common::arguments::{self, text};
+use jsonpath_rust::query::queryable::{Arg, Deletable, Queryable};
+use jsonpath_rust::query::{Queried, QueryRef, js_path, js_path_only, not_a_reference};
+use jsonpath_rust::{Only, Whole};
+use rows_common::answers::{self, list_of, member, pair, with_left};
+use rows_common::arguments::{self, each, exactly, given, spelled, text, whole};
 use rows_common::{Given, Refusal};
 use serde_json::Value;
 use std::alloc::Global;
 
+/// The document of a text.
+pub fn read(alloc: Global, json: &Value) -> Given<Value> {
+    Ok(Whole::read(alloc, &spelled(alloc, json)?)?.into_inner())
+}
+
+/// The nodes that `js_path` finds.
+pub fn found<T: Document>(alloc: Global, asked: &[Value]) -> Given<Value> {
+    let [query, document] = exactly::<2>(asked)?;
+    let query = spelled(alloc, query)?;
+    let document = document_of::<T>(alloc, document)?;
+    nodes(alloc, &js_path(alloc, &query, document.get())?)
+}
+
+/// `"Nothing"`, `"Several"`, or `{"One": VALUE}`.
+pub fn only(alloc: Global, query: &str, document: &Value) -> Given<Value> {
+    match js_path_only(alloc, query, whole(document)?.get())? {
+        Only::Nothing => answers::text(alloc, "Nothing"),
+        Only::One(value) => member(alloc, "One", value.clone()?),
+        Only::Several => answers::text(alloc, "Several"),
+    }
+}
+
+/// A list of the value that `reference` finds, empty for None.
+pub fn referred<T: Document>(alloc: Global, asked: &[Value]) -> Given<Value> {
+    let [document, path] = exactly::<2>(asked)?;
+    let document = document_of::<T>(alloc, document)?;
+    let found = document.get().reference(alloc, text(path)?)?;
+    list_of(alloc, found.as_slice(), |found| Ok(found.value(alloc)?))
+}
+
+/// What `delete_by_path` answers and leaves.
+pub fn deleted<T: Document + Deletable>(alloc: Global, asked: &[Value]) -> Given<Value> {
+    let [value, query] = exactly::<2>(asked)?;
+    let query = text(query)?;
+    let mut document = document_of::<T>(alloc, value)?.into_inner();
+    let count = document.delete_by_path(alloc, query);
+    let left = document.value(alloc);
+    drop(document);
+    with_left(alloc, counted(count), left?, value)
+}
+
+fn counted(count: Queried<usize>) -> Given<Value> {
+    Ok(Value::from(count?))
+}
+
 /// Whether both are equal.
-pub fn equal<T: Document>(alloc: Global, left: &Value, right: &Value) -> Given<Value> {
+pub fn equal<T: Document>(alloc: Global, asked: &[Value]) -> Given<Value> {
+    let [left, right] = exactly::<2>(asked)?;
     let left = document_of::<T>(alloc, left)?;
     let right = document_of::<T>(alloc, right)?;
     Ok(Value::from(left.get().equal(right.get())))
@@ -19,15 +67,16 @@ pub fn equal<T: Document>(alloc: Global, left: &Value, right: &Value) -> Given<V
 
 /// The list that `from_list` makes of the values.
 pub fn list<T: Document>(alloc: Global, values: &[Value]) -> Given<Value> {
-    let mut elements = Vec::new(alloc);
-    for value in values {
-        elements.push(document_of::<T>(alloc, value)?.into_inner())?;
+    let elements = each(alloc, values, |value| made::<T>(alloc, value))?;
+    if !are_whole(&elements) {
+        return Err(Refusal::NoAnswer);
     }
-    if are_whole(&elements) {
-        Ok(T::from_list(alloc, elements)?.value(alloc)?)
-    } else {
-        Err(Refusal::NoAnswer)
-    }
+    let list = T::from_list(alloc, elements)?;
+    Ok(list.value(alloc)?)
+}
+
+fn made<T: Document>(alloc: Global, value: &Value) -> Given<T> {
+    Ok(document_of::<T>(alloc, value)?.into_inner())
 }
 
 fn are_whole<T: Queryable>(values: &[T]) -> bool
@@ -37,17 +86,24 @@ fn are_whole<T: Queryable>(values: &[T]) -> bool
 }
 
 /// What `extension_custom` answers of the function of that name, and of the values.
-pub fn custom<T: Document>(alloc: Global, name: &Value, values: &[Value]) -> Given<Value> {
+pub fn custom<T: Document>(alloc: Global, asked: &[Value]) -> Given<Value> {
+    let (name, values) = given(asked.split_first())?;
     let name = text(name)?;
     let mut arguments = Vec::new(alloc);
     for value in values {
-        arguments.push(Arg::Owned(document_of::<T>(alloc, value)?.into_inner()))?;
+        arguments.push(Arg::Owned(made::<T>(alloc, value)?))?;
     }
-    if are_whole_arguments(&arguments) {
-        Ok(T::extension_custom(alloc, name, &arguments)?.value(alloc)?)
-    } else {
-        Err(Refusal::NoAnswer)
+    let answer = custom_of(alloc, name, &arguments);
+    drop(arguments);
+    answer
+}
+
+fn custom_of<T: Document>(alloc: Global, name: &str, arguments: &[Arg<'_, T>]) -> Given<Value> {
+    if !are_whole_arguments(arguments) {
+        return Err(Refusal::NoAnswer);
     }
+    let answer = T::extension_custom(alloc, name, arguments)?;
+    Ok(answer.value(alloc)?)
 }
 
 fn are_whole_arguments<T: Queryable>(arguments: &[Arg<'_, T>]) -> bool
@@ -57,13 +113,15 @@ fn are_whole_arguments<T: Queryable>(arguments: &[Arg<'_, T>]) -> bool
 }
 
 /// The error that `not_a_reference` makes.
-pub fn refused<T: Document>(alloc: Global, value: &Value) -> Given<Value> {
+pub fn refused<T: Document>(alloc: Global, asked: &[Value]) -> Given<Value> {
+    let [value] = exactly::<1>(asked)?;
     let value = document_of::<T>(alloc, value)?;
     Err(Refusal::Error(not_a_reference(alloc, value.get())?))
 }
 
 /// Whether two nodes, each a list of a path and a value, are equal: a copy of the first, and one made of the parts of the second.
-pub fn equal_nodes<T: Document>(alloc: Global, left: &Value, right: &Value) -> Given<Value> {
+pub fn equal_nodes<T: Document>(alloc: Global, asked: &[Value]) -> Given<Value> {
+    let [left, right] = exactly::<2>(asked)?;
     let (path, value) = parts_of(left)?;
     let (other_path, other_value) = parts_of(right)?;
     let value = document_of::<T>(alloc, value)?;
@@ -78,10 +136,19 @@ pub fn equal_nodes<T: Document>(alloc: Global, left: &Value, right: &Value) -> G
     }
 }
 
+/// A list of these nodes.
+pub fn nodes<T: Document>(alloc: Global, nodes: &[QueryRef<'_, T>]) -> Given<Value> {
+    list_of(alloc, nodes, |found| node(alloc, &found.path, found.val))
+}
+
+/// The node of that path and value.
+pub fn node<T: Document>(alloc: Global, path: &str, value: &T) -> Given<Value> {
+    let value = value.value(alloc)?;
+    pair(alloc, answers::text(alloc, path)?, value)
+}
+
 /// The path and the value of a node.
 pub fn parts_of(node: &Value) -> Given<(&str, &Value)> {
-    match arguments::list(node)? {
-        [path, value] => Ok((text(path)?, value)),
-        _ => Err(Refusal::NoAnswer),
-    }
+    let [path, value] = exactly::<2>(arguments::list(node)?)?;
+    Ok((text(path)?, value))
 }

@@ -19,19 +19,16 @@ pub fn are_same(value: &Value, wanted: &Value) -> bool
 /// A value, or a refusal by an error, which is `{"refused": ..}`, with its kind; `InvalidNumber` has the literal behind it, and
 /// `MaxNestingDepthExceeded` the depth. Out of memory is no answer.
 pub fn answered(alloc: Global, given: Given<Value>) -> Given<Value> {
-    match given {
-        Ok(value) => Ok(value),
+    let kind = match given {
         Err(Refusal::Error(error)) => {
             let kind = kind_of(alloc, &error);
             drop(error);
-            member(alloc, "refused", Value::String(kind?))
+            kind?
         }
-        Err(Refusal::Other(cause)) => {
-            let kind = format!(in alloc; "{cause:?}")?;
-            member(alloc, "refused", Value::String(kind))
-        }
-        Err(refusal) => Err(refusal),
-    }
+        Err(Refusal::Other(cause)) => format!(in alloc; "{cause:?}")?,
+        given => return given,
+    };
+    member(alloc, "refused", Value::String(kind))
 }
 
 fn kind_of(alloc: Global, error: &JsonPathError) -> Given<String> {
@@ -98,13 +95,20 @@ pub fn listed<T: ToValue + Drop>(alloc: Global, items: Vec<T>) -> Given<Value> {
     Ok(Value::Array(values))
 }
 
-/// A location, as a list of names and indexes.
-pub fn location(alloc: Global, steps: &[Step]) -> Given<Value> {
+/// A list of what is told of each item.
+pub fn list_of<T, F: Fn(&T) -> Given<Value>>(alloc: Global, items: &[T], tell: F) -> Given<Value>
+    requires { F.IsAlwaysCallable tell }
+{
     let mut values = Vec::new(alloc);
-    for step in steps {
-        values.push(step_value(step)?)?;
+    for item in items {
+        values.push(tell(item)?)?;
     }
     Ok(Value::Array(values))
+}
+
+/// A location, as a list of names and indexes.
+pub fn location(alloc: Global, steps: &[Step]) -> Given<Value> {
+    list_of(alloc, steps, step_value)
 }
 
 fn step_value(step: &Step) -> Given<Value> {

@@ -4,6 +4,10 @@ use jsonpath_base::Step;
 use jsonpath_rust::{Whole, WholeRef};
 use serde_json::Value;
 use std::alloc::Global;
+use std::slice;
+
+/// A value of whole numbers.
+pub type Lent<'v> = WholeRef<'v, Value>;
 
 /// What is there.
 pub fn given<T>(found: Option<T>) -> Given<T> {
@@ -11,6 +15,16 @@ pub fn given<T>(found: Option<T>) -> Given<T> {
         Some(found) => Ok(found),
         None => Err(Refusal::NoAnswer),
     }
+}
+
+/// The value, if that holds.
+pub fn given_if<T: Drop>(holds: bool, value: T) -> Given<T> {
+    given(holds.then_some(value))
+}
+
+/// The arguments, if they are so many.
+pub fn exactly<const N: usize>(arguments: &[Value]) -> Given<&[Value; N]> {
+    given(arguments.try_into().ok())
 }
 
 /// A text.
@@ -39,7 +53,7 @@ pub fn truth(value: &Value) -> Given<bool> {
 }
 
 /// A document of whole numbers.
-pub fn whole(value: &Value) -> Given<WholeRef<'_, Value>> {
+pub fn whole(value: &Value) -> Given<Lent<'_>> {
     given(WholeRef::new(value))
 }
 
@@ -48,13 +62,29 @@ pub fn whole_copy(value: &Value) -> Given<Whole<Value>> {
     given(Whole::new(value.clone()?).ok())
 }
 
+/// A copy of a text.
+pub fn text_copy(alloc: Global, value: &Value) -> Given<String> {
+    Ok(String::from_str(alloc, text(value)?)?)
+}
+
+/// What is made of each value, in order.
+pub fn each<'v, T: Drop, F: Fn(&'v Value) -> Given<T>>(
+    alloc: Global,
+    values: &'v [Value],
+    make: F,
+) -> Given<Vec<T>>
+    requires { F.IsAlwaysCallable make }
+{
+    let mut made = Vec::new(alloc);
+    for value in values {
+        made.push(make(value)?)?;
+    }
+    Ok(made)
+}
+
 /// The texts of a list.
 pub fn texts(alloc: Global, value: &Value) -> Given<Vec<&str>> {
-    let mut texts = Vec::new(alloc);
-    for element in list(value)? {
-        texts.push(text(element)?)?;
-    }
-    Ok(texts)
+    each(alloc, list(value)?, text)
 }
 
 /// The step of a name or an index.
@@ -67,39 +97,30 @@ pub fn step(value: &Value) -> Given<Step> {
 
 /// The location of a list of names and indexes.
 pub fn steps(alloc: Global, value: &Value) -> Given<Vec<Step>> {
-    let mut steps = Vec::new(alloc);
-    for element in list(value)? {
-        steps.push(step(element)?)?;
-    }
-    Ok(steps)
+    each(alloc, list(value)?, step)
 }
 
 /// The text of a string, or of a list of pieces, each a string or `[string, count]`, that string so many times.
 pub fn spelled(alloc: Global, value: &Value) -> Given<String> {
+    let pieces = match value {
+        Value::Array(pieces) => pieces.as_slice(),
+        _ => slice::from_ref(value),
+    };
     let mut spelled = String::new(alloc);
-    match value {
-        Value::Array(pieces) => {
-            for piece in pieces {
-                push_piece(&mut spelled, piece)?;
-            }
-        }
-        _ => spelled.push_str(text(value)?)?,
+    for piece in pieces {
+        push_piece(&mut spelled, piece)?;
     }
     Ok(spelled)
 }
 
 fn push_piece(spelled: &mut String, piece: &Value) -> Given<()> {
-    match piece {
-        Value::Array(repeated) => {
-            let [piece, count] = repeated.as_slice() else {
-                return Err(Refusal::NoAnswer);
-            };
-            let piece = text(piece)?;
-            for _ in 0..size(count)? {
-                spelled.push_str(piece)?;
-            }
-            Ok(())
-        }
-        _ => Ok(spelled.push_str(text(piece)?)?),
+    let Value::Array(repeated) = piece else {
+        return Ok(spelled.push_str(text(piece)?)?);
+    };
+    let [piece, count] = exactly::<2>(repeated)?;
+    let piece = text(piece)?;
+    for _ in 0..size(count)? {
+        spelled.push_str(piece)?;
     }
+    Ok(())
 }

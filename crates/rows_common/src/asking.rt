@@ -41,7 +41,9 @@ pub fn ask_calls<C: Fn(Global, &str, &[Value]) -> Given<Value>>(
         if matches!(&outcome, Outcome::Holds) {
             held = held.saturating_add(1);
         }
-        tell(rt, at.saturating_add(1), line, outcome)?;
+        let told = tell(rt, at.saturating_add(1), line, &outcome);
+        drop(outcome);
+        told?;
     }
     println!(rt; "{held} of {count} rows hold")
 }
@@ -51,7 +53,7 @@ fn tell(
     rt: &(impl Print + AllocGlobal),
     number: usize,
     line: &str,
-    outcome: Outcome,
+    outcome: &Outcome,
 ) -> io::Result<()> {
     match outcome {
         Outcome::Holds => Ok(()),
@@ -96,10 +98,9 @@ fn ask<C: Fn(Global, &str, &[Value]) -> Given<Value>>(
 
 /// The name of the call, its arguments, and the answer that is wanted. A row has these members, and it may have a `name`.
 fn parts_of(row: &Value) -> Given<(&str, &[Value], &Value)> {
-    for (name, _) in given(row.as_object())? {
-        if !matches!(name.as_str(), "name" | "call" | "arguments" | "answer") {
-            return Err(Refusal::NoAnswer);
-        }
+    let members = if row.get("name").is_some() { 4 } else { 3 };
+    if given(row.as_object())?.len() != members {
+        return Err(Refusal::NoAnswer);
     }
     let (call, arguments) = (given(row.get("call"))?, given(row.get("arguments"))?);
     Ok((text(call)?, list(arguments)?, given(row.get("answer"))?))

@@ -7,3 +7,4 @@ pub mod Pointing
 pub mod Splitting
 pub mod Patching
 pub mod Taking
+pub mod Agreeing

@@ -11,6 +11,7 @@ pub mod first;
 pub mod first_steps;
 pub mod gateway;
 pub mod inbox;
+pub mod methods;
 pub mod patch;
 pub mod policy;
 pub mod redaction;

@@ -3,32 +3,30 @@ use crate::again::{first_again, values_below};
 use crate::assertion::{Assertion, failures};
 use crate::bench::counts::all_counts;
 use crate::difference::{Difference, Missing, difference_of};
+use crate::first_steps::{StoreError, without_dear};
 use crate::gateway::admit;
 use crate::inbox::matching;
-use crate::policy::first_violation;
+use crate::methods::methods_answers;
+use crate::policy::{Rule, first_violation};
 use crate::routing::route;
-use crate::rows::texts::{assertions_of, conditions_of, rules_of};
 use crate::same::is_same_query;
-use jsonpath_rust::parser::{let_go, parse_json_path};
-use jsonpath_rust::query::{Prepared, Step};
-use jsonpath_rust::{Whole, WholeRef};
-use rows_common::answers::{self, listed, pair};
-use rows_common::arguments::{list, size, steps, text, texts, whole, whole_copy};
-use rows_common::{Given, Refusal};
+use jsonpath_rust::parser::model::JpQuery;
+use jsonpath_rust::parser::{MAX_NESTING_DEPTH, parse_json_path};
+use jsonpath_rust::query::Prepared;
+use jsonpath_rust::{Condition, Whole};
+use rows_common::answers::{self, list_of, listed, pair};
+use rows_common::arguments::{Lent, each, list, size, steps, text, texts, whole, whole_copy};
+use rows_common::{Cause, Given, Refusal};
 use serde_json::{Value, json};
 use std::alloc::Global;
 
-/// A value that is whole.
-type Lent<'v> = WholeRef<'v, Value>;
-
 /// What the call of that name answers.
-pub fn answer(alloc: Global, name: &str, arguments: &[Value]) -> Given<Value> {
-    match (name, arguments) {
-        ("first_violation", [rules, document]) => {
-            violation(alloc, list(rules)?, whole(document)?)
-        }
-        ("route", [table, document]) => routed(alloc, list(table)?, whole(document)?),
-        ("failures", [texts, document]) => failed(alloc, list(texts)?, whole(document)?),
+pub fn answer(alloc: Global, name: &str, asked: &[Value]) -> Given<Value> {
+    match (name, asked) {
+        ("without_dear", [store]) => cleared(alloc, text(store)?),
+        ("first_violation", [rules, document]) => violation(alloc, rules, whole(document)?),
+        ("route", [table, document]) => routed(alloc, table, whole(document)?),
+        ("failures", [texts, document]) => failed(alloc, texts, whole(document)?),
         ("difference_of", [query, document, other_query, other]) => {
             let first = (text(query)?, whole(document)?);
             difference(alloc, first, (text(other_query)?, whole(other)?))
@@ -36,65 +34,63 @@ pub fn answer(alloc: Global, name: &str, arguments: &[Value]) -> Given<Value> {
         ("is_same_query", [left, right]) => are_same(alloc, text(left)?, text(right)?),
         ("first_again", [query, document]) => first(alloc, text(query)?, &whole_copy(document)?),
         ("values_below", [query, document, location]) => {
-            let (document, steps) = (whole_copy(document)?, steps(alloc, location)?);
-            below(alloc, text(query)?, &document, &steps)
+            below(alloc, text(query)?, &whole_copy(document)?, location)
         }
-        ("matching", [query, documents]) => {
-            let documents = whole_copies(alloc, list(documents)?)?;
-            matched(alloc, text(query)?, &documents)
-        }
+        ("matching", [query, documents]) => matched(alloc, text(query)?, documents),
         ("admit", [query, part, functions, document]) => {
-            let part = steps(alloc, part)?;
-            admitted(alloc, text(query)?, (&part, functions), whole(document)?)
+            admitted(alloc, text(query)?, [part, functions], whole(document)?)
         }
+        ("query_with_path", [document, query]) => found(alloc, text(query)?, whole(document)?),
         ("counts", [bytes]) => counted(alloc, size(bytes)?),
         _ => Err(Refusal::NoAnswer),
     }
 }
 
+/// How many books of a store README's first steps delete, and what is left.
+fn cleared(alloc: Global, store: &str) -> Given<Value> {
+    match without_dear(alloc, store) {
+        Ok((left, deleted)) => pair(alloc, Value::from(deleted), left.into_inner()),
+        Err(StoreError::Read(error)) => Err(Refusal::from(error)),
+        Err(StoreError::Query(error)) => Err(Refusal::from(error)),
+        Err(StoreError::Closed) => Err(Refusal::Other(Cause::Closed)),
+    }
+}
+
 /// `{"rule": .., "path": ..}` of the first violation of a policy.
-fn violation(alloc: Global, rules: &[Value], document: Lent<'_>) -> Given<Value> {
-    let policy = rules_of(alloc, rules)?;
-    let found = first_violation(alloc, &policy, document);
-    drop(policy);
-    match found? {
+fn violation(alloc: Global, rules: &Value, document: Lent<'_>) -> Given<Value> {
+    let policy = each(alloc, list(rules)?, |rule| rule_of(alloc, rule))?;
+    match first_violation(alloc, &policy, document)? {
         Some(violation) => Ok(json!(in alloc; {"rule": violation.rule, "path": violation.path})?),
         None => Ok(Value::Null),
     }
 }
 
 /// The index of the first condition that holds.
-fn routed(alloc: Global, table: &[Value], document: Lent<'_>) -> Given<Value> {
-    let conditions = conditions_of(alloc, table)?;
-    let index = route(alloc, &conditions, document);
-    drop(conditions);
-    Ok(Value::from(index?))
+fn routed(alloc: Global, table: &Value, document: Lent<'_>) -> Given<Value> {
+    let conditions = each(
+        alloc,
+        list(table)?,
+        |condition| condition_of(alloc, condition),
+    )?;
+    Ok(Value::from(route(alloc, &conditions, document)?))
 }
 
 /// The texts of the assertions that fail, in order.
-fn failed(alloc: Global, texts: &[Value], document: Lent<'_>) -> Given<Value> {
-    let assertions = assertions_of(alloc, texts)?;
-    let told = told(alloc, &assertions, document);
-    drop(assertions);
-    told
-}
-
-fn told(alloc: Global, assertions: &[Assertion], document: Lent<'_>) -> Given<Value> {
-    let mut texts = Vec::new(alloc);
-    for assertion in failures(alloc, assertions, document)? {
-        texts.push(answers::text(alloc, &assertion.text)?)?;
-    }
-    Ok(Value::Array(texts))
+fn failed(alloc: Global, texts: &Value, document: Lent<'_>) -> Given<Value> {
+    let assertions = each(alloc, list(texts)?, |text| assertion_of(alloc, text))?;
+    let failed = failures(alloc, &assertions, document)?;
+    list_of(
+        alloc,
+        &failed,
+        |assertion| answers::text(alloc, &assertion.text),
+    )
 }
 
 /// `{"index": .., "missing": ..}` of where two queries, each of its document, differ first.
 fn difference(alloc: Global, first: (&str, Lent<'_>), second: (&str, Lent<'_>)) -> Given<Value> {
     let query = parse_json_path(alloc, first.0)?;
     let other_query = parse_json_path(alloc, second.0)?;
-    let difference = difference_of(alloc, &query, first.1, &other_query, second.1);
-    drop(query);
-    drop(other_query);
-    match difference? {
+    match difference_of(alloc, &query, first.1, &other_query, second.1)? {
         Some(Difference { index, missing }) => {
             Ok(json!(in alloc; {"index": index, "missing": word_of(missing)})?)
         }
@@ -115,57 +111,39 @@ fn word_of(missing: Missing) -> &'static str {
 fn are_same(alloc: Global, left: &str, right: &str) -> Given<Value> {
     let left = parse_json_path(alloc, left)?;
     let right = parse_json_path(alloc, right)?;
-    let same = is_same_query(&left, &right);
-    drop(left);
-    drop(right);
-    Ok(Value::from(same))
+    Ok(Value::from(is_same_query(&left, &right)))
 }
 
 /// The value of the first node, found again.
 fn first(alloc: Global, query: &str, document: &Whole<Value>) -> Given<Value> {
     let query = parse_json_path(alloc, query)?;
-    let value = first_again(alloc, &query, document);
-    let_go(query);
-    match value? {
+    match first_again(alloc, &query, document)? {
         Some(value) => Ok(value.clone()?),
         None => Ok(Value::Null),
     }
 }
 
-/// The values of a query in the part of a document at these steps.
-fn below(alloc: Global, query: &str, document: &Whole<Value>, steps: &[Step]) -> Given<Value> {
+/// The values of a query in the part of a document at a location.
+fn below(alloc: Global, query: &str, document: &Whole<Value>, location: &Value) -> Given<Value> {
+    let steps = steps(alloc, location)?;
     let query = parse_json_path(alloc, query)?;
-    let values = values_below(alloc, &query, document, steps);
-    let_go(query);
-    listed(alloc, values?)
-}
-
-/// Copies of the documents, checked.
-fn whole_copies(alloc: Global, documents: &[Value]) -> Given<Vec<Whole<Value>>> {
-    let mut checked = Vec::new(alloc);
-    for document in documents {
-        checked.push(whole_copy(document)?)?;
-    }
-    Ok(checked)
+    listed(alloc, values_below(alloc, &query, document, &steps)?)
 }
 
 /// In which of the documents a query selects something.
-fn matched(alloc: Global, query: &str, documents: &[Whole<Value>]) -> Given<Value> {
+fn matched(alloc: Global, query: &str, documents: &Value) -> Given<Value> {
+    let documents = each(alloc, list(documents)?, whole_copy)?;
     let query = Prepared::read(alloc, query)?;
-    let told = matching(alloc, &query, documents);
+    let told = matching(alloc, &query, &documents);
     drop(query);
     listed(alloc, told?)
 }
 
-/// The paths that a query selects, if it is admitted to a part of documents, with these functions.
-fn admitted(
-    alloc: Global,
-    query: &str,
-    (part, functions): (&[Step], &Value),
-    document: Lent<'_>,
-) -> Given<Value> {
-    let functions = texts(alloc, functions)?;
-    match admit(alloc, query, part, &functions)? {
+/// The paths that a query selects, if it is admitted to the part of documents at a location, with these functions.
+fn admitted(alloc: Global, query: &str, limits: [&Value; 2], document: Lent<'_>) -> Given<Value> {
+    let [part, functions] = limits;
+    let (part, functions) = (steps(alloc, part)?, texts(alloc, functions)?);
+    match admit(alloc, query, &part, &functions)? {
         Some(query) => {
             let paths = query.runner(alloc).paths(alloc, document.get());
             drop(query);
@@ -175,12 +153,57 @@ fn admitted(
     }
 }
 
+/// The nodes that the methods of a document find, each a list of its path and its value.
+fn found(alloc: Global, query: &str, document: Lent<'_>) -> Given<Value> {
+    let found = methods_answers(alloc, query, document.get())?;
+    list_of(alloc, &found.nodes, |node| {
+        pair(alloc, answers::text(alloc, &node.path)?, node.val.clone()?)
+    })
+}
+
 /// How much each query of the bench selects, and its text.
 fn counted(alloc: Global, bytes: usize) -> Given<Value> {
-    let mut pairs = Vec::new(alloc);
-    for count in all_counts(alloc, bytes)? {
+    list_of(alloc, &all_counts(alloc, bytes)?, |count| {
         let query = answers::text(alloc, count.query)?;
-        pairs.push(pair(alloc, Value::from(count.selected), query)?)?;
+        pair(alloc, Value::from(count.selected), query)
+    })
+}
+
+/// The query of this text. What is no text is read as the empty one, which is no query and no condition.
+pub fn query_of(alloc: Global, told: &Value) -> Given<JpQuery> {
+    Ok(parse_json_path(alloc, text_of(told))?)
+}
+
+/// The condition of this text.
+fn condition_of(alloc: Global, told: &Value) -> Given<Condition> {
+    Ok(Condition::read(alloc, text_of(told), MAX_NESTING_DEPTH)?)
+}
+
+/// The assertion of this condition, told by its text.
+fn assertion_of(alloc: Global, told: &Value) -> Given<Assertion> {
+    let text = String::from_str(alloc, text_of(told))?;
+    let condition = condition_of(alloc, told)?;
+    Ok(Assertion { text, condition })
+}
+
+/// The rule of a condition and the query that shows where it is not met; or of a query alone, that it selects nothing. The query is read
+/// first, so what is none is refused as one.
+fn rule_of(alloc: Global, told: &Value) -> Given<Rule> {
+    match told.as_array().map(|parts| parts.as_slice()) {
+        Some([condition, shown]) => {
+            let shown = query_of(alloc, shown)?;
+            let condition = condition_of(alloc, condition)?;
+            Ok(Rule { condition, shown })
+        }
+        _ => {
+            let shown = query_of(alloc, told)?;
+            let condition = format!(in alloc; "!{}", text_of(told))?;
+            let condition = Condition::read(alloc, condition.as_str(), MAX_NESTING_DEPTH)?;
+            Ok(Rule { condition, shown })
+        }
     }
-    Ok(Value::Array(pairs))
+}
+
+fn text_of(told: &Value) -> &str {
+    told.as_str().unwrap_or("")
 }

@@ -2,59 +2,122 @@
 use crate::changing::{Change, put_each};
 use crate::patch::{Operation, apply_patch};
 use crate::redaction::redact;
-use crate::rows::texts::queries_of;
+use crate::rows::asking::query_of;
 use crate::script::{Edit, apply_edits};
 use jsonpath_rust::Whole;
 use jsonpath_rust::parser::{let_go, parse_json_path};
-use jsonpath_rust::query::{Queried, at, selected_locations};
-use rows_common::answers::with_left;
-use rows_common::arguments::{given, list, steps, text, whole_copy};
+use jsonpath_rust::query::{Prepared, Queried, Runner, Within, at, selected_locations};
+use rows_common::answers::{optional, pair, with_left};
+use rows_common::arguments::{
+    each, exactly, given, list, size, steps, text, text_copy, whole_copy,
+};
 use rows_common::{Cause, Given, Refusal};
 use serde_json::Value;
 use std::alloc::Global;
 
-/// What the call of that name answers, and leaves of the document, which is its last argument.
-pub fn answer(alloc: Global, name: &str, arguments: &[Value]) -> Given<Value> {
-    let (document, arguments) = given(arguments.split_last())?;
+/// What the call of that name answers, and leaves of the document, which is the first argument of a call of a `Whole` by locations or
+/// texts, and the last of any other.
+pub fn answer(alloc: Global, name: &str, asked: &[Value]) -> Given<Value> {
+    let (document, change) = match name {
+        "Whole::take_at" => return taken(alloc, asked),
+        "Whole::add_at" | "Whole::delete_within" => given(asked.split_first())?,
+        _ => given(asked.split_last())?,
+    };
     let mut left = whole_copy(document)?;
-    let answer = change(alloc, name, arguments, &mut left);
+    let answer = changed(alloc, name, change, &mut left);
     with_left(alloc, answer, left.into_inner(), document)
 }
 
-fn change(alloc: Global, name: &str, arguments: &[Value], left: &mut Whole<Value>) -> Given<Value> {
-    match (name, arguments) {
+/// A list of the value that is taken, empty for None, and what that leaves.
+fn taken(alloc: Global, asked: &[Value]) -> Given<Value> {
+    let [document, location] = exactly::<2>(asked)?;
+    let steps = steps(alloc, location)?;
+    let mut left = whole_copy(document)?;
+    let taken = left.take_at(&steps).map(|taken| taken.into_inner());
+    pair(alloc, optional(alloc, taken)?, left.into_inner())
+}
+
+fn changed(alloc: Global, name: &str, change: &[Value], left: &mut Whole<Value>) -> Given<Value> {
+    match (name, change) {
         ("redact", [rules, mask]) => {
             let mask = whole_copy(mask)?;
-            Ok(Value::from(redacted(alloc, list(rules)?, left, &mask)?))
+            let queries = each(alloc, list(rules)?, |rule| query_of(alloc, rule))?;
+            Ok(Value::from(redact(alloc, &queries, left, &mask)?))
         }
-        ("apply_edits", [steps]) => {
-            let edits = edits_of(alloc, list(steps)?)?;
+        ("apply_edits", [edits]) => {
+            let edits = each(alloc, list(edits)?, |edit| edit_of(alloc, edit))?;
             Ok(Value::from(apply_edits(alloc, &edits, left)?))
         }
         ("apply_patch", [patch]) => {
-            let operations = patch_of(alloc, patch)?;
-            Ok(Value::from(apply_patch(alloc, &operations, left)?))
+            Ok(Value::from(apply_patch(alloc, &patch_of(alloc, patch)?, left)?))
         }
         ("add_one", [query]) => Ok(Value::from(add_one(alloc, text(query)?, left)?)),
         ("put_each", [changes]) => {
-            put_each(changes_of(alloc, list(changes)?)?, left);
+            let changes = each(alloc, list(changes)?, |change| change_of(alloc, change))?;
+            put_each(changes, left);
             Ok(Value::Null)
+        }
+        ("Whole::add_at", [location, new]) => {
+            let mut parent = steps(alloc, location)?;
+            let step = given(parent.pop())?;
+            Ok(Value::from(left.add_at(alloc, &parent, step, whole_copy(new)?)?))
+        }
+        ("Whole::delete_within", [query, depth]) => {
+            Ok(Value::from(left.delete_within(alloc, text(query)?, size(depth)?)?))
+        }
+        _ if is_run(name) => run(alloc, name, change, left),
+        _ => Err(Refusal::NoAnswer),
+    }
+}
+
+fn is_run(name: &str) -> bool {
+    matches!(name, "Whole::delete_by_runner" | "Whole::replace_by_runner")
+        || matches!(name, "Whole::delete_limited" | "Whole::replace_limited")
+}
+
+/// What the call of that name answers, by a runner of the query, which is its first argument.
+fn run(alloc: Global, name: &str, asked: &[Value], left: &mut Whole<Value>) -> Given<Value> {
+    let (query, change) = given(asked.split_first())?;
+    let query = Prepared::read(alloc, text(query)?)?;
+    let answer = run_by(alloc, name, query.runner(alloc), change, left);
+    drop(query);
+    answer
+}
+
+fn run_by(
+    alloc: Global,
+    name: &str,
+    mut runner: Runner<'_>,
+    change: &[Value],
+    left: &mut Whole<Value>,
+) -> Given<Value> {
+    match (name, change) {
+        ("Whole::delete_by_runner", []) => {
+            Ok(Value::from(left.delete_by_runner(alloc, &mut runner)?))
+        }
+        ("Whole::replace_by_runner", [new]) => {
+            let new = whole_copy(new)?;
+            Ok(Value::from(left.replace_by_runner(alloc, &mut runner, &new)?))
+        }
+        ("Whole::delete_limited", [units]) => {
+            let mut limited = runner.limited(size(units)?);
+            Ok(told(left.delete_limited(alloc, &mut limited)?))
+        }
+        ("Whole::replace_limited", [units, new]) => {
+            let mut limited = runner.limited(size(units)?);
+            let new = whole_copy(new)?;
+            Ok(told(left.replace_limited(alloc, &mut limited, &new)?))
         }
         _ => Err(Refusal::NoAnswer),
     }
 }
 
-/// Redacts a document by the queries that the texts spell. A refusal of a text leaves it as it was too.
-fn redacted(
-    alloc: Global,
-    rules: &[Value],
-    document: &mut Whole<Value>,
-    mask: &Whole<Value>,
-) -> Queried<usize> {
-    let queries = queries_of(alloc, rules)?;
-    let answer = redact(alloc, &queries, document, mask);
-    drop(queries);
-    answer
+/// How many, null where the units are not enough.
+fn told(count: Within<usize>) -> Value {
+    match count {
+        Within::Done(count) => Value::from(count),
+        Within::Spent => Value::Null,
+    }
 }
 
 /// Adds one to each whole number that the query selects.
@@ -79,40 +142,20 @@ fn one_more(value: Option<&Value>) -> Option<Whole<Value>> {
     Whole::new(Value::from(value?.as_i64()?.checked_add(1)?)).ok()
 }
 
-/// The changes that pairs of a location and a value tell.
-fn changes_of(alloc: Global, pairs: &[Value]) -> Given<Vec<Change>> {
-    let mut changes = Vec::new(alloc);
-    for pair in pairs {
-        changes.push(change_of(alloc, list(pair)?)?)?;
-    }
-    Ok(changes)
+/// The change that a pair of a location and a value tells.
+fn change_of(alloc: Global, pair: &Value) -> Given<Change> {
+    let [location, value] = exactly::<2>(list(pair)?)?;
+    let place = steps(alloc, location)?;
+    let value = whole_copy(value)?;
+    Ok(Change { place, value })
 }
 
-fn change_of(alloc: Global, pair: &[Value]) -> Given<Change> {
-    match pair {
-        [location, value] => {
-            let place = steps(alloc, location)?;
-            let value = whole_copy(value)?;
-            Ok(Change { place, value })
-        }
-        _ => Err(Refusal::NoAnswer),
-    }
-}
-
-/// The edits that steps tell: `{"delete": ..}`, with a query, and `{"put": .., "value": ..}`, with a path.
-fn edits_of(alloc: Global, steps: &[Value]) -> Given<Vec<Edit>> {
-    let mut edits = Vec::new(alloc);
-    for step in steps {
-        edits.push(edit_of(alloc, step)?)?;
-    }
-    Ok(edits)
-}
-
+/// The edit that a step tells: `{"delete": ..}`, with a query, or `{"put": .., "value": ..}`, with a path.
 fn edit_of(alloc: Global, step: &Value) -> Given<Edit> {
     match (step.get("delete"), step.get("put"), step.get("value")) {
-        (Some(query), None, None) => Ok(Edit::Delete(String::from_str(alloc, text(query)?)?)),
+        (Some(query), None, None) => Ok(Edit::Delete(text_copy(alloc, query)?)),
         (None, Some(path), Some(value)) => {
-            let path = String::from_str(alloc, text(path)?)?;
+            let path = text_copy(alloc, path)?;
             Ok(Edit::Replace(path, whole_copy(value)?))
         }
         _ => Err(Refusal::NoAnswer),
@@ -128,11 +171,7 @@ fn patch_of(alloc: Global, patch: &Value) -> Given<Vec<Operation>> {
 }
 
 fn operations_of(alloc: Global, patch: &Value) -> Given<Vec<Operation>> {
-    let mut operations = Vec::new(alloc);
-    for element in list(patch)? {
-        operations.push(operation_of(alloc, element)?)?;
-    }
-    Ok(operations)
+    each(alloc, list(patch)?, |element| operation_of(alloc, element))
 }
 
 /// The operation that an object is (RFC 6902, 4), by the members that it needs. Other members mean nothing.
@@ -166,7 +205,7 @@ fn operation_of(alloc: Global, element: &Value) -> Given<Operation> {
 
 /// The text of that member.
 fn text_at(alloc: Global, object: &Value, name: &str) -> Given<String> {
-    Ok(String::from_str(alloc, text(given(object.get(name))?)?)?)
+    text_copy(alloc, given(object.get(name))?)
 }
 
 /// The member `value`.

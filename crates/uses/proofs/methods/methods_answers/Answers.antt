@@ -1,6 +1,6 @@
 use Rattle.jsonpath_rust.specs.documents.Document.{document_of}
-use Rattle.rows.proofs.Agreeing.{paths_alike, values_alike}
-use Rattle.rows.proofs.methods.methods_answers.Goals as goal
+use Rattle.uses.proofs.Agreeing.{paths_alike, values_alike}
+use Rattle.uses.proofs.methods.methods_answers.Goals as goal
 
 pub returns-clause-paths : goal.returns-clause-paths
 returns-clause-paths g c =
