@@ -24,21 +24,21 @@ pub fn cmp(alloc: Global, left: Comparable, operator: &str, right: Comparable) -
 
 /// The side that is this literal.
 pub fn comparable_lit(literal: Literal) -> Comparable
-    ensures { comparable_view result ≡ tree.literal (literal_view literal) }
+    ensures { comparable_view result ≡ tree.literal_argument (literal_view literal) }
 {
     Comparable::Literal(literal)
 }
 
 /// The side that is what this call returns.
 pub fn comparable_fn(call: TestFunction) -> Comparable
-    ensures { comparable_view result ≡ tree.function (call_view call) }
+    ensures { comparable_view result ≡ tree.test_argument (tree.call (call_view call)) }
 {
     Comparable::Function(call)
 }
 
 /// The side that is the value of this query's one node, if it has one.
 pub fn comparable_query(query: SingularQuery) -> Comparable
-    ensures { comparable_view result ≡ tree.singular (singular_view query) }
+    ensures { comparable_view result ≡ tree.test_argument (singular_view query) }
 {
     Comparable::SingularQuery(query)
 }

@@ -14,7 +14,7 @@ use std::alloc::Global;
 ///
 /// `OutOfMemory` where memory ran out.
 pub fn q_name(alloc: Global, name: &str) -> Parsed<SingularQuerySegment>
-    ensures made { IfOk result (λ s. step_view s ≡ tree.name_step name.now) }
+    ensures made { IfOk result (λ s. step_view s ≡ tree.one (tree.name name.now)) }
     ensures memory { IfErr result (λ e. e ≡ OutOfMemory) }
 {
     Ok(SingularQuerySegment::Name(String::from_str(alloc, name)?))
@@ -22,7 +22,7 @@ pub fn q_name(alloc: Global, name: &str) -> Parsed<SingularQuerySegment>
 
 /// The step to the element of this index, counted from the end where it is negative.
 pub fn q_index(index: i64) -> SingularQuerySegment
-    ensures { step_view result ≡ tree.index_step index }
+    ensures { step_view result ≡ tree.one (tree.index index) }
 {
     SingularQuerySegment::Index(index)
 }
@@ -63,14 +63,14 @@ pub fn q_segments(
 
 /// The query `@` and these steps.
 pub fn singular_current(steps: Vec<SingularQuerySegment>) -> SingularQuery
-    ensures { singular_view result ≡ tree.current (steps_view steps) }
+    ensures { singular_view result ≡ tree.relative (steps_view steps) }
 {
     SingularQuery::Current(steps)
 }
 
 /// The query `$` and these steps.
 pub fn singular_root(steps: Vec<SingularQuerySegment>) -> SingularQuery
-    ensures { singular_view result ≡ tree.root (steps_view steps) }
+    ensures { singular_view result ≡ tree.absolute (steps_view steps) }
 {
     SingularQuery::Root(steps)
 }

@@ -5,7 +5,7 @@ use Rattle.jsonpath_parser.specs.Grammar.{Between, IsNoBareTest, SpellsLogical, 
 use Rattle.jsonpath_parser.specs.words.Lexical.{is_blank}
 use Rattle.jsonpath_parser.specs.words.inner.Reading.{Read, first, skip_blank}
 use Rattle.jsonpath_parser.specs.inner.ReadingGrammar.{is_int_first, operand_behind, comparable_of, filter_of, is_operator_first, is_twice, operator_at, logical_at, operand_at, group_at, negated_at, compared_at, plain_at, basic_at, ands_at, conjunction_at, ors_at, disjunction_at}
-use Rattle.jsonpath_parser.specs.tree.Syntax.{Operator, Filter, or, and, atom, Filters, no_filters, filter_then, Atom, group, test, comparison, Comparison, compare, Comparable, Test, Argument, literal_argument, test_argument, filter_argument}
+use Rattle.jsonpath_parser.specs.tree.Syntax.{Operator, Filter, or, and, atom, Filters, no_filters, filter_then, Atom, group, test, comparison, Comparison, compare, Test, Argument, literal_argument, test_argument, filter_argument}
 use Rattle.jsonpath_parser.proofs.laws.words.Fronts.{skip_over}
 use Rattle.jsonpath_parser.proofs.Turns.{many_end, many_read, operand_read}
 use Rattle.jsonpath_parser.proofs.NumberComplete.{EndsNumber}
@@ -13,7 +13,7 @@ use Rattle.jsonpath_parser.proofs.CompleteParts.{ends_logical, ends_conjunction,
 use Rattle.jsonpath_parser.proofs.CompleteStarts.{starts_operand, operand_other, basic_other, literal_start, comparable_start, test_start, basic_start, conjunction_start, logical_start}
 use Rattle.jsonpath_parser.proofs.CompleteWords.{operator_over, operator_start}
 use Rattle.jsonpath_parser.proofs.CompleteSegments.{as_argument, filter_back, complete_logical}
-use Rattle.jsonpath_parser.proofs.CompleteOperands.{comparable_argument, comparable_back, complete_literal, complete_test, complete_comparable}
+use Rattle.jsonpath_parser.proofs.CompleteOperands.{comparable_back, complete_literal, complete_test, complete_comparable}
 
 -- ---- bytes
 
@@ -99,7 +99,7 @@ module _ (Number : Option ℤ → List ℕ → Type 0) (number_first : (v : Opti
 
   -- ---- comparisons
 
-  compared_reads : (text behind start rest : List ℕ) (op : Operator) (x y : Argument) (l r : Comparable) → operator_at text ≡ Some (op, behind) → skip_blank behind ≡ start
+  compared_reads : (text behind start rest : List ℕ) (op : Operator) (x y l r : Argument) → operator_at text ≡ Some (op, behind) → skip_blank behind ≡ start
       → operand_at literal_at argument_at start ≡ Some (y, rest)
       → comparable_of x ≡ Some l → comparable_of y ≡ Some r → compared_at literal_at argument_at x text ≡ Some (filter_argument (atom (comparison (compare op l r))), rest)
   unfolding compared_at
@@ -132,8 +132,8 @@ module _ (Number : Option ℤ → List ℕ → Type 0) (number_first : (v : Opti
       let read_left = complete_comparable Number number_first literal_at number_over argument_at n oracle l x (b ++ start) hx ends size in
       let read_right = complete_comparable Number number_first literal_at number_over argument_at n oracle r d more hd stop size_right in
       let read_mark = operator_over op o behind ho (front_other (λ v. v == 61) c right hc blank_equal others.3) in
-      rw text (plain_compared (x ++ (b ++ start)) (b ++ start) start (comparable_argument l) read_left skipped mark
-      ∙ compared_reads start behind right more op (comparable_argument l) (comparable_argument r) l r read_mark (skip_over c right hc others.0) read_right (comparable_back l) (comparable_back r))
+      rw text (plain_compared (x ++ (b ++ start)) (b ++ start) start l read_left skipped mark
+      ∙ compared_reads start behind right more op l r l r read_mark (skip_over c right hc others.0) read_right (comparable_back l hx.0) (comparable_back r hd.0))
 
   -- ---- operands of `&&`
 

@@ -1,13 +1,13 @@
 -- Literals, queries and calls that are spelled are read, where the text after them cannot continue them.
-use Rattle.std.proofs.Common.{◌≡◌, ℕ, suc, ◌+◌, ◌-◌, ◌<◌, ◌≤◌, true, false, ◌==◌, ℤ, List, [], ◌∷◌, ◌++◌, length, codes, Option, Some, refl, sym, ap, ◌∙◌, inl, inr, append_assoc, append-nil, length-append, arith}
+use Rattle.std.proofs.Common.{◌≡◌, ℕ, suc, ◌+◌, ◌-◌, ◌<◌, ◌≤◌, true, false, ◌==◌, ℤ, List, [], ◌∷◌, ◌++◌, length, codes, Option, Some, refl, sym, ap, ◌∙◌, inl, inr, append_assoc, append-nil, length-append, arith, IsTrue}
 use Rattle.std.proofs.lemmas.Bool.Decides.{nat_tests}
-use Rattle.jsonpath_parser.specs.Grammar.{SpellsSingularStep, SpellsSingularSteps, SpellsCalled, SpellsLiteral, SpellsSegment, SpellsSegments, SpellsComparable, SpellsTest, SpellsCall, SpellsArgument, SpellsArguments, SpellsMoreArguments}
+use Rattle.jsonpath_parser.specs.Grammar.{SpellsCalled, SpellsLiteral, SpellsSegment, SpellsSegments, SpellsTest, SpellsCall, SpellsArgument, SpellsArguments, SpellsMoreArguments}
 use Rattle.jsonpath_parser.specs.words.Lexical.{is_function_first, IsBlank, IsFunctionName, is_quote}
 use Rattle.jsonpath_parser.specs.words.inner.Reading.{Read, first, skip_blank}
-use Rattle.jsonpath_parser.specs.inner.ReadingGrammar.{is_int_first, steps_of, comparable_of, word_at, word_literal, all_segments_at, arguments_at, all_arguments_at, called_at, word_operand_at, operand_at}
+use Rattle.jsonpath_parser.specs.inner.ReadingGrammar.{is_int_first, steps_of, comparable_of, word_at, word_literal, all_segments_at, arguments_at, all_arguments_at, called_at, word_operand_at, operand_at, steps_in}
 use Rattle.jsonpath_parser.specs.words.inner.ReadingStrings.{string_at}
-use Rattle.jsonpath_parser.specs.tree.Syntax.{Literal, number, string, bool, null, SingularStep, name_step, index_step, current, root, name, index, Segment, one, Segments, no_segments, segment, Comparable, literal, function, singular, Test, relative, absolute, call, Call, custom_call, length_call, value_call, count_call, search_call, match_call, Argument, literal_argument, test_argument, Arguments, no_arguments, argument}
-use Rattle.jsonpath_parser.specs.tree.Typing.{call_of}
+use Rattle.jsonpath_parser.specs.tree.Syntax.{Literal, number, string, bool, null, name, index, Segment, one, Segments, no_segments, segment, Test, relative, absolute, call, Call, custom_call, length_call, value_call, count_call, search_call, match_call, Argument, literal_argument, test_argument, Arguments, no_arguments, argument, list_of, filter_argument, wildcard, slice, filter, several, descendant}
+use Rattle.jsonpath_parser.specs.tree.Typing.{call_of, is_comparable, is_singular}
 use Rattle.jsonpath_parser.proofs.laws.words.Fronts.{skip_over}
 use Rattle.jsonpath_parser.proofs.Turns.{separated_end, separated_read}
 use Rattle.jsonpath_parser.proofs.NumberComplete.{EndsNumber}
@@ -16,36 +16,31 @@ use Rattle.jsonpath_parser.proofs.CompleteParts.{EndsLogical, EndsOperand, EndsS
 use Rattle.jsonpath_parser.proofs.CompleteStarts.{basic_other, call_start, argument_start}
 use Rattle.jsonpath_parser.proofs.CompleteWords.{word_over, word_start, string_start, custom_of}
 use Rattle.jsonpath_parser.proofs.CompleteSegments.{behind_mark, complete_all_segments}
+use Rattle.jsonpath_parser.specs.Parts.{SpellsComparable}
 
 -- ---- singular queries
 
--- a step as a segment
-abbrev pub single : SingularStep → Segment
-single (name_step n) = one (name n)
-single (index_step i) = one (index i)
+-- segments that are steps are found as they are
+steps_found : (gs : Segments) → IsTrue (is_singular gs) → (ss : List Segment) × (steps_of gs ≡ Some ss) × (list_of segment no_segments ss ≡ gs)
+steps_found no_segments h = ([], refl, refl)
+steps_found (segment (one (name n)) gs) h = let (ss, e, k) = steps_found gs h in (one (name n) ∷ ss, rw e refl, ap (segment (one (name n))) k)
+steps_found (segment (one (index i)) gs) h = let (ss, e, k) = steps_found gs h in (one (index i) ∷ ss, rw e refl, ap (segment (one (index i))) k)
+steps_found (segment (one wildcard) gs) h = absurd (cc)
+steps_found (segment (one (slice i j k)) gs) h = absurd (cc)
+steps_found (segment (one (filter f)) gs) h = absurd (cc)
+steps_found (segment (several ss) gs) h = absurd (cc)
+steps_found (segment (descendant g) gs) h = absurd (cc)
 
-abbrev pub singles : List SingularStep → Segments
-singles [] = no_segments
-singles (s ∷ ss) = segment (single s) (singles ss)
+pub steps_made : (gs : Segments) → IsTrue (is_singular gs) → steps_in gs ≡ Some gs
+steps_made gs h = let (ss, e, k) = steps_found gs h in rw e (ap (λ v. Some v) k)
 
--- steps as segments are steps again
-pub steps_singles : (ss : List SingularStep) → steps_of (singles ss) ≡ Some ss
-steps_singles [] = refl
-steps_singles (name_step n ∷ ss) = rw (steps_singles ss) refl
-steps_singles (index_step i ∷ ss) = rw (steps_singles ss) refl
-
--- the argument that is read where this side of a comparison stands
-abbrev pub comparable_argument : Comparable → Argument
-comparable_argument (literal l) = literal_argument l
-comparable_argument (function c) = test_argument (call c)
-comparable_argument (singular (current ss)) = test_argument (relative (singles ss))
-comparable_argument (singular (root ss)) = test_argument (absolute (singles ss))
-
-pub comparable_back : (c : Comparable) → comparable_of (comparable_argument c) ≡ Some c
-comparable_back (literal l) = refl
-comparable_back (function c) = refl
-comparable_back (singular (current ss)) = rw (steps_singles ss) refl
-comparable_back (singular (root ss)) = rw (steps_singles ss) refl
+-- a side of a comparison is read as it is
+pub comparable_back : (x : Argument) → IsTrue (is_comparable x) → comparable_of x ≡ Some x
+comparable_back (literal_argument l) h = refl
+comparable_back (test_argument (relative gs)) h = rw (steps_made gs h) refl
+comparable_back (test_argument (absolute gs)) h = rw (steps_made gs h) refl
+comparable_back (test_argument (call c)) h = refl
+comparable_back (filter_argument f) h = absurd (cc)
 
 -- ---- bytes
 
@@ -87,19 +82,6 @@ false_name = (refl, (refl, (refl, (refl, (refl, tt)))))
 
 null_name : IsFunctionName (codes "null")
 null_name = (refl, (refl, (refl, (refl, tt))))
-
-module _ (Number : Option ℤ → List ℕ → Type 0) where
-  spells_single : (s : SingularStep) (a : List ℕ) → SpellsSingularStep s a → SpellsSegment Number (single s) a
-  spells_single (name_step n) a h = elim h [
-    | inl h ↦ inr (n, (h.0, refl), h.1)
-    | inr h ↦ inl h
-  ]
-  spells_single (index_step i) a h = inl h
-
-  -- steps spell segments
-  pub spells_singles : (ss : List SingularStep) (a : List ℕ) → SpellsSingularSteps ss a → SpellsSegments Number (singles ss) a
-  spells_singles [] a h = h
-  spells_singles (s ∷ ss) a h = let (b, r, c, hb, hr, hc, e) = h in (b, r, c, hb, spells_single s r hr, spells_singles ss c hc, e)
 
 module _ (Number : Option ℤ → List ℕ → Type 0) (number_first : (v : Option ℤ) (a more : List ℕ) → Number v a → is_int_first (first (a ++ more)) ≡ true)
     (literal_at : List ℕ → Read (Option ℤ)) (number_over : (v : Option ℤ) (a more : List ℕ) → Number v a → EndsNumber more → literal_at (a ++ more) ≡ Some (v, more))
@@ -251,9 +233,8 @@ module _ (Number : Option ℤ → List ℕ → Type 0) (number_first : (v : Opti
   complete_test (call c) a more h stop fits = complete_function c a more h fits
 
   -- a side of a comparison
-  pub complete_comparable : (c : Comparable) (a more : List ℕ) → SpellsComparable Number c a → EndsOperand more → length (a ++ more) ≤ n
-      → operand_at literal_at argument_at (a ++ more) ≡ Some (comparable_argument c, more)
-  complete_comparable (literal l) a more h stop fits = complete_literal l a more h stop
-  complete_comparable (function c) a more h stop fits = complete_function c a more h fits
-  complete_comparable (singular (current ss)) a more h stop fits = let (r, hr, e) = h in complete_current (singles ss) a r more (spells_singles Number ss r hr) e (ends_segments more stop) fits
-  complete_comparable (singular (root ss)) a more h stop fits = let (r, hr, e) = h in complete_root (singles ss) a r more (spells_singles Number ss r hr) e (ends_segments more stop) fits
+  pub complete_comparable : (x : Argument) (a more : List ℕ) → SpellsComparable Number x a → EndsOperand more → length (a ++ more) ≤ n
+      → operand_at literal_at argument_at (a ++ more) ≡ Some (x, more)
+  complete_comparable (literal_argument l) a more h stop fits = complete_literal l a more h.1 stop
+  complete_comparable (test_argument t) a more h stop fits = complete_test t a more h.1 stop fits
+  complete_comparable (filter_argument f) a more h stop fits = let none = h.0 in absurd (cc)

@@ -1,14 +1,15 @@
 -- How each part of the grammar begins.
 use Rattle.std.proofs.Common.{◌≡◌, ℕ, ◌<◌, Bool, true, false, ◌||◌, ◌==◌, ℤ, List, ◌++◌, length, codes, Option, refl, inl, inr, append_assoc, arith}
 use Rattle.std.proofs.lemmas.Bool.Decides.{nat_tests}
-use Rattle.jsonpath_parser.specs.Grammar.{SpellsNot, SpellsLiteral, SpellsSelector, SpellsSegment, SpellsSegments, SpellsLogical, SpellsConjunction, SpellsOr, SpellsAnd, SpellsBasic, SpellsComparable, SpellsTest, SpellsCall, SpellsArgument}
+use Rattle.jsonpath_parser.specs.Grammar.{SpellsNot, SpellsLiteral, SpellsSelector, SpellsSegment, SpellsSegments, SpellsLogical, SpellsConjunction, SpellsOr, SpellsAnd, SpellsBasic, SpellsTest, SpellsCall, SpellsArgument}
 use Rattle.jsonpath_parser.specs.words.Lexical.{is_blank, is_name_byte, is_function_first, is_quote}
 use Rattle.jsonpath_parser.specs.words.inner.Reading.{first}
 use Rattle.jsonpath_parser.specs.inner.ReadingGrammar.{is_int_first, starts_segment}
-use Rattle.jsonpath_parser.specs.tree.Syntax.{Literal, number, string, bool, null, current, root, Selector, name, wildcard, index, slice, filter, Segment, one, several, descendant, Segments, no_segments, segment, Filter, or, and, atom, Filters, no_filters, filter_then, Atom, group, test, comparison, compare, Comparable, literal, function, singular, Test, relative, absolute, call, Call, custom_call, length_call, value_call, count_call, search_call, match_call, Argument, literal_argument, test_argument, filter_argument}
+use Rattle.jsonpath_parser.specs.tree.Syntax.{Literal, number, string, bool, null, Selector, name, wildcard, index, slice, filter, Segment, one, several, descendant, Segments, no_segments, segment, Filter, or, and, atom, Filters, no_filters, filter_then, Atom, group, test, comparison, compare, Test, relative, absolute, call, Call, custom_call, length_call, value_call, count_call, search_call, match_call, Argument, literal_argument, test_argument, filter_argument}
 use Rattle.jsonpath_parser.proofs.CompleteParts.{front_other}
 use Rattle.jsonpath_parser.proofs.CompleteSlices.{numbered_other, index_start, slice_start}
 use Rattle.jsonpath_parser.proofs.CompleteWords.{word_start, string_start}
+use Rattle.jsonpath_parser.specs.Parts.{SpellsComparable}
 
 -- `@`, `$`, a quote, a digit, `-` or a letter begins a literal, a query or a call
 abbrev pub starts_operand : ℕ → Bool
@@ -97,16 +98,15 @@ module _ (Number : Option ℤ → List ℕ → Type 0) where
     call_start (search_call x y) a more h = let (b, r, c, hb, hr, hc, e) = h in rw e refl
     call_start (match_call x y) a more h = let (b, r, c, hb, hr, hc, e) = h in rw e refl
 
-    pub comparable_start : (c : Comparable) (a more : List ℕ) → SpellsComparable Number c a → starts_operand (first (a ++ more)) ≡ true
-    comparable_start (literal l) a more h = literal_start l a more h
-    comparable_start (function c) a more h = letter_operand (first (a ++ more)) (call_start c a more h)
-    comparable_start (singular (current ss)) a more h = let (r, hr, e) = h in rw e refl
-    comparable_start (singular (root ss)) a more h = let (r, hr, e) = h in rw e refl
-
     pub test_start : (t : Test) (a more : List ℕ) → SpellsTest Number t a → starts_operand (first (a ++ more)) ≡ true
     test_start (relative gs) a more h = let (r, hr, e) = h in rw e refl
     test_start (absolute gs) a more h = let (r, hr, e) = h in rw e refl
     test_start (call c) a more h = letter_operand (first (a ++ more)) (call_start c a more h)
+
+    pub comparable_start : (x : Argument) (a more : List ℕ) → SpellsComparable Number x a → starts_operand (first (a ++ more)) ≡ true
+    comparable_start (literal_argument l) a more h = literal_start l a more h.1
+    comparable_start (test_argument t) a more h = test_start t a more h.1
+    comparable_start (filter_argument f) a more h = let none = h.0 in absurd (cc)
 
     -- an operand of `&&`
     pub basic_start : (x : Atom) (a more : List ℕ) → SpellsBasic Number x a → starts_basic (first (a ++ more)) ≡ true

@@ -1,21 +1,21 @@
 -- Each kind of tree is read as it is spelled.
-use Rattle.std.proofs.Common.{◌≡◌, ℕ, suc, ◌<◌, ◌≤◌, ◌==◌, Bool, true, false, ℤ, List, [], ◌∷◌, ◌++◌, length, codes, Option, Some, le_refl, refl, sym, ap, ◌∙◌, subst, inl, inr, append-nil, arith}
+use Rattle.std.proofs.Common.{◌≡◌, ℕ, suc, ◌<◌, ◌≤◌, ◌==◌, Bool, true, false, ℤ, List, [], ◌∷◌, ◌++◌, length, codes, Option, Some, le_refl, refl, sym, ap, ◌∙◌, subst, inl, inr, append-nil, arith, IsTrue}
 use Rattle.std.proofs.lemmas.Option.{cond_some}
-use Rattle.jsonpath_parser.specs.Grammar.{Spells, SpellsArgument, SpellsSegments, SpellsSegment, SpellsSelector, SpellsSelectors, SpellsLogical, SpellsConjunction, SpellsOperand, SpellsBasic, SpellsComparison, SpellsComparable, SpellsLiteral, SpellsTest, SpellsCall, SpellsShorthand, Between}
+use Rattle.jsonpath_parser.specs.Grammar.{Spells, SpellsArgument, SpellsSegments, SpellsSegment, SpellsSelector, SpellsSelectors, SpellsLogical, SpellsConjunction, SpellsOperand, SpellsBasic, SpellsComparison, SpellsLiteral, SpellsTest, SpellsCall, SpellsShorthand, Between}
 use Rattle.jsonpath_parser.specs.words.Numbers.{SpellsNumber}
-use Rattle.jsonpath_parser.specs.Parts.{Spelling, SpellsRelative, SpellsChild, SpellsSliceParts, SpellsSteps, SpellsSingular, always}
+use Rattle.jsonpath_parser.specs.Parts.{Spelling, SpellsRelative, SpellsChild, SpellsSliceParts, SpellsSteps, SpellsSingular, always, SpellsComparable}
 use Rattle.jsonpath_parser.specs.words.inner.Reading.{Read, first, skip_blank}
-use Rattle.jsonpath_parser.specs.inner.ReadingGrammar.{number_reading, is_int_first, filter_of, comparable_of, steps_of, numbered_at, shorthand_at, selection_at, descendant_at, argument_at, IsAny}
+use Rattle.jsonpath_parser.specs.inner.ReadingGrammar.{number_reading, is_int_first, filter_of, comparable_of, steps_of, numbered_at, shorthand_at, selection_at, descendant_at, argument_at, IsAny, steps_in}
 use Rattle.jsonpath_parser.specs.inner.ReadingParts.{taken_at, inner_at, operand_in, basic_in, conjunction_in, logical_in, segments_in, segment_in, selector_in, child_in, literal_in, test_in, call_in, relative_in, query_in, singular_of, singular_in, atom_of, atom_in, comparison_of_atom, comparison_in, slice_in}
-use Rattle.jsonpath_parser.specs.tree.Syntax.{Literal, SingularStep, SingularQuery, Selector, name, wildcard, index, slice, filter, Segment, one, several, descendant, Segments, Filter, or, and, atom, Atom, group, test, comparison, Comparison, Comparable, literal, function, singular, Test, relative, absolute, call, Call, Argument, literal_argument, test_argument, filter_argument, Query}
-use Rattle.jsonpath_parser.specs.tree.Typing.{is_typed, is_typed_segment, is_typed_selector, is_typed_filter, is_typed_atom, is_typed_comparison, is_typed_comparable, is_typed_truth, is_typed_call}
+use Rattle.jsonpath_parser.specs.tree.Syntax.{Literal, Selector, name, wildcard, index, slice, filter, Segment, one, several, descendant, Segments, Filter, or, and, atom, Atom, group, test, comparison, Comparison, Test, relative, absolute, call, Call, Argument, literal_argument, test_argument, filter_argument, Query}
+use Rattle.jsonpath_parser.specs.tree.Typing.{is_typed, is_typed_segment, is_typed_selector, is_typed_filter, is_typed_atom, is_typed_comparison, is_typed_truth, is_typed_call, is_singular_test, is_typed_side}
 use Rattle.jsonpath_parser.specs.declared.grammar.literals.Numbers.{Numbers}
 use Rattle.jsonpath_parser.specs.declared.grammar.literals.Numbers.TheVariants.{Valued, Any}
 use Rattle.jsonpath_parser.specs.Unambiguous.{IsUnambiguous}
 use Rattle.jsonpath_parser.specs.Values.{IsValued}
 use Rattle.jsonpath_parser.proofs.Complete.{valued_start, valued_over, any_start, any_over, complete_argument}
 use Rattle.jsonpath_parser.proofs.CompleteFilters.{complete_basic, complete_conjunction}
-use Rattle.jsonpath_parser.proofs.CompleteOperands.{singles, steps_singles, spells_singles, comparable_argument, comparable_back, complete_literal, complete_test, complete_comparable}
+use Rattle.jsonpath_parser.proofs.CompleteOperands.{comparable_back, complete_literal, complete_test, complete_comparable, steps_made}
 use Rattle.jsonpath_parser.proofs.CompleteParts.{EndsLogical, complete_shorthand, shorthand_start}
 use Rattle.jsonpath_parser.proofs.CompleteSegments.{as_argument, filter_back, between_start, complete_logical, complete_one, complete_several, complete_segment, complete_all_segments}
 use Rattle.jsonpath_parser.proofs.NumberComplete.{EndsNumber}
@@ -112,10 +112,10 @@ unfolding skip_blank
 test_back numbers t text h =
     rw append-nil at (complete_test (as_read numbers) (as_start numbers) (number_reading numbers) (as_over numbers) (inner_at numbers text) (length text) (inner_read numbers (length text)) t text [] h refl (all_of text))
 
-comparable_back_at : (numbers : Numbers) (c : Comparable) (text : List ℕ) → SpellsComparable (as_read numbers) c text → operand_in numbers text ≡ Some (comparable_argument c, [])
+comparable_back_at : (numbers : Numbers) (x : Argument) (text : List ℕ) → SpellsComparable (as_read numbers) x text → operand_in numbers text ≡ Some (x, [])
 unfolding skip_blank
-comparable_back_at numbers c text h =
-    rw append-nil at (complete_comparable (as_read numbers) (as_start numbers) (number_reading numbers) (as_over numbers) (inner_at numbers text) (length text) (inner_read numbers (length text)) c text [] h refl (all_of text))
+comparable_back_at numbers x text h =
+    rw append-nil at (complete_comparable (as_read numbers) (as_start numbers) (number_reading numbers) (as_over numbers) (inner_at numbers text) (length text) (inner_read numbers (length text)) x text [] h refl (all_of text))
 
 literal_is : (numbers : Numbers) (x : Argument) (l : Literal) (a : List ℕ) → SpellsAlone (as_read numbers) x a → literal_in x ≡ Some l → SpellsLiteral (as_read numbers) l a
 literal_is numbers (literal_argument k) l a h e = same_tree SpellsLiteral numbers k l a h e
@@ -163,27 +163,31 @@ query_is numbers (filter_argument f) q a h e = absurd (cc)
 pub query_law : Law Spells is_typed (λ numbers text. taken_at query_in is_typed (operand_in numbers text))
 query_law = taken_law SpellsAlone Spells query_in is_typed operand_in operand_front query_is (λ numbers q text h. (test_argument (absolute q), test_back numbers (absolute q) text h, refl)) (spells_wider IsValued SpellsNumber as_written) query_unambiguous query_again
 
-comparable_is : (numbers : Numbers) (x : Argument) (c : Comparable) (a : List ℕ) → SpellsAlone (as_read numbers) x a → comparable_of x ≡ Some c → SpellsComparable (as_read numbers) c a
+comparable_is : (numbers : Numbers) (x c : Argument) (a : List ℕ) → SpellsAlone (as_read numbers) x a → comparable_of x ≡ Some c → SpellsComparable (as_read numbers) c a
 comparable_is numbers = comparable_spelled (as_read numbers)
 
-pub comparable_law : Law SpellsComparable is_typed_comparable (λ numbers text. taken_at comparable_of is_typed_comparable (operand_in numbers text))
-comparable_law = taken_law SpellsAlone SpellsComparable comparable_of is_typed_comparable operand_in operand_front comparable_is (λ numbers c text h. (comparable_argument c, comparable_back_at numbers c text h, comparable_back c)) (comparable_wider IsValued SpellsNumber as_written) comparable_unambiguous comparable_again
+pub comparable_law : Law SpellsComparable is_typed_side (λ numbers text. taken_at comparable_of is_typed_side (operand_in numbers text))
+comparable_law = taken_law SpellsAlone SpellsComparable comparable_of is_typed_side operand_in operand_front comparable_is (λ numbers x text h. (x, comparable_back_at numbers x text h, comparable_back x h.0)) (comparable_wider IsValued SpellsNumber as_written) comparable_unambiguous comparable_again
 
-singular_side : (numbers : Numbers) (c : Comparable) (q : SingularQuery) (a : List ℕ) → SpellsComparable (as_read numbers) c a → singular_of c ≡ Some q → SpellsSingular (as_read numbers) q a
-singular_side numbers (literal l) q a h e = absurd (cc)
-singular_side numbers (function c) q a h e = absurd (cc)
-singular_side numbers (singular p) q a h e = same_tree SpellsSingular numbers p q a h e
+singular_side : (numbers : Numbers) (x : Argument) (q : Test) (a : List ℕ) → SpellsComparable (as_read numbers) x a → singular_of x ≡ Some q → SpellsSingular (as_read numbers) q a
+singular_side numbers (literal_argument l) q a h e = absurd (cc)
+singular_side numbers (test_argument (relative gs)) q a h e = same_tree SpellsSingular numbers (relative gs) q a h e
+singular_side numbers (test_argument (absolute gs)) q a h e = same_tree SpellsSingular numbers (absolute gs) q a h e
+singular_side numbers (test_argument (call c)) q a h e = absurd (cc)
+singular_side numbers (filter_argument f) q a h e = absurd (cc)
 
-singular_is : (numbers : Numbers) (x : Argument) (q : SingularQuery) (a : List ℕ) → SpellsAlone (as_read numbers) x a → singular_in x ≡ Some q → SpellsSingular (as_read numbers) q a
+singular_is : (numbers : Numbers) (x : Argument) (q : Test) (a : List ℕ) → SpellsAlone (as_read numbers) x a → singular_in x ≡ Some q → SpellsSingular (as_read numbers) q a
 singular_is numbers x q a h e =
     let (c, is, e1) = bind_ok _ (comparable_of x) _ e in
     singular_side numbers c q a (comparable_is numbers x c a h is) e1
 
-singular_made : (q : SingularQuery) → singular_in (comparable_argument (singular q)) ≡ Some q
-singular_made q = rw (comparable_back (singular q)) refl
+singular_made : (q : Test) → IsTrue (is_singular_test q) → singular_in (test_argument q) ≡ Some q
+singular_made (relative gs) h = rw (steps_made gs h) refl
+singular_made (absolute gs) h = rw (steps_made gs h) refl
+singular_made (call c) h = absurd (cc)
 
 pub singular_law : Law SpellsSingular always (λ numbers text. taken_at singular_in always (operand_in numbers text))
-singular_law = taken_law SpellsAlone SpellsSingular singular_in always operand_in operand_front singular_is (λ numbers q text h. (comparable_argument (singular q), comparable_back_at numbers (singular q) text h, singular_made q)) (λ q a h. h) singular_unambiguous (λ N M again v a h. (v, h, refl))
+singular_law = taken_law SpellsAlone SpellsSingular singular_in always operand_in operand_front singular_is (λ numbers q text h. (test_argument q, test_back numbers q text h.1, singular_made q h.0)) (λ q a h. (h.0, test_wider IsValued SpellsNumber as_written q a h.1)) singular_unambiguous (λ N M again q a h. let (u, k, alike) = test_again N M again q a h.1 in (u, (alike.5 ∙ h.0, k), refl))
 
 -- ---- operands of `&&` and of `||`
 
@@ -263,11 +267,11 @@ segments_back numbers gs text h =
 pub segments_law : Law SpellsSegments is_typed (λ numbers text. taken_at (λ gs. Some gs) is_typed (segments_in numbers text))
 segments_law = taken_law SpellsSegments SpellsSegments (λ gs. Some gs) is_typed segments_in segments_front (same_tree SpellsSegments) (λ numbers gs text h. (gs, segments_back numbers gs text h, refl)) (segments_wider IsValued SpellsNumber as_written) segments_unambiguous (λ N M again v a h. let (w, k, alike) = segments_again N M again v a h in (w, k, alike.0))
 
-steps_is : (numbers : Numbers) (gs : Segments) (ss : List SingularStep) (a : List ℕ) → SpellsSegments (as_read numbers) gs a → steps_of gs ≡ Some ss → SpellsSteps (as_read numbers) ss a
-steps_is numbers gs ss a h e = steps_spelled (as_read numbers) gs ss a e h
+steps_is : (numbers : Numbers) (gs ss : Segments) (a : List ℕ) → SpellsSegments (as_read numbers) gs a → steps_in gs ≡ Some ss → SpellsSteps (as_read numbers) ss a
+steps_is numbers gs ss a h e = let (same, is) = steps_spelled gs ss e in (is, subst (λ v. SpellsSegments (as_read numbers) v a) same h)
 
-pub steps_law : Law SpellsSteps always (λ numbers text. taken_at steps_of always (segments_in numbers text))
-steps_law = taken_law SpellsSegments SpellsSteps steps_of always segments_in segments_front steps_is (λ numbers ss text h. (singles ss, segments_back numbers (singles ss) text (spells_singles (as_read numbers) ss text h), steps_singles ss)) (λ ss a h. h) steps_unambiguous (λ N M again v a h. (v, h, refl))
+pub steps_law : Law SpellsSteps always (λ numbers text. taken_at steps_in always (segments_in numbers text))
+steps_law = taken_law SpellsSegments SpellsSteps steps_in always segments_in segments_front steps_is (λ numbers gs text h. (gs, segments_back numbers gs text h.1, steps_made gs h.0)) (λ gs a h. (h.0, segments_wider IsValued SpellsNumber as_written gs a h.1)) steps_unambiguous (λ N M again gs a h. let (hs, k, alike) = segments_again N M again gs a h.1 in (hs, (alike.1 ∙ h.0, k), refl))
 
 segment_front : (numbers : Numbers) (g : Segment) (text rest : List ℕ) → segment_in numbers text ≡ Some (g, rest) → Spelled (SpellsSegment (as_read numbers)) g text rest
 segment_front numbers g text rest e = sound_segment (as_read numbers) (number_reading numbers) (inner_at numbers text) (inner_sound numbers (length text)) g text rest e

@@ -1,10 +1,11 @@
 -- What is spelled with some number literals is spelled as another tree with others in their place, typed as it is.
-use Rattle.std.proofs.Common.{◌≡◌, refl, ap, inl, inr, ℕ, ℤ, pos, Bool, true, false, not, ◌&&◌, Option, Some, unwrap_or, List, ◌++◌, codes}
+use Rattle.std.proofs.Common.{◌∙◌, ◌≡◌, refl, ap, inl, inr, ℕ, ℤ, pos, Bool, true, false, not, ◌&&◌, Option, Some, unwrap_or, List, ◌++◌, codes}
 use Rattle.jsonpath_parser.specs.inner.ReadingGrammar.{IsAny}
 use Rattle.jsonpath_parser.specs.words.Numbers.{SpellsNumber}
-use Rattle.jsonpath_parser.specs.Grammar.{Between, Behind, Then, IsSeveral, IsPlural, IsNoBareTest, SpellsLiteral, SpellsSelector, SpellsSelectors, SpellsMoreSelectors, SpellsSegment, SpellsSegments, SpellsLogical, SpellsConjunction, SpellsOperand, SpellsOr, SpellsMoreOr, SpellsAnd, SpellsMoreAnd, SpellsBasic, SpellsComparison, SpellsComparable, SpellsTest, SpellsCall, SpellsArgument, SpellsArguments, SpellsMoreArguments, Spells}
-use Rattle.jsonpath_parser.specs.tree.Syntax.{Literal, number, string, bool, null, Selector, name, wildcard, index, slice, filter, Selectors, no_selectors, selector, Segment, one, several, descendant, Segments, no_segments, segment, Filter, or, and, atom, Filters, no_filters, filter_then, Atom, group, test, comparison, Comparison, compare, Comparable, literal, function, singular, Test, relative, absolute, call, Call, custom_call, length_call, value_call, count_call, search_call, match_call, Argument, literal_argument, test_argument, filter_argument, Arguments, no_arguments, argument, Query}
-use Rattle.jsonpath_parser.specs.tree.Typing.{gives_value, is_step, is_singular, is_value_test, is_query_test, is_truth_test, is_value_argument, is_query_argument, is_typed, is_typed_segment, is_typed_selector, are_typed_selectors, is_typed_filter, are_typed_filters, is_typed_atom, is_typed_comparison, is_typed_comparable, is_typed_test, is_typed_call, is_typed_argument, are_typed_arguments}
+use Rattle.jsonpath_parser.specs.Grammar.{Between, Behind, Then, IsSeveral, IsPlural, IsNoBareTest, SpellsLiteral, SpellsSelector, SpellsSelectors, SpellsMoreSelectors, SpellsSegment, SpellsSegments, SpellsLogical, SpellsConjunction, SpellsOperand, SpellsOr, SpellsMoreOr, SpellsAnd, SpellsMoreAnd, SpellsBasic, SpellsComparison, SpellsTest, SpellsCall, SpellsArgument, SpellsArguments, SpellsMoreArguments, Spells}
+use Rattle.jsonpath_parser.specs.tree.Syntax.{Literal, number, string, bool, null, Selector, name, wildcard, index, slice, filter, Selectors, no_selectors, selector, Segment, one, several, descendant, Segments, no_segments, segment, Filter, or, and, atom, Filters, no_filters, filter_then, Atom, group, test, comparison, Comparison, compare, Test, relative, absolute, call, Call, custom_call, length_call, value_call, count_call, search_call, match_call, Argument, literal_argument, test_argument, filter_argument, Arguments, no_arguments, argument, Query}
+use Rattle.jsonpath_parser.specs.tree.Typing.{gives_value, is_step, is_singular, is_value_test, is_query_test, is_truth_test, is_value_argument, is_query_argument, is_typed, is_typed_segment, is_typed_selector, are_typed_selectors, is_typed_filter, are_typed_filters, is_typed_atom, is_typed_comparison, is_typed_test, is_typed_call, is_typed_argument, are_typed_arguments, is_comparable, is_singular_test, is_typed_side}
+use Rattle.jsonpath_parser.specs.Parts.{SpellsComparable}
 
 -- a number literal as it is written, whatever stands for it
 pub from_any : (v : Option ℤ) (a : List ℕ) → IsAny v a → (w : Option ℤ) × SpellsNumber w a
@@ -59,13 +60,13 @@ abbrev pub AlikeAtom : Atom → Atom → Type 0
 AlikeAtom x y = (is_typed_atom y ≡ is_typed_atom x) × (IsNoBareTest (atom x) → IsNoBareTest (atom y))
 
 abbrev pub AlikeTest : Test → Test → Type 0
-AlikeTest t u = (is_typed_test u ≡ is_typed_test t) × (is_truth_test u ≡ is_truth_test t) × (is_value_test u ≡ is_value_test t) × (is_query_test u ≡ is_query_test t)
+AlikeTest t u = (is_typed_test u ≡ is_typed_test t) × (is_truth_test u ≡ is_truth_test t) × (is_value_test u ≡ is_value_test t) × (is_query_test u ≡ is_query_test t) × (is_comparable (test_argument u) ≡ is_comparable (test_argument t)) × (is_singular_test u ≡ is_singular_test t)
 
 abbrev pub AlikeCall : Call → Call → Type 0
 AlikeCall c d = (is_typed_call d ≡ is_typed_call c) × (gives_value d ≡ gives_value c)
 
 abbrev pub AlikeArgument : Argument → Argument → Type 0
-AlikeArgument x y = (is_typed_argument y ≡ is_typed_argument x) × (is_value_argument y ≡ is_value_argument x) × (is_query_argument y ≡ is_query_argument x)
+AlikeArgument x y = (is_typed_argument y ≡ is_typed_argument x) × (is_value_argument y ≡ is_value_argument x) × (is_query_argument y ≡ is_query_argument x) × (is_comparable y ≡ is_comparable x)
 
 abbrev pub AlikeArguments : Arguments → Arguments → Type 0
 AlikeArguments xs ys = are_typed_arguments ys ≡ are_typed_arguments xs
@@ -185,19 +186,14 @@ module _ (N M : Option ℤ → List ℕ → Type 0) (again : (v : Option ℤ) (a
     pub comparison_again : (c : Comparison) (a : List ℕ) → SpellsComparison N c a → (d : Comparison) × SpellsComparison M d a × (is_typed_comparison d ≡ is_typed_comparison c)
     comparison_again (compare op l r) a h =
         let (x, b, o, c, y, hx, hb, ho, hc, hy, e) = h in
-        let (left, kl, al) = comparable_again l x hx in
-        let (right, kr, ar) = comparable_again r y hy in
-        (compare op left right, (x, b, o, c, y, kl, hb, ho, hc, kr, e), and_alike al ar)
-
-    pub comparable_again : (c : Comparable) (a : List ℕ) → SpellsComparable N c a → (d : Comparable) × SpellsComparable M d a × (is_typed_comparable d ≡ is_typed_comparable c)
-    comparable_again (literal l) a h = let (m, k) = literal_again l a h in (literal m, k, refl)
-    comparable_again (function c) a h = let (d, k, alike) = call_again c a h in (function d, k, and_alike alike.1 alike.0)
-    comparable_again (singular q) a h = (singular q, h, refl)
+        let (left, kl, al) = argument_again l x hx.1 in
+        let (right, kr, ar) = argument_again r y hy.1 in
+        (compare op left right, (x, b, o, c, y, (al.3 ∙ hx.0, kl), hb, ho, hc, (ar.3 ∙ hy.0, kr), e), and_alike (and_alike al.1 al.0) (and_alike ar.1 ar.0))
 
     pub test_again : (t : Test) (a : List ℕ) → SpellsTest N t a → (u : Test) × SpellsTest M u a × AlikeTest t u
-    test_again (relative gs) a h = let (x, hx, e) = h in let (hs, k, alike) = segments_again gs x hx in (relative hs, (x, k, e), (alike.0, refl, alike.1, refl))
-    test_again (absolute gs) a h = let (x, hx, e) = h in let (hs, k, alike) = segments_again gs x hx in (absolute hs, (x, k, e), (alike.0, refl, alike.1, refl))
-    test_again (call c) a h = let (d, k, alike) = call_again c a h in (call d, k, (alike.0, ap not alike.1, alike.1, refl))
+    test_again (relative gs) a h = let (x, hx, e) = h in let (hs, k, alike) = segments_again gs x hx in (relative hs, (x, k, e), (alike.0, refl, alike.1, refl, alike.1, alike.1))
+    test_again (absolute gs) a h = let (x, hx, e) = h in let (hs, k, alike) = segments_again gs x hx in (absolute hs, (x, k, e), (alike.0, refl, alike.1, refl, alike.1, alike.1))
+    test_again (call c) a h = let (d, k, alike) = call_again c a h in (call d, k, (alike.0, ap not alike.1, alike.1, refl, refl, refl))
 
     pub call_again : (c : Call) (a : List ℕ) → SpellsCall N c a → (d : Call) × SpellsCall M d a × AlikeCall c d
     call_again (custom_call n xs) a h =
@@ -228,9 +224,9 @@ module _ (N M : Option ℤ → List ℕ → Type 0) (again : (v : Option ℤ) (a
         (match_call v w, (b, p, c, hb, (q, r, k, (b2, c2, s, d, hb2, hc2, m, hd, e3), e2), hc, e), (and_alike (and_alike alike.1 other.1) (and_alike alike.0 other.0), refl))
 
     argument_again : (x : Argument) (a : List ℕ) → SpellsArgument N x a → (y : Argument) × SpellsArgument M y a × AlikeArgument x y
-    argument_again (literal_argument l) a h = let (m, k) = literal_again l a h in (literal_argument m, k, (refl, refl, refl))
-    argument_again (test_argument t) a h = let (u, k, alike) = test_again t a h in (test_argument u, k, (alike.0, alike.2, alike.3))
-    argument_again (filter_argument f) a h = let (g, k, alike) = logical_again f a h.1 in (filter_argument g, (alike.1 h.0, k), (alike.0, refl, refl))
+    argument_again (literal_argument l) a h = let (m, k) = literal_again l a h in (literal_argument m, k, (refl, refl, refl, refl))
+    argument_again (test_argument t) a h = let (u, k, alike) = test_again t a h in (test_argument u, k, (alike.0, alike.2, alike.3, alike.4))
+    argument_again (filter_argument f) a h = let (g, k, alike) = logical_again f a h.1 in (filter_argument g, (alike.1 h.0, k), (alike.0, refl, refl, refl))
 
     arguments_again : (xs : Arguments) (a : List ℕ) → SpellsArguments N xs a → (ys : Arguments) × SpellsArguments M ys a × AlikeArguments xs ys
     arguments_again no_arguments a h = (no_arguments, h, refl)
@@ -243,6 +239,9 @@ module _ (N M : Option ℤ → List ℕ → Type 0) (again : (v : Option ℤ) (a
     more_arguments_again (argument x xs) a h =
         let (y, ys, k, first, others) = behind_again (SpellsArgument N x) (SpellsMoreArguments N xs) (SpellsArgument M) (SpellsMoreArguments M) (AlikeArgument x) (AlikeArguments xs) (argument_again x) (more_arguments_again xs) (codes ",") a h in
         (argument y ys, k, and_alike first.0 others)
+
+  pub comparable_again : (x : Argument) (a : List ℕ) → SpellsComparable N x a → (y : Argument) × SpellsComparable M y a × (is_typed_side y ≡ is_typed_side x)
+  comparable_again x a h = let (y, k, alike) = argument_again x a h.1 in (y, (alike.3 ∙ h.0, k), and_alike alike.1 alike.0)
 
   pub query_again : (q : Query) (a : List ℕ) → Spells N q a → (p : Query) × Spells M p a × (is_typed p ≡ is_typed q)
   query_again q a h = let (x, hx, e) = h in let (p, k, alike) = segments_again q x hx in (p, (x, k, e), alike.0)

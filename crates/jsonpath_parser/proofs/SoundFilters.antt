@@ -2,13 +2,13 @@
 --
 -- What an argument of a call reads is taken as a premise, so no law is mutual.
 use Rattle.std.proofs.Common.{◌≡◌, ℕ, suc, Bool, true, false, ◌==◌, bytes_eq, ℤ, List, [], ◌∷◌, ◌++◌, length, drop, codes, Option, Some, option_map, refl, sym, ap, ◌∙◌, subst, inl, inr, append_assoc, arith}
-use Rattle.jsonpath_parser.specs.Grammar.{IsNoBareTest, SpellsNot, SpellsCalled, SpellsLiteral, SpellsConjunction, SpellsOperand, SpellsMoreOr, SpellsMoreAnd, SpellsComparable, SpellsTest, SpellsCall, SpellsArgument, SpellsArguments, SpellsMoreArguments}
+use Rattle.jsonpath_parser.specs.Grammar.{IsNoBareTest, SpellsNot, SpellsCalled, SpellsLiteral, SpellsConjunction, SpellsOperand, SpellsMoreOr, SpellsMoreAnd, SpellsTest, SpellsCall, SpellsArgument, SpellsArguments, SpellsMoreArguments}
 use Rattle.jsonpath_parser.specs.words.Lexical.{IsBlank, IsFunctionName, is_quote}
 use Rattle.jsonpath_parser.specs.words.inner.Reading.{Read, first, after_byte, skip_blank}
-use Rattle.jsonpath_parser.specs.inner.ReadingGrammar.{operand_behind, steps_of, comparable_of, filter_of, negated_of, is_int_first, word_at, word_literal, is_operator_first, operator_at, is_twice, logical_at, all_segments_at, all_arguments_at, called_at, word_operand_at, operand_at, group_at, negated_at, compared_at, plain_at, basic_at, ands_at, conjunction_at, ors_at, disjunction_at}
+use Rattle.jsonpath_parser.specs.inner.ReadingGrammar.{operand_behind, steps_of, comparable_of, filter_of, negated_of, is_int_first, word_at, word_literal, is_operator_first, operator_at, is_twice, logical_at, all_segments_at, all_arguments_at, called_at, word_operand_at, operand_at, group_at, negated_at, compared_at, plain_at, basic_at, ands_at, conjunction_at, ors_at, disjunction_at, steps_in}
 use Rattle.jsonpath_parser.specs.inner.ReadingLists.{found_then}
 use Rattle.jsonpath_parser.specs.words.inner.ReadingStrings.{string_at}
-use Rattle.jsonpath_parser.specs.tree.Syntax.{number, string, current, root, Filter, or, and, atom, Filters, no_filters, filter_then, group, test, comparison, compare, Comparable, literal, function, singular, relative, absolute, call, Call, custom_call, length_call, value_call, count_call, search_call, match_call, Argument, literal_argument, test_argument, filter_argument, Arguments, no_arguments, argument}
+use Rattle.jsonpath_parser.specs.tree.Syntax.{number, string, Filter, or, and, atom, Filters, no_filters, filter_then, group, test, comparison, compare, relative, absolute, call, Call, custom_call, length_call, value_call, count_call, search_call, match_call, Argument, literal_argument, test_argument, filter_argument, Arguments, no_arguments, argument}
 use Rattle.jsonpath_parser.specs.tree.Typing.{one_argument, two_arguments, call_of, is_table_name}
 use Rattle.jsonpath_parser.proofs.laws.words.Fronts.{skip_split}
 use Rattle.jsonpath_parser.proofs.FilterPieces.{twice_front, marked, marked_others, call_pieces, group_pieces, compared_pieces, within, one_spelled, SpellsTwo, two_spelled}
@@ -16,6 +16,7 @@ use Rattle.jsonpath_parser.proofs.SoundLists.{sound_many, many_some, sound_separ
 use Rattle.jsonpath_parser.proofs.SoundParts.{bind_ok, map_ok, chosen, at_front, byte_read, Spelled, same_parts, moved, glue, same_word, word_sound, sound_operator, word_spelled}
 use Rattle.jsonpath_parser.proofs.SoundSegments.{gathered, steps_spelled, sound_logical, sound_all_segments}
 use Rattle.jsonpath_parser.proofs.laws.words.StringSound.{sound_string}
+use Rattle.jsonpath_parser.specs.Parts.{SpellsComparable}
 
 module _ (Number : Option ℤ → List ℕ → Type 0) where
   -- ---- arguments
@@ -70,19 +71,19 @@ module _ (Number : Option ℤ → List ℕ → Type 0) where
   conjunction_operand (filter_argument g) f a h e = let k : g ≡ f = cc in subst (λ v. SpellsConjunction Number v a) k h.1
 
   -- as a side of a comparison
-  pub comparable_spelled : (x : Argument) (c : Comparable) (a : List ℕ) → SpellsAlone x a → comparable_of x ≡ Some c → SpellsComparable Number c a
-  comparable_spelled (literal_argument l) c a h e = let k : literal l ≡ c = cc in subst (λ v. SpellsComparable Number v a) k h
+  pub comparable_spelled : (x c : Argument) (a : List ℕ) → SpellsAlone x a → comparable_of x ≡ Some c → SpellsComparable Number c a
+  comparable_spelled (literal_argument l) c a h e = let k : literal_argument l ≡ c = cc in subst (λ v. SpellsComparable Number v a) k (refl, h)
   comparable_spelled (test_argument (relative gs)) c a h e =
-      let (ss, are, e1) = bind_ok _ (steps_of gs) c e in
-      let (b, hb, eb) = h in
-      let k : singular (current ss) ≡ c = cc in
-      subst (λ v. SpellsComparable Number v a) k (b, steps_spelled Number gs ss b are hb, eb)
+      let (ss, are, e1) = bind_ok _ (steps_in gs) c e in
+      let (same, is) = steps_spelled gs ss are in
+      let k : test_argument (relative ss) ≡ c = cc in
+      subst (λ v. SpellsComparable Number v a) k (is, subst (λ v. SpellsArgument Number (test_argument (relative v)) a) same h)
   comparable_spelled (test_argument (absolute gs)) c a h e =
-      let (ss, are, e1) = bind_ok _ (steps_of gs) c e in
-      let (b, hb, eb) = h in
-      let k : singular (root ss) ≡ c = cc in
-      subst (λ v. SpellsComparable Number v a) k (b, steps_spelled Number gs ss b are hb, eb)
-  comparable_spelled (test_argument (call d)) c a h e = let k : function d ≡ c = cc in subst (λ v. SpellsComparable Number v a) k h
+      let (ss, are, e1) = bind_ok _ (steps_in gs) c e in
+      let (same, is) = steps_spelled gs ss are in
+      let k : test_argument (absolute ss) ≡ c = cc in
+      subst (λ v. SpellsComparable Number v a) k (is, subst (λ v. SpellsArgument Number (test_argument (absolute v)) a) same h)
+  comparable_spelled (test_argument (call d)) c a h e = let k : test_argument (call d) ≡ c = cc in subst (λ v. SpellsComparable Number v a) k (refl, h)
   comparable_spelled (filter_argument f) c a h e = absurd h.1
 
   -- behind `!`

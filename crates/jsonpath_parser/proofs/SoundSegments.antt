@@ -1,17 +1,18 @@
 -- What is read is spelled so: selectors, segments and the steps of a singular query.
 --
 -- What an argument of a call reads is taken as a premise, so no law is mutual.
-use Rattle.std.proofs.Common.{◌≡◌, ℕ, suc, true, false, ◌==◌, ℤ, List, [], ◌∷◌, ◌++◌, length, drop, slice_index, codes, Option, Some, refl, sym, ap, ◌∙◌, subst, ◌⊎◌, inl, inr, append_assoc, append-nil, arith}
-use Rattle.jsonpath_parser.specs.Grammar.{Between, IsSeveral, SpellsSelector, SpellsSelectors, SpellsMoreSelectors, SpellsShorthand, SpellsSegment, SpellsSegments, SpellsLogical, SpellsArgument, SpellsSingularStep, SpellsSingularSteps}
+use Rattle.std.proofs.Common.{◌≡◌, ℕ, suc, true, false, ◌==◌, ℤ, List, [], ◌∷◌, ◌++◌, length, drop, slice_index, codes, Option, Some, refl, sym, ap, ◌∙◌, subst, ◌⊎◌, inl, inr, append_assoc, append-nil, arith, IsTrue}
+use Rattle.jsonpath_parser.specs.Grammar.{Between, IsSeveral, SpellsSelector, SpellsSelectors, SpellsMoreSelectors, SpellsShorthand, SpellsSegment, SpellsSegments, SpellsLogical, SpellsArgument}
 use Rattle.jsonpath_parser.specs.words.Lexical.{IsBlank, is_quote}
 use Rattle.jsonpath_parser.specs.words.inner.Reading.{Read, first, after_byte, skip_blank}
-use Rattle.jsonpath_parser.specs.inner.ReadingGrammar.{selection_of, step_of_segment, steps_of, filter_of, shorthand_at, starts_segment, logical_at, selector_at, selectors_at, selection_at, descendant_at, segment_at, all_segments_at}
+use Rattle.jsonpath_parser.specs.inner.ReadingGrammar.{selection_of, step_of_segment, steps_of, filter_of, shorthand_at, starts_segment, logical_at, selector_at, selectors_at, selection_at, descendant_at, segment_at, all_segments_at, steps_in}
 use Rattle.jsonpath_parser.specs.words.inner.ReadingStrings.{string_at}
-use Rattle.jsonpath_parser.specs.tree.Syntax.{SingularStep, name_step, index_step, Selector, name, wildcard, index, slice, filter, Selectors, no_selectors, selector, Segment, one, several, descendant, Segments, no_segments, segment, Filter, atom, test, Argument, literal_argument, test_argument, filter_argument}
+use Rattle.jsonpath_parser.specs.tree.Syntax.{Selector, name, wildcard, index, slice, filter, Selectors, no_selectors, selector, Segment, one, several, descendant, Segments, no_segments, segment, Filter, atom, test, Argument, literal_argument, test_argument, filter_argument, list_of}
 use Rattle.jsonpath_parser.proofs.laws.words.Fronts.{skip_split}
 use Rattle.jsonpath_parser.proofs.SoundLists.{sound_many, sound_separated}
 use Rattle.jsonpath_parser.proofs.SoundParts.{bind_ok, chosen, at_front, two_front, byte_read, Spelled, moved, glue, sound_shorthand, sound_numbered}
 use Rattle.jsonpath_parser.proofs.laws.words.StringSound.{sound_string}
+use Rattle.jsonpath_parser.specs.tree.Typing.{is_singular, is_step}
 
 -- the pieces of a text between two others
 pub between : (before after text t1 t2 t3 t4 rest b a c : List ℕ) → text ≡ before ++ t1 → t1 ≡ b ++ t2 → t2 ≡ a ++ t3 → t3 ≡ c ++ t4 → t4 ≡ after ++ rest → text ≡ (before ++ (b ++ (a ++ (c ++ after)))) ++ rest
@@ -20,6 +21,34 @@ between before after text t1 t2 t3 t4 rest b a c e e1 e2 e3 e4 = rw (e, e1, e2, 
 -- a first part and others are one
 pub gathered : (text a r rest : List ℕ) → text ≡ a ++ (r ++ rest) → text ≡ (a ++ r) ++ rest
 gathered text a r rest e = e ∙ sym (append_assoc a r rest)
+
+-- a segment that is found as a step is one
+step_is : (g s : Segment) → step_of_segment g ≡ Some s → (s ≡ g) × IsTrue (is_step g)
+step_is (one (name n)) s e = (cc, refl)
+step_is (one (index i)) s e = (cc, refl)
+step_is (one wildcard) s e = absurd (cc)
+step_is (one (slice i j k)) s e = absurd (cc)
+step_is (one (filter f)) s e = absurd (cc)
+step_is (several ss) s e = absurd (cc)
+step_is (descendant g) s e = absurd (cc)
+
+-- and segments that are found as steps are
+steps_are : (gs : Segments) (ss : List Segment) → steps_of gs ≡ Some ss → (list_of segment no_segments ss ≡ gs) × IsTrue (is_singular gs)
+steps_are no_segments ss e = let k : ◌≡◌ {A = List Segment} [] ss = cc in (sym (ap (list_of segment no_segments) k), refl)
+steps_are (segment g gs) ss e =
+    let (s, is, e1) = bind_ok _ (step_of_segment g) ss e in
+    let (more, are, e2) = bind_ok _ (steps_of gs) ss e1 in
+    let (one_same, step) = step_is g s is in
+    let (same, singular) = steps_are gs more are in
+    let k : s ∷ more ≡ ss = cc in
+    (sym (ap (list_of segment no_segments) k) ∙ ap (λ v. segment v (list_of segment no_segments more)) one_same ∙ ap (segment g) same, rw (step, singular) refl)
+
+pub steps_spelled : (gs ss : Segments) → steps_in gs ≡ Some ss → (gs ≡ ss) × IsTrue (is_singular ss)
+steps_spelled gs ss e =
+    let (found, are, e1) = bind_ok _ (steps_of gs) ss e in
+    let (same, is) = steps_are gs found are in
+    let k : list_of segment no_segments found ≡ ss = cc in
+    (sym same ∙ k, subst (λ v. IsTrue (is_singular v)) (sym same ∙ k) is)
 
 module _ (Number : Option ℤ → List ℕ → Type 0) where
   -- what brackets spell
@@ -45,34 +74,6 @@ module _ (Number : Option ℤ → List ℕ → Type 0) where
   selection_descendant (one s) a h = (a, inl h, refl)
   selection_descendant (several ss) a h = (a, h.0, h.1, refl)
   selection_descendant (descendant g) a h = absurd h
-
-  -- a segment that is a step
-  step_spelled : (g : Segment) (s : SingularStep) (a : List ℕ) → step_of_segment g ≡ Some s → SpellsSegment Number g a → SpellsSingularStep s a
-  step_spelled (one (name n)) s a e h = let k : name_step n ≡ s = cc in subst (λ v. SpellsSingularStep v a) k (named h)
-    where
-      named : Between (codes "[") (SpellsSelector Number (name n)) (codes "]") a ⊎ ((b : List ℕ) × SpellsShorthand (name n) b × (a ≡ 46 ∷ b)) → SpellsSingularStep (name_step n) a
-      named (inl quoted) = inr quoted
-      named (inr dotted) = let (b, its, is) = dotted in inl (its.0, is ∙ ap (λ v. 46 ∷ v) its.1)
-  step_spelled (one (index i)) s a e h = let k : index_step i ≡ s = cc in subst (λ v. SpellsSingularStep v a) k (numbered h)
-    where
-      numbered : Between (codes "[") (SpellsSelector Number (index i)) (codes "]") a ⊎ ((b : List ℕ) × SpellsShorthand (index i) b × (a ≡ 46 ∷ b)) → SpellsSingularStep (index_step i) a
-      numbered (inl bracketed) = bracketed
-      numbered (inr dotted) = absurd dotted.1
-  step_spelled (one wildcard) s a e h = absurd (cc)
-  step_spelled (one (slice i j k)) s a e h = absurd (cc)
-  step_spelled (one (filter f)) s a e h = absurd (cc)
-  step_spelled (several ss) s a e h = absurd (cc)
-  step_spelled (descendant g) s a e h = absurd (cc)
-
-  -- segments that are steps
-  pub steps_spelled : (gs : Segments) (ss : List SingularStep) (a : List ℕ) → steps_of gs ≡ Some ss → SpellsSegments Number gs a → SpellsSingularSteps ss a
-  steps_spelled no_segments ss a e h = let k : ◌≡◌ {A = List SingularStep} [] ss = cc in subst (λ v. SpellsSingularSteps v a) k h
-  steps_spelled (segment g gs) ss a e h =
-      let (s, is, e1) = bind_ok _ (step_of_segment g) ss e in
-      let (more, are, e2) = bind_ok _ (steps_of gs) ss e1 in
-      let (b, x, c, hb, hx, hc, ea) = h in
-      let k : s ∷ more ≡ ss = cc in
-      subst (λ v. SpellsSingularSteps v a) k (b, x, c, hb, step_spelled g s x is hx, steps_spelled gs more c are hc, ea)
 
   -- an argument as a logical expression
   argument_logical : (x : Argument) (f : Filter) (a : List ℕ) → SpellsArgument Number x a → filter_of x ≡ Some f → SpellsLogical Number f a

@@ -4,14 +4,14 @@ use Rattle.std.proofs.lemmas.Bool.{not_from_false}
 use Rattle.std.proofs.Math.Dec.{T}
 use Rattle.std.specs.Int.Signed.{le_z}
 use Rattle.std.specs.List.{list_all}
-use Rattle.jsonpath_parser.specs.Grammar.{IsSeveral, IsPlural, IsNoBareTest, IsCustomName, IsInRange, SpellsBound, SpellsStep, SpellsShorthand, SpellsSingularStep, SpellsSingularSteps, SpellsSingularQuery, SpellsLiteral, SpellsSelector, SpellsSelectors, SpellsMoreSelectors, SpellsSegment, SpellsSegments, SpellsLogical, SpellsConjunction, SpellsOperand, SpellsOr, SpellsMoreOr, SpellsAnd, SpellsMoreAnd, SpellsBasic, SpellsComparison, SpellsComparable, SpellsTest, SpellsCall, SpellsArgument, SpellsArguments, SpellsMoreArguments, Spells}
+use Rattle.jsonpath_parser.specs.Grammar.{IsSeveral, IsPlural, IsNoBareTest, IsCustomName, IsInRange, SpellsBound, SpellsStep, SpellsShorthand, SpellsLiteral, SpellsSelector, SpellsSelectors, SpellsMoreSelectors, SpellsSegment, SpellsSegments, SpellsLogical, SpellsConjunction, SpellsOperand, SpellsOr, SpellsMoreOr, SpellsAnd, SpellsMoreAnd, SpellsBasic, SpellsComparison, SpellsTest, SpellsCall, SpellsArgument, SpellsArguments, SpellsMoreArguments, Spells}
 use Rattle.jsonpath_parser.specs.words.Lexical.{IsRun, IsFunctionName, is_function_first, is_function_byte}
 use Rattle.jsonpath_parser.specs.words.Numbers.{IsLong}
 use Rattle.jsonpath_parser.specs.tree.Typing.{is_table_name}
-use Rattle.jsonpath_parser.specs.tree.Syntax.{Literal, number, string, bool, null, SingularStep, name_step, index_step, SingularQuery, current, root, Selector, name, wildcard, index, slice, filter, Selectors, no_selectors, selector, Segment, one, several, descendant, Segments, no_segments, segment, Filter, or, and, atom, Filters, no_filters, filter_then, Atom, group, test, comparison, Comparison, compare, Comparable, literal, function, singular, Test, relative, absolute, call, Call, custom_call, length_call, value_call, count_call, search_call, match_call, Argument, literal_argument, test_argument, filter_argument, Arguments, no_arguments, argument, Query}
+use Rattle.jsonpath_parser.specs.tree.Syntax.{Literal, number, string, bool, null, Selector, name, wildcard, index, slice, filter, Selectors, no_selectors, selector, Segment, one, several, descendant, Segments, no_segments, segment, Filter, or, and, atom, Filters, no_filters, filter_then, Atom, group, test, comparison, Comparison, compare, Test, relative, absolute, call, Call, custom_call, length_call, value_call, count_call, search_call, match_call, Argument, literal_argument, test_argument, filter_argument, Arguments, no_arguments, argument, Query}
 use Rattle.jsonpath_parser.specs.Derives.{Derives}
 use Rattle.jsonpath_parser.specs.Values.{IsValued}
-use Rattle.jsonpath_parser.specs.inner.Spellable.{is_in_range, is_long, is_bound, is_function_name, is_custom_name, is_spelled_literal, is_spelled_step, is_spelled_singular, are_several_selectors, are_several_filters, is_conjunction, is_operand, is_no_bare_test, is_spelled, is_spelled_segment, is_spelled_selector, are_spelled_selectors, is_spelled_filter, are_spelled_conjunctions, are_spelled_operands, is_spelled_atom, is_spelled_comparison, is_spelled_comparable, is_spelled_test, is_spelled_call, is_spelled_argument, are_spelled_arguments}
+use Rattle.jsonpath_parser.specs.inner.Spellable.{is_in_range, is_long, is_bound, is_function_name, is_custom_name, is_spelled_literal, are_several_selectors, are_several_filters, is_conjunction, is_operand, is_no_bare_test, is_spelled, is_spelled_segment, is_spelled_selector, are_spelled_selectors, is_spelled_filter, are_spelled_conjunctions, are_spelled_operands, is_spelled_atom, is_spelled_comparison, is_spelled_test, is_spelled_call, is_spelled_argument, are_spelled_arguments}
 use Rattle.jsonpath_parser.proofs.Respelling.{and_alike}
 
 -- ---- words
@@ -43,18 +43,6 @@ literal_passes (number (Some v)) a h = long_passes v h.0.is_value.0
 literal_passes (string s) a h = refl
 literal_passes (bool b) a h = refl
 literal_passes null a h = refl
-
-step_passes : (s : SingularStep) (a : List ℕ) → SpellsSingularStep s a → is_spelled_step s ≡ true
-step_passes (name_step n) a h = refl
-step_passes (index_step i) a h = let (b, x, c, hb, hx, hc, e) = h in range_passes i hx.1
-
-steps_pass : (ss : List SingularStep) (a : List ℕ) → SpellsSingularSteps ss a → list_all is_spelled_step ss ≡ true
-steps_pass [] a h = refl
-steps_pass (s ∷ ss) a h = let (b, x, c, hb, hx, hc, e) = h in both (step_passes s x hx) (steps_pass ss c hc)
-
-singular_passes : (q : SingularQuery) (a : List ℕ) → SpellsSingularQuery q a → is_spelled_singular q ≡ true
-singular_passes (current ss) a h = let (x, hx, e) = h in steps_pass ss x hx
-singular_passes (root ss) a h = let (x, hx, e) = h in steps_pass ss x hx
 
 run_passes : (p : ℕ → Bool) (s : List ℕ) → IsRun p s → list_all p s ≡ true
 run_passes p [] h = refl
@@ -164,12 +152,7 @@ mutual
   atom_passes (comparison c) a h = comparison_passes c a h
 
   comparison_passes : (c : Comparison) (a : List ℕ) → SpellsComparison IsValued c a → is_spelled_comparison c ≡ true
-  comparison_passes (compare op l r) a h = let (x, b, o, c, y, hx, hb, ho, hc, hy, e) = h in both (comparable_passes l x hx) (comparable_passes r y hy)
-
-  comparable_passes : (c : Comparable) (a : List ℕ) → SpellsComparable IsValued c a → is_spelled_comparable c ≡ true
-  comparable_passes (literal l) a h = literal_passes l a h
-  comparable_passes (function c) a h = call_passes c a h
-  comparable_passes (singular q) a h = singular_passes q a h
+  comparison_passes (compare op l r) a h = let (x, b, o, c, y, hx, hb, ho, hc, hy, e) = h in both (both hx.0 (argument_passes l x hx.1)) (both hy.0 (argument_passes r y hy.1))
 
   test_passes : (t : Test) (a : List ℕ) → SpellsTest IsValued t a → is_spelled_test t ≡ true
   test_passes (relative gs) a h = let (x, hx, e) = h in segments_pass gs x hx

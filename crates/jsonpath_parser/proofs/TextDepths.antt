@@ -4,10 +4,10 @@ use Rattle.jsonpath_parser.specs.words.Depth.{depth, depth_from, outside}
 use Rattle.jsonpath_parser.specs.words.Lexical.{IsBlank}
 use Rattle.jsonpath_parser.specs.words.Strings.{SpellsString}
 use Rattle.jsonpath_parser.specs.Derives.{Derives}
-use Rattle.jsonpath_parser.specs.Grammar.{Between, Behind, Then, IsNothing, SpellsIndex, SpellsBound, SpellsStep, SpellsSlice, SpellsShorthand, SpellsOperator, SpellsNot, SpellsCalled, SpellsSingularStep, SpellsSingularSteps, SpellsSingularQuery, SpellsLiteral, SpellsSelector, SpellsSelectors, SpellsMoreSelectors, SpellsSegment, SpellsSegments, SpellsLogical, SpellsConjunction, SpellsOperand, SpellsOr, SpellsMoreOr, SpellsAnd, SpellsMoreAnd, SpellsBasic, SpellsComparison, SpellsComparable, SpellsTest, SpellsCall, SpellsArgument, SpellsArguments, SpellsMoreArguments, Spells}
-use Rattle.jsonpath_parser.specs.tree.Syntax.{Literal, number, string, bool, null, SingularStep, name_step, index_step, SingularQuery, current, root, Operator, equal, not_equal, greater, greater_or_equal, less, less_or_equal, Selector, name, wildcard, index, slice, filter, Selectors, no_selectors, selector, Segment, one, several, descendant, Segments, no_segments, segment, Filter, or, and, atom, Filters, no_filters, filter_then, Atom, group, test, comparison, Comparison, compare, Comparable, literal, function, singular, Test, relative, absolute, call, Call, custom_call, length_call, value_call, count_call, search_call, match_call, Argument, literal_argument, test_argument, filter_argument, Arguments, no_arguments, argument, Query}
+use Rattle.jsonpath_parser.specs.Grammar.{Between, Behind, Then, IsNothing, SpellsIndex, SpellsBound, SpellsStep, SpellsSlice, SpellsShorthand, SpellsOperator, SpellsNot, SpellsCalled, SpellsLiteral, SpellsSelector, SpellsSelectors, SpellsMoreSelectors, SpellsSegment, SpellsSegments, SpellsLogical, SpellsConjunction, SpellsOperand, SpellsOr, SpellsMoreOr, SpellsAnd, SpellsMoreAnd, SpellsBasic, SpellsComparison, SpellsTest, SpellsCall, SpellsArgument, SpellsArguments, SpellsMoreArguments, Spells}
+use Rattle.jsonpath_parser.specs.tree.Syntax.{Literal, number, string, bool, null, Operator, equal, not_equal, greater, greater_or_equal, less, less_or_equal, Selector, name, wildcard, index, slice, filter, Selectors, no_selectors, selector, Segment, one, several, descendant, Segments, no_segments, segment, Filter, or, and, atom, Filters, no_filters, filter_then, Atom, group, test, comparison, Comparison, compare, Test, relative, absolute, call, Call, custom_call, length_call, value_call, count_call, search_call, match_call, Argument, literal_argument, test_argument, filter_argument, Arguments, no_arguments, argument, Query}
 use Rattle.jsonpath_parser.specs.Values.{IsValued}
-use Rattle.jsonpath_parser.specs.inner.Nesting.{steps_nesting, singular_nesting, nesting, segment_nesting, selector_nesting, selectors_nesting, filter_nesting, filters_nesting, atom_nesting, comparison_nesting, comparable_nesting, test_nesting, call_nesting, argument_nesting, arguments_nesting}
+use Rattle.jsonpath_parser.specs.inner.Nesting.{nesting, segment_nesting, selector_nesting, selectors_nesting, filter_nesting, filters_nesting, atom_nesting, comparison_nesting, argument_nesting, test_nesting, call_nesting, argument_nesting, arguments_nesting}
 use Rattle.jsonpath_parser.proofs.laws.words.Openings.{Opens, opens_append, opens_flat, opens_nothing, opens_same, opens_blank, opens_name, opens_function_name, opens_int, opens_number, opens_string, opens_square, opens_round}
 
 -- the text opens so many brackets at once, or one less
@@ -159,21 +159,6 @@ not_flat : (negated : Bool) (a : List ℕ) → SpellsNot negated a → Opens 0 a
 not_flat true a h = let (b, hb, e) = h in opens_same 0 a (codes "!" ++ b) e (opens_flat (codes "!") b bang (opens_blank b hb))
 not_flat false a h = opens_same 0 a [] h opens_nothing
 
-singular_step_nests : (s : SingularStep) (a : List ℕ) → SpellsSingularStep s a → Nests 1 a
-singular_step_nests (name_step n) a (inl h) = short 0 a refl (opens_same 0 a (codes "." ++ n) h.1 (opens_flat (codes ".") n one_dot (opens_name n h.0)))
-singular_step_nests (name_step n) a (inr h) = in_square (SpellsString n) 0 (λ x hx. flat x (opens_string n x hx)) a h
-singular_step_nests (index_step i) a h = in_square (SpellsIndex i) 0 (λ x hx. flat x (index_flat i x hx)) a h
-
-singular_steps_nest : (ss : List SingularStep) (a : List ℕ) → SpellsSingularSteps ss a → Nests (steps_nesting ss) a
-singular_steps_nest [] a h = same 0 a [] h (flat [] opens_nothing)
-singular_steps_nest (s ∷ ss) a h =
-    let (b, x, c, hb, hx, hc, e) = h in
-    same (max 1 (steps_nesting ss)) a (b ++ (x ++ c)) e (in_front (max 1 (steps_nesting ss)) b (x ++ c) (opens_blank b hb) (joined 1 (steps_nesting ss) x c (singular_step_nests s x hx) (singular_steps_nest ss c hc)))
-
-singular_nests : (q : SingularQuery) (a : List ℕ) → SpellsSingularQuery q a → Nests (singular_nesting q) a
-singular_nests (current ss) a h = let (x, hx, e) = h in same (steps_nesting ss) a (codes "@" ++ x) e (in_front (steps_nesting ss) (codes "@") x at_sign (singular_steps_nest ss x hx))
-singular_nests (root ss) a h = let (x, hx, e) = h in same (steps_nesting ss) a (codes "$" ++ x) e (in_front (steps_nesting ss) (codes "$") x dollar (singular_steps_nest ss x hx))
-
 -- a name or `*` behind dots
 shorthand_nests : (s : Selector) (a : List ℕ) → SpellsShorthand s a → Nests (suc (selector_nesting s)) a
 shorthand_nests (name n) a h = short 0 a refl (opens_same 0 a n h.1 (opens_name n h.0))
@@ -276,15 +261,10 @@ mutual
   comparison_nests : (c : Comparison) (a : List ℕ) → SpellsComparison IsValued c a → Nests (comparison_nesting c) a
   comparison_nests (compare op l r) a h =
       let (x, b, o, c, y, hx, hb, ho, hc, hy, e) = h in
-      same (max (comparable_nesting l) (comparable_nesting r)) a (x ++ (b ++ (o ++ (c ++ y)))) e
-      (joined (comparable_nesting l) (comparable_nesting r) x (b ++ (o ++ (c ++ y))) (comparable_nests l x hx)
-      (in_front (comparable_nesting r) b (o ++ (c ++ y)) (opens_blank b hb) (in_front (comparable_nesting r) o (c ++ y) (operator_flat op o ho)
-      (in_front (comparable_nesting r) c y (opens_blank c hc) (comparable_nests r y hy)))))
-
-  comparable_nests : (c : Comparable) (a : List ℕ) → SpellsComparable IsValued c a → Nests (comparable_nesting c) a
-  comparable_nests (literal l) a h = flat a (literal_flat l a h)
-  comparable_nests (function c) a h = call_nests c a h
-  comparable_nests (singular q) a h = singular_nests q a h
+      same (max (argument_nesting l) (argument_nesting r)) a (x ++ (b ++ (o ++ (c ++ y)))) e
+      (joined (argument_nesting l) (argument_nesting r) x (b ++ (o ++ (c ++ y))) (argument_nests l x hx.1)
+      (in_front (argument_nesting r) b (o ++ (c ++ y)) (opens_blank b hb) (in_front (argument_nesting r) o (c ++ y) (operator_flat op o ho)
+      (in_front (argument_nesting r) c y (opens_blank c hc) (argument_nests r y hy.1)))))
 
   test_nests : (t : Test) (a : List ℕ) → SpellsTest IsValued t a → Nests (test_nesting t) a
   test_nests (relative gs) a h = let (x, hx, e) = h in same (nesting gs) a (codes "@" ++ x) e (in_front (nesting gs) (codes "@") x at_sign (segments_nest gs x hx))

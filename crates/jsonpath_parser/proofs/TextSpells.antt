@@ -8,17 +8,17 @@ use Rattle.std.specs.Int.Signed.{le_z, le_z_yes}
 use Rattle.std.specs.Fmt.{signed_decimal, decimal}
 use Rattle.std.specs.List.{list_all}
 use Rattle.std.specs.Str.Parse.{digits_value}
-use Rattle.jsonpath_parser.specs.Grammar.{Between, Behind, Then, IsNothing, IsSeveral, IsPlural, IsNoBareTest, IsCustomName, IsInRange, SpellsInt, SpellsIndex, SpellsBound, SpellsStep, SpellsSlice, SpellsOperator, SpellsNot, SpellsSingularStep, SpellsSingularSteps, SpellsSingularQuery, SpellsLiteral, SpellsSelector, SpellsSelectors, SpellsMoreSelectors, SpellsSegment, SpellsSegments, SpellsLogical, SpellsConjunction, SpellsOperand, SpellsOr, SpellsMoreOr, SpellsAnd, SpellsMoreAnd, SpellsBasic, SpellsComparison, SpellsComparable, SpellsTest, SpellsCall, SpellsArgument, SpellsArguments, SpellsMoreArguments, Spells}
+use Rattle.jsonpath_parser.specs.Grammar.{Between, Behind, Then, IsNothing, IsSeveral, IsPlural, IsNoBareTest, IsCustomName, IsInRange, SpellsInt, SpellsIndex, SpellsBound, SpellsStep, SpellsSlice, SpellsOperator, SpellsNot, SpellsLiteral, SpellsSelector, SpellsSelectors, SpellsMoreSelectors, SpellsSegment, SpellsSegments, SpellsLogical, SpellsConjunction, SpellsOperand, SpellsOr, SpellsMoreOr, SpellsAnd, SpellsMoreAnd, SpellsBasic, SpellsComparison, SpellsTest, SpellsCall, SpellsArgument, SpellsArguments, SpellsMoreArguments, Spells}
 use Rattle.jsonpath_parser.specs.words.Lexical.{IsRun, IsFunctionName, is_function_first, is_function_byte}
 use Rattle.jsonpath_parser.specs.words.Numbers.{SpellsSign, IsWholePart, raised, signed, IsLong, SpellsNumber}
 use Rattle.jsonpath_parser.specs.words.Strings.{SpellsString}
 use Rattle.jsonpath_parser.specs.Normal.{index_digits}
 use Rattle.jsonpath_parser.specs.tree.Shown.{not_shown, operator_shown}
-use Rattle.jsonpath_parser.specs.tree.Typing.{is_table_name}
-use Rattle.jsonpath_parser.specs.tree.Syntax.{Literal, number, string, bool, null, SingularStep, name_step, index_step, SingularQuery, current, root, Operator, equal, not_equal, greater, greater_or_equal, less, less_or_equal, Selector, name, wildcard, index, slice, filter, Selectors, no_selectors, selector, Segment, one, several, descendant, Segments, no_segments, segment, Filter, or, and, atom, Filters, no_filters, filter_then, Atom, group, test, comparison, Comparison, compare, Comparable, literal, function, singular, Test, relative, absolute, call, Call, custom_call, length_call, value_call, count_call, search_call, match_call, Argument, literal_argument, test_argument, filter_argument, Arguments, no_arguments, argument, Query}
+use Rattle.jsonpath_parser.specs.tree.Typing.{is_table_name, is_comparable}
+use Rattle.jsonpath_parser.specs.tree.Syntax.{Literal, number, string, bool, null, Operator, equal, not_equal, greater, greater_or_equal, less, less_or_equal, Selector, name, wildcard, index, slice, filter, Selectors, no_selectors, selector, Segment, one, several, descendant, Segments, no_segments, segment, Filter, or, and, atom, Filters, no_filters, filter_then, Atom, group, test, comparison, Comparison, compare, Test, relative, absolute, call, Call, custom_call, length_call, value_call, count_call, search_call, match_call, Argument, literal_argument, test_argument, filter_argument, Arguments, no_arguments, argument, Query}
 use Rattle.jsonpath_parser.specs.Values.{IsValued}
-use Rattle.jsonpath_parser.specs.inner.Spellable.{is_in_range, is_long, is_bound, is_function_name, is_custom_name, is_spelled_literal, is_spelled_step, is_spelled_singular, are_several_selectors, are_several_filters, is_conjunction, is_operand, is_no_bare_test, is_spelled, is_spelled_segment, is_spelled_selector, are_spelled_selectors, is_spelled_filter, are_spelled_conjunctions, are_spelled_operands, is_spelled_atom, is_spelled_comparison, is_spelled_comparable, is_spelled_test, is_spelled_call, is_spelled_argument, are_spelled_arguments}
-use Rattle.jsonpath_parser.specs.inner.QueryTexts.{string_text, bound_text, slice_step_text, slice_text, singular_step_text, singular_steps_text, singular_text, literal_text, segments_text, segment_text, selector_text, selectors_text, filter_text, filters_text, atom_text, comparison_text, comparable_text, test_text, call_text, argument_text, arguments_text, query_text}
+use Rattle.jsonpath_parser.specs.inner.Spellable.{is_in_range, is_long, is_bound, is_function_name, is_custom_name, is_spelled_literal, are_several_selectors, are_several_filters, is_conjunction, is_operand, is_no_bare_test, is_spelled, is_spelled_segment, is_spelled_selector, are_spelled_selectors, is_spelled_filter, are_spelled_conjunctions, are_spelled_operands, is_spelled_atom, is_spelled_comparison, is_spelled_test, is_spelled_call, is_spelled_argument, are_spelled_arguments}
+use Rattle.jsonpath_parser.specs.inner.QueryTexts.{string_text, bound_text, slice_step_text, slice_text, literal_text, segments_text, segment_text, selector_text, selectors_text, filter_text, filters_text, atom_text, comparison_text, test_text, call_text, argument_text, arguments_text, query_text}
 use Rattle.jsonpath_parser.proofs.NormalQueries.{name_spelled, index_spelled}
 use Rattle.jsonpath_parser.proofs.laws.words.Quoting.{decimal_index}
 
@@ -115,20 +115,6 @@ literal_spelled (string s) h = name_spelled s
 literal_spelled (bool true) h = refl
 literal_spelled (bool false) h = refl
 literal_spelled null h = refl
-
-singular_step_spelled : (s : SingularStep) → is_spelled_step s ≡ true → SpellsSingularStep s (singular_step_text s)
-singular_step_spelled (name_step n) h = inr (between_bare (SpellsString n) (codes "[") (string_text n) (codes "]") (name_spelled n))
-singular_step_spelled (index_step i) h = between_bare (SpellsIndex i) (codes "[") (signed_decimal i) (codes "]") (index_text i h)
-
-singular_steps_spelled : (ss : List SingularStep) → list_all is_spelled_step ss ≡ true → SpellsSingularSteps ss (singular_steps_text ss)
-singular_steps_spelled [] h = refl
-singular_steps_spelled (s ∷ ss) h =
-    let p = and_parts (is_spelled_step s) (list_all is_spelled_step ss) h in
-    ([], singular_step_text s, singular_steps_text ss, tt, singular_step_spelled s p.0, singular_steps_spelled ss p.1, refl)
-
-singular_spelled : (q : SingularQuery) → is_spelled_singular q ≡ true → SpellsSingularQuery q (singular_text q)
-singular_spelled (current ss) h = (singular_steps_text ss, singular_steps_spelled ss h, refl)
-singular_spelled (root ss) h = (singular_steps_text ss, singular_steps_spelled ss h, refl)
 
 operator_spelled : (op : Operator) → SpellsOperator op (operator_shown op)
 operator_spelled equal = refl
@@ -272,13 +258,10 @@ mutual
 
   comparison_spelled : (c : Comparison) → is_spelled_comparison c ≡ true → SpellsComparison IsValued c (comparison_text c)
   comparison_spelled (compare op l r) h =
-      let p = and_parts (is_spelled_comparable l) (is_spelled_comparable r) h in
-      (comparable_text l, [], operator_shown op, [], comparable_text r, comparable_spelled l p.0, tt, operator_spelled op, tt, comparable_spelled r p.1, refl)
-
-  comparable_spelled : (c : Comparable) → is_spelled_comparable c ≡ true → SpellsComparable IsValued c (comparable_text c)
-  comparable_spelled (literal l) h = literal_spelled l h
-  comparable_spelled (function c) h = call_spelled c h
-  comparable_spelled (singular q) h = singular_spelled q h
+      let p = and_parts (is_comparable l && is_spelled_argument l) (is_comparable r && is_spelled_argument r) h in
+      let left = and_parts (is_comparable l) (is_spelled_argument l) p.0 in
+      let right = and_parts (is_comparable r) (is_spelled_argument r) p.1 in
+      (argument_text l, [], operator_shown op, [], argument_text r, (left.0, argument_spelled l left.1), tt, operator_spelled op, tt, (right.0, argument_spelled r right.1), refl)
 
   test_spelled : (t : Test) → is_spelled_test t ≡ true → SpellsTest IsValued t (test_text t)
   test_spelled (relative gs) h = (segments_text gs, segments_spelled gs h, refl)

@@ -1,9 +1,9 @@
 -- No text spells two trees: a query that is spelled is read, and reading is a function, so a query's text spells one; and each other kind of tree can stand in a query.
 use Rattle.std.proofs.Common.{◌≡◌, ℕ, true, false, ℤ, List, [], ◌++◌, codes, Option, Some, refl, sym, ap, inl, append-nil}
-use Rattle.jsonpath_parser.specs.Grammar.{Spells, SpellsSegments, SpellsSegment, SpellsSelector, SpellsLogical, SpellsConjunction, SpellsBasic, SpellsComparison, SpellsComparable, SpellsLiteral, SpellsTest, SpellsCall}
+use Rattle.jsonpath_parser.specs.Grammar.{Spells, SpellsSegments, SpellsSegment, SpellsSelector, SpellsLogical, SpellsConjunction, SpellsBasic, SpellsComparison, SpellsLiteral, SpellsTest, SpellsCall}
 use Rattle.jsonpath_parser.specs.words.Numbers.{SpellsNumber}
-use Rattle.jsonpath_parser.specs.Parts.{Spelling, SpellsRelative, SpellsChild, SpellsSliceParts, SpellsSteps, SpellsSingular}
-use Rattle.jsonpath_parser.specs.tree.Syntax.{current, equal, slice, filter, one, descendant, no_segments, segment, Filter, or, and, atom, test, comparison, compare, literal, singular, relative, call}
+use Rattle.jsonpath_parser.specs.Parts.{Spelling, SpellsRelative, SpellsChild, SpellsSliceParts, SpellsSteps, SpellsSingular, SpellsComparable}
+use Rattle.jsonpath_parser.specs.tree.Syntax.{equal, slice, filter, one, descendant, no_segments, segment, Filter, or, and, atom, test, comparison, compare, relative, call, literal_argument, test_argument, Test, absolute}
 use Rattle.jsonpath_parser.specs.Unambiguous.{NoTextDerivesTwoTrees, SpellsOneTree, IsUnambiguous}
 use Rattle.jsonpath_parser.specs.Values.{IsValued}
 use Rattle.jsonpath_parser.specs.words.inner.Reading.{Read, first}
@@ -94,14 +94,20 @@ pub comparable_unambiguous : IsUnambiguous SpellsComparable
 comparable_unambiguous = within SpellsComparable SpellsComparison (λ c. compare equal c c) (λ text. text ++ (codes "==" ++ text)) (λ v w e. cc) (λ Number c text h. (text, [], codes "==", [], text, h, tt, refl, tt, h, refl)) comparison_unambiguous
 
 pub literal_unambiguous : IsUnambiguous SpellsLiteral
-literal_unambiguous = within SpellsLiteral SpellsComparable literal (λ text. text) (λ v w e. cc) (λ Number l text h. h) comparable_unambiguous
+literal_unambiguous = within SpellsLiteral SpellsComparable literal_argument (λ text. text) (λ v w e. cc) (λ Number l text h. (refl, h)) comparable_unambiguous
+
+-- a singular query as a side
+singular_alone : (Number : Option ℤ → List ℕ → Type 0) (q : Test) (text : List ℕ) → SpellsSingular Number q text → SpellsComparable Number (test_argument q) text
+singular_alone Number (relative gs) text h = h
+singular_alone Number (absolute gs) text h = h
+singular_alone Number (call c) text h = let none = h.0 in absurd (cc)
 
 pub singular_unambiguous : IsUnambiguous SpellsSingular
-singular_unambiguous = within SpellsSingular SpellsComparable singular (λ text. text) (λ v w e. cc) (λ Number q text h. h) comparable_unambiguous
+singular_unambiguous = within SpellsSingular SpellsComparable test_argument (λ text. text) (λ v w e. cc) singular_alone comparable_unambiguous
 
 -- `@` before steps
 pub steps_unambiguous : IsUnambiguous SpellsSteps
-steps_unambiguous = within SpellsSteps SpellsSingular current (λ text. codes "@" ++ text) (λ v w e. cc) (λ Number ss text h. (text, h, refl)) singular_unambiguous
+steps_unambiguous = within SpellsSteps SpellsSingular relative (λ text. codes "@" ++ text) (λ v w e. cc) (λ Number gs text h. (h.0, (text, h.1, refl))) singular_unambiguous
 
 -- a test without `!`
 pub test_unambiguous : IsUnambiguous SpellsTest

@@ -1,7 +1,8 @@
 -- What is spelled with some number literals is spelled with more of them.
 use Rattle.std.proofs.Common.{inl, inr, ℕ, ℤ, true, false, Option, List, ◌++◌, codes}
-use Rattle.jsonpath_parser.specs.Grammar.{Between, Behind, Then, IsNothing, SpellsLiteral, SpellsSelector, SpellsSelectors, SpellsMoreSelectors, SpellsSegment, SpellsSegments, SpellsLogical, SpellsConjunction, SpellsOperand, SpellsOr, SpellsMoreOr, SpellsAnd, SpellsMoreAnd, SpellsBasic, SpellsComparison, SpellsComparable, SpellsTest, SpellsCall, SpellsArgument, SpellsArguments, SpellsMoreArguments, Spells}
-use Rattle.jsonpath_parser.specs.tree.Syntax.{Literal, number, string, bool, null, Selector, name, wildcard, index, slice, filter, Selectors, no_selectors, selector, Segment, one, several, descendant, Segments, no_segments, segment, Filter, or, and, atom, Filters, no_filters, filter_then, Atom, group, test, comparison, Comparison, compare, Comparable, literal, function, singular, Test, relative, absolute, call, Call, custom_call, length_call, value_call, count_call, search_call, match_call, Argument, literal_argument, test_argument, filter_argument, Arguments, no_arguments, argument, Query}
+use Rattle.jsonpath_parser.specs.Grammar.{Between, Behind, Then, IsNothing, SpellsLiteral, SpellsSelector, SpellsSelectors, SpellsMoreSelectors, SpellsSegment, SpellsSegments, SpellsLogical, SpellsConjunction, SpellsOperand, SpellsOr, SpellsMoreOr, SpellsAnd, SpellsMoreAnd, SpellsBasic, SpellsComparison, SpellsTest, SpellsCall, SpellsArgument, SpellsArguments, SpellsMoreArguments, Spells}
+use Rattle.jsonpath_parser.specs.tree.Syntax.{Literal, number, string, bool, null, Selector, name, wildcard, index, slice, filter, Selectors, no_selectors, selector, Segment, one, several, descendant, Segments, no_segments, segment, Filter, or, and, atom, Filters, no_filters, filter_then, Atom, group, test, comparison, Comparison, compare, Test, relative, absolute, call, Call, custom_call, length_call, value_call, count_call, search_call, match_call, Argument, literal_argument, test_argument, filter_argument, Arguments, no_arguments, argument, Query}
+use Rattle.jsonpath_parser.specs.Parts.{SpellsComparable}
 
 between_wider : (S T : List ℕ → Type 0) → ((a : List ℕ) → S a → T a) → (x y text : List ℕ) → Between x S y text → Between x T y text
 between_wider S T wider x y text h = let (b, a, c, hb, ha, hc, e) = h in (b, a, c, hb, wider a ha, hc, e)
@@ -86,12 +87,7 @@ module _ (N M : Option ℤ → List ℕ → Type 0) (wider : (v : Option ℤ) (a
     basic_wider (comparison c) a h = comparison_wider c a h
 
     pub comparison_wider : (c : Comparison) (a : List ℕ) → SpellsComparison N c a → SpellsComparison M c a
-    comparison_wider (compare op l r) a h = let (x, b, o, c, y, hx, hb, ho, hc, hy, e) = h in (x, b, o, c, y, comparable_wider l x hx, hb, ho, hc, comparable_wider r y hy, e)
-
-    pub comparable_wider : (c : Comparable) (a : List ℕ) → SpellsComparable N c a → SpellsComparable M c a
-    comparable_wider (literal l) a h = literal_wider l a h
-    comparable_wider (function c) a h = call_wider c a h
-    comparable_wider (singular q) a h = h
+    comparison_wider (compare op l r) a h = let (x, b, o, c, y, hx, hb, ho, hc, hy, e) = h in (x, b, o, c, y, (hx.0, argument_wider l x hx.1), hb, ho, hc, (hy.0, argument_wider r y hy.1), e)
 
     pub test_wider : (t : Test) (a : List ℕ) → SpellsTest N t a → SpellsTest M t a
     test_wider (relative gs) a h = let (x, hx, e) = h in (x, segments_wider gs x hx, e)
@@ -120,6 +116,9 @@ module _ (N M : Option ℤ → List ℕ → Type 0) (wider : (v : Option ℤ) (a
     more_arguments_wider : (xs : Arguments) (a : List ℕ) → SpellsMoreArguments N xs a → SpellsMoreArguments M xs a
     more_arguments_wider no_arguments a h = h
     more_arguments_wider (argument x xs) a h = behind_wider (SpellsArgument N x) (SpellsArgument M x) (SpellsMoreArguments N xs) (SpellsMoreArguments M xs) (argument_wider x) (more_arguments_wider xs) (codes ",") a h
+
+  pub comparable_wider : (x : Argument) (a : List ℕ) → SpellsComparable N x a → SpellsComparable M x a
+  comparable_wider x a h = (h.0, argument_wider x a h.1)
 
   pub spells_wider : (q : Query) (a : List ℕ) → Spells N q a → Spells M q a
   spells_wider q a h = let (x, hx, e) = h in (x, segments_wider q x hx, e)

@@ -1,14 +1,14 @@
 -- The grammar: which texts spell a tree, one case for each production (RFC 9535, 2.1 to 2.5).
 --
 -- `Number v text` is how a number literal of the value v is written; all else stands here.
-use Rattle.std.specs.Prelude.{◌≡◌, ◌⊎◌, ℕ, zero, suc, ◌≤◌, ◌≤ℤ◌, ℤ, pos, negsuc, Bool, true, false, Option, Some, None, List, [], ◌∷◌, ◌++◌, slice_index, codes}
+use Rattle.std.specs.Prelude.{◌≡◌, ◌⊎◌, ℕ, zero, suc, ◌≤◌, ◌≤ℤ◌, ℤ, pos, negsuc, Bool, true, false, IsTrue, Option, Some, None, List, [], ◌∷◌, ◌++◌, slice_index, codes}
 use Rattle.std.specs.Str.{byte}
 use Rattle.std.specs.Str.Parse.{digits_value}
 use Rattle.std.specs.Char.{is_ascii_digit}
 use Rattle.jsonpath_parser.specs.words.Lexical.{IsRun, IsBlank, IsName, IsFunctionName}
 use Rattle.jsonpath_parser.specs.words.Strings.{SpellsString}
-use Rattle.jsonpath_parser.specs.tree.Typing.{is_table_name}
-use Rattle.jsonpath_parser.specs.tree.Syntax.{Literal, number, string, bool, null, SingularStep, name_step, index_step, SingularQuery, current, root, Operator, equal, not_equal, greater, greater_or_equal, less, less_or_equal, Selector, name, wildcard, index, slice, filter, Selectors, no_selectors, selector, Segment, one, several, descendant, Segments, no_segments, segment, Filter, or, and, atom, Filters, no_filters, filter_then, Atom, group, test, comparison, Comparison, compare, Comparable, literal, function, singular, Test, relative, absolute, call, Call, custom_call, length_call, value_call, count_call, search_call, match_call, Argument, literal_argument, test_argument, filter_argument, Arguments, no_arguments, argument, Query}
+use Rattle.jsonpath_parser.specs.tree.Typing.{is_comparable, is_table_name}
+use Rattle.jsonpath_parser.specs.tree.Syntax.{Literal, number, string, bool, null, Operator, equal, not_equal, greater, greater_or_equal, less, less_or_equal, Selector, name, wildcard, index, slice, filter, Selectors, no_selectors, selector, Segment, one, several, descendant, Segments, no_segments, segment, Filter, or, and, atom, Filters, no_filters, filter_then, Atom, group, test, comparison, Comparison, compare, Test, relative, absolute, call, Call, custom_call, length_call, value_call, count_call, search_call, match_call, Argument, literal_argument, test_argument, filter_argument, Arguments, no_arguments, argument, Query}
 
 -- a digit from 1 to 9, then digits (2.3.3.1)
 abbrev pub SpellsPositive : ℕ → List ℕ → Type 0
@@ -68,19 +68,6 @@ SpellsOperator less_or_equal text = text ≡ codes "<="
 SpellsOperator greater_or_equal text = text ≡ codes ">="
 SpellsOperator less text = text ≡ codes "<"
 SpellsOperator greater text = text ≡ codes ">"
-
--- a step of a singular query (2.3.5.1); blanks may stand inside the brackets
-abbrev pub SpellsSingularStep : SingularStep → List ℕ → Type 0
-SpellsSingularStep (name_step n) text = (IsName n × (text ≡ codes "." ++ n)) ⊎ Between (codes "[") (SpellsString n) (codes "]") text
-SpellsSingularStep (index_step i) text = Between (codes "[") (SpellsIndex i) (codes "]") text
-
-abbrev pub SpellsSingularSteps : List SingularStep → List ℕ → Type 0
-SpellsSingularSteps [] text = text ≡ []
-SpellsSingularSteps (s ∷ ss) text = (b a c : List ℕ) × IsBlank b × SpellsSingularStep s a × SpellsSingularSteps ss c × (text ≡ b ++ (a ++ c))
-
-abbrev pub SpellsSingularQuery : SingularQuery → List ℕ → Type 0
-SpellsSingularQuery (current ss) text = (a : List ℕ) × SpellsSingularSteps ss a × (text ≡ codes "@" ++ a)
-SpellsSingularQuery (root ss) text = (a : List ℕ) × SpellsSingularSteps ss a × (text ≡ codes "$" ++ a)
 
 -- `!` and blanks, where it is negated
 abbrev pub SpellsNot : Bool → List ℕ → Type 0
@@ -194,12 +181,7 @@ module _ (Number : Option ℤ → List ℕ → Type 0) where
 
     -- 2.3.5.2.2
     pub SpellsComparison : Comparison → List ℕ → Type 0
-    SpellsComparison (compare op l r) text = (a b o c d : List ℕ) × SpellsComparable l a × IsBlank b × SpellsOperator op o × IsBlank c × SpellsComparable r d × (text ≡ a ++ (b ++ (o ++ (c ++ d))))
-
-    pub SpellsComparable : Comparable → List ℕ → Type 0
-    SpellsComparable (literal l) text = SpellsLiteral l text
-    SpellsComparable (function c) text = SpellsCall c text
-    SpellsComparable (singular q) text = SpellsSingularQuery q text
+    SpellsComparison (compare op l r) text = (a b o c d : List ℕ) × (IsTrue (is_comparable l) × SpellsArgument l a) × IsBlank b × SpellsOperator op o × IsBlank c × (IsTrue (is_comparable r) × SpellsArgument r d) × (text ≡ a ++ (b ++ (o ++ (c ++ d))))
 
     pub SpellsTest : Test → List ℕ → Type 0
     SpellsTest (relative gs) text = (a : List ℕ) × SpellsSegments gs a × (text ≡ codes "@" ++ a)

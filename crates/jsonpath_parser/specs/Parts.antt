@@ -1,9 +1,10 @@
 -- What the grammar functions of a cursor answer: each reads one kind of tree at the cursor's place (RFC 9535, 2.1 to 2.5).
-use Rattle.std.specs.Prelude.{◌≡◌, ℕ, ◌-◌, Bool, true, ℤ, List, [], ◌++◌, length, codes, Option, Result, MatchResult, IfOk, IfErr, OnErr, string_bytes, ⊤}
+use Rattle.std.specs.Prelude.{◌≡◌, ℕ, ◌-◌, Bool, true, IsTrue, ℤ, List, [], ◌++◌, length, codes, Option, Result, MatchResult, IfOk, IfErr, OnErr, string_bytes, ⊤}
 use Rattle.std.specs.Str.{IsCharBoundary}
-use Rattle.jsonpath_parser.specs.Grammar.{SpellsSlice, SpellsSingularSteps, SpellsSingularQuery, SpellsSegment, SpellsTest}
+use Rattle.jsonpath_parser.specs.Grammar.{SpellsSlice, SpellsSegment, SpellsSegments, SpellsTest, SpellsArgument}
 use Rattle.jsonpath_parser.specs.words.Numbers.{SpellsNumber}
-use Rattle.jsonpath_parser.specs.tree.Syntax.{SingularStep, SingularQuery, Segment, descendant, Segments, relative}
+use Rattle.jsonpath_parser.specs.tree.Syntax.{Segment, descendant, Segments, Test, relative, Argument}
+use Rattle.jsonpath_parser.specs.tree.Typing.{is_singular, is_singular_test, is_comparable}
 use Rattle.jsonpath_parser.specs.Valueless.{IsValuelessIn}
 use Rattle.jsonpath_parser.specs.Values.{IsValued}
 use Rattle.jsonpath_parser.specs.declared.errors.JsonPathError.{JsonPathError}
@@ -39,11 +40,16 @@ abbrev pub SpellsSliceParts : Spelling (Option ℤ × Option ℤ × Option ℤ)
 SpellsSliceParts Number p text = SpellsSlice p.0 p.1 p.2 text
 
 -- each step perhaps after blanks (2.3.5.1)
-abbrev pub SpellsSteps : Spelling (List SingularStep)
-SpellsSteps Number ss text = SpellsSingularSteps ss text
+abbrev pub SpellsSteps : Spelling Segments
+SpellsSteps Number gs text = IsTrue (is_singular gs) × SpellsSegments Number gs text
 
-abbrev pub SpellsSingular : Spelling SingularQuery
-SpellsSingular Number q text = SpellsSingularQuery q text
+-- `@` or `$` and such steps
+abbrev pub SpellsSingular : Spelling Test
+SpellsSingular Number t text = IsTrue (is_singular_test t) × SpellsTest Number t text
+
+-- a side of a comparison (2.3.5.1)
+abbrev pub SpellsComparable : Spelling Argument
+SpellsComparable Number x text = IsTrue (is_comparable x) × SpellsArgument Number x text
 
 -- no call stands in such a tree
 abbrev pub always : {V : Type 0} → V → Bool

@@ -1,15 +1,6 @@
 -- How deep brackets nest in the text that the code writes for a tree. The laws of proofs/ join it to the depth of any text that spells the tree.
 use Rattle.std.specs.Prelude.{ℕ, suc, max, List, [], ◌∷◌}
-use Rattle.jsonpath_parser.specs.tree.Syntax.{SingularStep, SingularQuery, current, root, Selector, filter, Selectors, no_selectors, selector, Segment, one, several, descendant, no_segments, segment, Filter, or, and, atom, Filters, no_filters, filter_then, Atom, group, test, comparison, Comparison, compare, Comparable, literal, function, singular, Test, relative, absolute, call, Call, custom_call, length_call, value_call, count_call, search_call, match_call, Argument, literal_argument, test_argument, filter_argument, Arguments, no_arguments, argument, Query}
-
--- each step stands in brackets
-abbrev pub steps_nesting : List SingularStep → ℕ
-steps_nesting [] = 0
-steps_nesting (s ∷ ss) = max 1 (steps_nesting ss)
-
-abbrev pub singular_nesting : SingularQuery → ℕ
-singular_nesting (current ss) = steps_nesting ss
-singular_nesting (root ss) = steps_nesting ss
+use Rattle.jsonpath_parser.specs.tree.Syntax.{Selector, filter, Selectors, no_selectors, selector, Segment, one, several, descendant, no_segments, segment, Filter, or, and, atom, Filters, no_filters, filter_then, Atom, group, test, comparison, Comparison, compare, Test, relative, absolute, call, Call, custom_call, length_call, value_call, count_call, search_call, match_call, Argument, literal_argument, test_argument, filter_argument, Arguments, no_arguments, argument, Query}
 
 abbrev mutual
   pub nesting : Query → ℕ
@@ -44,12 +35,7 @@ abbrev mutual
   atom_nesting (comparison c) = comparison_nesting c
 
   pub comparison_nesting : Comparison → ℕ
-  comparison_nesting (compare op left right) = max (comparable_nesting left) (comparable_nesting right)
-
-  pub comparable_nesting : Comparable → ℕ
-  comparable_nesting (literal l) = 0
-  comparable_nesting (function c) = call_nesting c
-  comparable_nesting (singular q) = singular_nesting q
+  comparison_nesting (compare op left right) = max (argument_nesting left) (argument_nesting right)
 
   pub test_nesting : Test → ℕ
   test_nesting (relative gs) = nesting gs

@@ -3,7 +3,7 @@ use Rattle.std.specs.Prelude.{ℕ, ℤ, Bool, List, [], ◌∷◌, ◌++◌, cod
 use Rattle.std.specs.Fmt.{signed_decimal}
 use Rattle.jsonpath_parser.specs.Normal.{name_chars}
 use Rattle.jsonpath_parser.specs.tree.Shown.{not_shown, operator_shown}
-use Rattle.jsonpath_parser.specs.tree.Syntax.{Literal, number, string, bool, null, SingularStep, name_step, index_step, SingularQuery, current, root, Selector, name, wildcard, index, slice, filter, Selectors, no_selectors, selector, Segment, one, several, descendant, Segments, no_segments, segment, Query, Filter, or, and, atom, Filters, no_filters, filter_then, Atom, group, test, comparison, Comparison, compare, Comparable, literal, function, singular, Test, relative, absolute, call, Call, custom_call, length_call, value_call, count_call, search_call, match_call, Argument, literal_argument, test_argument, filter_argument, Arguments, no_arguments, argument}
+use Rattle.jsonpath_parser.specs.tree.Syntax.{Literal, number, string, bool, null, Selector, name, wildcard, index, slice, filter, Selectors, no_selectors, selector, Segment, one, several, descendant, Segments, no_segments, segment, Query, Filter, or, and, atom, Filters, no_filters, filter_then, Atom, group, test, comparison, Comparison, compare, Test, relative, absolute, call, Call, custom_call, length_call, value_call, count_call, search_call, match_call, Argument, literal_argument, test_argument, filter_argument, Arguments, no_arguments, argument}
 
 -- a string as a Normalized Path quotes a name (2.7)
 abbrev pub string_text : List ℕ → List ℕ
@@ -19,22 +19,6 @@ slice_step_text (Some i) = codes ":" ++ signed_decimal i
 
 abbrev pub slice_text : Option ℤ → Option ℤ → Option ℤ → List ℕ
 slice_text start end step = bound_text start ++ (codes ":" ++ (bound_text end ++ slice_step_text step))
-
--- what stands in the brackets of a step
-abbrev pub bare_step_text : SingularStep → List ℕ
-bare_step_text (name_step n) = string_text n
-bare_step_text (index_step i) = signed_decimal i
-
-abbrev pub singular_step_text : SingularStep → List ℕ
-singular_step_text s = codes "[" ++ (bare_step_text s ++ codes "]")
-
-abbrev pub singular_steps_text : List SingularStep → List ℕ
-singular_steps_text [] = []
-singular_steps_text (s ∷ ss) = singular_step_text s ++ singular_steps_text ss
-
-abbrev pub singular_text : SingularQuery → List ℕ
-singular_text (current ss) = codes "@" ++ singular_steps_text ss
-singular_text (root ss) = codes "$" ++ singular_steps_text ss
 
 abbrev pub bool_text : Bool → List ℕ
 bool_text b = if b then codes "true" else codes "false"
@@ -85,12 +69,7 @@ abbrev mutual
   atom_text (comparison c) = comparison_text c
 
   pub comparison_text : Comparison → List ℕ
-  comparison_text (compare op left right) = comparable_text left ++ (operator_shown op ++ comparable_text right)
-
-  pub comparable_text : Comparable → List ℕ
-  comparable_text (literal l) = literal_text l
-  comparable_text (function c) = call_text c
-  comparable_text (singular q) = singular_text q
+  comparison_text (compare op left right) = argument_text left ++ (operator_shown op ++ argument_text right)
 
   pub test_text : Test → List ℕ
   test_text (relative gs) = codes "@" ++ segments_text gs
@@ -114,6 +93,11 @@ abbrev mutual
   pub arguments_text : List ℕ → Arguments → List ℕ
   arguments_text before no_arguments = []
   arguments_text before (argument x xs) = before ++ (argument_text x ++ arguments_text (codes ",") xs)
+
+-- what stands in the brackets of a step
+abbrev pub bare_text : Segment → List ℕ
+bare_text (one s) = selector_text s
+bare_text _ = []
 
 -- `$` and the segments
 abbrev pub query_text : Query → List ℕ

@@ -11,7 +11,7 @@ use Rattle.jsonpath_parser.specs.words.inner.ReadingNumbers.{number_at}
 use Rattle.jsonpath_parser.specs.words.inner.ReadingStrings.{string_at}
 use Rattle.jsonpath_parser.specs.declared.grammar.literals.Numbers.{Numbers}
 use Rattle.jsonpath_parser.specs.declared.grammar.literals.Numbers.TheVariants.{Valued, Any}
-use Rattle.jsonpath_parser.specs.tree.Syntax.{Literal, number, string, bool, null, SingularStep, name_step, index_step, current, root, Operator, equal, not_equal, greater, greater_or_equal, less, less_or_equal, Selector, name, wildcard, index, slice, filter, Selectors, no_selectors, selector, Segment, one, several, descendant, Segments, no_segments, segment, Filter, or, and, atom, Filters, no_filters, filter_then, group, test, comparison, compare, Comparable, literal, function, singular, relative, absolute, call, Call, Argument, literal_argument, test_argument, filter_argument, Arguments, no_arguments, argument, Query}
+use Rattle.jsonpath_parser.specs.tree.Syntax.{Literal, number, string, bool, null, Operator, equal, not_equal, greater, greater_or_equal, less, less_or_equal, Selector, name, wildcard, index, slice, filter, Selectors, no_selectors, selector, Segment, one, several, descendant, Segments, no_segments, segment, Filter, or, and, atom, Filters, no_filters, filter_then, group, test, comparison, compare, relative, absolute, call, Call, Argument, literal_argument, test_argument, filter_argument, Arguments, no_arguments, argument, Query, list_of}
 use Rattle.jsonpath_parser.specs.tree.Typing.{call_of}
 
 -- ---- how the code's values are seen
@@ -32,23 +32,26 @@ abbrev pub selection_of : Selectors → Segment
 selection_of (selector s no_selectors) = one s
 selection_of ss = several ss
 
--- a segment of one name or one index as a step
-abbrev pub step_of_segment : Segment → Option SingularStep
-step_of_segment (one (name n)) = Some (name_step n)
-step_of_segment (one (index i)) = Some (index_step i)
+-- a segment of one name or one index
+abbrev pub step_of_segment : Segment → Option Segment
+step_of_segment (one (name n)) = Some (one (name n))
+step_of_segment (one (index i)) = Some (one (index i))
 step_of_segment _ = None
 
--- the segments as steps, where each is one name or one index
-abbrev pub steps_of : Segments → Option (List SingularStep)
+-- the segments, where each is one name or one index
+abbrev pub steps_of : Segments → Option (List Segment)
 steps_of no_segments = Some []
 steps_of (segment g gs) = step_of_segment g >>= (λ s. steps_of gs >>= (λ ss. Some (s ∷ ss)))
 
+abbrev pub steps_in : Segments → Option Segments
+steps_in gs = steps_of gs >>= (λ ss. Some (list_of segment no_segments ss))
+
 -- what an argument is as a side of a comparison
-abbrev pub comparable_of : Argument → Option Comparable
-comparable_of (literal_argument l) = Some (literal l)
-comparable_of (test_argument (relative gs)) = steps_of gs >>= (λ ss. Some (singular (current ss)))
-comparable_of (test_argument (absolute gs)) = steps_of gs >>= (λ ss. Some (singular (root ss)))
-comparable_of (test_argument (call c)) = Some (function c)
+abbrev pub comparable_of : Argument → Option Argument
+comparable_of (literal_argument l) = Some (literal_argument l)
+comparable_of (test_argument (relative gs)) = steps_in gs >>= (λ ss. Some (test_argument (relative ss)))
+comparable_of (test_argument (absolute gs)) = steps_in gs >>= (λ ss. Some (test_argument (absolute ss)))
+comparable_of (test_argument (call c)) = Some (test_argument (call c))
 comparable_of (filter_argument f) = None
 
 -- and as a logical expression

@@ -5,7 +5,7 @@ use Rattle.std.specs.Str.{IsCharBoundary}
 use Rattle.jsonpath_parser.specs.Parts.{text_of, rest_of}
 use Rattle.jsonpath_parser.specs.words.inner.Reading.{Read, ◌>>=◌, first}
 use Rattle.jsonpath_parser.specs.inner.ReadingGrammar.{number_reading, comparable_of, filter_of, shorthand_at, selection_at, operand_at, basic_at, conjunction_at, all_segments_at, segment_at, selector_at, logical_at, argument_at}
-use Rattle.jsonpath_parser.specs.tree.Syntax.{Literal, SingularQuery, Selector, slice, Segment, one, Segments, Filter, atom, Atom, comparison, Comparison, Comparable, function, singular, Test, relative, absolute, call, Call, Argument, literal_argument, test_argument, Query}
+use Rattle.jsonpath_parser.specs.tree.Syntax.{Literal, Selector, slice, Segment, one, Segments, Filter, atom, Atom, comparison, Comparison, Test, relative, absolute, call, Call, Argument, literal_argument, test_argument, Query}
 use Rattle.jsonpath_parser.specs.Valueless.{IsValuelessIn}
 use Rattle.jsonpath_parser.specs.declared.errors.JsonPathError.{JsonPathError}
 use Rattle.jsonpath_parser.specs.declared.errors.JsonPathError.TheVariants.{PestError, InvalidNumber, OutOfMemory}
@@ -37,11 +37,12 @@ abbrev pub query_in : Argument → Option Query
 query_in (test_argument (absolute gs)) = Some gs
 query_in _ = None
 
-abbrev pub singular_of : Comparable → Option SingularQuery
-singular_of (singular q) = Some q
+abbrev pub singular_of : Argument → Option Test
+singular_of (test_argument (relative gs)) = Some (relative gs)
+singular_of (test_argument (absolute gs)) = Some (absolute gs)
 singular_of _ = None
 
-abbrev pub singular_in : Argument → Option SingularQuery
+abbrev pub singular_in : Argument → Option Test
 singular_in x = comparable_of x >>= singular_of
 
 abbrev pub atom_of : Filter → Option Atom

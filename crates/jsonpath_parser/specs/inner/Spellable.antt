@@ -3,8 +3,8 @@ use Rattle.std.specs.Prelude.{ℕ, ℤ, pos, negsuc, Bool, true, false, not, ◌
 use Rattle.std.specs.Int.Signed.{le_z}
 use Rattle.std.specs.List.{list_all}
 use Rattle.jsonpath_parser.specs.words.Lexical.{is_function_first, is_function_byte}
-use Rattle.jsonpath_parser.specs.tree.Typing.{is_table_name}
-use Rattle.jsonpath_parser.specs.tree.Syntax.{Literal, number, SingularStep, name_step, index_step, SingularQuery, current, root, Selector, name, wildcard, index, slice, filter, Selectors, no_selectors, selector, Segment, one, several, descendant, no_segments, segment, Query, Filter, or, and, atom, Filters, no_filters, filter_then, Atom, group, test, comparison, Comparison, compare, Comparable, literal, function, singular, Test, relative, absolute, call, Call, custom_call, length_call, value_call, count_call, search_call, match_call, Argument, literal_argument, test_argument, filter_argument, Arguments, no_arguments, argument}
+use Rattle.jsonpath_parser.specs.tree.Typing.{is_comparable, is_table_name}
+use Rattle.jsonpath_parser.specs.tree.Syntax.{Literal, number, Selector, name, wildcard, index, slice, filter, Selectors, no_selectors, selector, Segment, one, several, descendant, no_segments, segment, Query, Filter, or, and, atom, Filters, no_filters, filter_then, Atom, group, test, comparison, Comparison, compare, Test, relative, absolute, call, Call, custom_call, length_call, value_call, count_call, search_call, match_call, Argument, literal_argument, test_argument, filter_argument, Arguments, no_arguments, argument}
 
 -- from -(2^53 - 1) to 2^53 - 1 (2.1)
 abbrev pub is_in_range : ℤ → Bool
@@ -30,14 +30,6 @@ abbrev pub is_spelled_literal : Literal → Bool
 is_spelled_literal (number None) = false
 is_spelled_literal (number (Some v)) = is_long v
 is_spelled_literal _ = true
-
-abbrev pub is_spelled_step : SingularStep → Bool
-is_spelled_step (name_step n) = true
-is_spelled_step (index_step i) = is_in_range i
-
-abbrev pub is_spelled_singular : SingularQuery → Bool
-is_spelled_singular (current ss) = list_all is_spelled_step ss
-is_spelled_singular (root ss) = list_all is_spelled_step ss
 
 -- two or more
 abbrev pub are_several_selectors : Selectors → Bool
@@ -112,12 +104,7 @@ abbrev mutual
   is_spelled_atom (comparison c) = is_spelled_comparison c
 
   pub is_spelled_comparison : Comparison → Bool
-  is_spelled_comparison (compare op left right) = is_spelled_comparable left && is_spelled_comparable right
-
-  pub is_spelled_comparable : Comparable → Bool
-  is_spelled_comparable (literal l) = is_spelled_literal l
-  is_spelled_comparable (function c) = is_spelled_call c
-  is_spelled_comparable (singular q) = is_spelled_singular q
+  is_spelled_comparison (compare op left right) = (is_comparable left && is_spelled_argument left) && (is_comparable right && is_spelled_argument right)
 
   pub is_spelled_test : Test → Bool
   is_spelled_test (relative gs) = is_spelled gs
@@ -141,6 +128,9 @@ abbrev mutual
   pub are_spelled_arguments : Arguments → Bool
   are_spelled_arguments no_arguments = true
   are_spelled_arguments (argument x xs) = is_spelled_argument x && are_spelled_arguments xs
+
+abbrev pub is_spelled_comparable : Argument → Bool
+is_spelled_comparable x = is_comparable x && is_spelled_argument x
 
 abbrev pub is_spelled_conjunction : Filter → Bool
 is_spelled_conjunction f = is_conjunction f && is_spelled_filter f

@@ -2,12 +2,7 @@
 use Rattle.std.specs.Prelude.{ℕ, Bool, true, false, ◌&&◌, bytes_eq, List}
 use Rattle.std.specs.Borrow.{Bor}
 use Rattle.std.specs.List.{list_any}
-use Rattle.jsonpath_parser.specs.tree.Syntax.{SingularQuery, current, root, Selector, name, filter, Selectors, no_selectors, selector, Segment, one, several, descendant, no_segments, segment, Query, Filter, or, and, atom, Filters, no_filters, filter_then, Atom, group, test, comparison, Comparison, compare, Comparable, literal, function, singular, Test, relative, absolute, call, Call, custom_call, length_call, value_call, count_call, search_call, match_call, Argument, literal_argument, test_argument, filter_argument, Arguments, no_arguments, argument}
-
--- it begins at the current node (RFC 9535, 2.3.5.1)
-abbrev pub is_relative : SingularQuery → Bool
-is_relative (current ss) = true
-is_relative (root ss) = false
+use Rattle.jsonpath_parser.specs.tree.Syntax.{Selector, name, filter, Selectors, no_selectors, selector, Segment, one, several, descendant, no_segments, segment, Query, Filter, or, and, atom, Filters, no_filters, filter_then, Atom, group, test, comparison, Comparison, compare, Test, relative, absolute, call, Call, custom_call, length_call, value_call, count_call, search_call, match_call, Argument, literal_argument, test_argument, filter_argument, Arguments, no_arguments, argument}
 
 -- No filter has a `$`: no query from the root is a test, an argument of a call or a side of a comparison, at any depth (2.3.5). The `$` in front of the query stands in none.
 abbrev mutual
@@ -43,12 +38,7 @@ abbrev mutual
   is_local_atom (comparison c) = is_local_comparison c
 
   pub is_local_comparison : Comparison → Bool
-  is_local_comparison (compare op left right) = is_local_comparable left && is_local_comparable right
-
-  pub is_local_comparable : Comparable → Bool
-  is_local_comparable (literal l) = true
-  is_local_comparable (function c) = is_local_call c
-  is_local_comparable (singular q) = is_relative q
+  is_local_comparison (compare op left right) = is_local_argument left && is_local_argument right
 
   pub is_local_test : Test → Bool
   is_local_test (relative gs) = is_local gs
@@ -110,11 +100,7 @@ abbrev mutual
   atom_calls_only known (comparison c) = comparison_calls_only known c
 
   pub comparison_calls_only : (List ℕ → Bool) → Comparison → Bool
-  comparison_calls_only known (compare op left right) = comparable_calls_only known left && comparable_calls_only known right
-
-  pub comparable_calls_only : (List ℕ → Bool) → Comparable → Bool
-  comparable_calls_only known (function c) = call_calls_only known c
-  comparable_calls_only known _ = true
+  comparison_calls_only known (compare op left right) = argument_calls_only known left && argument_calls_only known right
 
   pub test_calls_only : (List ℕ → Bool) → Test → Bool
   test_calls_only known (relative gs) = calls_only known gs

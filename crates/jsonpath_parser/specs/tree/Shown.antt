@@ -3,7 +3,7 @@ use Rattle.std.specs.Prelude.{ℤ, pos, ℕ, List, [], ◌∷◌, ◌++◌, Bool
 use Rattle.std.specs.Fmt.{signed_decimal}
 use Rattle.std.specs.List.{concat}
 use Rattle.jsonpath_parser.specs.tree.Syntax as tree
-use Rattle.jsonpath_parser.specs.tree.Syntax.{Literal, number, string, bool, null, SingularStep, name_step, index_step, SingularQuery, current, root, Operator, equal, not_equal, greater, greater_or_equal, less, less_or_equal, Selector, name, wildcard, index, slice, filter, Selectors, no_selectors, selector, Segment, one, several, descendant, Segments, no_segments, segment, Filter, or, and, atom, Filters, no_filters, filter_then, Atom, group, comparison, Comparison, compare, Comparable, literal, function, singular, Test, relative, absolute, call, Call, custom_call, length_call, value_call, count_call, search_call, match_call, Argument, literal_argument, test_argument, filter_argument, Arguments, no_arguments, argument, Query}
+use Rattle.jsonpath_parser.specs.tree.Syntax.{Literal, number, string, bool, null, Operator, equal, not_equal, greater, greater_or_equal, less, less_or_equal, Selector, name, wildcard, index, slice, filter, Selectors, no_selectors, selector, Segment, one, several, descendant, Segments, no_segments, segment, Filter, or, and, atom, Filters, no_filters, filter_then, Atom, group, comparison, Comparison, compare, Test, relative, absolute, call, Call, custom_call, length_call, value_call, count_call, search_call, match_call, Argument, literal_argument, test_argument, filter_argument, Arguments, no_arguments, argument, Query}
 
 -- the texts, with this one between each two
 abbrev pub joined : List ℕ → List (List ℕ) → List ℕ
@@ -18,16 +18,6 @@ literal_shown (number (Some n)) = signed_decimal n
 literal_shown (string s) = codes "\"" ++ (s ++ codes "\"")
 literal_shown (bool b) = if b then codes "true" else codes "false"
 literal_shown null = codes "null"
-
--- the bare name; the number
-abbrev pub step_shown : SingularStep → List ℕ
-step_shown (name_step s) = s
-step_shown (index_step i) = signed_decimal i
-
--- `@.` or `$.`, then the steps one after another
-abbrev pub singular_shown : SingularQuery → List ℕ
-singular_shown (current ps) = codes "@." ++ flat_map step_shown ps
-singular_shown (root ps) = codes "$." ++ flat_map step_shown ps
 
 abbrev pub operator_shown : Operator → List ℕ
 operator_shown equal = codes "=="
@@ -88,10 +78,13 @@ abbrev mutual
   pub comparison_shown : Comparison → List ℕ
   comparison_shown (compare op left right) = comparable_shown left ++ (codes " " ++ (operator_shown op ++ (codes " " ++ comparable_shown right)))
 
-  pub comparable_shown : Comparable → List ℕ
-  comparable_shown (literal l) = literal_shown l
-  comparable_shown (function c) = call_shown c
-  comparable_shown (singular q) = singular_shown q
+  -- the literal; `@.` or `$.`, then the steps one after another; the call
+  pub comparable_shown : Argument → List ℕ
+  comparable_shown (literal_argument l) = literal_shown l
+  comparable_shown (test_argument (relative gs)) = codes "@." ++ concat (segments_shown gs)
+  comparable_shown (test_argument (absolute gs)) = codes "$." ++ concat (segments_shown gs)
+  comparable_shown (test_argument (call c)) = call_shown c
+  comparable_shown (filter_argument f) = filter_shown f
 
   -- the segments one after another, without `@`; the query; the call
   pub test_shown : Test → List ℕ
@@ -116,6 +109,10 @@ abbrev mutual
   pub arguments_shown : Arguments → List (List ℕ)
   arguments_shown no_arguments = []
   arguments_shown (argument x xs) = argument_shown x ∷ arguments_shown xs
+
+-- a singular query as a side of a comparison
+abbrev pub singular_shown : Test → List ℕ
+singular_shown t = comparable_shown (test_argument t)
 
 -- `$`, then the segments one after another
 abbrev pub query_shown : Query → List ℕ

@@ -1,6 +1,6 @@
--- Which function takes which arguments, and what it gives (RFC 9535, 2.4.1 to 2.4.3).
+-- Which function takes which arguments, what it gives, and the calls of a query (RFC 9535, 2.4.1 to 2.4.3).
 use Rattle.std.specs.Prelude.{◌≡◌, ℕ, Bool, true, false, ◌&&◌, ◌||◌, not, bytes_eq, codes, List, Option, Some, None, option_map, if◌then◌else◌}
-use Rattle.jsonpath_parser.specs.tree.Syntax.{Selector, name, index, filter, Selectors, no_selectors, selector, Segment, one, several, descendant, Segments, no_segments, segment, Query, Filter, or, and, atom, Filters, no_filters, filter_then, Atom, group, test, comparison, Comparison, compare, Comparable, literal, function, singular, Test, relative, absolute, call, Call, custom_call, length_call, value_call, count_call, search_call, match_call, Argument, literal_argument, test_argument, filter_argument, Arguments, no_arguments, argument}
+use Rattle.jsonpath_parser.specs.tree.Syntax.{Selector, name, index, filter, Selectors, no_selectors, selector, Segment, one, several, descendant, Segments, no_segments, segment, Query, Filter, or, and, atom, Filters, no_filters, filter_then, Atom, group, test, comparison, Comparison, compare, Test, relative, absolute, call, Call, custom_call, length_call, value_call, count_call, search_call, match_call, Argument, literal_argument, test_argument, filter_argument, Arguments, no_arguments, argument}
 
 -- `length`, `value` and `count` give a value, each other function a truth
 abbrev pub gives_value : Call → Bool
@@ -19,6 +19,20 @@ is_step _ = false
 abbrev pub is_singular : Segments → Bool
 is_singular no_segments = true
 is_singular (segment g gs) = is_step g && is_singular gs
+
+-- a singular query
+abbrev pub is_singular_test : Test → Bool
+is_singular_test (relative gs) = is_singular gs
+is_singular_test (absolute gs) = is_singular gs
+is_singular_test (call c) = false
+
+-- what may stand on a side of a comparison: a literal, a singular query or a call (2.3.5.1)
+abbrev pub is_comparable : Argument → Bool
+is_comparable (literal_argument l) = true
+is_comparable (test_argument (relative gs)) = is_singular gs
+is_comparable (test_argument (absolute gs)) = is_singular gs
+is_comparable (test_argument (call c)) = true
+is_comparable (filter_argument f) = false
 
 -- what gives a value: a singular query, or a call that gives one
 abbrev pub is_value_test : Test → Bool
@@ -56,68 +70,109 @@ takes (count_call x) = is_query_argument x
 takes (search_call x y) = is_value_argument x && is_value_argument y
 takes (match_call x y) = is_value_argument x && is_value_argument y
 
--- every call takes its arguments, a call as a test gives a truth, and a call in a comparison gives a value
-abbrev mutual
-  pub is_typed : Query → Bool
-  is_typed no_segments = true
-  is_typed (segment g gs) = is_typed_segment g && is_typed gs
+-- What stands in a query, collected: something of each test that asks for a truth or for existence, of each side of a comparison, and of each
+-- call of the table of types. `none` is what nothing gives, and `both` joins what two parts give, in order.
+module _ {A : Type 0} (none : A) (both : A → A → A) (of_test : Test → A) (of_side : Argument → A) (of_call : Call → A) where
+  abbrev mutual
+    pub over_segments : Segments → A
+    over_segments no_segments = none
+    over_segments (segment g gs) = both (over_segment g) (over_segments gs)
 
-  pub is_typed_segment : Segment → Bool
-  is_typed_segment (one s) = is_typed_selector s
-  is_typed_segment (several ss) = are_typed_selectors ss
-  is_typed_segment (descendant g) = is_typed_segment g
+    pub over_segment : Segment → A
+    over_segment (one s) = over_selector s
+    over_segment (several ss) = over_selectors ss
+    over_segment (descendant g) = over_segment g
 
-  pub is_typed_selector : Selector → Bool
-  is_typed_selector (filter f) = is_typed_filter f
-  is_typed_selector _ = true
+    pub over_selectors : Selectors → A
+    over_selectors no_selectors = none
+    over_selectors (selector s ss) = both (over_selector s) (over_selectors ss)
 
-  pub are_typed_selectors : Selectors → Bool
-  are_typed_selectors no_selectors = true
-  are_typed_selectors (selector s ss) = is_typed_selector s && are_typed_selectors ss
+    pub over_selector : Selector → A
+    over_selector (filter f) = over_filter f
+    over_selector _ = none
 
-  pub is_typed_filter : Filter → Bool
-  is_typed_filter (or fs) = are_typed_filters fs
-  is_typed_filter (and fs) = are_typed_filters fs
-  is_typed_filter (atom a) = is_typed_atom a
+    pub over_filter : Filter → A
+    over_filter (or fs) = over_filters fs
+    over_filter (and fs) = over_filters fs
+    over_filter (atom a) = over_atom a
 
-  pub are_typed_filters : Filters → Bool
-  are_typed_filters no_filters = true
-  are_typed_filters (filter_then f fs) = is_typed_filter f && are_typed_filters fs
+    pub over_filters : Filters → A
+    over_filters no_filters = none
+    over_filters (filter_then f fs) = both (over_filter f) (over_filters fs)
 
-  pub is_typed_atom : Atom → Bool
-  is_typed_atom (group negated f) = is_typed_filter f
-  is_typed_atom (test negated t) = is_truth_test t && is_typed_test t
-  is_typed_atom (comparison c) = is_typed_comparison c
+    pub over_atom : Atom → A
+    over_atom (group negated f) = over_filter f
+    over_atom (test negated t) = both (of_test t) (over_test t)
+    over_atom (comparison c) = over_comparison c
 
-  pub is_typed_comparison : Comparison → Bool
-  is_typed_comparison (compare op left right) = is_typed_comparable left && is_typed_comparable right
+    pub over_comparison : Comparison → A
+    over_comparison (compare op left right) = both (both (of_side left) (over_argument left)) (both (of_side right) (over_argument right))
 
-  pub is_typed_comparable : Comparable → Bool
-  is_typed_comparable (function c) = gives_value c && is_typed_call c
-  is_typed_comparable _ = true
+    pub over_test : Test → A
+    over_test (relative gs) = over_segments gs
+    over_test (absolute gs) = over_segments gs
+    over_test (call c) = over_call c
 
-  -- what stands in it; as an argument it may give a value too
-  pub is_typed_test : Test → Bool
-  is_typed_test (relative gs) = is_typed gs
-  is_typed_test (absolute gs) = is_typed gs
-  is_typed_test (call c) = is_typed_call c
+    pub over_call : Call → A
+    over_call (custom_call n xs) = over_arguments xs
+    over_call (length_call x) = both (of_call (length_call x)) (over_argument x)
+    over_call (value_call x) = both (of_call (value_call x)) (over_argument x)
+    over_call (count_call x) = both (of_call (count_call x)) (over_argument x)
+    over_call (search_call x y) = both (of_call (search_call x y)) (both (over_argument x) (over_argument y))
+    over_call (match_call x y) = both (of_call (match_call x y)) (both (over_argument x) (over_argument y))
 
-  pub is_typed_call : Call → Bool
-  is_typed_call (custom_call n xs) = are_typed_arguments xs
-  is_typed_call (length_call x) = takes (length_call x) && is_typed_argument x
-  is_typed_call (value_call x) = takes (value_call x) && is_typed_argument x
-  is_typed_call (count_call x) = takes (count_call x) && is_typed_argument x
-  is_typed_call (search_call x y) = takes (search_call x y) && (is_typed_argument x && is_typed_argument y)
-  is_typed_call (match_call x y) = takes (match_call x y) && (is_typed_argument x && is_typed_argument y)
+    pub over_argument : Argument → A
+    over_argument (literal_argument l) = none
+    over_argument (test_argument t) = over_test t
+    over_argument (filter_argument f) = over_filter f
 
-  pub is_typed_argument : Argument → Bool
-  is_typed_argument (literal_argument l) = true
-  is_typed_argument (test_argument t) = is_typed_test t
-  is_typed_argument (filter_argument f) = is_typed_filter f
+    pub over_arguments : Arguments → A
+    over_arguments no_arguments = none
+    over_arguments (argument x xs) = both (over_argument x) (over_arguments xs)
 
-  pub are_typed_arguments : Arguments → Bool
-  are_typed_arguments no_arguments = true
-  are_typed_arguments (argument x xs) = is_typed_argument x && are_typed_arguments xs
+-- every call takes its arguments, a call as a test gives a truth, and a side of a comparison gives a value
+abbrev pub is_typed : Query → Bool
+is_typed = over_segments true ◌&&◌ is_truth_test is_value_argument takes
+
+-- ---- the same of its parts
+
+abbrev pub is_typed_segment : Segment → Bool
+is_typed_segment = over_segment true ◌&&◌ is_truth_test is_value_argument takes
+
+abbrev pub is_typed_selector : Selector → Bool
+is_typed_selector = over_selector true ◌&&◌ is_truth_test is_value_argument takes
+
+abbrev pub are_typed_selectors : Selectors → Bool
+are_typed_selectors = over_selectors true ◌&&◌ is_truth_test is_value_argument takes
+
+abbrev pub is_typed_filter : Filter → Bool
+is_typed_filter = over_filter true ◌&&◌ is_truth_test is_value_argument takes
+
+abbrev pub are_typed_filters : Filters → Bool
+are_typed_filters = over_filters true ◌&&◌ is_truth_test is_value_argument takes
+
+abbrev pub is_typed_atom : Atom → Bool
+is_typed_atom = over_atom true ◌&&◌ is_truth_test is_value_argument takes
+
+abbrev pub is_typed_comparison : Comparison → Bool
+is_typed_comparison = over_comparison true ◌&&◌ is_truth_test is_value_argument takes
+
+-- what stands in it; as an argument it may give a value too
+abbrev pub is_typed_test : Test → Bool
+is_typed_test = over_test true ◌&&◌ is_truth_test is_value_argument takes
+
+abbrev pub is_typed_call : Call → Bool
+is_typed_call = over_call true ◌&&◌ is_truth_test is_value_argument takes
+
+abbrev pub is_typed_argument : Argument → Bool
+is_typed_argument = over_argument true ◌&&◌ is_truth_test is_value_argument takes
+
+abbrev pub are_typed_arguments : Arguments → Bool
+are_typed_arguments = over_arguments true ◌&&◌ is_truth_test is_value_argument takes
+
+-- a side of a comparison: it gives a value, and is well-typed
+abbrev pub is_typed_side : Argument → Bool
+is_typed_side x = is_value_argument x && is_typed_argument x
 
 -- a test outside a call: it is well-typed, and gives a truth or is asked for existence
 abbrev pub is_typed_truth : Test → Bool

@@ -27,17 +27,6 @@ literal_view (literal.String s) = tree.string (string_bytes s)
 literal_view (literal.Bool b) = tree.bool b
 literal_view literal.Null = tree.null
 
-abbrev pub step_view : SingularQuerySegment → tree.SingularStep
-step_view (Index i) = tree.index_step i
-step_view (Name s) = tree.name_step (string_bytes s)
-
-abbrev pub steps_view : Vec SingularQuerySegment Global → List tree.SingularStep
-steps_view v = map step_view v.items
-
-abbrev pub singular_view : SingularQuery → tree.SingularQuery
-singular_view (Current v) = tree.current (steps_view v)
-singular_view (Root v) = tree.root (steps_view v)
-
 abbrev pub operator_view : Operator → tree.Operator
 operator_view Equal = tree.equal
 operator_view NotEqual = tree.not_equal
@@ -58,15 +47,26 @@ filters_of xs = tree.list_of tree.filter_then tree.no_filters xs
 abbrev pub arguments_of : List tree.Argument → tree.Arguments
 arguments_of xs = tree.list_of tree.argument tree.no_arguments xs
 
+abbrev pub step_view : SingularQuerySegment → tree.Segment
+step_view (Index i) = tree.one (tree.index i)
+step_view (Name s) = tree.one (tree.name (string_bytes s))
+
+abbrev pub steps_view : Vec SingularQuerySegment Global → tree.Segments
+steps_view v = segments_of (map step_view v.items)
+
+abbrev pub singular_view : SingularQuery → tree.Test
+singular_view (Current v) = tree.relative (steps_view v)
+singular_view (Root v) = tree.absolute (steps_view v)
+
 -- One layer of each type, with its parts seen already.
 
 abbrev pub Layer : (Type 0 → Type 0 → Type 0 → Type 0 → Type 0 → Type 0 → Type 0 → Type 0 → Type 0 → Type 0 → Type 0) → Type 0
-Layer F = F tree.Comparable tree.Comparison tree.Filter tree.Atom tree.Argument tree.Segment tree.Selector tree.Test tree.Call tree.Query
+Layer F = F tree.Argument tree.Comparison tree.Filter tree.Atom tree.Argument tree.Segment tree.Selector tree.Test tree.Call tree.Query
 
-abbrev pub comparable_step : Layer Comparable-F → tree.Comparable
-comparable_step (Comparable-F.«Comparable::Literal» l) = tree.literal (literal_view l)
-comparable_step (Comparable-F.«Comparable::Function» f) = tree.function f
-comparable_step (Comparable-F.SingularQuery q) = tree.singular (singular_view q)
+abbrev pub comparable_step : Layer Comparable-F → tree.Argument
+comparable_step (Comparable-F.«Comparable::Literal» l) = tree.literal_argument (literal_view l)
+comparable_step (Comparable-F.«Comparable::Function» f) = tree.test_argument (tree.call f)
+comparable_step (Comparable-F.SingularQuery q) = tree.test_argument (singular_view q)
 
 abbrev pub comparison_step : Layer Comparison-F → tree.Comparison
 comparison_step (Comparison-F.Eq a b) = tree.compare tree.equal a b
@@ -121,35 +121,35 @@ query_step q = segments_of q.segments.items
 
 -- The folds. The steps stand in the order of the types: enums by alphabet, then structs.
 
-abbrev pub comparable_view : Comparable → tree.Comparable
-comparable_view = fold-Comparable tree.Comparable tree.Comparison tree.Filter tree.Atom tree.Argument tree.Segment tree.Selector tree.Test tree.Call tree.Query comparable_step comparison_step filter_step atom_step argument_step segment_step selector_step test_step call_step query_step
+abbrev pub comparable_view : Comparable → tree.Argument
+comparable_view = fold-Comparable tree.Argument tree.Comparison tree.Filter tree.Atom tree.Argument tree.Segment tree.Selector tree.Test tree.Call tree.Query comparable_step comparison_step filter_step atom_step argument_step segment_step selector_step test_step call_step query_step
 
 abbrev pub comparison_view : Comparison → tree.Comparison
-comparison_view = fold-Comparison tree.Comparable tree.Comparison tree.Filter tree.Atom tree.Argument tree.Segment tree.Selector tree.Test tree.Call tree.Query comparable_step comparison_step filter_step atom_step argument_step segment_step selector_step test_step call_step query_step
+comparison_view = fold-Comparison tree.Argument tree.Comparison tree.Filter tree.Atom tree.Argument tree.Segment tree.Selector tree.Test tree.Call tree.Query comparable_step comparison_step filter_step atom_step argument_step segment_step selector_step test_step call_step query_step
 
 abbrev pub filter_view : Filter → tree.Filter
-filter_view = fold-Filter tree.Comparable tree.Comparison tree.Filter tree.Atom tree.Argument tree.Segment tree.Selector tree.Test tree.Call tree.Query comparable_step comparison_step filter_step atom_step argument_step segment_step selector_step test_step call_step query_step
+filter_view = fold-Filter tree.Argument tree.Comparison tree.Filter tree.Atom tree.Argument tree.Segment tree.Selector tree.Test tree.Call tree.Query comparable_step comparison_step filter_step atom_step argument_step segment_step selector_step test_step call_step query_step
 
 abbrev pub atom_view : FilterAtom → tree.Atom
-atom_view = fold-FilterAtom tree.Comparable tree.Comparison tree.Filter tree.Atom tree.Argument tree.Segment tree.Selector tree.Test tree.Call tree.Query comparable_step comparison_step filter_step atom_step argument_step segment_step selector_step test_step call_step query_step
+atom_view = fold-FilterAtom tree.Argument tree.Comparison tree.Filter tree.Atom tree.Argument tree.Segment tree.Selector tree.Test tree.Call tree.Query comparable_step comparison_step filter_step atom_step argument_step segment_step selector_step test_step call_step query_step
 
 abbrev pub argument_view : FnArg → tree.Argument
-argument_view = fold-FnArg tree.Comparable tree.Comparison tree.Filter tree.Atom tree.Argument tree.Segment tree.Selector tree.Test tree.Call tree.Query comparable_step comparison_step filter_step atom_step argument_step segment_step selector_step test_step call_step query_step
+argument_view = fold-FnArg tree.Argument tree.Comparison tree.Filter tree.Atom tree.Argument tree.Segment tree.Selector tree.Test tree.Call tree.Query comparable_step comparison_step filter_step atom_step argument_step segment_step selector_step test_step call_step query_step
 
 abbrev pub segment_view : Segment → tree.Segment
-segment_view = fold-Segment tree.Comparable tree.Comparison tree.Filter tree.Atom tree.Argument tree.Segment tree.Selector tree.Test tree.Call tree.Query comparable_step comparison_step filter_step atom_step argument_step segment_step selector_step test_step call_step query_step
+segment_view = fold-Segment tree.Argument tree.Comparison tree.Filter tree.Atom tree.Argument tree.Segment tree.Selector tree.Test tree.Call tree.Query comparable_step comparison_step filter_step atom_step argument_step segment_step selector_step test_step call_step query_step
 
 abbrev pub selector_view : Selector → tree.Selector
-selector_view = fold-Selector tree.Comparable tree.Comparison tree.Filter tree.Atom tree.Argument tree.Segment tree.Selector tree.Test tree.Call tree.Query comparable_step comparison_step filter_step atom_step argument_step segment_step selector_step test_step call_step query_step
+selector_view = fold-Selector tree.Argument tree.Comparison tree.Filter tree.Atom tree.Argument tree.Segment tree.Selector tree.Test tree.Call tree.Query comparable_step comparison_step filter_step atom_step argument_step segment_step selector_step test_step call_step query_step
 
 abbrev pub test_view : Test → tree.Test
-test_view = fold-Test tree.Comparable tree.Comparison tree.Filter tree.Atom tree.Argument tree.Segment tree.Selector tree.Test tree.Call tree.Query comparable_step comparison_step filter_step atom_step argument_step segment_step selector_step test_step call_step query_step
+test_view = fold-Test tree.Argument tree.Comparison tree.Filter tree.Atom tree.Argument tree.Segment tree.Selector tree.Test tree.Call tree.Query comparable_step comparison_step filter_step atom_step argument_step segment_step selector_step test_step call_step query_step
 
 abbrev pub call_view : TestFunction → tree.Call
-call_view = fold-TestFunction tree.Comparable tree.Comparison tree.Filter tree.Atom tree.Argument tree.Segment tree.Selector tree.Test tree.Call tree.Query comparable_step comparison_step filter_step atom_step argument_step segment_step selector_step test_step call_step query_step
+call_view = fold-TestFunction tree.Argument tree.Comparison tree.Filter tree.Atom tree.Argument tree.Segment tree.Selector tree.Test tree.Call tree.Query comparable_step comparison_step filter_step atom_step argument_step segment_step selector_step test_step call_step query_step
 
 abbrev pub query_view : JpQuery → tree.Query
-query_view = fold-JpQuery tree.Comparable tree.Comparison tree.Filter tree.Atom tree.Argument tree.Segment tree.Selector tree.Test tree.Call tree.Query comparable_step comparison_step filter_step atom_step argument_step segment_step selector_step test_step call_step query_step
+query_view = fold-JpQuery tree.Argument tree.Comparison tree.Filter tree.Atom tree.Argument tree.Segment tree.Selector tree.Test tree.Call tree.Query comparable_step comparison_step filter_step atom_step argument_step segment_step selector_step test_step call_step query_step
 
 -- a list of parts
 

@@ -1,6 +1,6 @@
 //! The grammar functions for logical expressions and what stands in them (RFC 9535, 2.3.5.1 and 2.4).
-ghost use Rattle.jsonpath_parser.specs.Grammar.{SpellsLogical, SpellsConjunction, SpellsBasic, SpellsComparison, SpellsComparable, SpellsLiteral, SpellsTest, SpellsCall};
-ghost use Rattle.jsonpath_parser.specs.Parts.{ReadsPart, always};
+ghost use Rattle.jsonpath_parser.specs.Grammar.{SpellsLogical, SpellsConjunction, SpellsBasic, SpellsComparison, SpellsLiteral, SpellsTest, SpellsCall};
+ghost use Rattle.jsonpath_parser.specs.Parts.{ReadsPart, SpellsComparable, always};
 ghost use Rattle.jsonpath_parser.specs.tree.Typing as typed;
 ghost use Rattle.jsonpath_parser.specs.tree.View.{filter_view, atom_view, comparison_view, comparable_view, literal_view, test_view, call_view};
 
@@ -89,7 +89,7 @@ pub fn comp_expr(alloc: Global, cursor: &mut Cursor<'_>) -> Parsed<Comparison>
 ///
 /// Those of [`Cursor`].
 pub fn comparable(alloc: Global, cursor: &mut Cursor<'_>) -> Parsed<Comparable>
-    ensures { ReadsPart SpellsComparable typed.is_typed_comparable comparable_view cursor.old cursor.new result }
+    ensures { ReadsPart SpellsComparable typed.is_typed_side comparable_view cursor.old cursor.new result }
 {
     part(
         alloc,

@@ -85,7 +85,7 @@ pub fn steps(
     mut segments: Vec<Segment>,
     left: usize,
 ) -> Result<Vec<SingularQuerySegment>, Stop>
-    ensures { Gives steps_view result (spec.steps_of (segments_view segments)) }
+    ensures { Gives steps_view result (spec.steps_in (segments_view segments)) }
 {
     let mut found = Vec::with_capacity(alloc, segments.len())?;
     segments.reverse();

@@ -114,10 +114,11 @@ pub fn comparison(comparison: &Comparison) -> bool
 
 #[cycle(typing)]
 pub fn comparable(comparable: &Comparable) -> bool
-    ensures { result ≡ typing.is_typed_comparable (comparable_view comparable.now) }
+    ensures { result ≡ typing.is_typed_side (comparable_view comparable.now) }
 {
     match comparable {
-        Comparable::Literal(_) | Comparable::SingularQuery(_) => true,
+        Comparable::Literal(_) => true,
+        Comparable::SingularQuery(_) => true,
         Comparable::Function(function) => function.is_comparable() && call(function),
     }
 }

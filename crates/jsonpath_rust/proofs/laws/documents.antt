@@ -8,4 +8,5 @@ pub mod MemberCounts
 pub mod NodesAt
 pub mod NormalSteps
 pub mod Parts
+pub mod Singular
 pub mod Trees

@@ -4,6 +4,7 @@ pub mod Lies
 pub mod Maps
 pub mod PartWeight
 pub mod ProcessedLaws
+pub mod Steps
 pub mod Finders
 pub mod Contents
 pub mod Parents

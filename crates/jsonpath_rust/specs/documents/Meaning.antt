@@ -7,7 +7,7 @@ use Rattle.std.specs.List.{flat_map}
 use Rattle.jsonpath_parser.specs.Location as location
 use Rattle.jsonpath_parser.specs.Location.{Location}
 use Rattle.jsonpath_parser.specs.tree.Syntax as syntax
-use Rattle.jsonpath_parser.specs.tree.Syntax.{Literal, string, bool, SingularStep, name_step, index_step, SingularQuery, current, Selector, wildcard, slice, Selectors, no_selectors, selector, Segment, one, several, descendant, Segments, no_segments, segment, Filter, or, and, atom, Filters, no_filters, filter_then, Atom, group, test, comparison, Comparison, compare, Comparable, literal, function, singular, Test, relative, absolute, call, Call, custom_call, length_call, value_call, count_call, search_call, match_call, Argument, literal_argument, test_argument, filter_argument, Arguments, no_arguments, argument, Query}
+use Rattle.jsonpath_parser.specs.tree.Syntax.{Literal, string, bool, Selector, wildcard, slice, Selectors, no_selectors, selector, Segment, one, several, descendant, Segments, no_segments, segment, Filter, or, and, atom, Filters, no_filters, filter_then, Atom, group, test, comparison, Comparison, compare, Test, relative, absolute, call, Call, custom_call, length_call, value_call, count_call, search_call, match_call, Argument, literal_argument, test_argument, filter_argument, Arguments, no_arguments, argument, Query}
 use Rattle.jsonpath_base.specs.Tree as tree
 use Rattle.jsonpath_base.specs.Tree.{Tree, truth, get, as_list}
 use Rattle.jsonpath_base.specs.Places.{child}
@@ -36,19 +36,6 @@ indexed i n = flat_map (λ k. element k n) (option_to_list (option_and_then (λ 
 -- the elements that a slice picks, in its order (2.3.4)
 abbrev pub sliced : Option ℤ → Option ℤ → Option ℤ → Node → List Node
 sliced start end step n = flat_map (λ ts. flat_map (λ k. element k n) (slice_of start end step (length ts))) (option_to_list (as_list n.tree))
-
--- the value of a singular query, where there is one (2.3.5.1)
-abbrev pub stepped : SingularStep → Tree → Option Tree
-stepped (name_step k) t = child (location.name k) t
-stepped (index_step i) t = option_and_then (λ ts. option_and_then (λ k. child (location.index k) t) (element_of i (length ts))) (as_list t)
-
-abbrev pub value_at : List SingularStep → Tree → Option Tree
-value_at [] t = Some t
-value_at (s ∷ ss) t = option_and_then (value_at ss) (stepped s t)
-
-abbrev pub singular_value : SingularQuery → Document → Node → Option Tree
-singular_value (current ss) d n = value_at ss n.tree
-singular_value (syntax.root ss) d n = value_at ss d.root
 
 abbrev pub literal_tree : Literal → Tree
 literal_tree (syntax.number n) = tree_of_number n
@@ -105,13 +92,7 @@ abbrev mutual
   atom_holds (comparison c) d n = comparison_holds c d n
 
   pub comparison_holds : Comparison → Document → Node → Bool
-  comparison_holds (compare op a b) d n = compares op (value_of a d n) (value_of b d n)
-
-  -- the value of one side of a comparison, where it has one
-  pub value_of : Comparable → Document → Node → Option Tree
-  value_of (literal l) d n = Some (literal_tree l)
-  value_of (function f) d n = answer f d n
-  value_of (singular q) d n = singular_value q d n
+  comparison_holds (compare op a b) d n = compares op (as_value (argued a d n)) (as_value (argued b d n))
 
   -- what a function answers, if it is not absent (2.4)
   pub answer : Call → Document → Node → Option Tree

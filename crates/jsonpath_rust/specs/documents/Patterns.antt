@@ -1,8 +1,8 @@
 -- Which queries are refused for a pattern, and where. The definitions here are for the contracts that name that refusal.
 use Rattle.std.specs.Prelude.{◌≡◌, ℕ, List, [], ◌∷◌, ◌++◌, ◌⊎◌, Bool, true, false, Option, Some, IsSome}
 use Rattle.std.specs.List.{Contains}
-use Rattle.jsonpath_parser.specs.tree.Syntax as syntax
-use Rattle.jsonpath_parser.specs.tree.Syntax.{Selector, Selectors, no_selectors, selector, Segment, one, several, descendant, Segments, no_segments, segment, Filter, or, and, atom, Filters, no_filters, filter_then, Atom, group, test, comparison, Comparison, compare, Comparable, function, Test, relative, absolute, call, Call, custom_call, length_call, value_call, count_call, search_call, match_call, Argument, literal_argument, test_argument, filter_argument, Arguments, no_arguments, argument, Query}
+use Rattle.jsonpath_parser.specs.tree.Syntax.{Selector, Selectors, Segment, Segments, Filter, Filters, Atom, Comparison, Test, Call, search_call, match_call, Argument, Arguments, Query}
+use Rattle.jsonpath_parser.specs.tree.Typing.{over_segments, over_segment, over_selectors, over_selector, over_filter, over_filters, over_atom, over_comparison, over_test, over_call, over_argument, over_arguments}
 use Rattle.jsonpath_parser.specs.Derives.{Derives, IsRefusal}
 use Rattle.jsonpath_parser.specs.declared.errors.JsonPathError.{JsonPathError}
 use Rattle.jsonpath_parser.specs.declared.errors.JsonPathError.TheVariants.{OutOfMemory}
@@ -15,67 +15,50 @@ use Rattle.jsonpath_rust.specs.documents.Functions.{as_value}
 use Rattle.jsonpath_rust.specs.documents.Meaning.{argued}
 use Rattle.jsonpath_rust.specs.documents.Node.{Node}
 
--- the patterns that stand in a part of a query: the second operand of each call of `match`, with true, and of `search`, with false
-abbrev mutual
-  pub selector_patterns : Selector → List (Bool × Argument)
-  selector_patterns (syntax.Selector.filter f) = filter_patterns f
-  selector_patterns _ = []
+-- the pattern of a call: the second operand of `match`, with true, and of `search`, with false
+abbrev pub pattern_of : Call → List (Bool × Argument)
+pattern_of (search_call a b) = (false, b) ∷ []
+pattern_of (match_call a b) = (true, b) ∷ []
+pattern_of _ = []
 
-  pub selectors_patterns : Selectors → List (Bool × Argument)
-  selectors_patterns no_selectors = []
-  selectors_patterns (selector s ss) = selector_patterns s ++ selectors_patterns ss
+-- the patterns that stand in a query
+abbrev pub segments_patterns : Segments → List (Bool × Argument)
+segments_patterns = over_segments [] ◌++◌ (λ t. []) (λ x. []) pattern_of
 
-  pub segment_patterns : Segment → List (Bool × Argument)
-  segment_patterns (one s) = selector_patterns s
-  segment_patterns (several ss) = selectors_patterns ss
-  segment_patterns (descendant g) = segment_patterns g
+-- ---- the same of its parts
 
-  pub segments_patterns : Segments → List (Bool × Argument)
-  segments_patterns no_segments = []
-  segments_patterns (segment g gs) = segment_patterns g ++ segments_patterns gs
+abbrev pub segment_patterns : Segment → List (Bool × Argument)
+segment_patterns = over_segment [] ◌++◌ (λ t. []) (λ x. []) pattern_of
 
-  pub filter_patterns : Filter → List (Bool × Argument)
-  filter_patterns (or fs) = filters_patterns fs
-  filter_patterns (and fs) = filters_patterns fs
-  filter_patterns (atom a) = atom_patterns a
+abbrev pub selector_patterns : Selector → List (Bool × Argument)
+selector_patterns = over_selector [] ◌++◌ (λ t. []) (λ x. []) pattern_of
 
-  pub filters_patterns : Filters → List (Bool × Argument)
-  filters_patterns no_filters = []
-  filters_patterns (filter_then f fs) = filter_patterns f ++ filters_patterns fs
+abbrev pub selectors_patterns : Selectors → List (Bool × Argument)
+selectors_patterns = over_selectors [] ◌++◌ (λ t. []) (λ x. []) pattern_of
 
-  pub atom_patterns : Atom → List (Bool × Argument)
-  atom_patterns (group t f) = filter_patterns f
-  atom_patterns (test t q) = test_patterns q
-  atom_patterns (comparison c) = comparison_patterns c
+abbrev pub filter_patterns : Filter → List (Bool × Argument)
+filter_patterns = over_filter [] ◌++◌ (λ t. []) (λ x. []) pattern_of
 
-  pub comparison_patterns : Comparison → List (Bool × Argument)
-  comparison_patterns (compare op a b) = comparable_patterns a ++ comparable_patterns b
+abbrev pub filters_patterns : Filters → List (Bool × Argument)
+filters_patterns = over_filters [] ◌++◌ (λ t. []) (λ x. []) pattern_of
 
-  pub comparable_patterns : Comparable → List (Bool × Argument)
-  comparable_patterns (function f) = call_patterns f
-  comparable_patterns _ = []
+abbrev pub atom_patterns : Atom → List (Bool × Argument)
+atom_patterns = over_atom [] ◌++◌ (λ t. []) (λ x. []) pattern_of
 
-  pub test_patterns : Test → List (Bool × Argument)
-  test_patterns (relative gs) = segments_patterns gs
-  test_patterns (absolute gs) = segments_patterns gs
-  test_patterns (call f) = call_patterns f
+abbrev pub comparison_patterns : Comparison → List (Bool × Argument)
+comparison_patterns = over_comparison [] ◌++◌ (λ t. []) (λ x. []) pattern_of
 
-  pub call_patterns : Call → List (Bool × Argument)
-  call_patterns (custom_call name args) = arguments_patterns args
-  call_patterns (length_call a) = argument_patterns a
-  call_patterns (value_call a) = argument_patterns a
-  call_patterns (count_call a) = argument_patterns a
-  call_patterns (search_call a b) = (false, b) ∷ (argument_patterns a ++ argument_patterns b)
-  call_patterns (match_call a b) = (true, b) ∷ (argument_patterns a ++ argument_patterns b)
+abbrev pub test_patterns : Test → List (Bool × Argument)
+test_patterns = over_test [] ◌++◌ (λ t. []) (λ x. []) pattern_of
 
-  pub argument_patterns : Argument → List (Bool × Argument)
-  argument_patterns (literal_argument l) = []
-  argument_patterns (test_argument t) = test_patterns t
-  argument_patterns (filter_argument f) = filter_patterns f
+abbrev pub call_patterns : Call → List (Bool × Argument)
+call_patterns = over_call [] ◌++◌ (λ t. []) (λ x. []) pattern_of
 
-  pub arguments_patterns : Arguments → List (Bool × Argument)
-  arguments_patterns no_arguments = []
-  arguments_patterns (argument a rest) = argument_patterns a ++ arguments_patterns rest
+abbrev pub argument_patterns : Argument → List (Bool × Argument)
+argument_patterns = over_argument [] ◌++◌ (λ t. []) (λ x. []) pattern_of
+
+abbrev pub arguments_patterns : Arguments → List (Bool × Argument)
+arguments_patterns = over_arguments [] ◌++◌ (λ t. []) (λ x. []) pattern_of
 
 -- the value is a text in which `regex` reads a pattern: with true for `match`, which asks of the entire text, and with false for `search`
 abbrev pub IsPattern : Bool → Option Tree → Type 0

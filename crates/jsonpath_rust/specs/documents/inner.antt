@@ -3,6 +3,7 @@ pub mod Following
 pub mod Operands
 pub mod Parts
 pub mod Refusing
+pub mod Singular
 pub mod Size
 pub mod Sought
 pub mod Weight

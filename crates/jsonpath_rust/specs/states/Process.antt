@@ -3,7 +3,7 @@
 use Rattle.std.specs.Prelude.{List, [], ◌∷◌, ◌++◌, length, map, Bool, true, false, not, ◌&&◌, ◌||◌, Option, Some, None}
 use Rattle.jsonpath_parser.specs.tree.Making.{is_truth_call}
 use Rattle.jsonpath_parser.specs.tree.Syntax as syntax
-use Rattle.jsonpath_parser.specs.tree.Syntax.{SingularStep, name_step, index_step, SingularQuery, current, Operator, equal, not_equal, greater, greater_or_equal, less, less_or_equal, Selector, wildcard, slice, Selectors, no_selectors, selector, Segment, several, descendant, Segments, no_segments, segment, Filter, or, and, atom, Filters, no_filters, filter_then, Atom, group, test, comparison, Comparison, compare, Comparable, literal, function, singular, Test, relative, absolute, call, Call, custom_call, length_call, value_call, count_call, search_call, match_call, Argument, literal_argument, test_argument, filter_argument, Arguments, no_arguments, argument}
+use Rattle.jsonpath_parser.specs.tree.Syntax.{Operator, equal, not_equal, greater, greater_or_equal, less, less_or_equal, Selector, wildcard, slice, Selectors, no_selectors, selector, Segment, several, descendant, Segments, no_segments, segment, Filter, or, and, atom, Filters, no_filters, filter_then, Atom, group, test, comparison, Comparison, compare, Test, relative, absolute, call, Call, custom_call, length_call, value_call, count_call, search_call, match_call, Argument, literal_argument, test_argument, filter_argument, Arguments, no_arguments, argument}
 use Rattle.jsonpath_base.specs.Same.{same}
 use Rattle.jsonpath_base.specs.Tree.{Tree, truth, list, elements}
 use Rattle.jsonpath_rust.specs.documents.Comparing.{is_below}
@@ -100,18 +100,6 @@ test_truth false true c = c
 
 -- ---- the parts of a query
 
-abbrev pub step_content : SingularStep → Content → Content
-step_content (name_step k) c = mapped (named_from k) c
-step_content (index_step i) c = mapped (indexed_from i) c
-
-abbrev pub steps_content : List SingularStep → Content → Content
-steps_content [] c = c
-steps_content (s ∷ ss) c = steps_content ss (step_content s c)
-
-abbrev pub singular_content : SingularQuery → Document → Content → Content
-singular_content (current ss) d c = steps_content ss c
-singular_content (syntax.root ss) d c = steps_content ss (root_content d)
-
 -- no selectors make nothing of any state
 abbrev pub unless_none : Selectors → Content → Content
 unless_none no_selectors c = nothing
@@ -159,12 +147,7 @@ abbrev mutual
   atom_content (comparison k) d c = value (truth (comparison_holds_at k d c))
 
   pub comparison_holds_at : Comparison → Document → Content → Bool
-  comparison_holds_at (compare op a b) d c = contents_compare op (comparable_content a d c) (comparable_content b d c)
-
-  pub comparable_content : Comparable → Document → Content → Content
-  comparable_content (literal l) d c = value (literal_tree l)
-  comparable_content (function f) d c = call_content f d c
-  comparable_content (singular q) d c = singular_content q d c
+  comparison_holds_at (compare op a b) d c = contents_compare op (argument_content a d c) (argument_content b d c)
 
   pub test_content : Test → Document → Content → Content
   test_content (relative gs) d c = segments_content gs d c

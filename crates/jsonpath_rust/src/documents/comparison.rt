@@ -35,12 +35,12 @@ pub fn compares<'a, 's, T: Queryable>(
 fn are_equal<'a, 's, T: Queryable>(left: &Side<'a, 's, T>, right: &Side<'a, 's, T>) -> bool
     ensures { result ≡ are_equal (side_tree left.now) (side_tree right.now) }
 {
-    match (*left, *right) {
+    match (left, right) {
         (Side::Absent, Side::Absent) => true,
-        (Side::Lent(value), Side::Lent(other)) => value.equal(other),
-        (Side::Lent(value), Side::Plain(scalar)) => is_scalar(value, scalar),
-        (Side::Plain(scalar), Side::Lent(value)) => is_scalar(value, scalar),
-        (Side::Plain(scalar), Side::Plain(other)) => scalars_are_same(scalar, other),
+        (Side::Lent(value), Side::Lent(other)) => value.equal(*other),
+        (Side::Lent(value), Side::Plain(scalar)) => is_scalar(*value, *scalar),
+        (Side::Plain(scalar), Side::Lent(value)) => is_scalar(*value, *scalar),
+        (Side::Plain(scalar), Side::Plain(other)) => scalars_are_same(*scalar, *other),
         _ => false,
     }
 }

@@ -155,7 +155,7 @@ impl<'a: 's, 's, T: Queryable> Task<'a, 's, T> {
             Action::All => self.walk(rest, at, trail, sink),
             Action::If(filter) => {
                 let settled = trail.way.settled;
-                let holds = self.filter_holds(filter, at, trail)?;
+                let holds = self.is_met(filter, at, trail)?;
                 trail.way.unsettle(settled);
                 if holds {
                     self.walk(rest, at, trail, sink)

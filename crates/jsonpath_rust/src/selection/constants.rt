@@ -1,11 +1,12 @@
 //! Constants that are one value, an answer or a comparison: each is worked out when it is first
 //! asked, and then kept.
 ghost use Rattle.std.specs.Prelude.{◌≡◌, IfOk, IfErr, IfSome};
-ghost use Rattle.jsonpath_rust.specs.documents.Meaning.{answer, comparison_holds, value_at};
+ghost use Rattle.jsonpath_rust.specs.documents.Meaning.{answer, comparison_holds};
 ghost use Rattle.jsonpath_rust.specs.documents.Node.{Node};
 ghost use Rattle.jsonpath_rust.specs.documents.Patterns.{call_patterns, comparison_patterns};
 ghost use Rattle.jsonpath_rust.specs.declared.documents.halt.Halt.TheVariants.{Memory};
 ghost use Rattle.jsonpath_rust.specs.documents.inner.Operands.{operand_tree};
+ghost use Rattle.jsonpath_rust.specs.documents.inner.Singular.{value_at};
 ghost use Rattle.jsonpath_rust.specs.documents.inner.Whole.{tree_of};
 ghost use Rattle.jsonpath_rust.specs.selection.inner.Keeping.{IsReady, document, kept_of, value_by};
 ghost use Rattle.jsonpath_rust.specs.selection.inner.PlanViews.{call_at, called_view, comparison_at, part_at, steps_at};

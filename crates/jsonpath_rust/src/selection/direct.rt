@@ -6,10 +6,10 @@ ghost use Rattle.jsonpath_parser.specs.tree.View.{step_view};
 ghost use Rattle.jsonpath_rust.specs.documents.Document.{Document};
 ghost use Rattle.jsonpath_rust.specs.documents.Functions as functions;
 ghost use Rattle.jsonpath_rust.specs.documents.Functions.{as_truth};
-ghost use Rattle.jsonpath_rust.specs.documents.Meaning as meaning;
 ghost use Rattle.jsonpath_rust.specs.documents.Meaning.{answer, tested};
 ghost use Rattle.jsonpath_rust.specs.documents.Node.{Node};
 ghost use Rattle.jsonpath_rust.specs.documents.inner.Operands.{side_tree};
+ghost use Rattle.jsonpath_rust.specs.documents.inner.Singular as singular;
 ghost use Rattle.jsonpath_rust.specs.documents.inner.Whole.{tree_of};
 ghost use Rattle.jsonpath_rust.specs.selection.inner.Halting.{IsHalt};
 ghost use Rattle.jsonpath_rust.specs.selection.inner.Keeping.{document};
@@ -66,7 +66,7 @@ impl<'a: 's, 's, T: Queryable> Task<'a, 's, T> {
         budget: &mut Budget,
     ) -> Walked<Side<'k, 's, T>>
         ensures value { IfOk result (λ s. side_tree s
-            ≡ functions.length_of (meaning.value_at (map step_view steps.now) (tree_of at.entry))) }
+            ≡ functions.length_of (singular.value_at (map step_view steps.now) (tree_of at.entry))) }
         ensures halts { IfErr result (IsHalt self.now.limit [] (document self.now)) }
     {
         let Some(value) = value_at(steps, at) else {

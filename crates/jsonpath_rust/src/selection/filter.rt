@@ -3,9 +3,10 @@ ghost use Rattle.std.specs.Prelude.{◌≡◌, ◌++◌, IfOk};
 ghost use Rattle.jsonpath_parser.specs.tree.View.{operator_view};
 ghost use Rattle.jsonpath_rust.specs.documents.Comparing.{compares};
 ghost use Rattle.jsonpath_rust.specs.documents.Functions.{as_truth};
-ghost use Rattle.jsonpath_rust.specs.documents.Meaning.{holds, some_holds, each_holds, tested, value_of};
-ghost use Rattle.jsonpath_rust.specs.documents.Patterns.{filter_patterns, filters_patterns, comparable_patterns, test_patterns};
+ghost use Rattle.jsonpath_rust.specs.documents.Meaning.{holds, some_holds, each_holds, tested};
+ghost use Rattle.jsonpath_rust.specs.documents.Patterns.{argument_patterns, filter_patterns, filters_patterns, test_patterns};
 ghost use Rattle.jsonpath_rust.specs.documents.inner.Operands.{operand_tree};
+ghost use Rattle.jsonpath_rust.specs.documents.inner.Singular.{value_of};
 ghost use Rattle.jsonpath_rust.specs.selection.inner.Keeping.{kept_of};
 ghost use Rattle.jsonpath_rust.specs.selection.inner.PlanViews.{filter_view, filters_meant, nodes_view, side_view};
 ghost use Rattle.jsonpath_rust.specs.selection.inner.Standing.{Comes};
@@ -25,7 +26,27 @@ use crate::selection::trail::Trail;
 use crate::selection::walk::Task;
 
 impl<'a: 's, 's, T: Queryable> Task<'a, 's, T> {
-    /// Whether a filter holds at a value, to which the way leads.
+    /// Whether a filter holds at a value, to which the way leads. One that is a comparison is asked
+    /// with no call on the way.
+    #[cycle(walk)]
+    #[inline(always)]
+    pub fn is_met(
+        &self,
+        filter: &'s Filter,
+        at: WholeRef<'a, T>,
+        trail: &mut Trail<'a, 's, '_, T>,
+    ) -> Walked<bool>
+        requires { StandsAt self.now at trail.old }
+        ensures holds { IfOk result (λ b. b ≡ here self.now trail.old at.entry (holds (filter_view (kept_of self.now) filter.now))) }
+        ensures comes { Comes self.now trail.old trail.new (filter_patterns (filter_view (kept_of self.now) filter.now)) result }
+    {
+        if let Filter::Comparison(operator, left, right) = filter {
+            return self.comparison_holds((*operator, left, right), at, trail);
+        }
+        self.filter_holds(filter, at, trail)
+    }
+
+    /// The same of any filter.
     #[cycle(walk)]
     pub fn filter_holds(
         &self,
@@ -132,8 +153,8 @@ impl<'a: 's, 's, T: Queryable> Task<'a, 's, T> {
             (here self.now trail.old at.entry (value_of (side_view (kept_of self.now) comparison.entry.1.now)))
             (here self.now trail.old at.entry (value_of (side_view (kept_of self.now) comparison.entry.2.now)))) }
         ensures comes { Comes self.now trail.old trail.new
-            (comparable_patterns (side_view (kept_of self.now) comparison.entry.1.now)
-            ++ comparable_patterns (side_view (kept_of self.now) comparison.entry.2.now)) result }
+            (argument_patterns (side_view (kept_of self.now) comparison.entry.1.now)
+            ++ argument_patterns (side_view (kept_of self.now) comparison.entry.2.now)) result }
     {
         if let Some(held) = self.lent_compare(comparison, at, &trail.cache, &mut trail.budget)? {
             return Ok(held);
@@ -155,8 +176,8 @@ impl<'a: 's, 's, T: Queryable> Task<'a, 's, T> {
             (here self.now trail.old at.entry (value_of (side_view (kept_of self.now) comparison.entry.1.now)))
             (here self.now trail.old at.entry (value_of (side_view (kept_of self.now) comparison.entry.2.now)))) }
         ensures comes { Comes self.now trail.old trail.new
-            (comparable_patterns (side_view (kept_of self.now) comparison.entry.1.now)
-            ++ comparable_patterns (side_view (kept_of self.now) comparison.entry.2.now)) result }
+            (argument_patterns (side_view (kept_of self.now) comparison.entry.1.now)
+            ++ argument_patterns (side_view (kept_of self.now) comparison.entry.2.now)) result }
     {
         let left = self.side(comparison.1, at, trail)?;
         let right = self.side(comparison.2, at, trail)?;
@@ -180,7 +201,7 @@ impl<'a: 's, 's, T: Queryable> Task<'a, 's, T> {
         requires { StandsAt self.now at trail.old }
         ensures value { IfOk result (λ o. operand_tree o
             ≡ here self.now trail.old at.entry (value_of (side_view (kept_of self.now) side.now))) }
-        ensures comes { Comes self.now trail.old trail.new (comparable_patterns (side_view (kept_of self.now) side.now)) result }
+        ensures comes { Comes self.now trail.old trail.new (argument_patterns (side_view (kept_of self.now) side.now)) result }
     {
         match side {
             plan::Side::Literal(literal) => Ok(Operand::Side(Side::Plain(scalar_of(literal)))),

@@ -2,9 +2,10 @@
 ghost use Rattle.std.specs.Prelude.{◌≡◌, [], IfOk, IfErr, IfSome};
 ghost use Rattle.jsonpath_parser.specs.tree.View.{operator_view};
 ghost use Rattle.jsonpath_rust.specs.documents.Comparing.{compares};
-ghost use Rattle.jsonpath_rust.specs.documents.Meaning.{answer, value_of};
+ghost use Rattle.jsonpath_rust.specs.documents.Meaning.{answer};
 ghost use Rattle.jsonpath_rust.specs.documents.Node.{Node};
 ghost use Rattle.jsonpath_rust.specs.documents.inner.Operands.{side_tree};
+ghost use Rattle.jsonpath_rust.specs.documents.inner.Singular.{value_of};
 ghost use Rattle.jsonpath_rust.specs.documents.inner.Whole.{tree_of};
 ghost use Rattle.jsonpath_rust.specs.selection.inner.Halting.{IsHalt};
 ghost use Rattle.jsonpath_rust.specs.selection.inner.Keeping.{IsReady, document, kept_of, value_by};

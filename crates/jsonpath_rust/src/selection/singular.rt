@@ -1,7 +1,7 @@
 //! Names and indexes that are looked up, and not walked (RFC 9535, 2.3.5.1).
 ghost use Rattle.std.specs.Prelude.{◌≡◌, map, option_map};
 ghost use Rattle.jsonpath_parser.specs.tree.View.{step_view};
-ghost use Rattle.jsonpath_rust.specs.documents.Meaning.{stepped, value_at};
+ghost use Rattle.jsonpath_rust.specs.documents.inner.Singular.{stepped, value_at};
 ghost use Rattle.jsonpath_rust.specs.documents.inner.Whole.{tree_of};
 
 use crate::documents::queryable::Queryable;
@@ -20,6 +20,9 @@ pub fn value_at<'a, T: Queryable>(
         None => return Some(at),
     };
     let child = stepped(first, at)?;
+    if rest.is_empty() {
+        return Some(child);
+    }
     value_at(rest, child)
 }
 

@@ -1,19 +1,19 @@
 //! What can be asked of a state: each part of a query.
-ghost use Rattle.std.specs.Prelude.{◌≡◌, [], List, Bool, map, IsTrue, IfOk, IfErr};
+ghost use Rattle.std.specs.Prelude.{◌≡◌, [], List, Bool, IsTrue, IfOk, IfErr};
 ghost use Rattle.jsonpath_parser.specs.tree.Syntax.{Argument};
 ghost use Rattle.jsonpath_parser.specs.tree.View.{segment_view, selector_view, filter_view, atom_view, comparison_view};
 ghost use Rattle.jsonpath_parser.specs.tree.View.{comparable_view, test_view, call_view, argument_view, query_view};
-ghost use Rattle.jsonpath_parser.specs.tree.View.{singular_view, step_view, literal_view, segments_view};
+ghost use Rattle.jsonpath_parser.specs.tree.View.{singular_view, step_view, steps_view, literal_view, segments_view};
 ghost use Rattle.jsonpath_base.specs.Tree.{truth};
 ghost use Rattle.jsonpath_rust.specs.states.Asking.{IsProcessStop};
 ghost use Rattle.jsonpath_rust.specs.documents.Document.{Document, document_of};
 ghost use Rattle.jsonpath_rust.specs.documents.Meaning.{literal_tree};
 ghost use Rattle.jsonpath_rust.specs.states.Process.{segments_content, segment_content, selector_content, filter_content};
-ghost use Rattle.jsonpath_rust.specs.states.Process.{atom_content, comparison_holds_at, comparable_content, test_content};
-ghost use Rattle.jsonpath_rust.specs.states.Process.{call_content, argument_content, steps_content, step_content, singular_content};
+ghost use Rattle.jsonpath_rust.specs.states.Process.{atom_content, comparison_holds_at, test_content};
+ghost use Rattle.jsonpath_rust.specs.states.Process.{call_content, argument_content};
 ghost use Rattle.jsonpath_rust.specs.documents.Patterns.{segments_patterns, segment_patterns, selector_patterns};
 ghost use Rattle.jsonpath_rust.specs.documents.Patterns.{filter_patterns, atom_patterns, comparison_patterns};
-ghost use Rattle.jsonpath_rust.specs.documents.Patterns.{comparable_patterns, test_patterns, call_patterns, argument_patterns};
+ghost use Rattle.jsonpath_rust.specs.documents.Patterns.{test_patterns, call_patterns, argument_patterns};
 ghost use Rattle.jsonpath_rust.specs.states.State.{Content, value, content_of, DataIsWhole};
 ghost use Rattle.jsonpath_rust.specs.declared.documents.halt.Halt.TheVariants.{Memory};
 ghost use Rattle.jsonpath_rust.specs.states.inner.Evaluating.{content_at, HaltsAt, HaltsBelow};
@@ -193,9 +193,9 @@ impl Query for Comparison {
 
 /// The literal, what the function returns, or the singular query.
 impl Query for Comparable {
-    ghost answers = { λ q. comparable_content (comparable_view q) };
+    ghost answers = { λ q. argument_content (comparable_view q) };
 
-    ghost patterns = { λ q. comparable_patterns (comparable_view q) };
+    ghost patterns = { λ q. argument_patterns (comparable_view q) };
 
     fn process<'a, T: Queryable>(&self, alloc: Global, state: State<'a, T>) -> Answered<'a, T> {
         let State { content, root } = state;
@@ -208,7 +208,7 @@ impl Query for Comparable {
 
 /// Its steps, on the state or on the root.
 impl Query for SingularQuery {
-    ghost answers = { λ q. singular_content (singular_view q) };
+    ghost answers = { λ q. test_content (singular_view q) };
 
     ghost patterns = { λ q. [] };
 
@@ -225,7 +225,7 @@ impl Query for SingularQuery {
 
 /// The member or the element of each node.
 impl Query for SingularQuerySegment {
-    ghost answers = { λ q d. step_content (step_view q) };
+    ghost answers = { λ q. segment_content (step_view q) };
 
     ghost patterns = { λ q. [] };
 
@@ -241,7 +241,7 @@ impl Query for SingularQuerySegment {
 
 /// Each on the result before.
 impl Query for Vec<SingularQuerySegment> {
-    ghost answers = { λ q d. steps_content (map step_view q.items) };
+    ghost answers = { λ q. segments_content (steps_view q) };
 
     ghost patterns = { λ q. [] };
 

@@ -3,8 +3,8 @@ use Rattle.std.proofs.Common.{◌≡◌, ◌∙◌, refl, sym, ap, ℕ, ◌+◌,
 use Rattle.std.specs.Fmt.{signed_decimal}
 use Rattle.std.proofs.lemmas.List.{take_more, take_all}
 use Rattle.std.specs.List.{concat}
-use Rattle.jsonpath_parser.specs.tree.Shown.{joined, filter_shown, filters_shown, argument_shown, arguments_shown, segment_shown, segments_shown, selector_shown, selectors_shown, slice_shown, step_shown}
-use Rattle.jsonpath_parser.specs.tree.View.{filter_view, filters_of, argument_view, arguments_view, segment_view, segments_view, selector_view, selectors_view, step_view, arguments_of, segments_of, selectors_of, filters_view}
+use Rattle.jsonpath_parser.specs.tree.Shown.{joined, filter_shown, filters_shown, argument_shown, arguments_shown, segment_shown, segments_shown, selector_shown, selectors_shown, slice_shown}
+use Rattle.jsonpath_parser.specs.tree.View.{filter_view, filters_of, argument_view, arguments_view, segment_view, segments_view, selector_view, selectors_view, step_view, steps_view, arguments_of, segments_of, selectors_of, filters_view}
 use Rattle.jsonpath_parser.specs.declared.tree.model.Filter.{Filter}
 use Rattle.jsonpath_parser.specs.declared.tree.model.FnArg.{FnArg}
 use Rattle.jsonpath_parser.specs.declared.tree.model.Segment.{Segment}
@@ -51,9 +51,9 @@ arguments_shown_all : (xs : List FnArg) → arguments_shown (arguments_of (map a
 arguments_shown_all [] = refl
 arguments_shown_all (x ∷ xs) = ap (λ r. argument_shown (argument_view x) ∷ r) (arguments_shown_all xs)
 
-steps_shown_all : (xs : List SingularQuerySegment) → flat_map step_shown (map step_view xs) ≡ concat (map (λ x. step_shown (step_view x)) xs)
+steps_shown_all : (xs : List SingularQuerySegment) → segments_shown (segments_of (map step_view xs)) ≡ map (λ x. segment_shown (step_view x)) xs
 steps_shown_all [] = refl
-steps_shown_all (x ∷ xs) = ap (λ r. step_shown (step_view x) ++ r) (steps_shown_all xs)
+steps_shown_all (x ∷ xs) = ap (λ r. segment_shown (step_view x) ∷ r) (steps_shown_all xs)
 
 -- The parts of a tree, as the code joins them.
 
@@ -66,8 +66,8 @@ selectors_joined v = joined_nothing (map (λ x. selector_shown (selector_view x)
 pub arguments_joined : (v : Vec FnArg Global) → joined [] (map (λ x. argument_shown (argument_view x)) v.items) ≡ concat (arguments_shown (arguments_view v))
 arguments_joined v = joined_nothing (map (λ x. argument_shown (argument_view x)) v.items) ∙ ap concat (sym (arguments_shown_all v.items))
 
-pub steps_joined : (v : Vec SingularQuerySegment Global) → joined [] (map (λ x. step_shown (step_view x)) v.items) ≡ flat_map step_shown (map step_view v.items)
-steps_joined v = joined_nothing (map (λ x. step_shown (step_view x)) v.items) ∙ sym (steps_shown_all v.items)
+pub steps_joined : (v : Vec SingularQuerySegment Global) → joined [] (map (λ x. segment_shown (step_view x)) v.items) ≡ concat (segments_shown (steps_view v))
+steps_joined v = joined_nothing (map (λ x. segment_shown (step_view x)) v.items) ∙ ap concat (sym (steps_shown_all v.items))
 
 pub filters_joined : (between : List ℕ) (v : Vec Filter Global) → joined between (map (λ x. filter_shown (filter_view x)) v.items) ≡ joined between (filters_shown (filters_view v))
 filters_joined between v = ap (joined between) (sym (filters_shown_all v.items))

@@ -3,8 +3,9 @@ use Rattle.std.proofs.Common.{◌≡◌, ◌&&◌, true, List, [], ◌∷◌, le
 use Rattle.std.proofs.lemmas.Bool.Decides.{nat_tests}
 use Rattle.std.specs.Prelude.{nat_le}
 use Rattle.std.specs.List.{list_all}
-use Rattle.std.proofs.lemmas.List.Folds.{list_all-map}
-use Rattle.jsonpath_parser.specs.inner.Spellable.{is_spelled, is_spelled_segment, are_several_selectors, are_spelled_selectors, is_spelled_selector, are_several_filters, are_spelled_conjunctions, is_spelled_conjunction, are_spelled_operands, is_spelled_operand, are_spelled_arguments, is_spelled_argument, is_spelled_step}
+use Rattle.jsonpath_parser.specs.inner.Spellable.{is_spelled, is_spelled_segment, are_several_selectors, are_spelled_selectors, is_spelled_selector, are_several_filters, are_spelled_conjunctions, is_spelled_conjunction, are_spelled_operands, is_spelled_operand, are_spelled_arguments, is_spelled_argument}
+use Rattle.jsonpath_parser.specs.tree.Typing.{is_singular}
+use Rattle.jsonpath_parser.proofs.laws.tree.Steps.{steps_singular}
 use Rattle.jsonpath_parser.specs.tree.View.{segment_view, segments_of, selector_view, selectors_of, filter_view, filters_of, argument_view, arguments_of, step_view}
 use Rattle.jsonpath_parser.specs.declared.tree.model.Segment.{Segment}
 use Rattle.jsonpath_parser.specs.declared.tree.model.Selector.{Selector}
@@ -22,8 +23,13 @@ several_filters [] = refl
 several_filters (f ∷ []) = refl
 several_filters (f ∷ g ∷ fs) = let more : nat_le 2 (length (f ∷ g ∷ fs)) ≡ true = grind (arith, nat_tests) in sym more
 
-pub steps_all : (ss : List SingularQuerySegment) → list_all is_spelled_step (map step_view ss) ≡ list_all (λ s. is_spelled_step (step_view s)) ss
-steps_all ss = list_all-map is_spelled_step step_view ss
+steps_all : (ss : List SingularQuerySegment) → is_spelled (segments_of (map step_view ss)) ≡ list_all (λ s. is_spelled_segment (step_view s)) ss
+steps_all [] = refl
+steps_all (s ∷ ss) = ap (λ b. is_spelled_segment (step_view s) && b) (steps_all ss)
+
+-- as a singular query
+pub steps_are_sides : (ss : List SingularQuerySegment) → (is_singular (segments_of (map step_view ss)) && is_spelled (segments_of (map step_view ss))) ≡ list_all (λ s. is_spelled_segment (step_view s)) ss
+steps_are_sides ss = rw (steps_singular ss) (steps_all ss)
 
 pub segments_all : (gs : List Segment) → is_spelled (segments_of (map segment_view gs)) ≡ list_all (λ g. is_spelled_segment (segment_view g)) gs
 segments_all [] = refl

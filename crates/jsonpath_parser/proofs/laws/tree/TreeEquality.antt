@@ -96,8 +96,8 @@ operator_same operator.LessOrEqual operator.LessOrEqual = (λ _. refl, λ _. ref
 operator_same a b = differ refl (λ h. cc)
 
 pub step_same : (a b : SingularQuerySegment) → Decides (step_eq.eq-value.it a b) (step_view a ≡ step_view b)
-step_same (step.Index a) (step.Index b) = under tree.index_step (λ s t h. cc) (Decides-int_eq a b) refl refl refl
-step_same (step.Name a) (step.Name b) = under tree.name_step (λ s t h. cc) (string_same a b) refl refl refl
+step_same (step.Index a) (step.Index b) = under (λ i. tree.one (tree.index i)) (λ s t h. cc) (Decides-int_eq a b) refl refl refl
+step_same (step.Name a) (step.Name b) = under (λ n. tree.one (tree.name n)) (λ s t h. cc) (string_same a b) refl refl refl
 step_same a b = differ refl (λ h. cc)
 
 pub steps_same : (xs ys : List SingularQuerySegment) → Decides (pointwise step_eq.eq-value.it xs ys) (map step_view xs ≡ map step_view ys)
@@ -106,9 +106,16 @@ steps_same [] (y ∷ ys) = differ refl (λ h. cc)
 steps_same (x ∷ xs) [] = differ refl (λ h. cc)
 steps_same (x ∷ xs) (y ∷ ys) = under_two (λ v vs. v ∷ vs) (λ a c b d h. (cc, cc)) (step_same x y) (steps_same xs ys) refl refl refl
 
+-- as segments
+pub steps_tree_same : (xs ys : List SingularQuerySegment) → Decides (pointwise step_eq.eq-value.it xs ys) (segments_of (map step_view xs) ≡ segments_of (map step_view ys))
+steps_tree_same [] [] = (λ _. refl, λ _. refl)
+steps_tree_same [] (y ∷ ys) = differ refl (λ h. cc)
+steps_tree_same (x ∷ xs) [] = differ refl (λ h. cc)
+steps_tree_same (x ∷ xs) (y ∷ ys) = under_two tree.segment (λ a c b d h. (cc, cc)) (step_same x y) (steps_tree_same xs ys) refl refl refl
+
 pub singular_same : (a b : SingularQuery) → Decides (singular_eq.eq-value.it a b) (singular_view a ≡ singular_view b)
-singular_same (single.Current v) (single.Current w) = under tree.current (λ s t h. cc) (steps_same v.items w.items) refl refl refl
-singular_same (single.Root v) (single.Root w) = under tree.root (λ s t h. cc) (steps_same v.items w.items) refl refl refl
+singular_same (single.Current v) (single.Current w) = under tree.relative (λ s t h. cc) (steps_tree_same v.items w.items) refl refl refl
+singular_same (single.Root v) (single.Root w) = under tree.absolute (λ s t h. cc) (steps_tree_same v.items w.items) refl refl refl
 singular_same a b = differ refl (λ h. cc)
 
 -- which variant a value is, and a tree
@@ -118,15 +125,20 @@ comparable_kind (Comparable.Literal a0) = 0
 comparable_kind (Comparable.Function a0) = 1
 comparable_kind (Comparable.SingularQuery a0) = 2
 
-abbrev comparable_kind_of : tree.Comparable → ℕ
-comparable_kind_of (tree.literal a) = 0
-comparable_kind_of (tree.function a) = 1
-comparable_kind_of (tree.singular a) = 2
+abbrev comparable_kind_of : tree.Argument → ℕ
+comparable_kind_of (tree.literal_argument a) = 0
+comparable_kind_of (tree.test_argument (tree.call a)) = 1
+comparable_kind_of (tree.test_argument a) = 2
+comparable_kind_of (tree.filter_argument a) = 3
+
+singular_kind_is : (q : SingularQuery) → comparable_kind_of (tree.test_argument (singular_view q)) ≡ 2
+singular_kind_is (single.Current v) = refl
+singular_kind_is (single.Root v) = refl
 
 comparable_kind_is : (x : Comparable) → comparable_kind_of (comparable_view x) ≡ comparable_kind x
-comparable_kind_is (Comparable.Literal a0) = let e : comparable_view (Comparable.Literal a0) ≡ tree.literal (literal_view a0) = search layers in ap comparable_kind_of e
-comparable_kind_is (Comparable.Function a0) = let e : comparable_view (Comparable.Function a0) ≡ tree.function (call_view a0) = search layers in ap comparable_kind_of e
-comparable_kind_is (Comparable.SingularQuery a0) = let e : comparable_view (Comparable.SingularQuery a0) ≡ tree.singular (singular_view a0) = search layers in ap comparable_kind_of e
+comparable_kind_is (Comparable.Literal a0) = let e : comparable_view (Comparable.Literal a0) ≡ tree.literal_argument (literal_view a0) = search layers in ap comparable_kind_of e
+comparable_kind_is (Comparable.Function a0) = let e : comparable_view (Comparable.Function a0) ≡ tree.test_argument (tree.call (call_view a0)) = search layers in ap comparable_kind_of e
+comparable_kind_is (Comparable.SingularQuery a0) = let e : comparable_view (Comparable.SingularQuery a0) ≡ tree.test_argument (singular_view a0) = search layers in ap comparable_kind_of e ∙ singular_kind_is a0
 
 abbrev comparison_kind : Comparison → ℕ
 comparison_kind (Comparison.Eq a0 a1) = 0
@@ -275,9 +287,9 @@ call_kind_is (TestFunction.Match a0 a1) = let e : call_view (TestFunction.Match 
 -- by recursion over both values: the same variant of equal parts, or two variants
 mutual
   pub comparable_same : (x y : Comparable) → Decides (comparable_eq.eq-value.it x y) (comparable_view x ≡ comparable_view y)
-  comparable_same (Comparable.Literal a0) (Comparable.Literal b0) = under tree.literal (λ s t h. cc) (literal_same a0 b0) (comparable_laws.is (Comparable.Literal a0) (Comparable.Literal b0) ∙ search layers) (search layers) (search layers)
-  comparable_same (Comparable.Function a0) (Comparable.Function b0) = under tree.function (λ s t h. cc) (call_same a0 b0) (comparable_laws.is (Comparable.Function a0) (Comparable.Function b0) ∙ search layers) (search layers) (search layers)
-  comparable_same (Comparable.SingularQuery a0) (Comparable.SingularQuery b0) = under tree.singular (λ s t h. cc) (singular_same a0 b0) (comparable_laws.is (Comparable.SingularQuery a0) (Comparable.SingularQuery b0) ∙ search layers) (search layers) (search layers)
+  comparable_same (Comparable.Literal a0) (Comparable.Literal b0) = under tree.literal_argument (λ s t h. cc) (literal_same a0 b0) (comparable_laws.is (Comparable.Literal a0) (Comparable.Literal b0) ∙ search layers) (search layers) (search layers)
+  comparable_same (Comparable.Function a0) (Comparable.Function b0) = under (λ c. tree.test_argument (tree.call c)) (λ s t h. cc) (call_same a0 b0) (comparable_laws.is (Comparable.Function a0) (Comparable.Function b0) ∙ search layers) (search layers) (search layers)
+  comparable_same (Comparable.SingularQuery a0) (Comparable.SingularQuery b0) = under tree.test_argument (λ s t h. cc) (singular_same a0 b0) (comparable_laws.is (Comparable.SingularQuery a0) (Comparable.SingularQuery b0) ∙ search layers) (search layers) (search layers)
   comparable_same x y = differ (comparable_laws.is x y ∙ search layers) (λ e. let k : comparable_kind x ≡ comparable_kind y = sym (comparable_kind_is x) ∙ ap comparable_kind_of e ∙ comparable_kind_is y in absurd (omega (arith, k)))
 
   pub comparison_same : (x y : Comparison) → Decides (comparison_eq.eq-value.it x y) (comparison_view x ≡ comparison_view y)

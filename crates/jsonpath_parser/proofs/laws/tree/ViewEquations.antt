@@ -23,13 +23,13 @@ use Rattle.jsonpath_parser.specs.declared.tree.model.Test.{Test}
 use Rattle.jsonpath_parser.specs.declared.tree.model.TestFunction
 use Rattle.jsonpath_parser.specs.declared.tree.model.TestFunction.{TestFunction}
 
-pub comparable_view-Literal : (l : Literal) → comparable_view (Comparable.Literal l) ≡ tree.literal (literal_view l)
+pub comparable_view-Literal : (l : Literal) → comparable_view (Comparable.Literal l) ≡ tree.literal_argument (literal_view l)
 comparable_view-Literal l = search (rules, the_lemmas)
 
-pub comparable_view-Function : (f : TestFunction) → comparable_view (Comparable.Function f) ≡ tree.function (call_view f)
+pub comparable_view-Function : (f : TestFunction) → comparable_view (Comparable.Function f) ≡ tree.test_argument (tree.call (call_view f))
 comparable_view-Function f = search (rules, the_lemmas)
 
-pub comparable_view-SingularQuery : (q : SingularQuery) → comparable_view (Comparable.SingularQuery q) ≡ tree.singular (singular_view q)
+pub comparable_view-SingularQuery : (q : SingularQuery) → comparable_view (Comparable.SingularQuery q) ≡ tree.test_argument (singular_view q)
 comparable_view-SingularQuery q = search (rules, the_lemmas)
 
 pub comparison_view-Eq : (a b : Comparable) → comparison_view (Comparison.Eq a b) ≡ tree.compare tree.equal (comparable_view a) (comparable_view b)

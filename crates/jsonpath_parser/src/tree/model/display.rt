@@ -2,7 +2,7 @@
 //! brackets, strings without escapes, and filters without parentheses.
 ghost use Rattle.std.specs.Prelude.{◌≡◌, ℕ, List, Some, map};
 ghost use Rattle.std.specs.Fmt.{WritesOnOk};
-ghost use Rattle.jsonpath_parser.specs.tree.Shown.{joined, not_shown, query_shown, segment_shown, selector_shown, filter_shown, atom_shown, comparison_shown, comparable_shown, singular_shown, step_shown, test_shown, call_shown, argument_shown, literal_shown};
+ghost use Rattle.jsonpath_parser.specs.tree.Shown.{joined, not_shown, query_shown, segment_shown, selector_shown, filter_shown, atom_shown, comparison_shown, comparable_shown, singular_shown, test_shown, call_shown, argument_shown, literal_shown};
 ghost use Rattle.jsonpath_parser.specs.tree.View.{query_view, segment_view, selector_view, filter_view, atom_view, comparison_view, comparable_view, singular_view, step_view, test_view, call_view, argument_view, literal_view};
 
 use super::{
@@ -170,7 +170,7 @@ impl Display for SingularQuery {
 
 /// The number or the bare name.
 impl Display for SingularQuerySegment {
-    ghost output = { λ p. Some (step_shown (step_view p)) };
+    ghost output = { λ p. Some (segment_shown (step_view p)) };
 
     fn fmt<W: Write>(&self, f: &mut Formatter<W>) -> fmt::Result {
         match self {

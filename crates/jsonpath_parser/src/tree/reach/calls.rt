@@ -115,10 +115,11 @@ fn comparison(comparison: &Comparison, names: &[&str]) -> bool
 
 #[cycle(calls)]
 fn comparable(comparable: &Comparable, names: &[&str]) -> bool
-    ensures { result ≡ reach.comparable_calls_only (reach.is_one_of names.now) (comparable_view comparable.now) }
+    ensures { result ≡ reach.argument_calls_only (reach.is_one_of names.now) (comparable_view comparable.now) }
 {
     match comparable {
-        Comparable::Literal(_) | Comparable::SingularQuery(_) => true,
+        Comparable::Literal(_) => true,
+        Comparable::SingularQuery(_) => true,
         Comparable::Function(function) => call(function, names),
     }
 }

@@ -115,7 +115,7 @@ fn comparison(comparison: &Comparison) -> bool
 
 #[cycle(local)]
 fn comparable(comparable: &Comparable) -> bool
-    ensures { result ≡ reach.is_local_comparable (comparable_view comparable.now) }
+    ensures { result ≡ reach.is_local_argument (comparable_view comparable.now) }
 {
     match comparable {
         Comparable::Literal(_) => true,
@@ -125,8 +125,9 @@ fn comparable(comparable: &Comparable) -> bool
 }
 
 /// Whether the query begins at the current node.
+#[tactic(auto, using(crate::proofs::laws::tree::Steps::steps_local))]
 fn is_relative(query: &SingularQuery) -> bool
-    ensures { result ≡ reach.is_relative (singular_view query.now) }
+    ensures { result ≡ reach.is_local_test (singular_view query.now) }
 {
     matches!(query, SingularQuery::Current(_))
 }

@@ -3,6 +3,7 @@ ghost use Rattle.std.specs.Prelude.{◌≡◌, map};
 ghost use Rattle.std.specs.List.{list_all};
 ghost use Rattle.jsonpath_parser.specs.inner.Spellable as spec;
 ghost use Rattle.jsonpath_parser.specs.words.Lexical as lexical;
+ghost use Rattle.jsonpath_parser.specs.tree.Syntax.{test_argument};
 ghost use Rattle.jsonpath_parser.specs.tree.Typing as typing;
 ghost use Rattle.jsonpath_parser.specs.tree.View.{literal_view, step_view, singular_view, segment_view, segments_of, selector_view, selectors_of, filter_view, filters_of, atom_view, comparison_view, comparable_view, test_view, call_view, argument_view, arguments_of, query_view};
 
@@ -226,9 +227,9 @@ fn is_long(number: i64) -> bool
     i64::MIN <= number && number <= i64::MAX
 }
 
-#[tactic(auto, using(crate::proofs::laws::tree::Spellable::steps_all))]
+#[tactic(auto, using(crate::proofs::laws::tree::Spellable::steps_are_sides))]
 fn singular(query: &SingularQuery) -> bool
-    ensures { result ≡ spec.is_spelled_singular (singular_view query.now) }
+    ensures { result ≡ spec.is_spelled_comparable (test_argument (singular_view query.now)) }
 {
     match query {
         SingularQuery::Current(parts) | SingularQuery::Root(parts) => steps(parts),
@@ -236,13 +237,13 @@ fn singular(query: &SingularQuery) -> bool
 }
 
 fn steps(steps: &[SingularQuerySegment]) -> bool
-    ensures { result ≡ list_all (λ s. spec.is_spelled_step (step_view s)) steps.now }
+    ensures { result ≡ list_all (λ s. spec.is_spelled_segment (step_view s)) steps.now }
 {
     steps.iter().all(|one| step(one))
 }
 
 fn step(step: &SingularQuerySegment) -> bool
-    ensures { result ≡ spec.is_spelled_step (step_view step.now) }
+    ensures { result ≡ spec.is_spelled_segment (step_view step.now) }
 {
     match step {
         SingularQuerySegment::Index(index) => is_in_range(*index),

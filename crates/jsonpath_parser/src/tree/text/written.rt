@@ -202,7 +202,7 @@ fn comparison(text: &mut String, comparison: &Comparison) -> Result<(), AllocErr
 
 #[cycle(written)]
 fn comparable(text: &mut String, comparable: &Comparable) -> Result<(), AllocError>
-    ensures { OnOk result (string_bytes text.new ≡ string_bytes text.old ++ spec.comparable_text (comparable_view comparable.now)) }
+    ensures { OnOk result (string_bytes text.new ≡ string_bytes text.old ++ spec.argument_text (comparable_view comparable.now)) }
 {
     match comparable {
         Comparable::Literal(one) => literal(text, one),
@@ -245,7 +245,7 @@ fn string(text: &mut String, value: &str) -> Result<(), AllocError>
 }
 
 fn singular(text: &mut String, query: &SingularQuery) -> Result<(), AllocError>
-    ensures { OnOk result (string_bytes text.new ≡ string_bytes text.old ++ spec.singular_text (singular_view query.now)) }
+    ensures { OnOk result (string_bytes text.new ≡ string_bytes text.old ++ spec.test_text (singular_view query.now)) }
 {
     match query {
         SingularQuery::Current(parts) => {
@@ -260,7 +260,7 @@ fn singular(text: &mut String, query: &SingularQuery) -> Result<(), AllocError>
 }
 
 fn steps(text: &mut String, steps: &[SingularQuerySegment]) -> Result<(), AllocError>
-    ensures { OnOk result (string_bytes text.new ≡ string_bytes text.old ++ spec.singular_steps_text (map step_view steps.now)) }
+    ensures { OnOk result (string_bytes text.new ≡ string_bytes text.old ++ spec.segments_text (segments_of (map step_view steps.now))) }
 {
     'steps: for one in steps {
         step(text, one)?;
@@ -268,8 +268,9 @@ fn steps(text: &mut String, steps: &[SingularQuerySegment]) -> Result<(), AllocE
     Ok(())
 }
 
+#[tactic(auto, using(crate::proofs::laws::tree::Steps::step_written))]
 fn step(text: &mut String, step: &SingularQuerySegment) -> Result<(), AllocError>
-    ensures { OnOk result (string_bytes text.new ≡ string_bytes text.old ++ spec.singular_step_text (step_view step.now)) }
+    ensures { OnOk result (string_bytes text.new ≡ string_bytes text.old ++ spec.segment_text (step_view step.now)) }
 {
     text.push('[')?;
     bare_step(text, step)?;
@@ -278,7 +279,7 @@ fn step(text: &mut String, step: &SingularQuerySegment) -> Result<(), AllocError
 
 /// What stands in the brackets of a step.
 fn bare_step(text: &mut String, step: &SingularQuerySegment) -> Result<(), AllocError>
-    ensures { OnOk result (string_bytes text.new ≡ string_bytes text.old ++ spec.bare_step_text (step_view step.now)) }
+    ensures { OnOk result (string_bytes text.new ≡ string_bytes text.old ++ spec.bare_text (step_view step.now)) }
 {
     match step {
         SingularQuerySegment::Index(index) => number(text, *index),

@@ -5,9 +5,9 @@ use Rattle.std.proofs.lemmas.List.Elements.{All-from_recursion, All-map, All-wea
 use Rattle.std.specs.List.{flat_map, AllByRecursion}
 use Rattle.std.specs.Option.{option_map_or}
 use Rattle.jsonpath_parser.specs.Location.{Step, name, index, Location, Begins}
-use Rattle.jsonpath_parser.specs.tree.Reach.{is_local, is_local_segment, are_local_selectors, is_local_selector, is_local_filter, are_local_filters, is_local_atom, is_local_comparison, is_local_comparable, is_local_test, is_local_call, is_local_argument, are_local_arguments}
+use Rattle.jsonpath_parser.specs.tree.Reach.{is_local, is_local_segment, are_local_selectors, is_local_selector, is_local_filter, are_local_filters, is_local_atom, is_local_comparison, is_local_test, is_local_call, is_local_argument, are_local_arguments}
 use Rattle.jsonpath_parser.specs.tree.Syntax as syntax
-use Rattle.jsonpath_parser.specs.tree.Syntax.{Selector, wildcard, slice, Selectors, no_selectors, selector, Segment, one, several, descendant, Segments, no_segments, segment, Filter, or, and, atom, Filters, no_filters, filter_then, Atom, group, test, comparison, Comparison, compare, Comparable, literal, function, singular, current, Test, relative, absolute, call, Call, custom_call, length_call, value_call, count_call, search_call, match_call, Argument, literal_argument, test_argument, filter_argument, Arguments, no_arguments, argument, Query}
+use Rattle.jsonpath_parser.specs.tree.Syntax.{Selector, wildcard, slice, Selectors, no_selectors, selector, Segment, one, several, descendant, Segments, no_segments, segment, Filter, or, and, atom, Filters, no_filters, filter_then, Atom, group, test, comparison, Comparison, compare, Test, relative, absolute, call, Call, custom_call, length_call, value_call, count_call, search_call, match_call, Argument, literal_argument, test_argument, filter_argument, Arguments, no_arguments, argument, Query}
 use Rattle.jsonpath_base.specs.FixedPart.{fixed_step, fixed_part}
 use Rattle.jsonpath_base.specs.Places.{child, at}
 use Rattle.jsonpath_base.specs.Slice.{slice_of}
@@ -17,7 +17,7 @@ use Rattle.jsonpath_rust.specs.documents.Comparing.{compares}
 use Rattle.jsonpath_rust.specs.documents.Confining.{SingularSelectsOneAtMost, SelectedBeginsWithFixedPart, AgreeAt, LocalIsConfined}
 use Rattle.jsonpath_rust.specs.documents.Document.{Document}
 use Rattle.jsonpath_rust.specs.documents.Functions.{length_of, count_of, only_value, is_matched, of_value, of_nodes, as_value, as_nodes, as_trees, as_truth}
-use Rattle.jsonpath_rust.specs.documents.Meaning.{element, element_of, picks, all_pick, replaced, all_applied, holds, some_holds, each_holds, atom_holds, comparison_holds, value_of, answer, argued, tested, all_trees, negated, nodelist, selected}
+use Rattle.jsonpath_rust.specs.documents.Meaning.{element, element_of, picks, all_pick, replaced, all_applied, holds, some_holds, each_holds, atom_holds, comparison_holds, answer, argued, tested, all_trees, negated, nodelist, selected}
 use Rattle.jsonpath_rust.specs.documents.Node.{Node, root_node, below, element_nodes, member_nodes, children_at, children, subtree, subtree_at, subtrees_at, member_subtrees}
 use Rattle.jsonpath_rust.specs.documents.inner.Following.{followed}
 use Rattle.jsonpath_rust.proofs.laws.documents.Following.{node_at, nodes_of, applied_to_none, selected_followed}
@@ -206,14 +206,8 @@ mutual
 
   comparison_alike : (c : Comparison) (d e : Document) (n : Node) → SameCustom d e → IsTrue (is_local_comparison c) → comparison_holds c d n ≡ comparison_holds c e n
   comparison_alike (compare op a b) d e n same h =
-      let both = and_parts (is_local_comparable a) (is_local_comparable b) h in
-      ap (λ x. compares op x (value_of b d n)) (side_alike a d e n same both.0) ∙ ap (compares op (value_of a e n)) (side_alike b d e n same both.1)
-
-  side_alike : (a : Comparable) (d e : Document) (n : Node) → SameCustom d e → IsTrue (is_local_comparable a) → value_of a d n ≡ value_of a e n
-  side_alike (literal l) d e n same h = refl
-  side_alike (function f) d e n same h = answer_alike f d e n same h
-  side_alike (singular (current ss)) d e n same h = refl
-  side_alike (singular (syntax.root ss)) d e n same h = absurd (false≢true h)
+      let both = and_parts (is_local_argument a) (is_local_argument b) h in
+      ap (λ x. compares op (as_value x) (as_value (argued b d n))) (argued_alike a d e n same both.0) ∙ ap (λ x. compares op (as_value (argued a e n)) (as_value x)) (argued_alike b d e n same both.1)
 
   tested_alike : (t : Test) (d e : Document) (n : Node) → SameCustom d e → IsTrue (is_local_test t) → tested t d n ≡ tested t e n
   tested_alike (relative gs) d e n same h = ap of_nodes (applied_alike gs d e (n ∷ []) same h)

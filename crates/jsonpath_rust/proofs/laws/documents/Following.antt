@@ -5,7 +5,7 @@ use Rattle.std.specs.List.{flat_map}
 use Rattle.jsonpath_parser.specs.Derives.{Derives}
 use Rattle.jsonpath_parser.specs.Location.{Step, name, index, Location}
 use Rattle.jsonpath_parser.specs.tree.Syntax as syntax
-use Rattle.jsonpath_parser.specs.tree.Syntax.{Selector, Segment, one, several, descendant, Segments, no_segments, segment, Query}
+use Rattle.jsonpath_parser.specs.tree.Syntax.{Segment, one, several, descendant, Segments, no_segments, segment, Query}
 use Rattle.jsonpath_parser.specs.tree.Typing.{is_step, is_singular}
 use Rattle.jsonpath_base.specs.Places.{child, at}
 use Rattle.jsonpath_base.specs.Steps.{location_view}
@@ -83,7 +83,7 @@ pub applied_to_none : (gs : Segments) (d : Document) → all_applied gs d [] ≡
 applied_to_none no_segments d = refl
 applied_to_none (segment g gs) d = applied_to_none gs d
 
-abbrev Applied : Segments → Document → Location → Tree → Type 0
+abbrev pub Applied : Segments → Document → Location → Tree → Type 0
 Applied gs d l t = all_applied gs d (node_at l t ∷ []) ≡ nodes_of (followed gs l t)
 
 applied_behind : (gs : Segments) (d : Document) (l : Location) (o : Option (Step × Tree)) → ((m : Location) (u : Tree) → Applied gs d m u) → all_applied gs d (nodes_below l o) ≡ nodes_of (option_and_then (λ p. followed gs (l ++ p.0 ∷ []) p.1) o)
@@ -91,7 +91,7 @@ applied_behind gs d l None more = applied_to_none gs d
 applied_behind gs d l (Some p) more = more (l ++ p.0 ∷ []) p.1
 
 -- the key: a singular query selects what following its segments gives
-applied_followed : (gs : Segments) (d : Document) (l : Location) (t : Tree) → is_singular gs ≡ true → Applied gs d l t
+pub applied_followed : (gs : Segments) (d : Document) (l : Location) (t : Tree) → is_singular gs ≡ true → Applied gs d l t
 applied_followed no_segments d l t h = refl
 applied_followed (segment g gs) d l t h =
     let parts = and_parts (is_step g) (is_singular gs) h in

@@ -8,10 +8,11 @@ use Rattle.jsonpath_parser.specs.Location.{Location, name, index}
 use Rattle.jsonpath_base.specs.Tree.{Tree, null, truth, number, text, list, object, Trees, no_trees, tree, Members, no_members, member, elements, pairs, as_list, as_members, find, get}
 use Rattle.jsonpath_base.specs.Places.{child, item_at}
 use Rattle.jsonpath_rust.specs.documents.Node.{Node, below, element_nodes, member_nodes, children_at, subtree, subtree_at, subtrees_at, member_subtrees}
-use Rattle.jsonpath_rust.specs.documents.Meaning.{indexed, element_of, stepped, element, sliced, named}
+use Rattle.jsonpath_rust.specs.documents.Meaning.{indexed, element_of, element, sliced, named}
 use Rattle.jsonpath_base.specs.Slice.{slice_of}
 use Rattle.std.proofs.lemmas.List.{length-map, append-nil}
-use Rattle.jsonpath_parser.specs.tree.Syntax.{index_step}
+use Rattle.jsonpath_parser.specs.tree.Syntax as syntax
+use Rattle.jsonpath_rust.specs.documents.inner.Singular.{stepped}
 use Rattle.jsonpath_rust.specs.documents.inner.Size.{size, trees_size, members_size}
 
 -- what all elements have, this one has
@@ -167,7 +168,7 @@ unfolding first_tree
 first-found l None = refl
 first-found l (Some p) = refl
 
-pub stepped-found : (i : ℤ) (t : Tree) (o : Option (ℕ × Tree)) → map (λ p. below [] (index p.0) p.1) (option_to_list o) ≡ indexed i (record { location = []; tree = t }) → option_map (λ p. p.1) o ≡ stepped (index_step i) t
+pub stepped-found : (i : ℤ) (t : Tree) (o : Option (ℕ × Tree)) → map (λ p. below [] (index p.0) p.1) (option_to_list o) ≡ indexed i (record { location = []; tree = t }) → option_map (λ p. p.1) o ≡ stepped (syntax.one (syntax.Selector.index i)) t
 stepped-found i t o e = sym (first-found [] o) ∙ ap first_tree e ∙ first-list [] (λ k. child (index k) t) (λ ts. element_of i (length ts)) (as_list t)
 
 -- ---- the elements that a slice picks

@@ -1,13 +1,16 @@
 -- Children that are counted are those that the walk would select.
-use Rattle.std.proofs.Common.{◌≡◌, ℕ, suc, List, [], ◌∷◌, ◌++◌, length, append-nil, refl, sym, ◌∙◌, ap, Option, None, Some, option_map, option_to_list}
+use Rattle.std.proofs.Common.{◌≡◌, ℕ, suc, List, [], ◌∷◌, length, map, append-nil, refl, sym, ◌∙◌, ap, Option, None, Some, option_map, option_to_list}
 use Rattle.std.specs.List.{flat_map}
 use Rattle.jsonpath_parser.specs.Location.{Location}
-use Rattle.jsonpath_parser.specs.tree.Syntax.{SingularStep}
+use Rattle.jsonpath_parser.specs.tree.Syntax.{Segment}
+use Rattle.jsonpath_parser.specs.tree.View.{step_view}
+use Rattle.jsonpath_parser.specs.declared.tree.model.SingularQuerySegment.{SingularQuerySegment}
 use Rattle.jsonpath_base.specs.Tree.{Tree, null, truth, number, text, list, object, elements, pairs, as_list, as_members}
 use Rattle.jsonpath_rust.specs.documents.Document.{Document}
-use Rattle.jsonpath_rust.specs.documents.Meaning.{all_applied, replaced, value_at}
+use Rattle.jsonpath_rust.specs.documents.Meaning.{all_applied, replaced}
 use Rattle.jsonpath_rust.specs.documents.Node.{Node, root_node, children, children_at, element_nodes, member_nodes}
-use Rattle.jsonpath_rust.specs.selection.inner.PlanViews.{children_query, step_segment, steps_query}
+use Rattle.jsonpath_rust.specs.documents.inner.Singular.{value_at}
+use Rattle.jsonpath_rust.specs.selection.inner.PlanViews.{children_query, steps_query}
 use Rattle.jsonpath_rust.specs.selection.inner.Walking.{through}
 use Rattle.jsonpath_rust.proofs.laws.selection.NodelistLaws.{through-applied}
 use Rattle.jsonpath_rust.proofs.laws.selection.StepLaws.{steps_there, trees_of}
@@ -44,14 +47,14 @@ below_one (n ∷ m ∷ ns) None e = absurd cc
 below_one (n ∷ m ∷ ns) (Some t) e = absurd cc
 
 -- the steps first, then all children
-children_last : (ss : List SingularStep) (d : Document) (ns : List Node) → all_applied (children_query ss) d ns ≡ flat_map children (all_applied (steps_query ss) d ns)
+children_last : (ss : List Segment) (d : Document) (ns : List Node) → all_applied (children_query ss) d ns ≡ flat_map children (all_applied (steps_query ss) d ns)
 children_last [] d ns = refl
-children_last (s ∷ ss) d ns = children_last ss d (flat_map (replaced (step_segment s) d) ns)
+children_last (s ∷ ss) d ns = children_last ss d (flat_map (replaced s d) ns)
 
-pub children_counted : (ss : List SingularStep) (d : Document) (n : Node) (o : Option Tree) → o ≡ value_at ss n.tree → length (through (children_query ss) d n) ≡ children_of o
+pub children_counted : (ss : List SingularQuerySegment) (d : Document) (n : Node) (o : Option Tree) → o ≡ value_at (map step_view ss) n.tree → length (through (children_query (map step_view ss)) d n) ≡ children_of o
 children_counted ss d n o e =
-    let found = through-applied (children_query ss) d n ∙ children_last ss d (n ∷ []) ∙ sym (ap (flat_map children) (through-applied (steps_query ss) d n)) in
-    ap (λ ns. length ns) found ∙ below_one (through (steps_query ss) d n) o (steps_there ss d n ∙ ap option_to_list (sym e))
+    let found = through-applied (children_query (map step_view ss)) d n ∙ children_last (map step_view ss) d (n ∷ []) in
+    ap (λ ns. length ns) found ∙ below_one (all_applied (steps_query (map step_view ss)) d (n ∷ [])) o (steps_there ss d n ∙ ap option_to_list (sym e))
 
 pub list_count : (t : Tree) (ts : List Tree) → Some ts ≡ as_list t → length ts ≡ length (children (root_node t))
 list_count (list us) ts h =

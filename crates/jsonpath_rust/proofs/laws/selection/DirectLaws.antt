@@ -1,30 +1,39 @@
 -- What is worked out of a look-up is what the meaning makes of its nodes.
-use Rattle.std.proofs.Common.{◌≡◌, ℕ, List, [], ◌∷◌, map, length, nat_lt, refl, sym, ◌∙◌, ap, arith, Option, Some, None, option_to_list, Result, Ok, Err, IfOk, IfSome}
-use Rattle.jsonpath_parser.specs.tree.Syntax.{SingularStep, relative, Query}
+use Rattle.std.proofs.Common.{◌≡◌, ℕ, zero, suc, List, [], ◌∷◌, map, length, nat_lt, refl, ◌∙◌, ap, subst, arith, IsTrue, Option, Some, None, Result, Ok, Err, IfOk, IfSome}
+use Rattle.jsonpath_parser.specs.tree.Syntax.{absolute, relative, Query}
+use Rattle.jsonpath_parser.specs.tree.Typing.{is_singular}
+use Rattle.jsonpath_parser.specs.tree.View.{step_view}
+use Rattle.jsonpath_parser.specs.declared.tree.model.SingularQuerySegment.{SingularQuerySegment}
 use Rattle.jsonpath_base.specs.Tree.{Tree}
 use Rattle.jsonpath_rust.specs.documents.Document.{Document}
-use Rattle.jsonpath_rust.specs.documents.Functions.{as_nodes, as_truth, as_value, count_of, count_value, only_value}
-use Rattle.jsonpath_rust.specs.documents.Meaning.{tested, value_at}
+use Rattle.jsonpath_rust.specs.documents.Functions.{as_nodes, as_truth, as_value, count_of, count_value}
+use Rattle.jsonpath_rust.specs.documents.Meaning.{tested}
 use Rattle.jsonpath_rust.specs.documents.Node.{Node, has_node}
-use Rattle.jsonpath_rust.specs.selection.inner.PlanViews.{steps_query}
+use Rattle.jsonpath_rust.specs.documents.inner.Singular.{value_at}
+use Rattle.jsonpath_rust.specs.selection.inner.PlanViews.{Constants, IsSettled, constant_view, kept_view, part_at, steps_at, steps_in, steps_query}
 use Rattle.jsonpath_rust.specs.selection.inner.Walking.{through}
+use Rattle.jsonpath_rust.specs.declared.selection.plan.Constant.{Constant}
+use Rattle.jsonpath_rust.specs.declared.selection.plan.Constant.TheVariants as constant
+use Rattle.jsonpath_rust.proofs.laws.documents.Singular.{absolute_value, relative_value, steps_singular}
 use Rattle.jsonpath_rust.proofs.laws.selection.NodelistLaws.{through-applied}
-use Rattle.jsonpath_rust.proofs.laws.selection.StepLaws.{steps_there, trees_of}
 
 -- ---- the value of the only node
 
-only_of : (ns : List Node) (o : Option Tree) → trees_of ns ≡ option_to_list o → only_value ns ≡ o
-only_of [] None e = refl
-only_of [] (Some t) e = absurd cc
-only_of (n ∷ []) None e = absurd cc
-only_of (n ∷ []) (Some t) e =
-    let same : n.tree ≡ t = cc in
-    ap Some same
-only_of (n ∷ m ∷ ns) None e = absurd cc
-only_of (n ∷ m ∷ ns) (Some t) e = absurd cc
+pub looked_up : (ss : List SingularQuerySegment) (d : Document) (n : Node) (t : Tree) → n.tree ≡ t → as_value (tested (relative (steps_query (map step_view ss))) d n) ≡ value_at (map step_view ss) t
+looked_up ss d n t e = relative_value (map step_view ss) d n (steps_singular ss) ∙ ap (value_at (map step_view ss)) e
 
-pub looked_up : (ss : List SingularStep) (d : Document) (n : Node) (t : Tree) → n.tree ≡ t → as_value (tested (relative (steps_query ss)) d n) ≡ value_at ss t
-looked_up ss d n t e = ap only_value (sym (through-applied (steps_query ss) d n)) ∙ only_of (through (steps_query ss) d n) (value_at ss n.tree) (steps_there ss d n) ∙ ap (value_at ss) e
+-- the steps that are kept are names and indexes
+steps_kept : (kept : Constants) (es : List Constant) (k : ℕ) → IsTrue (is_singular (steps_query (steps_in (part_at (map (constant_view kept) es) k))))
+steps_kept kept [] k = refl
+steps_kept kept (constant.Nodes gs w n ∷ es) zero = refl
+steps_kept kept (constant.Value ss ∷ es) zero = steps_singular ss.items
+steps_kept kept (constant.Answer c ∷ es) zero = refl
+steps_kept kept (constant.Comparison op a b ∷ es) zero = refl
+steps_kept kept (e ∷ es) (suc k) = steps_kept kept es k
+
+pub looked_up_from_root : (es : List Constant) (k : ℕ) (d : Document) (n : Node) → IsSettled es → as_value (tested (absolute (steps_query (steps_at (kept_view es) k))) d n) ≡ value_at (steps_at (kept_view es) k) d.root
+looked_up_from_root es k d n settled =
+    absolute_value (steps_at (kept_view es) k) d n (subst (λ (kept : Constants). IsTrue (is_singular (steps_query (steps_at kept k)))) settled (steps_kept (kept_view es) es k))
 
 -- ---- how many there are
 

@@ -123,7 +123,7 @@ mutual
   filter_same kept (Filter.Exists a s) (Filter.Exists b t) = under_two (λ q n. tree.atom (tree.Atom.test n q)) (nodes_same kept a b wanted.Any) (bool_same s t) (filter_laws.is (Filter.Exists a s) (Filter.Exists b t) ∙ search layers) (search layers) (search layers)
   filter_same kept (Filter.HasChild v s) (Filter.HasChild u t) = under_two (λ ss n. tree.atom (tree.Atom.test n (tree.relative (children_query ss)))) (steps_same v.items u.items).0 (bool_same s t) (filter_laws.is (Filter.HasChild v s) (Filter.HasChild u t) ∙ search layers) (search layers) (search layers)
   filter_same kept (Filter.Call a s) (Filter.Call b t) = under_two (λ c n. tree.atom (tree.Atom.test n (tree.call c))) (called_same kept a b) (bool_same s t) (filter_laws.is (Filter.Call a s) (Filter.Call b t) ∙ search layers) (search layers) (search layers)
-  filter_same kept (Filter.Comparison o a c) (Filter.Comparison p b d) = under_two (λ op (q : tree.Comparable × tree.Comparable). tree.atom (tree.comparison (tree.compare op q.0 q.1))) (operator_same o p).0 (under_two (λ (s t : tree.Comparable). (s, t)) (side_same kept a b) (side_same kept c d) refl refl refl) (filter_laws.is (Filter.Comparison o a c) (Filter.Comparison p b d) ∙ search layers) (search layers) (search layers)
+  filter_same kept (Filter.Comparison o a c) (Filter.Comparison p b d) = under_two (λ op (q : tree.Argument × tree.Argument). tree.atom (tree.comparison (tree.compare op q.0 q.1))) (operator_same o p).0 (under_two (λ (s t : tree.Argument). (s, t)) (side_same kept a b) (side_same kept c d) refl refl refl) (filter_laws.is (Filter.Comparison o a c) (Filter.Comparison p b d) ∙ search layers) (search layers) (search layers)
   filter_same kept (Filter.Constant n) (Filter.Constant m) = under (λ k. tree.atom (tree.comparison (comparison_at kept k))) (Decides-eqb n m).0 (filter_laws.is (Filter.Constant n) (Filter.Constant m) ∙ search layers) (search layers) (search layers)
   filter_same kept x y = differ (filter_laws.is x y ∙ search layers)
 
@@ -148,10 +148,10 @@ mutual
   selector_same kept x y = differ (selector_laws.is x y ∙ search layers)
 
   side_same : (kept : Constants) (x y : Side) → IsTrue (side_eq.eq-value.it x y) → side_view kept x ≡ side_view kept y
-  side_same kept (Side.Literal a) (Side.Literal b) = under tree.literal (literal_same a b).0 (side_laws.is (Side.Literal a) (Side.Literal b) ∙ search layers) (search layers) (search layers)
-  side_same kept (Side.Lookup v) (Side.Lookup u) = under (λ ss. tree.singular (tree.current ss)) (steps_same v.items u.items).0 (side_laws.is (Side.Lookup v) (Side.Lookup u) ∙ search layers) (search layers) (search layers)
-  side_same kept (Side.Constant n) (Side.Constant m) = under (λ k. tree.singular (tree.root (steps_at kept k))) (Decides-eqb n m).0 (side_laws.is (Side.Constant n) (Side.Constant m) ∙ search layers) (search layers) (search layers)
-  side_same kept (Side.Call a) (Side.Call b) = under tree.function (called_same kept a b) (side_laws.is (Side.Call a) (Side.Call b) ∙ search layers) (search layers) (search layers)
+  side_same kept (Side.Literal a) (Side.Literal b) = under tree.literal_argument (literal_same a b).0 (side_laws.is (Side.Literal a) (Side.Literal b) ∙ search layers) (search layers) (search layers)
+  side_same kept (Side.Lookup v) (Side.Lookup u) = under (λ ss. tree.test_argument (tree.relative (steps_query ss))) (steps_same v.items u.items).0 (side_laws.is (Side.Lookup v) (Side.Lookup u) ∙ search layers) (search layers) (search layers)
+  side_same kept (Side.Constant n) (Side.Constant m) = under (λ k. tree.test_argument (tree.absolute (steps_query (steps_at kept k)))) (Decides-eqb n m).0 (side_laws.is (Side.Constant n) (Side.Constant m) ∙ search layers) (search layers) (search layers)
+  side_same kept (Side.Call a) (Side.Call b) = under (λ c. tree.test_argument (tree.call c)) (called_same kept a b) (side_laws.is (Side.Call a) (Side.Call b) ∙ search layers) (search layers) (search layers)
   side_same kept x y = differ (side_laws.is x y ∙ search layers)
 
   arguments_same : (kept : Constants) {n m : _} (k : Row_of-Argument n) (l : Row_of-Argument m) → IsTrue (pointwise argument_eq.eq-value.it (items-the_row-Argument n k) (items-the_row-Argument m l)) → arguments_of (map (λ x. x wanted.Values) (map (argument_view kept) (items-the_row-Argument n k))) ≡ arguments_of (map (λ x. x wanted.Values) (map (argument_view kept) (items-the_row-Argument m l)))
@@ -188,5 +188,5 @@ pub constant_same : (kept : Constants) (x y : Constant) → IsTrue (constant_eq.
 constant_same kept (constant.Nodes v w n) (constant.Nodes u z m) = under_two (λ q a. nodes a q) (list_same kept v.items u.items) (λ h. wanted_same w z (and_parts _ _ h).0) refl refl refl
 constant_same kept (constant.Value v) (constant.Value u) = under value (steps_same v.items u.items).0 refl refl refl
 constant_same kept (constant.Answer a) (constant.Answer b) = under answered (call_same kept a b) refl refl refl
-constant_same kept (constant.Comparison o a c) (constant.Comparison p b d) = under_two (λ op (q : tree.Comparable × tree.Comparable). compared (tree.compare op q.0 q.1)) (operator_same o p).0 (under_two (λ (s t : tree.Comparable). (s, t)) (side_same kept a b) (side_same kept c d) refl refl refl) refl refl refl
+constant_same kept (constant.Comparison o a c) (constant.Comparison p b d) = under_two (λ op (q : tree.Argument × tree.Argument). compared (tree.compare op q.0 q.1)) (operator_same o p).0 (under_two (λ (s t : tree.Argument). (s, t)) (side_same kept a b) (side_same kept c d) refl refl refl) refl refl refl
 constant_same kept x y = differ refl

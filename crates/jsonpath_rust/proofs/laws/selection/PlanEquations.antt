@@ -128,14 +128,14 @@ selector_view-Slice kept start end step = search (rules, the_lemmas)
 pub selector_view-Filter : (kept : Constants) (f : Filter) → selector_view kept (Selector.Filter f) ≡ tree.filter (filter_view kept f)
 selector_view-Filter kept f = search (rules, the_lemmas)
 
-pub side_view-Literal : (kept : Constants) (l : Literal) → side_view kept (Side.Literal l) ≡ tree.literal (literal_view l)
+pub side_view-Literal : (kept : Constants) (l : Literal) → side_view kept (Side.Literal l) ≡ tree.literal_argument (literal_view l)
 side_view-Literal kept l = search (rules, the_lemmas)
 
-pub side_view-Lookup : (kept : Constants) (v : Vec SingularQuerySegment Global) → side_view kept (Side.Lookup v) ≡ tree.singular (tree.current (map step_view v.items))
+pub side_view-Lookup : (kept : Constants) (v : Vec SingularQuerySegment Global) → side_view kept (Side.Lookup v) ≡ tree.test_argument (tree.relative (steps_query (map step_view v.items)))
 side_view-Lookup kept v = search (rules, the_lemmas)
 
-pub side_view-Constant : (kept : Constants) (n : ℕ) → side_view kept (Side.Constant n) ≡ tree.singular (tree.root (steps_at kept n))
+pub side_view-Constant : (kept : Constants) (n : ℕ) → side_view kept (Side.Constant n) ≡ tree.test_argument (tree.absolute (steps_query (steps_at kept n)))
 side_view-Constant kept n = search (rules, the_lemmas)
 
-pub side_view-Call : (kept : Constants) (c : Called) → side_view kept (Side.Call c) ≡ tree.function (called_view kept c)
+pub side_view-Call : (kept : Constants) (c : Called) → side_view kept (Side.Call c) ≡ tree.test_argument (tree.call (called_view kept c))
 side_view-Call kept c = search (rules, the_lemmas)

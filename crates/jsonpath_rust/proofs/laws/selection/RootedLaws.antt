@@ -2,18 +2,17 @@
 use Rattle.std.proofs.Common.{◌≡◌, ℕ, suc, zero, [], ◌∷◌, ◌++◌, refl, sym, ◌∙◌, ap, Bool, true, false, ◌&&◌, ◌||◌, Option, Some, IsTrue}
 use Rattle.std.proofs.lemmas.Bool.{and_parts}
 use Rattle.std.specs.List.{list_all}
-use Rattle.jsonpath_parser.specs.tree.Syntax as syntax
-use Rattle.jsonpath_parser.specs.tree.Syntax.{Filter, or, and, atom, Filters, no_filters, filter_then, Atom, group, test, comparison, Comparison, compare, Comparable, literal, function, singular, current, Test, relative, absolute, call, Call, custom_call, length_call, value_call, count_call, search_call, match_call, Argument, literal_argument, test_argument, filter_argument, Arguments, no_arguments, argument}
+use Rattle.jsonpath_parser.specs.tree.Syntax.{Filter, or, and, atom, Filters, no_filters, filter_then, Atom, group, test, comparison, Comparison, compare, Test, relative, absolute, call, Call, custom_call, length_call, value_call, count_call, search_call, match_call, Argument, literal_argument, test_argument, filter_argument, Arguments, no_arguments, argument}
 use Rattle.jsonpath_base.specs.Tree.{Tree, truth}
 use Rattle.jsonpath_rust.specs.documents.Comparing.{compares}
 use Rattle.jsonpath_rust.specs.documents.Document.{Document}
 use Rattle.jsonpath_rust.specs.documents.Functions.{length_of, count_of, only_value, is_matched, of_value, as_value, as_nodes, as_trees, as_truth}
-use Rattle.jsonpath_rust.specs.documents.Meaning.{holds, some_holds, each_holds, atom_holds, comparison_holds, value_of, answer, argued, tested, all_trees, negated}
+use Rattle.jsonpath_rust.specs.documents.Meaning.{holds, some_holds, each_holds, atom_holds, comparison_holds, answer, argued, tested, all_trees, negated}
 use Rattle.jsonpath_rust.specs.documents.Node.{Node, root_node}
 use Rattle.jsonpath_rust.specs.selection.inner.Keeping.{given_by}
 use Rattle.jsonpath_rust.specs.selection.inner.Wanting as wanting
 use Rattle.jsonpath_rust.specs.selection.inner.PlanViews.{Constants, ConstantPart, nodes, value, answered, compared, part_at, part_is_rooted, call_in, comparison_in, call_at, comparison_at, AreRooted}
-use Rattle.jsonpath_rust.specs.selection.inner.Rooted.{filter_is_rooted, filters_are_rooted, atom_is_rooted, comparison_is_rooted, comparable_is_rooted, test_is_rooted, call_is_rooted, argument_is_rooted, arguments_are_rooted}
+use Rattle.jsonpath_rust.specs.selection.inner.Rooted.{filter_is_rooted, filters_are_rooted, atom_is_rooted, comparison_is_rooted, test_is_rooted, call_is_rooted, argument_is_rooted, arguments_are_rooted}
 
 mutual
   filter_same : (f : Filter) (d : Document) (n m : Node) → IsTrue (filter_is_rooted f) → holds f d n ≡ holds f d m
@@ -40,14 +39,8 @@ mutual
 
   pub comparison_same : (c : Comparison) (d : Document) (n m : Node) → IsTrue (comparison_is_rooted c) → comparison_holds c d n ≡ comparison_holds c d m
   comparison_same (compare op a b) d n m h =
-      let both = and_parts (comparable_is_rooted a) (comparable_is_rooted b) h in
-      ap (λ x. compares op x (value_of b d n)) (side_same a d n m both.0) ∙ ap (compares op (value_of a d m)) (side_same b d n m both.1)
-
-  side_same : (a : Comparable) (d : Document) (n m : Node) → IsTrue (comparable_is_rooted a) → value_of a d n ≡ value_of a d m
-  side_same (literal l) d n m h = refl
-  side_same (function f) d n m h = call_same f d n m h
-  side_same (singular (current ss)) d n m h = absurd cc
-  side_same (singular (syntax.root ss)) d n m h = refl
+      let both = and_parts (argument_is_rooted a) (argument_is_rooted b) h in
+      ap (λ e. compares op (as_value e) (as_value (argued b d n))) (argument_same a d n m both.0) ∙ ap (λ e. compares op (as_value (argued a d m)) (as_value e)) (argument_same b d n m both.1)
 
   test_same : (t : Test) (d : Document) (n m : Node) → IsTrue (test_is_rooted t) → tested t d n ≡ tested t d m
   test_same (relative gs) d n m h = absurd cc

@@ -5,23 +5,23 @@ use Rattle.std.specs.List.{AllByRecursion, AllZip, flat_map}
 use Rattle.std.specs.Prelude.{codes}
 use Rattle.jsonpath_parser.specs.Normal.{normal}
 use Rattle.jsonpath_parser.specs.tree.Syntax as syntax
-use Rattle.jsonpath_parser.specs.tree.Syntax.{Selector, wildcard, slice, Selectors, no_selectors, selector, Segment, one, several, descendant, Segments, no_segments, segment, Filter, or, and, atom, Filters, no_filters, filter_then, Atom, group, test, comparison, Comparison, compare, Comparable, literal, function, singular, Test, relative, absolute, call, Call, custom_call, length_call, value_call, count_call, search_call, match_call, Argument, literal_argument, test_argument, filter_argument, Arguments, no_arguments, argument, Query}
-use Rattle.jsonpath_parser.specs.tree.Typing.{gives_value, takes, is_truth_test, is_value_argument, is_typed, is_typed_segment, is_typed_selector, are_typed_selectors, is_typed_filter, are_typed_filters, is_typed_atom, is_typed_comparison, is_typed_comparable, is_typed_test, is_typed_call, is_typed_argument, are_typed_arguments}
+use Rattle.jsonpath_parser.specs.tree.Syntax.{Selector, wildcard, slice, Selectors, no_selectors, selector, Segment, one, several, descendant, Segments, no_segments, segment, Filter, or, and, atom, Filters, no_filters, filter_then, Atom, group, test, comparison, Comparison, compare, Test, relative, absolute, call, Call, custom_call, length_call, value_call, count_call, search_call, match_call, Argument, literal_argument, test_argument, filter_argument, Arguments, no_arguments, argument, Query}
+use Rattle.jsonpath_parser.specs.tree.Typing.{takes, is_truth_test, is_value_argument, is_typed, is_typed_segment, is_typed_selector, are_typed_selectors, is_typed_filter, are_typed_filters, is_typed_atom, is_typed_comparison, is_typed_side, is_typed_test, is_typed_call, is_typed_argument, are_typed_arguments}
 use Rattle.jsonpath_base.specs.Places.{at}
 use Rattle.jsonpath_base.specs.Tree.{Tree, truth, has_distinct_names}
 use Rattle.jsonpath_rust.specs.documents.Answer.{IsNodeAt, IsValueAt}
 use Rattle.jsonpath_rust.specs.documents.Comparing.{compares}
 use Rattle.jsonpath_rust.specs.documents.Document.{Document}
 use Rattle.jsonpath_rust.specs.documents.Functions.{as_value, as_nodes, as_trees, length_of, is_matched}
-use Rattle.jsonpath_rust.specs.documents.Meaning.{named, indexed, sliced, negated, picks, all_pick, replaced, all_applied, holds, some_holds, each_holds, atom_holds, comparison_holds, value_of, answer, argued, tested, all_trees, nodelist, selected}
+use Rattle.jsonpath_rust.specs.documents.Meaning.{named, indexed, sliced, negated, picks, all_pick, replaced, all_applied, holds, some_holds, each_holds, atom_holds, comparison_holds, answer, argued, tested, all_trees, nodelist, selected}
 use Rattle.jsonpath_rust.specs.documents.Node.{Node, root_node, children}
-use Rattle.jsonpath_rust.specs.states.Process.{plain, is_truth, unless_none, selector_content, joined_from, segment_content, segments_content, holds_at, some_holds_at, each_holds_at, atom_content, comparison_holds_at, comparable_content, test_content, call_content, argument_content, arguments_trees}
+use Rattle.jsonpath_rust.specs.states.Process.{plain, is_truth, unless_none, selector_content, joined_from, segment_content, segments_content, holds_at, some_holds_at, each_holds_at, atom_content, comparison_holds_at, test_content, call_content, argument_content, arguments_trees}
 use Rattle.jsonpath_rust.specs.states.Processed.{processed, ProcessGivesTheNodelist}
 use Rattle.jsonpath_rust.specs.states.State.{Target, Content, ref, nothing, targets, mapped, reduced, found_from, inside, parents_from, root_content}
 use Rattle.jsonpath_rust.proofs.laws.documents.NodesAt.{nodes_at}
 use Rattle.jsonpath_rust.proofs.laws.states.Contents.{IsNodes, IsPlain, targets-mapped, reduced-nodes, targets-reduced, targets-named, targets-some, targets-indexed, targets-sliced, targets-kept, targets-selector, selector-nodes, segments-nodes, length-value, call-plain, value_argument-plain, compare-plain}
 use Rattle.jsonpath_rust.proofs.laws.states.Finders.{Shows, alone, finds, named-by_tree, indexed-by_tree, sliced-by_tree, children-by_tree, shows-append, shows-each, shows-kept, shows-as, shows-same}
-use Rattle.jsonpath_rust.proofs.laws.states.Meant.{Means, meant-value, meant-nodes, meant-trees, meant-truth, value-shown, count-shown, singular-agrees}
+use Rattle.jsonpath_rust.proofs.laws.states.Meant.{Means, meant-value, meant-nodes, meant-trees, meant-truth, value-shown, count-shown}
 use Rattle.jsonpath_rust.proofs.laws.states.Parents.{parents, parents-agree, parents-replaced}
 
 -- ---- one step each of what follows, from what its parts make
@@ -68,6 +68,13 @@ matches-agree entire a b d n p h m k =
     let c = argument_content a d (ref p) in
     let e = argument_content b d (ref p) in
     ap (λ o. is_matched entire o (plain e)) (meant-value c (argued a d n) (value_argument-plain a d p both.0) m) ∙ ap (is_matched entire (as_value (argued a d n))) (meant-value e (argued b d n) (value_argument-plain b d p both.1) k)
+
+-- a side of a comparison
+side-agrees : (a : Argument) (d : Document) (n : Node) (p : Target) → IsTrue (is_value_argument a) → Means (argument_content a d (ref p)) (argued a d n) → IsPlain (argument_content a d (ref p)) × (plain (argument_content a d (ref p)) ≡ as_value (argued a d n))
+side-agrees a d n p h m =
+    let c = argument_content a d (ref p) in
+    let is_plain = value_argument-plain a d p h in
+    (is_plain, meant-value c (argued a d n) is_plain m)
 
 -- ---- what every part of a well-typed query makes of a target that shows a node
 
@@ -131,15 +138,12 @@ mutual
 
   comparison-agrees : (k : Comparison) (d : Document) (n : Node) (p : Target) → IsTrue (is_typed_comparison k) → n.tree ≡ p.tree → comparison_holds_at k d (ref p) ≡ comparison_holds k d n
   comparison-agrees (compare op a b) d n p h e =
-      let both = and_parts (is_typed_comparable a) (is_typed_comparable b) h in
-      let left = comparable-agrees a d n p both.0 e in
-      let right = comparable-agrees b d n p both.1 e in
-      compare-plain op (comparable_content a d (ref p)) (comparable_content b d (ref p)) left.0 right.0 ∙ ap (λ o. compares op o (plain (comparable_content b d (ref p)))) left.1 ∙ ap (compares op (value_of a d n)) right.1
-
-  comparable-agrees : (a : Comparable) (d : Document) (n : Node) (p : Target) → IsTrue (is_typed_comparable a) → n.tree ≡ p.tree → IsPlain (comparable_content a d (ref p)) × (plain (comparable_content a d (ref p)) ≡ value_of a d n)
-  comparable-agrees (literal l) d n p h e = (tt, refl)
-  comparable-agrees (function f) d n p h e = (call-plain f d (ref p), call-agrees f d n p (and_parts (gives_value f) (is_typed_call f) h).1 e)
-  comparable-agrees (singular q) d n p h e = singular-agrees q d n p e
+      let both = and_parts (is_typed_side a) (is_typed_side b) h in
+      let one_side = and_parts (is_value_argument a) (is_typed_argument a) both.0 in
+      let other = and_parts (is_value_argument b) (is_typed_argument b) both.1 in
+      let left = side-agrees a d n p one_side.0 (argument-agrees a d n p one_side.1 e) in
+      let right = side-agrees b d n p other.0 (argument-agrees b d n p other.1 e) in
+      compare-plain op (argument_content a d (ref p)) (argument_content b d (ref p)) left.0 right.0 ∙ ap (λ o. compares op o (plain (argument_content b d (ref p)))) left.1 ∙ ap (compares op (as_value (argued a d n))) right.1
 
   test-agrees : (q : Test) (d : Document) (n : Node) (p : Target) → IsTrue (is_typed_test q) → n.tree ≡ p.tree → Means (test_content q d (ref p)) (tested q d n)
   test-agrees (relative gs) d n p h e = (segments-nodes gs d (ref p) tt, segments-agree gs d false (n ∷ []) (ref p) h (alone n p e, tt))

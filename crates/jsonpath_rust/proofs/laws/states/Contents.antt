@@ -1,19 +1,19 @@
 -- The contents that the parts of a query make: which are nodes, which are no list of nodes, and what their targets and values are.
-use Rattle.std.proofs.Common.{◌≡◌, ℕ, ℤ, List, [], ◌∷◌, ◌++◌, map, filter, length, append-nil, refl, sym, ◌∙◌, ap, Bool, true, false, not, ◌||◌, Option, Some, None, option_and_then, option_to_list, IsTrue}
+use Rattle.std.proofs.Common.{◌≡◌, ℕ, ℤ, List, [], ◌∷◌, ◌++◌, map, filter, length, append-nil, refl, sym, ap, Bool, true, false, not, ◌||◌, Option, Some, None, option_and_then, option_to_list, IsTrue}
 use Rattle.std.proofs.lemmas.Bool.{false≢true, and_parts}
 use Rattle.std.specs.List.{flat_map}
 use Rattle.jsonpath_parser.specs.Location.{Step, name, index}
 use Rattle.jsonpath_parser.specs.tree.Syntax as syntax
-use Rattle.jsonpath_parser.specs.tree.Syntax.{SingularStep, name_step, index_step, Operator, equal, not_equal, greater, greater_or_equal, less, less_or_equal, Selector, wildcard, slice, Selectors, no_selectors, selector, Segment, several, descendant, Segments, no_segments, segment, Test, relative, absolute, call, Call, custom_call, length_call, value_call, count_call, search_call, match_call, Argument, literal_argument, test_argument, filter_argument}
+use Rattle.jsonpath_parser.specs.tree.Syntax.{Operator, equal, not_equal, greater, greater_or_equal, less, less_or_equal, Selector, wildcard, slice, Selectors, no_selectors, selector, Segment, several, descendant, Segments, no_segments, segment, Test, relative, absolute, call, Call, custom_call, length_call, value_call, count_call, search_call, match_call, Argument, literal_argument, test_argument, filter_argument}
 use Rattle.jsonpath_parser.specs.tree.Typing.{is_step, is_singular, is_value_test, is_value_argument}
 use Rattle.jsonpath_base.specs.Places.{child}
 use Rattle.jsonpath_base.specs.Tree.{Tree, null, truth, number, text, list, object, as_list}
 use Rattle.jsonpath_rust.specs.documents.Comparing.{is_below, are_equal, compares}
 use Rattle.jsonpath_rust.specs.documents.Document.{Document}
 use Rattle.jsonpath_rust.specs.documents.Functions.{length_of}
-use Rattle.jsonpath_rust.specs.documents.Meaning.{named, element, element_of, indexed, sliced, stepped, value_at}
+use Rattle.jsonpath_rust.specs.documents.Meaning.{named, element, element_of, indexed, sliced}
 use Rattle.jsonpath_rust.specs.documents.Node.{root_node, below, children, children_at, subtree_at}
-use Rattle.jsonpath_rust.specs.states.Process.{plain, contents_equal, contents_compare, optional, length_content, count_content, value_content, step_content, steps_content, unless_none, selector_content, joined_from, segment_content, segments_content, holds_at, call_content, argument_content, test_content}
+use Rattle.jsonpath_rust.specs.states.Process.{plain, contents_equal, contents_compare, optional, length_content, count_content, value_content, unless_none, selector_content, joined_from, segment_content, segments_content, holds_at, call_content, argument_content, test_content}
 use Rattle.jsonpath_rust.specs.states.State.{Target, Content, ref, refs, value, nothing, targets, mapped, reduced, under, found_from, only, some, in_list, in_parts, has_parts, inside, named_from, indexed_from, children_from, sliced_from, kept_from, parents_from, parents_in, root_content}
 
 -- nodes, or nothing
@@ -199,7 +199,7 @@ pub segments-nodes : (gs : Segments) (d : Document) (c : Content) → IsNodes c 
 segments-nodes no_segments d c h = h
 segments-nodes (segment g gs) d c h = segments-nodes gs d (segment_content g d c) (segment-nodes g d c)
 
--- ---- what a singular query makes, as segments and as steps
+-- ---- what a singular query makes
 
 step-plain : (g : Segment) (d : Document) (c : Content) → IsTrue (is_step g) → IsPlain c → IsPlain (segment_content g d c)
 step-plain (syntax.one (syntax.Selector.name k)) d c h k' = mapped-plain (named_from k) (λ p. only-plain (found_from p (named k))) c k'
@@ -215,53 +215,6 @@ singular-plain no_segments d c h k = k
 singular-plain (segment g gs) d c h k =
     let both = and_parts (is_step g) (is_singular gs) h in
     singular-plain gs d (segment_content g d c) both.1 (step-plain g d c both.0 k)
-
-next-plain : (s : SingularStep) (c : Content) → IsPlain c → IsPlain (step_content s c)
-next-plain (name_step k) c h = mapped-plain (named_from k) (λ p. only-plain (found_from p (named k))) c h
-next-plain (index_step i) c h = mapped-plain (indexed_from i) (λ p. only-plain (found_from p (indexed i))) c h
-
-next-nodes : (s : SingularStep) (c : Content) → IsNodes (step_content s c)
-next-nodes (name_step k) c = mapped-nodes (named_from k) (λ p. only-nodes (found_from p (named k))) c
-next-nodes (index_step i) c = mapped-nodes (indexed_from i) (λ p. only-nodes (found_from p (indexed i))) c
-
-pub steps-plain : (ss : List SingularStep) (c : Content) → IsPlain c → IsPlain (steps_content ss c)
-steps-plain [] c h = h
-steps-plain (s ∷ ss) c h = steps-plain ss (step_content s c) (next-plain s c h)
-
-plain-option : (path : List ℕ) (s : Step) (o : Option Tree) → plain (only (map (under path) (map (below [] s) (option_to_list o)))) ≡ o
-plain-option path s None = refl
-plain-option path s (Some t) = refl
-
-plain-element : (path : List ℕ) (s : Step) (o : Option Tree) → plain (only (map (under path) (map (below [] s) (option_to_list o) ++ []))) ≡ o
-plain-element path s None = refl
-plain-element path s (Some t) = refl
-
-plain-place : (path : List ℕ) (t : Tree) (o : Option ℕ) → plain (only (map (under path) (flat_map (λ k. element k (root_node t)) (option_to_list o)))) ≡ option_and_then (λ k. child (index k) t) o
-plain-place path t None = refl
-plain-place path t (Some k) = plain-element path (index k) (child (index k) t)
-
-plain-list : (path : List ℕ) (t : Tree) (place : List Tree → Option ℕ) (o : Option (List Tree)) → plain (only (map (under path) (flat_map (λ k. element k (root_node t)) (option_to_list (option_and_then place o))))) ≡ option_and_then (λ ts. option_and_then (λ k. child (index k) t) (place ts)) o
-plain-list path t place None = refl
-plain-list path t place (Some ts) = plain-place path t (place ts)
-
-step-value : (s : SingularStep) (p : Target) → plain (step_content s (ref p)) ≡ stepped s p.tree
-step-value (name_step k) p = plain-option p.path (name k) (child (name k) p.tree)
-step-value (index_step i) p = plain-list p.path p.tree (λ ts. element_of i (length ts)) (as_list p.tree)
-
-step-nothing : (s : SingularStep) → step_content s nothing ≡ nothing
-step-nothing (name_step k) = refl
-step-nothing (index_step i) = refl
-
-no_steps : (o : Option Tree) → o ≡ option_and_then (value_at []) o
-no_steps None = refl
-no_steps (Some t) = refl
-
-pub steps-value : (ss : List SingularStep) (c : Content) → IsNodes c → IsPlain c → plain (steps_content ss c) ≡ option_and_then (value_at ss) (plain c)
-steps-value [] c h k = no_steps (plain c)
-steps-value (s ∷ ss) (ref p) h k = steps-value ss (step_content s (ref p)) (next-nodes s (ref p)) (next-plain s (ref p) k) ∙ ap (option_and_then (value_at ss)) (step-value s p)
-steps-value (s ∷ ss) (refs ps) h k = absurd k
-steps-value (s ∷ ss) (value t) h k = absurd h
-steps-value (s ∷ ss) nothing h k = ap (λ c. plain (steps_content ss c)) (step-nothing s) ∙ steps-value ss nothing h k
 
 -- ---- what a function makes
 

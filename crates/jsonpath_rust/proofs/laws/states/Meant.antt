@@ -4,17 +4,16 @@ use Rattle.std.proofs.lemmas.Bool.{false≢true}
 use Rattle.std.proofs.lemmas.Slice.Zip.{AllZip-long}
 use Rattle.std.specs.List.{AllZip}
 use Rattle.jsonpath_parser.specs.tree.Making.{is_truth_call}
-use Rattle.jsonpath_parser.specs.tree.Syntax as syntax
-use Rattle.jsonpath_parser.specs.tree.Syntax.{SingularQuery, current, Test, relative, absolute, call, Call, custom_call, length_call, value_call, count_call, search_call, match_call, Argument, literal_argument, test_argument, filter_argument}
+use Rattle.jsonpath_parser.specs.tree.Syntax.{Test, relative, absolute, call, Call, custom_call, length_call, value_call, count_call, search_call, match_call, Argument, literal_argument, test_argument, filter_argument}
 use Rattle.jsonpath_parser.specs.tree.Typing.{gives_value, is_truth_test, is_query_argument}
 use Rattle.jsonpath_base.specs.Tree.{Tree}
 use Rattle.jsonpath_rust.specs.documents.Document.{Document}
 use Rattle.jsonpath_rust.specs.documents.Functions.{Evaluated, of_value, of_nodes, as_value, as_nodes, as_trees, as_truth, count_of, count_value, is_true, only_value}
-use Rattle.jsonpath_rust.specs.documents.Meaning.{value_at, singular_value, negated, answer, argued, tested}
+use Rattle.jsonpath_rust.specs.documents.Meaning.{negated, answer, argued, tested}
 use Rattle.jsonpath_rust.specs.documents.Node.{Node, has_node}
-use Rattle.jsonpath_rust.specs.states.Process.{plain, count_content, value_content, content_trees, is_truth, has_target, test_truth, singular_content, call_content, test_content}
-use Rattle.jsonpath_rust.specs.states.State.{Target, Content, ref, refs, value, nothing, targets, root_content}
-use Rattle.jsonpath_rust.proofs.laws.states.Contents.{IsNodes, IsPlain, steps-plain, steps-value}
+use Rattle.jsonpath_rust.specs.states.Process.{plain, count_content, value_content, content_trees, is_truth, has_target, test_truth, call_content, test_content}
+use Rattle.jsonpath_rust.specs.states.State.{Target, Content, ref, refs, value, nothing, targets}
+use Rattle.jsonpath_rust.proofs.laws.states.Contents.{IsNodes, IsPlain}
 use Rattle.jsonpath_rust.proofs.laws.states.Finders.{Shows}
 
 -- the same value, or none; or targets that show the nodes
@@ -119,9 +118,3 @@ pub meant-truth : (turn : Bool) (q : Test) (d : Document) (n : Node) (c : Conten
 meant-truth turn (relative gs) d n c h m = ap (negated turn) (some-shown _ _ m.1)
 meant-truth turn (absolute gs) d n c h m = ap (negated turn) (some-shown _ _ m.1)
 meant-truth turn (call f) d n c h m = called-truth turn f d c (answer f d n) h m.1
-
--- ---- a singular query in a comparison
-
-pub singular-agrees : (q : SingularQuery) (d : Document) (n : Node) (p : Target) → n.tree ≡ p.tree → IsPlain (singular_content q d (ref p)) × (plain (singular_content q d (ref p)) ≡ singular_value q d n)
-singular-agrees (current ss) d n p e = (steps-plain ss (ref p) tt, steps-value ss (ref p) tt tt ∙ ap (value_at ss) (sym e))
-singular-agrees (syntax.root ss) d n p e = (steps-plain ss (root_content d) tt, steps-value ss (root_content d) tt tt)

@@ -1,7 +1,7 @@
 -- How much work a part of a query is, for the measures of the walk and of the plain evaluator.
 use Rattle.std.specs.Prelude.{ℕ, ◌+◌}
 use Rattle.jsonpath_parser.specs.tree.Syntax as syntax
-use Rattle.jsonpath_parser.specs.tree.Syntax.{Selector, slice, Selectors, no_selectors, selector, Segment, one, several, descendant, Segments, no_segments, segment, Filter, or, and, atom, Filters, no_filters, filter_then, Atom, group, test, comparison, Comparison, compare, Comparable, function, Test, relative, absolute, call, Call, custom_call, length_call, value_call, count_call, search_call, match_call, Argument, literal_argument, test_argument, filter_argument, Arguments, no_arguments, argument}
+use Rattle.jsonpath_parser.specs.tree.Syntax.{Selector, slice, Selectors, no_selectors, selector, Segment, one, several, descendant, Segments, no_segments, segment, Filter, or, and, atom, Filters, no_filters, filter_then, Atom, group, test, comparison, Comparison, compare, Test, relative, absolute, call, Call, custom_call, length_call, value_call, count_call, search_call, match_call, Argument, literal_argument, test_argument, filter_argument, Arguments, no_arguments, argument}
 
 -- every part is less than the whole
 abbrev mutual
@@ -38,11 +38,7 @@ abbrev mutual
   atom_weight (comparison c) = comparison_weight c + 1
 
   pub comparison_weight : Comparison → ℕ
-  comparison_weight (compare op a b) = comparable_weight a + comparable_weight b + 1
-
-  pub comparable_weight : Comparable → ℕ
-  comparable_weight (function f) = call_weight f + 1
-  comparable_weight _ = 1
+  comparison_weight (compare op a b) = argument_weight a + argument_weight b + 1
 
   pub test_weight : Test → ℕ
   test_weight (relative gs) = segments_weight gs + 4

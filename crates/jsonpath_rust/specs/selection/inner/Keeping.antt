@@ -5,9 +5,10 @@ use Rattle.jsonpath_parser.specs.tree.Syntax.{Argument}
 use Rattle.jsonpath_base.specs.Tree.{Tree, truth}
 use Rattle.jsonpath_rust.specs.documents.Document.{Document}
 use Rattle.jsonpath_rust.specs.documents.Functions.{of_nodes}
-use Rattle.jsonpath_rust.specs.documents.Meaning.{nodelist, value_at, answer, comparison_holds}
+use Rattle.jsonpath_rust.specs.documents.Meaning.{nodelist, answer, comparison_holds}
 use Rattle.jsonpath_rust.specs.documents.Node.{root_node}
 use Rattle.jsonpath_rust.specs.documents.Patterns.{AsksPattern, segments_patterns, call_patterns, comparison_patterns}
+use Rattle.jsonpath_rust.specs.documents.inner.Singular.{value_at}
 use Rattle.jsonpath_rust.specs.documents.inner.Whole.{document_at}
 use Rattle.jsonpath_rust.specs.selection.inner.PlanViews.{Constants, ConstantPart, kept_view, part_at}
 use Rattle.jsonpath_rust.specs.selection.inner.PlanViews as plan

@@ -8,7 +8,7 @@ use Rattle.jsonpath_parser.specs.tree.View.{literal_view, step_view, operator_vi
 use Rattle.jsonpath_rust.specs.declared.selection.plan.Constant.{Constant}
 use Rattle.jsonpath_rust.specs.declared.selection.plan.Constant.TheVariants as constant
 use Rattle.jsonpath_rust.specs.declared.selection.plan.Argument.{Argument, Argument-F, fold-Argument}
-use Rattle.jsonpath_rust.specs.selection.inner.Rooted.{Call-set, Comparison-set, call_is_rooted, comparison_is_rooted, Query-set}
+use Rattle.jsonpath_rust.specs.selection.inner.Rooted.{Call-set, Comparison-set, Segment-set, call_is_rooted, comparison_is_rooted, Query-set}
 use Rattle.jsonpath_rust.specs.declared.selection.plan.Call.{Call, Call-F, fold-Call}
 use Rattle.jsonpath_rust.specs.declared.selection.plan.Called.{Called, Called-F, fold-Called}
 use Rattle.jsonpath_rust.specs.declared.selection.plan.Filter.{Filter, Filter-F, fold-Filter}
@@ -30,7 +30,7 @@ is_same_wanted _ _ = false
 -- what a call answers, or whether a comparison holds
 pub data ConstantPart : Type 0 where
   nodes : Wanted → tree.Query → ConstantPart
-  value : List tree.SingularStep → ConstantPart
+  value : List tree.Segment → ConstantPart
   answered : tree.Call → ConstantPart
   compared : tree.Comparison → ConstantPart
   deriving IsSet as ConstantPart_set
@@ -43,7 +43,7 @@ ruleset sets = (Coded-set, codes)
 
 -- what is kept is data: there is one proof that two of it are the same
 pub Constants-set : IsSet Constants
-Constants-set = is_set (ConstantPart_set (hlevel sets) Query-set (hlevel sets) Call-set Comparison-set)
+Constants-set = is_set (ConstantPart_set (hlevel sets) Query-set (is_set Segment-set) Call-set Comparison-set)
 
 -- it has no `@`
 abbrev pub part_is_rooted : ConstantPart → Bool
@@ -67,11 +67,11 @@ abbrev pub query_at : Constants → Wanted → ℕ → tree.Query
 query_at kept w n = query_in w (part_at kept n)
 
 -- the steps from the root that are kept; none where there are none
-abbrev pub steps_in : ConstantPart → List tree.SingularStep
+abbrev pub steps_in : ConstantPart → List tree.Segment
 steps_in (value ss) = ss
 steps_in _ = []
 
-abbrev pub steps_at : Constants → ℕ → List tree.SingularStep
+abbrev pub steps_at : Constants → ℕ → List tree.Segment
 steps_at kept n = steps_in (part_at kept n)
 
 -- the call that is kept; one that answers nothing where there is none
@@ -85,27 +85,23 @@ call_at kept n = call_in (part_at kept n)
 -- the comparison that is kept; one that does not hold where there is none
 abbrev pub comparison_in : ConstantPart → tree.Comparison
 comparison_in (compared c) = c
-comparison_in _ = tree.compare tree.less (tree.literal tree.null) (tree.literal tree.null)
+comparison_in _ = tree.compare tree.less (tree.literal_argument tree.null) (tree.literal_argument tree.null)
 
 abbrev pub comparison_at : Constants → ℕ → tree.Comparison
 comparison_at kept n = comparison_in (part_at kept n)
 
--- a child segment of this one name or index (RFC 9535, 2.3.5.1)
-abbrev pub step_segment : tree.SingularStep → tree.Segment
-step_segment (tree.name_step k) = tree.one (tree.name k)
-step_segment (tree.index_step i) = tree.one (tree.index i)
-
-abbrev pub steps_query : List tree.SingularStep → tree.Query
-steps_query ss = segments_of (map step_segment ss)
+-- the query of these steps (RFC 9535, 2.3.5.1)
+abbrev pub steps_query : List tree.Segment → tree.Query
+steps_query ss = segments_of ss
 
 -- all children of what these steps lead to
-abbrev pub children_query : List tree.SingularStep → tree.Query
-children_query ss = segments_of (map step_segment ss ++ tree.one tree.wildcard ∷ [])
+abbrev pub children_query : List tree.Segment → tree.Query
+children_query ss = segments_of (ss ++ tree.one tree.wildcard ∷ [])
 
 -- One layer of each type, with its parts seen already. Arguments and nodes are seen for what is wanted of them.
 
 abbrev pub Layer : (Type 0 → Type 0 → Type 0 → Type 0 → Type 0 → Type 0 → Type 0 → Type 0 → Type 0) → Type 0
-Layer F = F (Wanted → tree.Argument) tree.Call tree.Call tree.Filter (Wanted → tree.Test) tree.Segment tree.Selector tree.Comparable
+Layer F = F (Wanted → tree.Argument) tree.Call tree.Call tree.Filter (Wanted → tree.Test) tree.Segment tree.Selector tree.Argument
 
 abbrev pub argument_step : Layer Argument-F → Wanted → tree.Argument
 argument_step (Argument-F.«Argument::Literal» l) w = tree.literal_argument (literal_view l)
@@ -154,37 +150,37 @@ selector_step (Selector-F.Index i) = tree.index i
 selector_step (Selector-F.Slice start end step) = tree.slice start end step
 selector_step (Selector-F.«Selector::Filter» f) = tree.filter f
 
-abbrev pub side_step : Constants → Layer Side-F → tree.Comparable
-side_step kept (Side-F.«Side::Literal» l) = tree.literal (literal_view l)
-side_step kept (Side-F.«Side::Lookup» v) = tree.singular (tree.current (map step_view v.items))
-side_step kept (Side-F.«Side::Constant» n) = tree.singular (tree.root (steps_at kept n))
-side_step kept (Side-F.«Side::Call» c) = tree.function c
+abbrev pub side_step : Constants → Layer Side-F → tree.Argument
+side_step kept (Side-F.«Side::Literal» l) = tree.literal_argument (literal_view l)
+side_step kept (Side-F.«Side::Lookup» v) = tree.test_argument (tree.relative (steps_query (map step_view v.items)))
+side_step kept (Side-F.«Side::Constant» n) = tree.test_argument (tree.absolute (steps_query (steps_at kept n)))
+side_step kept (Side-F.«Side::Call» c) = tree.test_argument (tree.call c)
 
 -- The folds. The steps stand in the order of the types, by alphabet.
 
 abbrev pub argument_view : Constants → Argument → Wanted → tree.Argument
-argument_view kept = fold-Argument (Wanted → tree.Argument) tree.Call tree.Call tree.Filter (Wanted → tree.Test) tree.Segment tree.Selector tree.Comparable argument_step call_step (called_step kept) (filter_step kept) (nodes_step kept) segment_step selector_step (side_step kept)
+argument_view kept = fold-Argument (Wanted → tree.Argument) tree.Call tree.Call tree.Filter (Wanted → tree.Test) tree.Segment tree.Selector tree.Argument argument_step call_step (called_step kept) (filter_step kept) (nodes_step kept) segment_step selector_step (side_step kept)
 
 abbrev pub call_view : Constants → Call → tree.Call
-call_view kept = fold-Call (Wanted → tree.Argument) tree.Call tree.Call tree.Filter (Wanted → tree.Test) tree.Segment tree.Selector tree.Comparable argument_step call_step (called_step kept) (filter_step kept) (nodes_step kept) segment_step selector_step (side_step kept)
+call_view kept = fold-Call (Wanted → tree.Argument) tree.Call tree.Call tree.Filter (Wanted → tree.Test) tree.Segment tree.Selector tree.Argument argument_step call_step (called_step kept) (filter_step kept) (nodes_step kept) segment_step selector_step (side_step kept)
 
 abbrev pub called_view : Constants → Called → tree.Call
-called_view kept = fold-Called (Wanted → tree.Argument) tree.Call tree.Call tree.Filter (Wanted → tree.Test) tree.Segment tree.Selector tree.Comparable argument_step call_step (called_step kept) (filter_step kept) (nodes_step kept) segment_step selector_step (side_step kept)
+called_view kept = fold-Called (Wanted → tree.Argument) tree.Call tree.Call tree.Filter (Wanted → tree.Test) tree.Segment tree.Selector tree.Argument argument_step call_step (called_step kept) (filter_step kept) (nodes_step kept) segment_step selector_step (side_step kept)
 
 abbrev pub filter_view : Constants → Filter → tree.Filter
-filter_view kept = fold-Filter (Wanted → tree.Argument) tree.Call tree.Call tree.Filter (Wanted → tree.Test) tree.Segment tree.Selector tree.Comparable argument_step call_step (called_step kept) (filter_step kept) (nodes_step kept) segment_step selector_step (side_step kept)
+filter_view kept = fold-Filter (Wanted → tree.Argument) tree.Call tree.Call tree.Filter (Wanted → tree.Test) tree.Segment tree.Selector tree.Argument argument_step call_step (called_step kept) (filter_step kept) (nodes_step kept) segment_step selector_step (side_step kept)
 
 abbrev pub nodes_view : Constants → Nodes → Wanted → tree.Test
-nodes_view kept = fold-Nodes (Wanted → tree.Argument) tree.Call tree.Call tree.Filter (Wanted → tree.Test) tree.Segment tree.Selector tree.Comparable argument_step call_step (called_step kept) (filter_step kept) (nodes_step kept) segment_step selector_step (side_step kept)
+nodes_view kept = fold-Nodes (Wanted → tree.Argument) tree.Call tree.Call tree.Filter (Wanted → tree.Test) tree.Segment tree.Selector tree.Argument argument_step call_step (called_step kept) (filter_step kept) (nodes_step kept) segment_step selector_step (side_step kept)
 
 abbrev pub segment_view : Constants → Segment → tree.Segment
-segment_view kept = fold-Segment (Wanted → tree.Argument) tree.Call tree.Call tree.Filter (Wanted → tree.Test) tree.Segment tree.Selector tree.Comparable argument_step call_step (called_step kept) (filter_step kept) (nodes_step kept) segment_step selector_step (side_step kept)
+segment_view kept = fold-Segment (Wanted → tree.Argument) tree.Call tree.Call tree.Filter (Wanted → tree.Test) tree.Segment tree.Selector tree.Argument argument_step call_step (called_step kept) (filter_step kept) (nodes_step kept) segment_step selector_step (side_step kept)
 
 abbrev pub selector_view : Constants → Selector → tree.Selector
-selector_view kept = fold-Selector (Wanted → tree.Argument) tree.Call tree.Call tree.Filter (Wanted → tree.Test) tree.Segment tree.Selector tree.Comparable argument_step call_step (called_step kept) (filter_step kept) (nodes_step kept) segment_step selector_step (side_step kept)
+selector_view kept = fold-Selector (Wanted → tree.Argument) tree.Call tree.Call tree.Filter (Wanted → tree.Test) tree.Segment tree.Selector tree.Argument argument_step call_step (called_step kept) (filter_step kept) (nodes_step kept) segment_step selector_step (side_step kept)
 
-abbrev pub side_view : Constants → Side → tree.Comparable
-side_view kept = fold-Side (Wanted → tree.Argument) tree.Call tree.Call tree.Filter (Wanted → tree.Test) tree.Segment tree.Selector tree.Comparable argument_step call_step (called_step kept) (filter_step kept) (nodes_step kept) segment_step selector_step (side_step kept)
+abbrev pub side_view : Constants → Side → tree.Argument
+side_view kept = fold-Side (Wanted → tree.Argument) tree.Call tree.Call tree.Filter (Wanted → tree.Test) tree.Segment tree.Selector tree.Argument argument_step call_step (called_step kept) (filter_step kept) (nodes_step kept) segment_step selector_step (side_step kept)
 
 -- lists of parts, one behind the other
 abbrev pub segments_meant : Constants → List Segment → tree.Segments

@@ -4,7 +4,7 @@ use mathlib.Core.Path.{refl, sym, ◌∙◌, ap}
 use Rattle.std.specs.Coded.{Coded-set, codes}
 use mathlib.Core.HLevel.{collapsible→set}
 use Rattle.jsonpath_parser.specs.tree.Syntax as syntax
-use Rattle.jsonpath_parser.specs.tree.Syntax.{Filter, or, and, atom, Filters, no_filters, filter_then, Atom, group, test, comparison, Comparison, compare, Comparable, literal, function, singular, current, Test, relative, absolute, call, Call, custom_call, length_call, value_call, count_call, search_call, match_call, Argument, literal_argument, test_argument, filter_argument, Arguments, no_arguments, argument, Query}
+use Rattle.jsonpath_parser.specs.tree.Syntax.{Filter, or, and, atom, Filters, no_filters, filter_then, Atom, group, test, comparison, Comparison, compare, Test, relative, absolute, call, Call, custom_call, length_call, value_call, count_call, search_call, match_call, Argument, literal_argument, test_argument, filter_argument, Arguments, no_arguments, argument, Query}
 
 abbrev mutual
   pub filter_is_rooted : Filter → Bool
@@ -22,13 +22,7 @@ abbrev mutual
   atom_is_rooted (comparison c) = comparison_is_rooted c
 
   pub comparison_is_rooted : Comparison → Bool
-  comparison_is_rooted (compare op a b) = comparable_is_rooted a && comparable_is_rooted b
-
-  pub comparable_is_rooted : Comparable → Bool
-  comparable_is_rooted (literal l) = true
-  comparable_is_rooted (function f) = call_is_rooted f
-  comparable_is_rooted (singular (current ss)) = false
-  comparable_is_rooted (singular (syntax.root ss)) = true
+  comparison_is_rooted (compare op a b) = argument_is_rooted a && argument_is_rooted b
 
   pub test_is_rooted : Test → Bool
   test_is_rooted (relative gs) = false
@@ -57,7 +51,7 @@ abbrev mutual
 ruleset sets = (Coded-set, codes)
 
 pub Query-set : IsSet Query
-Query-set = syntax.Segments_set (hlevel sets) (hlevel sets) (hlevel sets) (hlevel sets) (hlevel sets) (hlevel sets) (hlevel sets)
+Query-set = syntax.Segments_set (hlevel sets) (hlevel sets) (hlevel sets) (hlevel sets) (hlevel sets) (hlevel sets)
 
 -- what can be read again from data is data
 set_by : {A B : Type 0} (to : A → B) (from : B → A) → ((a : A) → from (to a) ≡ a) → IsSet B → IsSet A
@@ -77,7 +71,14 @@ atom_call _ = length_call (literal_argument syntax.null)
 
 abbrev atom_comparison : Atom → Comparison
 atom_comparison (comparison c) = c
-atom_comparison _ = compare syntax.less (literal syntax.null) (literal syntax.null)
+atom_comparison _ = compare syntax.less (literal_argument syntax.null) (literal_argument syntax.null)
+
+abbrev query_segment : Query → syntax.Segment
+query_segment (syntax.segment g gs) = g
+query_segment _ = syntax.one syntax.wildcard
+
+pub Segment-set : IsSet syntax.Segment
+Segment-set = set_by (λ g. syntax.segment g syntax.no_segments) query_segment (λ g. refl) Query-set
 
 pub Call-set : IsSet Call
 Call-set = set_by (λ c. atom_query (test true (call c))) (λ q. atom_call (query_atom q)) (λ c. refl) Query-set

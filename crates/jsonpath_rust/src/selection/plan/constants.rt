@@ -78,7 +78,7 @@ impl Plan {
             (kept_view self.now.constants.items) p.2.now))) }
         ensures within { IfSome result (λ p. number < length (kept_view self.now.constants.items)) }
         ensures none { IfNone result (comparison_at (kept_view self.now.constants.items) number
-            ≡ tree.compare tree.less (tree.literal tree.null) (tree.literal tree.null)) }
+            ≡ tree.compare tree.less (tree.literal_argument tree.null) (tree.literal_argument tree.null)) }
     {
         match self.constant(number)? {
             Constant::Comparison(operator, left, right) => Some((*operator, left, right)),

@@ -7,7 +7,7 @@ ghost use Rattle.jsonpath_rust.specs.documents.inner.Refusing.{MemoryAlone};
 ghost use Rattle.jsonpath_rust.specs.selection.inner.PlanViews as plan;
 ghost use Rattle.jsonpath_rust.specs.selection.inner.PlanMaking.{Made, every};
 ghost use Rattle.jsonpath_rust.specs.selection.inner.Planned.{plan_view};
-ghost use Rattle.jsonpath_rust.specs.selection.inner.Rooted.{argument_is_rooted, call_is_rooted, comparable_is_rooted};
+ghost use Rattle.jsonpath_rust.specs.selection.inner.Rooted.{argument_is_rooted, call_is_rooted};
 ghost use Rattle.jsonpath_rust.specs.selection.inner.Rooted.{filter_is_rooted, test_is_rooted};
 ghost use Rattle.jsonpath_rust.specs.declared.selection.sink.Wanted.{Wanted};
 ghost use Rattle.jsonpath_rust.specs.declared.selection.sink.Wanted.TheVariants.{Only, Values};
@@ -208,7 +208,7 @@ impl<'q> Maker<'q> {
 
     #[cycle(make)]
     fn side(&mut self, side: &'q tree::Comparable) -> Parsed<Side>
-        ensures made { IfOk result (λ s. Made comparable_is_rooted self.old self.new (λ kept. plan.side_view kept s)
+        ensures made { IfOk result (λ s. Made argument_is_rooted self.old self.new (λ kept. plan.side_view kept s)
             (tree.comparable_view side.now)) }
         ensures memory { MemoryAlone result }
     {
@@ -221,8 +221,8 @@ impl<'q> Maker<'q> {
 
     /// A query of at most one node, as a side.
     fn singular(&mut self, query: &'q SingularQuery) -> Parsed<Side>
-        ensures made { IfOk result (λ s. Made comparable_is_rooted self.old self.new (λ kept. plan.side_view kept s)
-            (syntax.singular (tree.singular_view query.now))) }
+        ensures made { IfOk result (λ s. Made argument_is_rooted self.old self.new (λ kept. plan.side_view kept s)
+            (syntax.test_argument (tree.singular_view query.now))) }
         ensures memory { MemoryAlone result }
     {
         match query {

@@ -15,7 +15,7 @@ pub fn steps_of(
     alloc: Global,
     segments: &[tree::Segment],
 ) -> Parsed<Option<Vec<SingularQuerySegment>>>
-    ensures same { IfOk result (λ o. IfSome o (λ v. map (λ s. plan.step_segment (step_view s)) v.items ≡ map segment_view segments.now)) }
+    ensures same { IfOk result (λ o. IfSome o (λ v. map step_view v.items ≡ map segment_view segments.now)) }
     ensures memory { MemoryAlone result }
 {
     if !are_steps(segments) {
@@ -91,7 +91,7 @@ fn are_steps(segments: &[tree::Segment]) -> bool {
 
 /// The step of a segment, where it is one name or one index.
 fn step_of(alloc: Global, segment: &tree::Segment) -> Parsed<Option<SingularQuerySegment>>
-    ensures same { IfOk result (λ o. IfSome o (λ s. plan.step_segment (step_view s) ≡ segment_view segment.now)) }
+    ensures same { IfOk result (λ o. IfSome o (λ s. step_view s ≡ segment_view segment.now)) }
     ensures memory { MemoryAlone result }
 {
     match segment {

@@ -3,10 +3,10 @@ ghost use Rattle.std.specs.Prelude.{◌≡◌, IfOk, IfErr};
 ghost use Rattle.jsonpath_parser.specs.tree.View.{filter_view, atom_view, comparison_view, comparable_view};
 ghost use Rattle.jsonpath_parser.specs.tree.View.{test_view, call_view, argument_view};
 ghost use Rattle.jsonpath_rust.specs.documents.Patterns.{filter_patterns, filters_patterns, atom_patterns, comparison_patterns};
-ghost use Rattle.jsonpath_rust.specs.documents.Patterns.{comparable_patterns, test_patterns, call_patterns, arguments_patterns};
+ghost use Rattle.jsonpath_rust.specs.documents.Patterns.{test_patterns, call_patterns, arguments_patterns};
 ghost use Rattle.jsonpath_rust.specs.documents.Patterns.{argument_patterns};
 ghost use Rattle.jsonpath_rust.specs.states.Process.{holds_at, some_holds_at, each_holds_at, atom_content, comparison_holds_at};
-ghost use Rattle.jsonpath_rust.specs.states.Process.{comparable_content, test_content, call_content, argument_content, arguments_trees};
+ghost use Rattle.jsonpath_rust.specs.states.Process.{test_content, call_content, argument_content, arguments_trees};
 ghost use Rattle.jsonpath_base.specs.Tree.{truth};
 ghost use Rattle.jsonpath_rust.specs.states.State.{value};
 ghost use Rattle.jsonpath_rust.specs.states.inner.Evaluating.{document, content_at, HaltsAt};
@@ -139,10 +139,10 @@ impl<'a, T: Queryable> Evaluation<'a, T> {
         given: &WholeData<'a, T>,
     ) -> Returned<'a, T>
         ensures value { IfOk result (λ d. content_at d
-            ≡ comparable_content (comparable_view comparable.now) (document self.now)
+            ≡ argument_content (comparable_view comparable.now) (document self.now)
             (content_at given.now)) }
         ensures refused { IfErr result (HaltsAt
-            (comparable_patterns (comparable_view comparable.now)) (document self.now)
+            (argument_patterns (comparable_view comparable.now)) (document self.now)
             (content_at given.now)) }
     {
         match comparable {

@@ -3,9 +3,9 @@ ghost use Rattle.std.specs.Prelude.{◌≡◌, map, string_bytes, IsTrue, IfOk};
 ghost use Rattle.jsonpath_parser.specs.tree.View.{singular_view, step_view};
 ghost use Rattle.jsonpath_rust.specs.documents.inner.Refusing.{MemoryAlone};
 ghost use Rattle.jsonpath_rust.specs.documents.inner.Whole.{document_at};
-ghost use Rattle.jsonpath_rust.specs.states.Process.{step_content, steps_content, singular_content};
+ghost use Rattle.jsonpath_rust.specs.states.Process.{test_content};
 ghost use Rattle.jsonpath_rust.specs.states.State.{mapped, named_from, indexed_from};
-ghost use Rattle.jsonpath_rust.specs.states.inner.Evaluating.{content_at};
+ghost use Rattle.jsonpath_rust.specs.states.inner.Evaluating.{content_at, step_content, steps_content};
 
 use crate::documents::Queried;
 use crate::documents::queryable::Queryable;
@@ -23,7 +23,7 @@ pub fn singular_data<'a, T: Queryable>(
     root: WholeRef<'a, T>,
 ) -> Queried<WholeData<'a, T>>
     ensures value { IfOk result (λ d. content_at d
-        ≡ singular_content (singular_view query.now) (document_at root.entry)
+        ≡ test_content (singular_view query.now) (document_at root.entry)
         (content_at given.now)) }
     ensures memory { MemoryAlone result }
 {

@@ -1,4 +1,4 @@
-use Rattle.jsonpath_parser.proofs.laws.tree.TreeEquality.{query_same, segment_same, selector_same, filter_same, atom_same, comparison_same, comparable_same, singular_same, step_same, test_same, call_same, argument_same, literal_same, operator_same, query_items, steps_same}
+use Rattle.jsonpath_parser.proofs.laws.tree.TreeEquality.{query_same, segment_same, selector_same, filter_same, atom_same, comparison_same, comparable_same, singular_same, step_same, test_same, call_same, argument_same, literal_same, operator_same, query_items, steps_tree_same}
 use Rattle.jsonpath_parser.proofs.tree.equality.equal_parts_are_one_tree.Goals as goal
 
 pub returns-clause-jp_query : goal.returns-clause-jp_query
@@ -47,4 +47,4 @@ pub returns-clause-segments : goal.returns-clause-segments
 returns-clause-segments c v w = query_items v.items w.items
 
 pub returns-clause-singular_query_segments : goal.returns-clause-singular_query_segments
-returns-clause-singular_query_segments c v w = steps_same v.items w.items
+returns-clause-singular_query_segments c v w = steps_tree_same v.items w.items

@@ -1,3 +1,8 @@
+use Rattle.std.proofs.Common.{◌∙◌, ap, sym}
+use Rattle.jsonpath_parser.specs.tree.Typing.{is_typed_side}
+use Rattle.jsonpath_parser.specs.tree.View.{comparable_view}
+use Rattle.jsonpath_parser.proofs.laws.tree.Steps.{singular_side}
+use Rattle.jsonpath_parser.proofs.laws.tree.ViewEquations.{comparable_view-SingularQuery}
 use Rattle.jsonpath_parser.proofs.laws.tree.Typed.{segments_all, selectors_all, filters_all, arguments_all}
 use Rattle.jsonpath_parser.proofs.tree.typing.+typing.Goals as goal
 
@@ -12,3 +17,8 @@ segments-segments-init t c = segments_all c.args.segments.now
 
 pub selectors-selectors-init : goal.selectors-selectors-init
 selectors-selectors-init t c = selectors_all c.args.selectors.now
+
+pub comparable-returns-in-SingularQuery : goal.comparable-returns-in-SingularQuery
+comparable-returns-in-SingularQuery t c =
+    let e = ap comparable_view c.in-SingularQuery.is ∙ comparable_view-SingularQuery c.in-SingularQuery.field-0 in
+    sym (ap is_typed_side e ∙ singular_side c.in-SingularQuery.field-0)

@@ -2,11 +2,12 @@ use Rattle.std.proofs.Common.{List, map, ap, sym, ◌∙◌}
 use Rattle.jsonpath_parser.specs.tree.View.{step_view}
 use Rattle.jsonpath_parser.specs.declared.tree.model.SingularQuerySegment.{SingularQuerySegment}
 use Rattle.jsonpath_rust.specs.documents.Functions.{as_truth}
-use Rattle.jsonpath_rust.specs.documents.Meaning.{tested, value_at}
+use Rattle.jsonpath_rust.specs.documents.Meaning.{tested}
 use Rattle.jsonpath_rust.specs.selection.inner.PlanViews.{nodes_view}
 use Rattle.jsonpath_rust.specs.declared.selection.sink.Wanted.TheVariants.{Any}
 use Rattle.jsonpath_rust.proofs.laws.selection.PlanEquations.{nodes_view-Lookup}
 use Rattle.jsonpath_rust.proofs.laws.selection.StepLaws.{is_there}
+use Rattle.jsonpath_rust.specs.documents.inner.Singular.{value_at}
 use Rattle.jsonpath_rust.specs.documents.inner.Whole.{tree_of}
 use Rattle.jsonpath_rust.proofs.selection.direct.is_there.Goals as goal
 
@@ -14,4 +15,4 @@ pub returns-in-Lookup : goal.returns-in-Lookup
 returns-in-Lookup g c = λ kept d n e.
     let view = ap (λ ns. nodes_view kept ns Any) c.in-Lookup.is ∙ nodes_view-Lookup kept c.in-Lookup.steps Any in
     let there = c.value_at.ensures ∙ ap (λ (ss : List SingularQuerySegment). value_at (map step_view ss) (tree_of c.args.at)) c.deref.ensures.value ∙ ap (value_at (map step_view c.in-Lookup.steps.items)) (sym e) in
-    c.is_some.ensures ∙ is_there tree_of c.value_at.result (map step_view c.in-Lookup.steps.items) d n there ∙ sym (ap (λ q. as_truth (tested q d n)) view)
+    c.is_some.ensures ∙ is_there tree_of c.value_at.result c.in-Lookup.steps.items d n there ∙ sym (ap (λ q. as_truth (tested q d n)) view)

@@ -1,4 +1,8 @@
-use Rattle.jsonpath_parser.specs.tree.Reach.{is_one_of}
+use Rattle.std.proofs.Common.{◌∙◌, ap, sym}
+use Rattle.jsonpath_parser.specs.tree.Reach.{is_one_of, argument_calls_only}
+use Rattle.jsonpath_parser.specs.tree.View.{comparable_view}
+use Rattle.jsonpath_parser.proofs.laws.tree.Steps.{singular_calls}
+use Rattle.jsonpath_parser.proofs.laws.tree.ViewEquations.{comparable_view-SingularQuery}
 use Rattle.jsonpath_parser.proofs.laws.tree.Reached.{segments_calling, selectors_calling, filters_calling, arguments_calling}
 use Rattle.jsonpath_parser.proofs.tree.reach.calls.+calls.Goals as goal
 
@@ -13,3 +17,9 @@ segments-segments-init t c = segments_calling (is_one_of c.args.names.now) c.arg
 
 pub selectors-selectors-init : goal.selectors-selectors-init
 selectors-selectors-init t c = selectors_calling (is_one_of c.args.names.now) c.args.selectors.now
+
+pub comparable-returns-in-SingularQuery : goal.comparable-returns-in-SingularQuery
+comparable-returns-in-SingularQuery t c =
+    let known = is_one_of c.args.names.now in
+    let e = ap comparable_view c.in-SingularQuery.is ∙ comparable_view-SingularQuery c.in-SingularQuery.field-0 in
+    sym (ap (argument_calls_only known) e ∙ singular_calls known c.in-SingularQuery.field-0)

@@ -1,7 +1,7 @@
 use Rattle.std.proofs.Common.{◌≡◌, ◌++◌, map, drop, string_bytes}
-use Rattle.jsonpath_parser.specs.inner.QueryTexts.{singular_steps_text}
-use Rattle.jsonpath_parser.specs.tree.View.{step_view}
+use Rattle.jsonpath_parser.specs.inner.QueryTexts.{segments_text}
+use Rattle.jsonpath_parser.specs.tree.View.{step_view, segments_of}
 use Rattle.jsonpath_parser.proofs.tree.text.written.steps.Given as goal
 
 abbrev pub invariant-steps : goal.invariant-steps
-invariant-steps l = string_bytes l.text ++ singular_steps_text (map step_view (drop l.one-index l.steps)) ≡ string_bytes l.fn.text ++ singular_steps_text (map step_view l.steps)
+invariant-steps l = string_bytes l.text ++ segments_text (segments_of (map step_view (drop l.one-index l.steps))) ≡ string_bytes l.fn.text ++ segments_text (segments_of (map step_view l.steps))

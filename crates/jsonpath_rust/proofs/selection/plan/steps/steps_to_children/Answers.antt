@@ -2,10 +2,8 @@ use Rattle.std.proofs.Common.{[], ◌∷◌, ◌++◌, map, ap, sym, ◌∙◌}
 use Rattle.std.proofs.lemmas.List.{map-append}
 use Rattle.std.proofs.lemmas.Option.{IfSome_then}
 use Rattle.std.proofs.lemmas.Result.{IfOk-weaker}
-use Rattle.std.proofs.lemmas.Simd.{map-map}
 use Rattle.jsonpath_parser.specs.tree.Syntax.{one, wildcard}
-use Rattle.jsonpath_parser.specs.tree.View.{segment_view, segments_of, step_view}
-use Rattle.jsonpath_rust.specs.selection.inner.PlanViews.{step_segment}
+use Rattle.jsonpath_parser.specs.tree.View.{segment_view, segments_of}
 use Rattle.jsonpath_rust.proofs.selection.plan.steps.steps_to_children.Goals as goal
 
 pub returns-then-is_wildcard-clause-same : goal.returns-then-is_wildcard-clause-same
@@ -13,4 +11,4 @@ returns-then-is_wildcard-clause-same c =
     let before = c.in-Some.before.now in
     let last = ap (λ g. map segment_view before ++ g ∷ []) (sym (c.is_wildcard.ensures c.if-is_wildcard.true)) in
     let all = last ∙ sym (map-append segment_view before (c.in-Some.last.now ∷ [])) ∙ ap (map segment_view) (sym c.in-Some.ensures.cases.0) in
-    IfOk-weaker c.steps_of.result _ _ (λ o h. IfSome_then o h (λ v e. ap segments_of (ap (λ xs. xs ++ one wildcard ∷ []) (map-map step_segment step_view v.items ∙ e) ∙ all))) c.steps_of.ensures.same
+    IfOk-weaker c.steps_of.result _ _ (λ o h. IfSome_then o h (λ v e. ap segments_of (ap (λ xs. xs ++ one wildcard ∷ []) e ∙ all))) c.steps_of.ensures.same

@@ -20,10 +20,10 @@ use Rattle.jsonpath_base.specs.Tree.{get, truth, text}
 use Rattle.jsonpath_base.specs.Slice.{slice_of}
 use Rattle.jsonpath_base.specs.SliceSteps.{places_left}
 use Rattle.jsonpath_rust.specs.documents.Node.{below, children, root_node, subtree}
-use Rattle.jsonpath_rust.specs.documents.Meaning.{picks, all_pick, replaced, indexed, element, holds, some_holds, each_holds, value_of, value_at, answer, comparison_holds, negated, nodelist, all_trees, argued, tested}
+use Rattle.jsonpath_rust.specs.documents.Meaning.{picks, all_pick, replaced, indexed, element, holds, some_holds, each_holds, answer, comparison_holds, negated, nodelist, all_trees, argued, tested}
 use Rattle.jsonpath_rust.specs.selection.inner.Passing.{action_weight}
-use Rattle.jsonpath_rust.specs.documents.inner.Weight.{segment_weight, selectors_weight, selector_weight, segments_weight, filter_weight, filters_weight, test_weight, comparable_weight, comparison_weight, call_weight, argument_weight, arguments_weight}
-use Rattle.jsonpath_rust.specs.documents.Patterns.{AsksPattern, segments_patterns, selectors_patterns, selector_patterns, filter_patterns, filters_patterns, comparable_patterns, call_patterns, argument_patterns, arguments_patterns}
+use Rattle.jsonpath_rust.specs.documents.inner.Weight.{segment_weight, selectors_weight, selector_weight, segments_weight, filter_weight, filters_weight, test_weight, comparison_weight, call_weight, argument_weight, arguments_weight}
+use Rattle.jsonpath_rust.specs.documents.Patterns.{AsksPattern, segments_patterns, selectors_patterns, selector_patterns, filter_patterns, filters_patterns, call_patterns, argument_patterns, arguments_patterns}
 use Rattle.jsonpath_base.specs.Steps.{lent_step, lent_location}
 use Rattle.jsonpath_rust.specs.selection.inner.Walking.{action_patterns, through, node_of, acted}
 use Rattle.jsonpath_rust.specs.selection.inner.Sinks.{give}
@@ -33,7 +33,7 @@ use Rattle.jsonpath_rust.proofs.laws.selection.Along.{along_none, along_idle, al
 use Rattle.jsonpath_rust.proofs.laws.selection.Walks.{down, down_tree, down_same, selector_turns, element_turns, member_turns, below_more, flat_map-alone, flat_map-filter}
 use Rattle.jsonpath_rust.proofs.laws.selection.Leading.{leads_below, leads_indexed}
 use Rattle.jsonpath_rust.proofs.laws.documents.NodesAt.{member_there}
-use Rattle.jsonpath_rust.proofs.laws.selection.HaltingLaws.{asked_as, asked_left, asked_right, asked_rest, asked_at, asked_at_or, pattern_asked}
+use Rattle.jsonpath_rust.proofs.laws.selection.HaltingLaws.{asked_as, asked_none, asked_left, asked_right, asked_rest, asked_at, asked_at_or, pattern_asked}
 use Rattle.jsonpath_rust.proofs.laws.documents.Trees.{all_at, child_there, element_size, pair_size, member_size, element_at, sliced-list, named_some, named_none}
 use Rattle.jsonpath_rust.proofs.laws.documents.Parts.{part_of, kept_true, kept_false, some_found, some_next, each_failed, each_next, parts_end, ok_as, ok_through, differs, joined_next}
 use Rattle.jsonpath_rust.proofs.laws.selection.Kept.{given_right, kept_query, of_some, wanted_given}
@@ -43,8 +43,9 @@ use Rattle.jsonpath_rust.specs.documents.Functions.{length_of, count_of, only_va
 use Rattle.jsonpath_base.specs.Pattern.{is_entire}
 use Rattle.jsonpath_rust.specs.documents.inner.Operands.{operand_tree, side_tree, arg_trees}
 use Rattle.jsonpath_rust.specs.documents.Args.{arg_value}
+use Rattle.jsonpath_rust.specs.documents.inner.Singular.{value_at, value_of}
 use Rattle.jsonpath_rust.specs.documents.inner.Whole.{tree_of}
-use Rattle.jsonpath_rust.proofs.laws.selection.DirectLaws.{looked_up, query_count, query_there}
+use Rattle.jsonpath_rust.proofs.laws.selection.DirectLaws.{looked_up, looked_up_from_root, query_count, query_there}
 use Rattle.jsonpath_rust.proofs.laws.selection.NodelistLaws.{through-applied, nodelist-through}
 use Rattle.jsonpath_base.specs.declared.step.StepRef.{StepRef}
 use Rattle.jsonpath_rust.specs.selection.inner.Wanting.{finished, given_of, given_value, given_values, wanted_of}
@@ -61,8 +62,8 @@ act-walk-requires g t c κs within =
     let e = ap (action_weight kept) c.in-All.is in
     (down _ _ _ _ _ _ c.decreases (omega (arith, e)) (omega (arith, c.requires.within)), (within, c.requires))
 
-pub act-filter_holds-requires : goal.act-filter_holds-requires
-act-filter_holds-requires g t c κs within =
+pub act-is_met-requires : goal.act-is_met-requires
+act-is_met-requires g t c κs within =
     let kept = kept_of c.args.self.now in
     let e = ap (action_weight kept) c.in-If.is in
     (down _ _ _ _ _ _ c.decreases (omega (arith, e)) (omega (arith, c.requires.within)), (within, c.requires))
@@ -796,6 +797,23 @@ gather-returns-clause-given g t c =
     let seen = (c.in_ok-_goes_on.ensures.gave.took (tied_inside c.start-sink.result c.args.trail.now.way c.args.wanted c.start-sink.ensures)).given ∙ ap (λ s. give s (through (segments_meant kept c.args.segments.now) d n)) c.start-sink.ensures in
     c.finish.ensures ∙ ap finished seen ∙ finished_all c.args.wanted (through (segments_meant kept c.args.segments.now) d n)
 
+pub is_met-comparison_holds-requires : goal.is_met-comparison_holds-requires
+is_met-comparison_holds-requires g t c κs within =
+    let kept = kept_of c.args.self.now in
+    let e = ap (filter_view kept) c.in-Comparison.is ∙ filter_view-Comparison kept _ _ _ in
+    (down _ _ _ _ _ _ c.decreases (omega (arith, ap filter_weight e)) (omega (arith, c.requires.within)), (within, c.requires))
+
+pub is_met-filter_holds-requires : goal.is_met-filter_holds-requires
+is_met-filter_holds-requires g t c κs within = (down_tree _ _ _ _ _ c.decreases (omega arith), (within, c.requires))
+
+pub is_met-returns-in-Comparison-clause-holds : goal.is_met-returns-in-Comparison-clause-holds
+is_met-returns-in-Comparison-clause-holds g t c =
+    let kept = kept_of c.args.self.now in
+    let d = document c.args.self.now in
+    let n = node_of c.args.trail.now.way.steps.items c.args.at in
+    let e = ap (filter_view kept) c.in-Comparison.is ∙ filter_view-Comparison kept _ _ _ in
+    ok_as _ _ _ (sym (ap (λ f. holds f d n) e)) c.comparison_holds.ensures.holds
+
 pub filter_holds-some_holds-requires : goal.filter_holds-some_holds-requires
 filter_holds-some_holds-requires g t c κs within =
     let kept = kept_of c.args.self.now in
@@ -962,7 +980,7 @@ pub side-called-requires : goal.side-called-requires
 side-called-requires g t c κs within =
     let kept = kept_of c.args.self.now in
     let e = ap (side_view kept) c.in-Call.is ∙ side_view-Call kept c.in-Call.call in
-    (down _ _ _ _ _ _ c.decreases (omega (arith, ap comparable_weight e)) (omega arith), (within, c.requires))
+    (down _ _ _ _ _ _ c.decreases (omega (arith, ap argument_weight e)) (omega arith), (within, c.requires))
 
 pub side-constant_value-requires : goal.side-constant_value-requires
 side-constant_value-requires g t c = c.requires.ready
@@ -981,7 +999,8 @@ side-returns-in-Lookup-clause-value g t c =
     let d = document c.args.self.now in
     let n = node_of c.args.trail.now.way.steps.items c.args.at in
     let e = ap (side_view kept) c.in-Lookup.is ∙ side_view-Lookup kept c.in-Lookup.steps in
-    c.lent.ensures ∙ c.value_at.ensures ∙ ap (λ (ss : List SingularQuerySegment). value_at (map step_view ss) n.tree) c.deref.ensures.value ∙ sym (ap (λ x. value_of x d n) e)
+    let found = looked_up c.in-Lookup.steps.items d n n.tree refl in
+    c.lent.ensures ∙ c.value_at.ensures ∙ ap (λ (ss : List SingularQuerySegment). value_at (map step_view ss) n.tree) c.deref.ensures.value ∙ sym (ap (λ x. value_of x d n) e ∙ found)
 
 pub side-returns-in_ok-constant_value-in-Constant-clause-value : goal.side-returns-in_ok-constant_value-in-Constant-clause-value
 side-returns-in_ok-constant_value-in-Constant-clause-value g t c =
@@ -989,7 +1008,9 @@ side-returns-in_ok-constant_value-in-Constant-clause-value g t c =
     let d = document c.args.self.now in
     let n = node_of c.args.trail.now.way.steps.items c.args.at in
     let e = ap (side_view kept) c.in-Constant.is ∙ side_view-Constant kept c.in-Constant.number in
-    c.in_ok-constant_value-in-Constant.ensures.value ∙ sym (ap (λ x. value_of x d n) e)
+    let task = c.args.self.now in
+    let found = looked_up_from_root task.plan.now.constants.items c.in-Constant.number d n task.plan.now.settled in
+    c.in_ok-constant_value-in-Constant.ensures.value ∙ sym (ap (λ x. value_of x d n) e ∙ found)
 
 pub side-returns-in_ok-constant_value-in-Constant-clause-comes : goal.side-returns-in_ok-constant_value-in-Constant-clause-comes
 side-returns-in_ok-constant_value-in-Constant-clause-comes g t c = record { back = record { same = refl; ready = c.in_ok-constant_value-in-Constant.ensures.ready }; ready = tt; halts = tt }
@@ -1163,7 +1184,7 @@ value-returns-in-Some-clause-value g t c =
     let d = document c.args.self.now in
     let n = node_of c.args.trail.now.way.steps.items c.args.at in
     let query = c.in-Some.ensures (kept_of c.args.self.now) Only in
-    let found = looked_up (map step_view c.in-Some.steps.now) d n n.tree refl in
+    let found = looked_up c.in-Some.steps.now d n n.tree refl in
     c.lent.ensures ∙ c.value_at.ensures ∙ sym (ap (λ a. as_value (argued a d n)) query ∙ found)
 
 pub value-nodes-requires : goal.value-nodes-requires
@@ -1244,7 +1265,7 @@ nodes-returns-in-Lookup-clause-value g t c =
     let w = c.args.wanted in
     let e = ap (λ ns. nodes_view kept ns w) c.in-Lookup.is ∙ nodes_view-Lookup kept c.in-Lookup.steps w in
     let there = c.value_at.ensures ∙ ap (λ (ss : List SingularQuerySegment). value_at (map step_view ss) n.tree) c.deref.ensures.value in
-    c.of.ensures ∙ wanted_found w _ (map step_view c.in-Lookup.steps.items) d n there ∙ sym (ap (λ q. wanted_of w (tested q d n)) e)
+    c.of.ensures ∙ wanted_found w _ c.in-Lookup.steps.items d n there ∙ sym (ap (λ q. wanted_of w (tested q d n)) e)
 
 pub nodes-returns-in_ok-given-in-Walk-clause-value : goal.nodes-returns-in_ok-given-in-Walk-clause-value
 nodes-returns-in_ok-given-in-Walk-clause-value g t c =
@@ -1285,7 +1306,7 @@ push_nodes-returns-in_ok-push_to-in-Lookup-clause-value g t c =
     let n = node_of c.args.trail.now.way.steps.items c.args.at in
     let e = ap (λ ns. nodes_view kept ns Values) c.in-Lookup.is ∙ nodes_view-Lookup kept c.in-Lookup.steps Values in
     let there = c.lent-value.ensures ∙ c.value_at.ensures ∙ ap (λ (ss : List SingularQuerySegment). value_at (map step_view ss) n.tree) c.deref.ensures.value in
-    let trees = trees_found _ (map step_view c.in-Lookup.steps.items) d n there ∙ sym (ap (λ q. as_trees (tested q d n)) e) in
+    let trees = trees_found _ c.in-Lookup.steps.items d n there ∙ sym (ap (λ q. as_trees (tested q d n)) e) in
     c.in_ok-push_to-in-Lookup.ensures.value ∙ ap (λ ts. arg_trees c.args.args.now ++ ts) trees
 
 pub push_nodes-returns-in_ok-push_to-in-Walk-clause-value : goal.push_nodes-returns-in_ok-push_to-in-Walk-clause-value
@@ -1492,12 +1513,17 @@ each_holds-returns-in_err-filter_holds-clause-comes g t c =
 pub walked_compare-returns-in_err-left-clause-comes : goal.walked_compare-returns-in_err-left-clause-comes
 walked_compare-returns-in_err-left-clause-comes g t c =
     let kept = kept_of c.args.self.now in
-    comes_so _ _ c.from_residual.ensures.1 c.in_err-left.ensures.comes (λ h. asked_left (comparable_patterns (side_view kept c.args.comparison.1.now)) (comparable_patterns (side_view kept c.args.comparison.2.now)) h)
+    comes_so _ _ c.from_residual.ensures.1 c.in_err-left.ensures.comes (λ h. asked_left (argument_patterns (side_view kept c.args.comparison.1.now)) (argument_patterns (side_view kept c.args.comparison.2.now)) h)
 
 pub walked_compare-returns-in_err-right-clause-comes : goal.walked_compare-returns-in_err-right-clause-comes
 walked_compare-returns-in_err-right-clause-comes g t c =
     let kept = kept_of c.args.self.now in
-    comes_so _ _ c.from_residual-in_err-right.ensures.1 c.in_err-right.ensures.comes (λ h. asked_right (comparable_patterns (side_view kept c.args.comparison.1.now)) (comparable_patterns (side_view kept c.args.comparison.2.now)) h)
+    comes_so _ _ c.from_residual-in_err-right.ensures.1 c.in_err-right.ensures.comes (λ h. asked_right (argument_patterns (side_view kept c.args.comparison.1.now)) (argument_patterns (side_view kept c.args.comparison.2.now)) h)
+
+pub walked_compare-returns-in_err-held-clause-comes : goal.walked_compare-returns-in_err-held-clause-comes
+walked_compare-returns-in_err-held-clause-comes g t c =
+    let back = on c.in_ok-left.ensures.comes.back c.in_ok-right.ensures.comes.back in
+    comes_halt _ _ c.from_residual-in_err-held.ensures.1 back.ready c.in_err-held.ensures.halts (asked_none _)
 
 pub answer-returns-in-Custom-clause-comes : goal.answer-returns-in-Custom-clause-comes
 answer-returns-in-Custom-clause-comes g t c =

@@ -14,7 +14,7 @@ use Rattle.jsonpath_rust.specs.documents.inner.Size.{size}
 use Rattle.jsonpath_rust.proofs.laws.selection.Along.{Goes}
 use Rattle.jsonpath_rust.proofs.laws.selection.Work.{work}
 use Rattle.jsonpath_rust.specs.selection.inner.Passing.{action_weight}
-use Rattle.jsonpath_rust.specs.documents.inner.Weight.{segments_weight, segment_weight, selectors_weight, selector_weight, filter_weight, filters_weight, test_weight, comparable_weight, comparison_weight, call_weight, argument_weight, arguments_weight}
+use Rattle.jsonpath_rust.specs.documents.inner.Weight.{segments_weight, segment_weight, selectors_weight, selector_weight, filter_weight, filters_weight, test_weight, comparison_weight, call_weight, argument_weight, arguments_weight}
 use Rattle.jsonpath_rust.specs.declared.selection.sink.Wanted.TheVariants.{Any, Only, Values}
 use Rattle.jsonpath_rust.proofs.selection.walk.Task.+walk.Given as goal
 
@@ -47,6 +47,9 @@ decreases-at_child g l = work (action_weight (kept_of l.self.now) l.onward.next 
 
 abbrev pub decreases-act : goal.decreases-act
 decreases-act g l = work (action_weight (kept_of l.self.now) l.onward.next + segments_weight (segments_meant (kept_of l.self.now) l.onward.rest.now)) (size (tree_of l.self.now.root)) (5 * size (tree_of l.at) + 3)
+
+abbrev pub decreases-is_met : goal.decreases-is_met
+decreases-is_met g l = work (filter_weight (filter_view (kept_of l.self.now) l.filter.now)) (size (tree_of l.self.now.root)) (5 * size (tree_of l.at) + 2)
 
 abbrev pub decreases-filter_holds : goal.decreases-filter_holds
 decreases-filter_holds g l = work (filter_weight (filter_view (kept_of l.self.now) l.filter.now)) (size (tree_of l.self.now.root)) (5 * size (tree_of l.at))
@@ -88,13 +91,13 @@ abbrev pub decreases-exists : goal.decreases-exists
 decreases-exists g l = work (test_weight (nodes_view (kept_of l.self.now) l.nodes.now Any)) (size (tree_of l.self.now.root)) (5 * size (tree_of l.at) + 1)
 
 abbrev pub decreases-comparison_holds : goal.decreases-comparison_holds
-decreases-comparison_holds g l = work (comparable_weight (side_view (kept_of l.self.now) l.comparison.1.now) + comparable_weight (side_view (kept_of l.self.now) l.comparison.2.now) + 1) (size (tree_of l.self.now.root)) (5 * size (tree_of l.at) + 1)
+decreases-comparison_holds g l = work (argument_weight (side_view (kept_of l.self.now) l.comparison.1.now) + argument_weight (side_view (kept_of l.self.now) l.comparison.2.now) + 1) (size (tree_of l.self.now.root)) (5 * size (tree_of l.at) + 1)
 
 abbrev pub decreases-walked_compare : goal.decreases-walked_compare
-decreases-walked_compare g l = work (comparable_weight (side_view (kept_of l.self.now) l.comparison.1.now) + comparable_weight (side_view (kept_of l.self.now) l.comparison.2.now) + 1) (size (tree_of l.self.now.root)) (5 * size (tree_of l.at))
+decreases-walked_compare g l = work (argument_weight (side_view (kept_of l.self.now) l.comparison.1.now) + argument_weight (side_view (kept_of l.self.now) l.comparison.2.now) + 1) (size (tree_of l.self.now.root)) (5 * size (tree_of l.at))
 
 abbrev pub decreases-side : goal.decreases-side
-decreases-side g l = work (comparable_weight (side_view (kept_of l.self.now) l.side.now)) (size (tree_of l.self.now.root)) (5 * size (tree_of l.at))
+decreases-side g l = work (argument_weight (side_view (kept_of l.self.now) l.side.now)) (size (tree_of l.self.now.root)) (5 * size (tree_of l.at))
 
 abbrev pub decreases-nodes : goal.decreases-nodes
 decreases-nodes g l = work (test_weight (nodes_view (kept_of l.self.now) l.nodes.now l.wanted)) (size (tree_of l.self.now.root)) (5 * size (tree_of l.at))

@@ -1,7 +1,7 @@
 use Rattle.std.proofs.Common.{Some, None, map, option_map, ap, sym, ◌∙◌}
 use Rattle.std.proofs.lemmas.Result.{IfOk-weaker}
 use Rattle.jsonpath_parser.specs.tree.View.{step_view}
-use Rattle.jsonpath_rust.specs.documents.Meaning.{value_at}
+use Rattle.jsonpath_rust.specs.documents.inner.Singular.{value_at}
 use Rattle.jsonpath_rust.specs.documents.inner.Whole.{tree_of}
 use Rattle.jsonpath_rust.proofs.laws.selection.Counting.{children_counted}
 use Rattle.jsonpath_rust.proofs.selection.walk.Task.count_children.Goals as goal
@@ -10,9 +10,9 @@ pub returns-in-Some-clause-count : goal.returns-in-Some-clause-count
 returns-in-Some-clause-count g c = λ d n e.
     let ss = map step_view c.args.steps.now in
     let there = ap (option_map tree_of) (sym c.in-Some.is) ∙ c.value_at.ensures ∙ ap (value_at ss) (sym e) in
-    IfOk-weaker c.child_count.result _ _ (λ k h. h ∙ sym (children_counted ss d n (Some (tree_of c.in-Some.parent)) there)) c.child_count.ensures.count
+    IfOk-weaker c.child_count.result _ _ (λ k h. h ∙ sym (children_counted c.args.steps.now d n (Some (tree_of c.in-Some.parent)) there)) c.child_count.ensures.count
 
 pub returns-in-None-clause-count : goal.returns-in-None-clause-count
 returns-in-None-clause-count g c = λ d n e.
     let ss = map step_view c.args.steps.now in
-    sym (children_counted ss d n None (ap (option_map tree_of) (sym c.in-None.is) ∙ c.value_at.ensures ∙ ap (value_at ss) (sym e)))
+    sym (children_counted c.args.steps.now d n None (ap (option_map tree_of) (sym c.in-None.is) ∙ c.value_at.ensures ∙ ap (value_at ss) (sym e)))

@@ -14,13 +14,13 @@ use Rattle.jsonpath_rust.proofs.selection.walk.Task.direct_answer.Goals as goal
 pub returns-in_ok-direct_length-in-Some-clause-value : goal.returns-in_ok-direct_length-in-Some-clause-value
 returns-in_ok-direct_length-in-Some-clause-value g c = λ kept d n e.
     let is = ap (call_view kept) c.in-Length.is ∙ call_view-Length kept c.in-Length.arg ∙ ap length_call (c.in-Some.ensures kept Only) in
-    let found = looked_up (map step_view c.in-Some.steps.now) d n (tree_of c.args.at) e in
+    let found = looked_up c.in-Some.steps.now d n (tree_of c.args.at) e in
     c.in_ok-direct_length-in-Some.ensures.value ∙ sym (ap (λ f. answer f d n) is ∙ ap length_of found)
 
 pub returns-in-Some-lookup_in-clause-value : goal.returns-in-Some-lookup_in-clause-value
 returns-in-Some-lookup_in-clause-value g c = λ kept d n e.
     let is = ap (call_view kept) c.in-Value.is ∙ call_view-Value kept c.in-Value.arg ∙ ap value_call (c.in-Some-lookup_in.ensures kept Only) in
-    let found = looked_up (map step_view c.in-Some-lookup_in.steps.now) d n (tree_of c.args.at) e in
+    let found = looked_up c.in-Some-lookup_in.steps.now d n (tree_of c.args.at) e in
     c.lent.ensures ∙ c.value_at.ensures ∙ sym (ap (λ f. answer f d n) is ∙ found)
 
 pub returns-in_ok-count-in-CountChildren-clause-value : goal.returns-in_ok-count-in-CountChildren-clause-value

@@ -1,8 +1,8 @@
 use Rattle.std.proofs.Common.{◌≡◌, ap, ◌∙◌}
 use Rattle.jsonpath_parser.specs.tree.View.{operator_view}
 use Rattle.jsonpath_rust.specs.documents.Comparing.{compares}
-use Rattle.jsonpath_rust.specs.documents.Meaning.{value_of}
 use Rattle.jsonpath_rust.specs.documents.inner.Operands.{side_tree}
+use Rattle.jsonpath_rust.specs.documents.inner.Singular.{value_of}
 use Rattle.jsonpath_rust.specs.selection.inner.Keeping.{document, kept_of}
 use Rattle.jsonpath_rust.specs.selection.inner.PlanViews.{side_view}
 use Rattle.jsonpath_rust.proofs.laws.selection.Kept.{of_some}

@@ -2,13 +2,13 @@ use Rattle.std.proofs.Common.{List, ap, map, sym, ◌∙◌, Some}
 use Rattle.std.proofs.lemmas.Option.{IfSome_then}
 use Rattle.jsonpath_parser.specs.tree.View.{step_view}
 use Rattle.jsonpath_parser.specs.declared.tree.model.SingularQuerySegment.{SingularQuerySegment}
-use Rattle.jsonpath_rust.specs.documents.Meaning.{value_at, value_of}
+use Rattle.jsonpath_rust.specs.documents.inner.Singular.{value_at, value_of}
 use Rattle.jsonpath_rust.specs.selection.inner.Keeping.{document, kept_of, value_by}
 use Rattle.jsonpath_rust.specs.selection.inner.PlanViews.{side_view, steps_in}
 use Rattle.jsonpath_rust.proofs.laws.selection.PlanEquations.{side_view-Literal, side_view-Lookup, side_view-Constant, side_view-Call}
 use Rattle.jsonpath_rust.specs.documents.inner.Operands.{side_tree}
 use Rattle.jsonpath_rust.specs.documents.inner.Whole.{tree_of}
-use Rattle.jsonpath_rust.proofs.laws.selection.DirectLaws.{at_hand_as}
+use Rattle.jsonpath_rust.proofs.laws.selection.DirectLaws.{at_hand_as, looked_up, looked_up_from_root}
 use Rattle.jsonpath_rust.proofs.selection.walk.Task.lent_side.Goals as goal
 
 pub returns-in-Literal-clause-value : goal.returns-in-Literal-clause-value
@@ -23,14 +23,17 @@ returns-in-Lookup-clause-value g c = λ n e.
     let kept = kept_of c.args.self.now in
     let d = document c.args.self.now in
     let is = ap (side_view kept) c.in-Lookup.is ∙ side_view-Lookup kept c.in-Lookup.steps in
-    c.lent.ensures ∙ c.value_at.ensures ∙ ap (λ (ss : List SingularQuerySegment). value_at (map step_view ss) (tree_of c.args.at)) c.deref.ensures.value ∙ ap (value_at (map step_view c.in-Lookup.steps.items)) (sym e) ∙ sym (ap (λ x. value_of x d n) is)
+    let found = looked_up c.in-Lookup.steps.items d n (tree_of c.args.at) e in
+    c.lent.ensures ∙ c.value_at.ensures ∙ ap (λ (ss : List SingularQuerySegment). value_at (map step_view ss) (tree_of c.args.at)) c.deref.ensures.value ∙ sym (ap (λ x. value_of x d n) is ∙ found)
 
 pub returns-in-Some-clause-value : goal.returns-in-Some-clause-value
 returns-in-Some-clause-value g c = λ n e.
     let kept = kept_of c.args.self.now in
     let d = document c.args.self.now in
     let is = ap (side_view kept) c.in-Constant.is ∙ side_view-Constant kept c.in-Constant.number in
-    IfSome_then c.lent_value.result c.lent_value.ensures (λ s h. h ∙ ap (λ p. value_by p d) c.in-Some.ensures.part ∙ sym (ap (λ p. value_at (steps_in p) d.root) c.in-Some.ensures.part) ∙ sym (ap (λ x. value_of x d n) is))
+    let task = c.args.self.now in
+    let found = looked_up_from_root task.plan.now.constants.items c.in-Constant.number d n task.plan.now.settled in
+    IfSome_then c.lent_value.result c.lent_value.ensures (λ s h. h ∙ ap (λ p. value_by p d) c.in-Some.ensures.part ∙ sym (ap (λ p. value_at (steps_in p) d.root) c.in-Some.ensures.part) ∙ sym (ap (λ x. value_of x d n) is ∙ found))
 
 pub returns-in-Call-clause-value : goal.returns-in-Call-clause-value
 returns-in-Call-clause-value g c = λ n e.

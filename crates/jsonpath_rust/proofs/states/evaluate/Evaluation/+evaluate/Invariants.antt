@@ -7,7 +7,7 @@ use Rattle.jsonpath_rust.specs.states.State.{Target, nothing, targets, inside, t
 use Rattle.jsonpath_rust.specs.states.inner.Evaluating.{document, content_at, target_at, targets_at, part_content}
 use Rattle.jsonpath_rust.specs.documents.inner.Parts.{segments_in, selectors_in, filters_in, arguments_in}
 use Rattle.jsonpath_rust.proofs.laws.states.PartWeight.{part_weight}
-use Rattle.jsonpath_rust.specs.documents.inner.Weight.{segments_weight, segment_weight, selectors_weight, selector_weight, filter_weight, filters_weight, atom_weight, test_weight, comparison_weight, comparable_weight, call_weight, argument_weight, arguments_weight}
+use Rattle.jsonpath_rust.specs.documents.inner.Weight.{segments_weight, segment_weight, selectors_weight, selector_weight, filter_weight, filters_weight, atom_weight, test_weight, comparison_weight, call_weight, argument_weight, arguments_weight}
 use Rattle.jsonpath_rust.specs.states.Asking.{tops}
 use Rattle.jsonpath_rust.proofs.laws.states.Lies.{Stays}
 use Rattle.jsonpath_rust.proofs.states.evaluate.Evaluation.+evaluate.Given as goal
@@ -52,7 +52,7 @@ abbrev pub decreases-comparison_holds : goal.decreases-comparison_holds
 decreases-comparison_holds g l = 4 * comparison_weight (comparison_view l.comparison.now)
 
 abbrev pub decreases-comparable_data : goal.decreases-comparable_data
-decreases-comparable_data g l = 4 * comparable_weight (comparable_view l.comparable.now)
+decreases-comparable_data g l = 4 * argument_weight (comparable_view l.comparable.now)
 
 abbrev pub decreases-test_data : goal.decreases-test_data
 decreases-test_data g l = 4 * test_weight (test_view l.test.now)

@@ -1,9 +1,8 @@
 use Rattle.std.proofs.Common.{List, map, refl}
 use Rattle.jsonpath_parser.specs.tree.View.{step_view}
 use Rattle.jsonpath_parser.specs.declared.tree.model.SingularQuerySegment.{SingularQuerySegment}
-use Rattle.jsonpath_rust.specs.states.Process.{step_content, steps_content}
 use Rattle.jsonpath_rust.specs.states.State.{Content}
-use Rattle.jsonpath_rust.specs.states.inner.Evaluating.{content_at}
+use Rattle.jsonpath_rust.specs.states.inner.Evaluating.{content_at, step_content, steps_content}
 use Rattle.jsonpath_rust.proofs.laws.documents.Parts.{fold_next, parts_end}
 use Rattle.jsonpath_rust.proofs.states.evaluate.singular.steps_data.Goals as goal
 

@@ -1,7 +1,6 @@
 use Rattle.std.proofs.Common.{◌≡◌, map, drop}
 use Rattle.jsonpath_parser.specs.tree.View.{step_view}
-use Rattle.jsonpath_rust.specs.states.Process.{steps_content}
-use Rattle.jsonpath_rust.specs.states.inner.Evaluating.{content_at}
+use Rattle.jsonpath_rust.specs.states.inner.Evaluating.{content_at, steps_content}
 use Rattle.jsonpath_rust.proofs.states.evaluate.singular.steps_data.Given as goal
 
 -- what the steps that are left make of the answer so far

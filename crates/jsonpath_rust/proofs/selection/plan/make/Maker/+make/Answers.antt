@@ -9,7 +9,7 @@ use Rattle.jsonpath_parser.specs.tree.View as tree
 use Rattle.jsonpath_parser.proofs.laws.tree.ViewEquations as source
 use Rattle.jsonpath_rust.specs.selection.inner.PlanMaking.{every}
 use Rattle.jsonpath_rust.specs.selection.inner.Rooted.{filter_is_rooted, argument_is_rooted}
-use Rattle.jsonpath_rust.specs.selection.inner.PlanViews.{segment_view, selector_view, filter_view, call_view, argument_view, step_segment, nodes, answered, compared, query_in, call_in, part_is_rooted}
+use Rattle.jsonpath_rust.specs.selection.inner.PlanViews.{segment_view, selector_view, filter_view, call_view, argument_view, nodes, answered, compared, query_in, call_in, part_is_rooted}
 use Rattle.jsonpath_rust.specs.declared.selection.sink.Wanted.TheVariants.{Any, Values}
 use Rattle.jsonpath_rust.proofs.laws.selection.PlanLaws.{made_none, made_as, made_both, made_start, made_next, made_end, made_around, made_ended, made_here, filters_rooted, arguments_rooted, query_in-nodes}
 use Rattle.jsonpath_rust.proofs.laws.selection.PlanEquations as plan
@@ -142,7 +142,7 @@ test-returns-in_ok-call-in-Function-clause-made t c =
 
 pub side-returns-in_ok-try_clone-in-Literal-clause-made : goal.side-returns-in_ok-try_clone-in-Literal-clause-made
 side-returns-in_ok-try_clone-in-Literal-clause-made t c =
-    made_none _ _ (λ kept. plan.side_view-Literal kept _ ∙ ap syntax.literal c.in_ok-try_clone-in-Literal.ensures.same) (ap tree.comparable_view c.in-Literal.is ∙ source.comparable_view-Literal c.in-Literal.literal) refl
+    made_none _ _ (λ kept. plan.side_view-Literal kept _ ∙ ap syntax.literal_argument c.in_ok-try_clone-in-Literal.ensures.same) (ap tree.comparable_view c.in-Literal.is ∙ source.comparable_view-Literal c.in-Literal.literal) refl
 
 pub side-returns-in-SingularQuery-clause-made : goal.side-returns-in-SingularQuery-clause-made
 side-returns-in-SingularQuery-clause-made t c =
@@ -150,11 +150,11 @@ side-returns-in-SingularQuery-clause-made t c =
 
 pub side-returns-in_ok-called-in-Function-clause-made : goal.side-returns-in_ok-called-in-Function-clause-made
 side-returns-in_ok-called-in-Function-clause-made t c =
-    made_as syntax.function _ _ (λ kept. plan.side_view-Call kept _) (ap tree.comparable_view c.in-Function.is ∙ source.comparable_view-Function c.in-Function.function) (λ h. h) c.in_ok-called-in-Function.ensures.made
+    made_as (λ x. syntax.test_argument (syntax.call x)) _ _ (λ kept. plan.side_view-Call kept _) (ap tree.comparable_view c.in-Function.is ∙ source.comparable_view-Function c.in-Function.function) (λ h. h) c.in_ok-called-in-Function.ensures.made
 
 pub relative-returns-in-Some-clause-made : goal.relative-returns-in-Some-clause-made
 relative-returns-in-Some-clause-made t c =
-    λ w. made_here c.meet_current.ensures (made_none {test = every} _ _ (λ kept. plan.nodes_view-Lookup kept _ w ∙ ap (λ gs. syntax.relative (tree.segments_of gs)) (map-map step_segment tree.step_view c.in-Some.steps.items ∙ (rw c.in-Some.is at c.in_ok-steps.ensures.same))) refl refl)
+    λ w. made_here c.meet_current.ensures (made_none {test = every} _ _ (λ kept. plan.nodes_view-Lookup kept _ w ∙ ap (λ gs. syntax.relative (tree.segments_of gs)) (rw c.in-Some.is at c.in_ok-steps.ensures.same)) refl refl)
 
 pub relative-returns-in_ok-segments-in-None-clause-made : goal.relative-returns-in_ok-segments-in-None-clause-made
 relative-returns-in_ok-segments-in-None-clause-made t c = λ w.
