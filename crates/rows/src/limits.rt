@@ -1,11 +1,14 @@
 //! Conditions on a document, and how much work is just enough for a query or a condition.
 use jsonpath_rust::query::{Limited, Prepared, Queried, Within, js_path_limited};
-use jsonpath_rust::{Condition, Queryable};
+use jsonpath_rust::{Condition, Queryable, WholeRef};
 use rows_common::answers::{are_same, pair, unchanged};
-use rows_common::arguments::{Lent, given_if, size, spelled, text, whole};
+use rows_common::arguments::{given, given_if, size, spelled, text};
 use rows_common::{Given, Refusal};
 use serde_json::Value;
 use std::alloc::Global;
+
+/// A value of whole numbers.
+type Lent<'v> = WholeRef<'v, Value>;
 
 /// The least number of units that is enough, if that is below 2^16. Each step halves where it may lie.
 fn least<F: Fn(usize) -> Given<bool>>(is_enough: F) -> Given<usize>
@@ -38,7 +41,7 @@ fn done<T: Drop>(answer: Queried<Within<T>>) -> Given<bool> {
 /// The least number of units with which `js_path_limited` returns nodes. With them each call of a `Limited` has to return something too,
 /// and with one less its `nodes` nothing.
 pub fn enough(alloc: Global, query: &Value, document: &Value) -> Given<Value> {
-    let (query, document) = (spelled(alloc, query)?, whole(document)?);
+    let (query, document) = (spelled(alloc, query)?, given(WholeRef::new(document))?);
     let units = least(|units| done(js_path_limited(alloc, &query, units, document.get())))?;
     let prepared = Prepared::read(alloc, &query)?;
     let is_least = is_least(alloc, &prepared, units, document);
@@ -88,7 +91,7 @@ fn changes(alloc: Global, runner: &mut Limited<'_>, document: Lent<'_>, puts: bo
 /// text; `Condition::holds`, whether it holds; `Condition::enough`, that, and the least number of units with which a runner tells it.
 pub fn condition(alloc: Global, name: &str, asked: [&Value; 3]) -> Given<Value> {
     let [asked, depth, document] = asked;
-    let document = whole(document)?;
+    let document = given(WholeRef::new(document))?;
     let condition = Condition::read(alloc, text(asked)?, size(depth)?)?;
     let answer = answer_of(alloc, name, &condition, document);
     drop(condition);

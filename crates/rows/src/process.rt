@@ -1,6 +1,5 @@
 //! Parts of queries, asked of a state by `process`, and queries that no text spells, asked by `js_path_process`.
 use crate::doc::document::{Document, document_of};
-use crate::makers::{arguments_of, unspelled, untyped_call};
 use crate::states::{Ground, Place, content_of, ground_of, state_of};
 use crate::types::nodes;
 use jsonpath_rust::build::{and, or, segment_many};
@@ -12,6 +11,7 @@ use jsonpath_rust::parser::{
 };
 use jsonpath_rust::query::{Query, apply, js_path_process};
 use rows_common::arguments::{exactly, given, given_if, spelled, text};
+use rows_common::makers::{arguments_of, unspelled, untyped_call};
 use rows_common::{Given, Refusal};
 use serde_json::Value;
 use std::alloc::Global;

@@ -1,20 +1,30 @@
-//! Documents: what a query selects in one, calls of a document type, and nodes, each a list of its path and its value.
+//! Documents: what a query selects in one, changes of one, calls of a document type, and nodes, each a list of its path and its value.
 ghost use Rattle.std.specs.Prelude.{All, IsTrue};
 ghost use Rattle.jsonpath_rust.specs.documents.Args.{arg_value};
 
 use crate::doc::document::{Document, document_of};
 use jsonpath_rust::query::queryable::{Arg, Deletable, Queryable};
-use jsonpath_rust::query::{Queried, QueryRef, js_path, js_path_only, not_a_reference};
-use jsonpath_rust::{Only, Whole};
+use jsonpath_rust::query::{
+    Queried, QueryRef, js_path, js_path_count, js_path_only, not_a_reference, replace_by_path,
+    replace_within,
+};
+use jsonpath_rust::{Only, ReadError, Whole, WholeRef};
 use rows_common::answers::{self, list_of, member, pair, with_left};
-use rows_common::arguments::{self, each, exactly, given, spelled, text, whole};
-use rows_common::{Given, Refusal};
+use rows_common::arguments::{self, each, exactly, given, size, spelled, text};
+use rows_common::{Cause, Given, Refusal};
 use serde_json::Value;
 use std::alloc::Global;
+use std::mem;
 
 /// The document of a text.
 pub fn read(alloc: Global, json: &Value) -> Given<Value> {
-    Ok(Whole::read(alloc, &spelled(alloc, json)?)?.into_inner())
+    let json = spelled(alloc, json)?;
+    match Whole::read(alloc, &json) {
+        Ok(document) => Ok(document.into_inner()),
+        Err(ReadError::NotJson) => Err(Refusal::Other(Cause::NotJson)),
+        Err(ReadError::NotWhole) => Err(Refusal::Other(Cause::NotWhole)),
+        Err(ReadError::Memory) => Err(Refusal::memory()),
+    }
 }
 
 /// The nodes that `js_path` finds.
@@ -27,11 +37,16 @@ pub fn found<T: Document>(alloc: Global, asked: &[Value]) -> Given<Value> {
 
 /// `"Nothing"`, `"Several"`, or `{"One": VALUE}`.
 pub fn only(alloc: Global, query: &str, document: &Value) -> Given<Value> {
-    match js_path_only(alloc, query, whole(document)?.get())? {
+    match js_path_only(alloc, query, given(WholeRef::new(document))?.get())? {
         Only::Nothing => answers::text(alloc, "Nothing"),
         Only::One(value) => member(alloc, "One", value.clone()?),
         Only::Several => answers::text(alloc, "Several"),
     }
+}
+
+/// How many nodes `js_path_count` counts.
+pub fn count(alloc: Global, query: &str, document: &Value) -> Given<Value> {
+    counted(js_path_count(alloc, query, given(WholeRef::new(document))?.get()))
 }
 
 /// A list of the value that `reference` finds, empty for None.
@@ -55,6 +70,45 @@ pub fn deleted<T: Document + Deletable>(alloc: Global, asked: &[Value]) -> Given
 
 fn counted(count: Queried<usize>) -> Given<Value> {
     Ok(Value::from(count?))
+}
+
+/// What the call of that name answers and leaves of a value, which is its first argument; the new value is its last.
+pub fn changed(alloc: Global, name: &str, asked: &[Value]) -> Given<Value> {
+    let (value, change) = given(asked.split_first())?;
+    let mut left = value.clone()?;
+    let answer = match name {
+        "reference_mut" => written(alloc, &mut left, change),
+        "replace_by_path" => replaced(alloc, &mut left, change),
+        _ => masked(alloc, &mut left, change),
+    };
+    with_left(alloc, answer, left, value)
+}
+
+/// Whether `reference_mut` lends the place at which the new value is written then.
+fn written(alloc: Global, left: &mut Value, change: &[Value]) -> Given<Value> {
+    let [path, new] = exactly::<2>(change)?;
+    match left.reference_mut(alloc, text(path)?)? {
+        Some(place) => {
+            drop(mem::replace(place, new.clone()?));
+            Ok(Value::from(true))
+        }
+        None => Ok(Value::from(false)),
+    }
+}
+
+fn replaced(alloc: Global, left: &mut Value, change: &[Value]) -> Given<Value> {
+    let [path, new] = exactly::<2>(change)?;
+    Ok(Value::from(replace_by_path(alloc, left, text(path)?, new.clone()?)?))
+}
+
+/// How many locations `replace_within` puts the new value at. Both values have to be whole.
+fn masked(alloc: Global, left: &mut Value, change: &[Value]) -> Given<Value> {
+    let [query, depth, new] = exactly::<3>(change)?;
+    if left.is_whole() && new.is_whole() {
+        counted(replace_within(alloc, left, text(query)?, size(depth)?, new))
+    } else {
+        Err(Refusal::NoAnswer)
+    }
 }
 
 /// Whether both are equal.

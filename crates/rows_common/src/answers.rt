@@ -5,7 +5,7 @@ ghost use Rattle.jsonpath_base.specs.Values.{value_tree};
 
 use crate::refusal::{Given, Refusal};
 use jsonpath_base::{Step, same, whole};
-use jsonpath_rust::parser::errors::JsonPathError;
+use jsonpath_parser::errors::JsonPathError;
 use serde_json::{Map, ToValue, Value, put};
 use std::alloc::Global;
 

@@ -1,13 +1,9 @@
 //! What calls of rows take. Each function here refuses a value of another kind by `NoAnswer`.
 use crate::refusal::{Given, Refusal};
 use jsonpath_base::Step;
-use jsonpath_rust::{Whole, WholeRef};
 use serde_json::Value;
 use std::alloc::Global;
 use std::slice;
-
-/// A value of whole numbers.
-pub type Lent<'v> = WholeRef<'v, Value>;
 
 /// What is there.
 pub fn given<T>(found: Option<T>) -> Given<T> {
@@ -50,16 +46,6 @@ pub fn size(value: &Value) -> Given<usize> {
 /// A truth.
 pub fn truth(value: &Value) -> Given<bool> {
     given(value.as_bool())
-}
-
-/// A document of whole numbers.
-pub fn whole(value: &Value) -> Given<Lent<'_>> {
-    given(WholeRef::new(value))
-}
-
-/// A copy of a document of whole numbers.
-pub fn whole_copy(value: &Value) -> Given<Whole<Value>> {
-    given(Whole::new(value.clone()?).ok())
 }
 
 /// A copy of a text.

@@ -7,7 +7,6 @@ ghost use Rattle.jsonpath_base.specs.Values.{value_tree};
 use crate::answers::{answered, are_same};
 use crate::arguments::{given, list, text};
 use crate::refusal::{Given, Refusal};
-use jsonpath_rust::parser::errors::JsonPathError;
 use serde_json::Value;
 use std::alloc::Global;
 use std::io;
@@ -61,14 +60,12 @@ fn tell(
         Outcome::Fails(Ok(answer)) => {
             println!(rt; "row {number} does not hold: {line}, but {answer}")
         }
-        Outcome::Fails(Err(Refusal::Error(JsonPathError::OutOfMemory))) => {
+        Outcome::Fails(Err(refusal)) if refusal.is_memory() => {
             println!(rt; "row {number}: out of memory")
         }
-        Outcome::Fails(Err(Refusal::Changed)) => {
-            println!(rt; "row {number} does not hold: {line}, but the document changed")
-        }
-        Outcome::Fails(Err(_)) => {
-            println!(rt; "row {number} does not hold: {line}, but there is no answer")
+        Outcome::Fails(Err(refusal)) => {
+            let words = refusal.words();
+            println!(rt; "row {number} does not hold: {line}, but {words}")
         }
     }
 }

@@ -1,6 +1,5 @@
 //! Why a call of a row gives no value.
-use jsonpath_rust::ReadError;
-use jsonpath_rust::parser::errors::JsonPathError;
+use jsonpath_parser::errors::JsonPathError;
 use std::alloc::{AllocError, AllocFailed};
 use std::io;
 use std::io::ErrorKind;
@@ -36,6 +35,19 @@ impl Refusal {
     pub fn memory() -> Refusal {
         Refusal::Error(JsonPathError::OutOfMemory)
     }
+
+    /// Whether memory ran out.
+    pub fn is_memory(&self) -> bool {
+        matches!(self, Refusal::Error(JsonPathError::OutOfMemory))
+    }
+
+    /// What came in place of an answer, unless memory ran out.
+    pub fn words(&self) -> &'static str {
+        match self {
+            Refusal::Changed => "the document changed",
+            _ => "there is no answer",
+        }
+    }
 }
 
 impl From<JsonPathError> for Refusal {
@@ -53,16 +65,6 @@ impl From<AllocError> for Refusal {
 impl<T: Drop> From<AllocFailed<T>> for Refusal {
     fn from(_error: AllocFailed<T>) -> Refusal {
         Refusal::memory()
-    }
-}
-
-impl From<ReadError> for Refusal {
-    fn from(error: ReadError) -> Refusal {
-        match error {
-            ReadError::NotJson => Refusal::Other(Cause::NotJson),
-            ReadError::NotWhole => Refusal::Other(Cause::NotWhole),
-            ReadError::Memory => Refusal::memory(),
-        }
     }
 }
 

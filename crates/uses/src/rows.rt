@@ -3,10 +3,24 @@
 mod asking;
 mod changing;
 
-use jsonpath_rust::WholeRef;
+use jsonpath_rust::{Whole, WholeRef};
+use rows_common::arguments::given;
 use rows_common::{Cause, Given, Refusal};
 use serde_json::Value;
 use std::alloc::Global;
+
+/// A value of whole numbers.
+pub type Lent<'v> = WholeRef<'v, Value>;
+
+/// The value, if its numbers are whole.
+pub fn whole(value: &Value) -> Given<Lent<'_>> {
+    given(WholeRef::new(value))
+}
+
+/// A copy of the value, if its numbers are whole.
+pub fn whole_copy(value: &Value) -> Given<Whole<Value>> {
+    given(Whole::new(value.clone()?).ok())
+}
 
 /// What the call of that name answers.
 pub fn answer(alloc: Global, name: &str, asked: &[Value]) -> Given<Value> {

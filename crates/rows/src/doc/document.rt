@@ -1,10 +1,10 @@
 //! The types of documents that rows are asked of, each made of a value.
 use crate::doc::{Doc, of_value, to_value};
-use jsonpath_rust::Whole;
 use jsonpath_rust::query::Queried;
 use jsonpath_rust::query::queryable::Queryable;
+use jsonpath_rust::{Whole, WholeRef};
 use rows_common::Given;
-use rows_common::arguments::{given, whole};
+use rows_common::arguments::given;
 use serde_json::Value;
 use std::alloc::{AllocError, Global};
 
@@ -39,10 +39,5 @@ impl Document for Doc {
 
 /// The document of a value of whole numbers.
 pub fn document_of<T: Document>(alloc: Global, value: &Value) -> Given<Whole<T>> {
-    given(Whole::new(T::made(alloc, whole(value)?.get())?).ok())
-}
-
-/// Whether both are whole, and equal.
-pub fn are_equal<T: Queryable>(left: &T, right: &T) -> bool {
-    left.is_whole() && right.is_whole() && left.equal(right)
+    given(Whole::new(T::made(alloc, given(WholeRef::new(value))?.get())?).ok())
 }

@@ -2,7 +2,7 @@
 ghost use Rattle.std.specs.Prelude.{IsTrue, IfOk};
 ghost use Rattle.jsonpath_rust.specs.states.State.{DataIsWhole, PointersAreWhole};
 
-use crate::doc::document::{Document, are_equal, document_of};
+use crate::doc::document::{Document, document_of};
 use crate::types::{node, parts_of};
 use jsonpath_rust::Whole;
 use jsonpath_rust::query::queryable::Queryable;
@@ -30,11 +30,8 @@ pub type Place<'r> = (&'r Value, &'r Value);
 pub fn ground_of<'r, T: Document>(alloc: Global, place: Place<'r>) -> Given<Ground<'r, T>> {
     let (content, document) = place;
     let document = document_of(alloc, document)?;
-    let values = each(
-        alloc,
-        nodes_of(content),
-        |node| document_of(alloc, parts_of(node)?.1),
-    )?;
+    let nodes = nodes_of(content);
+    let values = each(alloc, nodes, |node| document_of(alloc, parts_of(node)?.1))?;
     Ok(Ground {
         alloc,
         document,
@@ -118,7 +115,7 @@ pub fn content_of<T: Document>(ground: &Ground<'_, T>, state: State<'_, T>) -> G
     let copy = state.try_clone(ground.alloc);
     drop(state);
     let copy = copy?;
-    let is_there = are_equal(copy.root, ground.document.get());
+    let is_there = copy.root.is_whole() && copy.root.equal(ground.document.get());
     let content = value_of(ground.alloc, &copy.content);
     drop(copy);
     given_if(is_there, content?)
@@ -135,7 +132,5 @@ fn value_of<T: Document>(alloc: Global, data: &Data<'_, T>) -> Given<Value> {
 
 /// A list of these nodes.
 pub fn nodes<T: Document>(alloc: Global, pointers: &[Pointer<'_, T>]) -> Given<Value> {
-    list_of(alloc, pointers, |pointer| {
-        node(alloc, &pointer.path, pointer.inner)
-    })
+    list_of(alloc, pointers, |held| node(alloc, &held.path, held.inner))
 }

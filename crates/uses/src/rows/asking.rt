@@ -9,13 +9,14 @@ use crate::inbox::matching;
 use crate::methods::methods_answers;
 use crate::policy::{Rule, first_violation};
 use crate::routing::route;
+use crate::rows::{Lent, whole, whole_copy};
 use crate::same::is_same_query;
 use jsonpath_rust::parser::model::JpQuery;
 use jsonpath_rust::parser::{MAX_NESTING_DEPTH, parse_json_path};
 use jsonpath_rust::query::Prepared;
-use jsonpath_rust::{Condition, Whole};
+use jsonpath_rust::{Condition, ReadError, Whole};
 use rows_common::answers::{self, list_of, listed, pair};
-use rows_common::arguments::{Lent, each, list, size, steps, text, texts, whole, whole_copy};
+use rows_common::arguments::{each, list, size, steps, text, texts};
 use rows_common::{Cause, Given, Refusal};
 use serde_json::{Value, json};
 use std::alloc::Global;
@@ -50,7 +51,9 @@ pub fn answer(alloc: Global, name: &str, asked: &[Value]) -> Given<Value> {
 fn cleared(alloc: Global, store: &str) -> Given<Value> {
     match without_dear(alloc, store) {
         Ok((left, deleted)) => pair(alloc, Value::from(deleted), left.into_inner()),
-        Err(StoreError::Read(error)) => Err(Refusal::from(error)),
+        Err(StoreError::Read(ReadError::NotJson)) => Err(Refusal::Other(Cause::NotJson)),
+        Err(StoreError::Read(ReadError::NotWhole)) => Err(Refusal::Other(Cause::NotWhole)),
+        Err(StoreError::Read(ReadError::Memory)) => Err(Refusal::memory()),
         Err(StoreError::Query(error)) => Err(Refusal::from(error)),
         Err(StoreError::Closed) => Err(Refusal::Other(Cause::Closed)),
     }
@@ -67,11 +70,7 @@ fn violation(alloc: Global, rules: &Value, document: Lent<'_>) -> Given<Value> {
 
 /// The index of the first condition that holds.
 fn routed(alloc: Global, table: &Value, document: Lent<'_>) -> Given<Value> {
-    let conditions = each(
-        alloc,
-        list(table)?,
-        |condition| condition_of(alloc, condition),
-    )?;
+    let conditions = each(alloc, list(table)?, |it| condition_of(alloc, text_of(it)))?;
     Ok(Value::from(route(alloc, &conditions, document)?))
 }
 
@@ -79,11 +78,7 @@ fn routed(alloc: Global, table: &Value, document: Lent<'_>) -> Given<Value> {
 fn failed(alloc: Global, texts: &Value, document: Lent<'_>) -> Given<Value> {
     let assertions = each(alloc, list(texts)?, |text| assertion_of(alloc, text))?;
     let failed = failures(alloc, &assertions, document)?;
-    list_of(
-        alloc,
-        &failed,
-        |assertion| answers::text(alloc, &assertion.text),
-    )
+    list_of(alloc, &failed, |failed| answers::text(alloc, &failed.text))
 }
 
 /// `{"index": .., "missing": ..}` of where two queries, each of its document, differ first.
@@ -175,33 +170,27 @@ pub fn query_of(alloc: Global, told: &Value) -> Given<JpQuery> {
 }
 
 /// The condition of this text.
-fn condition_of(alloc: Global, told: &Value) -> Given<Condition> {
-    Ok(Condition::read(alloc, text_of(told), MAX_NESTING_DEPTH)?)
+fn condition_of(alloc: Global, text: &str) -> Given<Condition> {
+    Ok(Condition::read(alloc, text, MAX_NESTING_DEPTH)?)
 }
 
 /// The assertion of this condition, told by its text.
 fn assertion_of(alloc: Global, told: &Value) -> Given<Assertion> {
     let text = String::from_str(alloc, text_of(told))?;
-    let condition = condition_of(alloc, told)?;
+    let condition = condition_of(alloc, &text)?;
     Ok(Assertion { text, condition })
 }
 
 /// The rule of a condition and the query that shows where it is not met; or of a query alone, that it selects nothing. The query is read
 /// first, so what is none is refused as one.
 fn rule_of(alloc: Global, told: &Value) -> Given<Rule> {
-    match told.as_array().map(|parts| parts.as_slice()) {
-        Some([condition, shown]) => {
-            let shown = query_of(alloc, shown)?;
-            let condition = condition_of(alloc, condition)?;
-            Ok(Rule { condition, shown })
-        }
-        _ => {
-            let shown = query_of(alloc, told)?;
-            let condition = format!(in alloc; "!{}", text_of(told))?;
-            let condition = Condition::read(alloc, condition.as_str(), MAX_NESTING_DEPTH)?;
-            Ok(Rule { condition, shown })
-        }
-    }
+    let (condition, shown) = match told.as_array().map(|parts| parts.as_slice()) {
+        Some([condition, shown]) => (String::from_str(alloc, text_of(condition))?, shown),
+        _ => (format!(in alloc; "!{}", text_of(told))?, told),
+    };
+    let shown = query_of(alloc, shown)?;
+    let condition = condition_of(alloc, &condition)?;
+    Ok(Rule { condition, shown })
 }
 
 fn text_of(told: &Value) -> &str {

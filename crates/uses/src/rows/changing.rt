@@ -3,14 +3,13 @@ use crate::changing::{Change, put_each};
 use crate::patch::{Operation, apply_patch};
 use crate::redaction::redact;
 use crate::rows::asking::query_of;
+use crate::rows::whole_copy;
 use crate::script::{Edit, apply_edits};
 use jsonpath_rust::Whole;
 use jsonpath_rust::parser::{let_go, parse_json_path};
 use jsonpath_rust::query::{Prepared, Queried, Runner, Within, at, selected_locations};
 use rows_common::answers::{optional, pair, with_left};
-use rows_common::arguments::{
-    each, exactly, given, list, size, steps, text, text_copy, whole_copy,
-};
+use rows_common::arguments::{each, exactly, given, list, size, steps, text, text_copy};
 use rows_common::{Cause, Given, Refusal};
 use serde_json::Value;
 use std::alloc::Global;
@@ -145,8 +144,7 @@ fn one_more(value: Option<&Value>) -> Option<Whole<Value>> {
 /// The change that a pair of a location and a value tells.
 fn change_of(alloc: Global, pair: &Value) -> Given<Change> {
     let [location, value] = exactly::<2>(list(pair)?)?;
-    let place = steps(alloc, location)?;
-    let value = whole_copy(value)?;
+    let (place, value) = (steps(alloc, location)?, whole_copy(value)?);
     Ok(Change { place, value })
 }
 
@@ -155,8 +153,7 @@ fn edit_of(alloc: Global, step: &Value) -> Given<Edit> {
     match (step.get("delete"), step.get("put"), step.get("value")) {
         (Some(query), None, None) => Ok(Edit::Delete(text_copy(alloc, query)?)),
         (None, Some(path), Some(value)) => {
-            let path = text_copy(alloc, path)?;
-            Ok(Edit::Replace(path, whole_copy(value)?))
+            Ok(Edit::Replace(text_copy(alloc, path)?, whole_copy(value)?))
         }
         _ => Err(Refusal::NoAnswer),
     }

@@ -1,11 +1,12 @@
-//! Slices, steps, and locations, which are lists of names and indexes.
+//! Slices, steps, locations, which are lists of names and indexes, and values at them: read, changed and taken. What is answered of a
+//! change is a list of what the call returns and what it leaves.
+use crate::answers::{list_of, listed, location, optional, pair, with_left};
+use crate::arguments::{each, given, given_if, list, number, size, step, steps, text, text_copy};
+use crate::refusal::{Given, Refusal};
 use jsonpath_base::{
-    SlicePlaces, Step, add_index, add_name, begins, location_by_pointer, path_of, picked,
-    pointer_of, slice_places,
+    SlicePlaces, Step, add_at, add_index, add_name, at, begins, location_by_pointer, path_of,
+    picked, pointer_of, put_at, remove_all, replace_all, slice_places, take_at,
 };
-use rows_common::answers::{list_of, listed, location, pair};
-use rows_common::arguments::{given_if, number, size, step, steps, text, text_copy};
-use rows_common::{Given, Refusal};
 use serde_json::Value;
 use std::alloc::Global;
 
@@ -80,4 +81,42 @@ pub fn located(alloc: Global, found: Option<Vec<Step>>) -> Given<Value> {
         Some(steps) => location(alloc, &steps),
         None => Ok(Value::Null),
     }
+}
+
+/// A list of the value at the location, empty for None.
+pub fn value_at(alloc: Global, value: &Value, location: &Value) -> Given<Value> {
+    optional(alloc, at(value, &steps(alloc, location)?))
+}
+
+/// A list of the value that `take_at` takes, empty for None, and what it leaves.
+pub fn taken(alloc: Global, value: &Value, location: &Value) -> Given<Value> {
+    let steps = steps(alloc, location)?;
+    let mut left = value.clone()?;
+    let taken = optional(alloc, take_at(&mut left, &steps))?;
+    pair(alloc, taken, left)
+}
+
+/// What the call of that name answers and leaves of a value, of a location, or of several, and of a new value.
+pub fn changed(alloc: Global, name: &str, asked: [&Value; 3]) -> Given<Value> {
+    let [value, at, new] = asked;
+    let mut left = value.clone()?;
+    let answer = change(alloc, name, &mut left, at, new);
+    with_left(alloc, answer, left, value)
+}
+
+fn change(alloc: Global, name: &str, left: &mut Value, at: &Value, new: &Value) -> Given<Value> {
+    match name {
+        "put_at" => Ok(Value::from(put_at(left, &steps(alloc, at)?, new.clone()?))),
+        "add_at" => {
+            let mut parent = steps(alloc, at)?;
+            let step = given(parent.pop())?;
+            Ok(Value::from(add_at(alloc, left, &parent, step, new.clone()?)?))
+        }
+        "remove_all" => Ok(Value::from(remove_all(alloc, left, &places_of(alloc, at)?)?)),
+        _ => Ok(Value::from(replace_all(alloc, left, &places_of(alloc, at)?, new)?)),
+    }
+}
+
+fn places_of(alloc: Global, places: &Value) -> Given<Vec<Vec<Step>>> {
+    each(alloc, list(places)?, |place| steps(alloc, place))
 }

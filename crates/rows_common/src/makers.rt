@@ -1,13 +1,17 @@
 //! Trees that no text spells, or that a maker makes; and what an argument is.
+use crate::answers;
+use crate::arguments::given;
+use crate::refusal::{Given, Refusal};
 use crate::trees::{Form, told, tree};
-use jsonpath_rust::build::*;
-use jsonpath_rust::parser::errors::Parsed;
-use jsonpath_rust::parser::model::{
+use jsonpath_build::{
+    and, atom_cmp, atom_test, cmp, comparable_fn, comparable_lit, filter, jq, lit_int, or,
+    segment_descendant, segment_many, segment_one, selector_filter, selector_index,
+    selector_wildcard, test_function, test_rel,
+};
+use jsonpath_parser::model::{
     Comparison, Filter, FilterAtom, FnArg, JpQuery, Segment, Test, TestFunction, slice_from,
 };
-use jsonpath_rust::parser::{Cursor, function_expr, literal};
-use rows_common::arguments::given;
-use rows_common::{Given, Refusal, answers};
+use jsonpath_parser::{Cursor, Parsed, function_expr, literal};
 use serde_json::Value;
 use std::alloc::Global;
 
@@ -117,12 +121,10 @@ pub fn unspelled(alloc: Global, name: &str, text: &str) -> Given<JpQuery> {
             of_call(alloc, TestFunction::Custom(name, Vec::new(alloc)))
         }
         "test_alone_as_expression" => {
+            let name = String::from_str(alloc, text)?;
             let test = atom_test(alloc, test_rel(Vec::new(alloc)))?;
             let arguments = vec![in alloc; FnArg::Filter(filter(test))]?;
-            of_call(
-                alloc,
-                TestFunction::Custom(String::from_str(alloc, text)?, arguments),
-            )
+            of_call(alloc, TestFunction::Custom(name, arguments))
         }
         "untyped_test" => of_call(alloc, untyped_call(alloc, text)?),
         "untyped_comparison" => comparing(alloc, text),
@@ -180,9 +182,8 @@ fn slice_in(text: &str) -> Given<(Option<i64>, Option<i64>, Option<i64>)> {
 }
 
 fn part(text: &str) -> Given<Option<i64>> {
-    if text.is_empty() {
-        Ok(None)
-    } else {
-        Ok(Some(number_in(text)?))
+    match text {
+        "" => Ok(None),
+        _ => Ok(Some(number_in(text)?)),
     }
 }

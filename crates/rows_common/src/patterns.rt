@@ -1,8 +1,8 @@
 //! Patterns. A search is of a text, a pattern, and whether the pattern has to match the whole text.
+use crate::answers::listed;
+use crate::arguments::{given_if, list, text, truth};
+use crate::refusal::Given;
 use jsonpath_base::{Extent, Pattern, found};
-use rows_common::Given;
-use rows_common::answers::listed;
-use rows_common::arguments::{given_if, list, text, truth};
 use serde_json::Value;
 use std::alloc::Global;
 
@@ -15,14 +15,11 @@ pub fn is_found(alloc: Global, subject: &Value, pattern: &Value, whole: &Value) 
 pub fn asked(alloc: Global, subject: &Value, pattern: &Value, whole: &Value) -> Given<Value> {
     let (subject, pattern, whole) = (text(subject)?, text(pattern)?, truth(whole)?);
     let read = Pattern::new(alloc, pattern, extent_of(whole))?;
-    let tells_its_source = read.source() == pattern
+    let is_told = read.source() == pattern
         && read.extent().is_entire() == whole
         && read.is_of(pattern, extent_of(whole))
         && !read.is_of(pattern, extent_of(!whole));
-    given_if(
-        tells_its_source,
-        Value::from(read.is_found(alloc, subject)?),
-    )
+    given_if(is_told, Value::from(read.is_found(alloc, subject)?))
 }
 
 /// What of a text has to match: where `whole`, the entire text.
@@ -48,8 +45,6 @@ fn found_in(alloc: Global, read: &Pattern, subjects: &Value) -> Given<Value> {
     for subject in list(subjects)? {
         answers.push(finder.is_found(text(subject)?))?;
     }
-    given_if(
-        finder.is_of(read.source(), read.extent()),
-        listed(alloc, answers)?,
-    )
+    let is_told = finder.is_of(read.source(), read.extent());
+    given_if(is_told, listed(alloc, answers)?)
 }

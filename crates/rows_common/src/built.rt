@@ -1,11 +1,19 @@
 //! Trees that are made by hand, by `jsonpath_build`: whether each is written as the one that a grammar function reads of its text.
+use crate::answers::are_same;
+use crate::arguments::text;
+use crate::refusal::{Given, Refusal};
 use crate::trees::{self, Form, tree};
-use jsonpath_rust::build::*;
-use jsonpath_rust::parser::errors::Parsed;
-use jsonpath_rust::parser::model::{Comparable, Filter, FilterAtom, FnArg, Literal, Segment};
-use rows_common::answers::are_same;
-use rows_common::arguments::text;
-use rows_common::{Given, Refusal};
+use jsonpath_build::{
+    and, arg_filter, arg_lit, arg_test, atom, atom_cmp, atom_not, atom_test, atom_test_not, cmp,
+    comparable_fn, comparable_lit, comparable_query, filter, jq, lit_bool, lit_int, lit_null,
+    lit_str, or, q_index, q_name, q_segments, q_segments_one, segment_descendant, segment_many,
+    segment_one, selector_filter, selector_index, selector_name, selector_slice, selector_wildcard,
+    singular_current, singular_root, slice_all, slice_end, slice_end_step, slice_full, slice_start,
+    slice_start_end, slice_start_step, slice_step, test_abs, test_fn1, test_fn2, test_function,
+    test_rel,
+};
+use jsonpath_parser::Parsed;
+use jsonpath_parser::model::{Comparable, Filter, FilterAtom, FnArg, Literal, Segment};
 use serde_json::Value;
 use std::alloc::Global;
 

@@ -1,17 +1,16 @@
 //! Query texts, their trees, and what the grammar functions read from the start of a text.
+use crate::answers::{answered, location, member};
+use crate::arguments::{given_if, list, spelled, text, texts};
 use crate::makers;
+use crate::refusal::{Given, Refusal};
 use jsonpath_base::fixed_steps;
-use jsonpath_rust::parser::errors::{JsonPathError, Parsed};
-use jsonpath_rust::parser::model::JpQuery;
-use jsonpath_rust::parser::{
-    Cursor, calls_only, child_segment, comp_expr, comparable, filter_atom, function_expr, is_local,
-    is_singular, jp_query, literal, logical_expr, logical_expr_and, parse_json_path, rel_query,
-    segment, segments, selector, singular_query, singular_query_segments, slice_selector, test,
-    to_query_text,
+use jsonpath_parser::model::JpQuery;
+use jsonpath_parser::{
+    Cursor, Parsed, calls_only, child_segment, comp_expr, comparable, filter_atom, function_expr,
+    is_local, is_singular, jp_query, literal, logical_expr, logical_expr_and, parse_json_path,
+    rel_query, segment, segments, selector, singular_query, singular_query_segments,
+    slice_selector, test, to_query_text,
 };
-use rows_common::answers::{answered, location, member};
-use rows_common::arguments::{given_if, list, spelled, text, texts};
-use rows_common::{Given, Refusal};
 use serde_json::{Value, json, put};
 use std::alloc::Global;
 use std::fmt::{Debug, Display};
@@ -46,8 +45,7 @@ fn front(alloc: Global, name: &str, form: Form, cursor: &mut Cursor<'_>) -> Give
     let start = cursor.at();
     match read(alloc, name, form, cursor) {
         Ok(answer) => ended(alloc, answer, cursor),
-        Err(Refusal::Error(JsonPathError::OutOfMemory)) => Err(Refusal::memory()),
-        Err(refusal) if cursor.at() == start => Err(refusal),
+        Err(refusal) if refusal.is_memory() || cursor.at() == start => Err(refusal),
         Err(_) => Err(Refusal::NoAnswer),
     }
 }
@@ -143,10 +141,7 @@ pub fn unspelled(alloc: Global, name: &str, part: &str) -> Given<Value> {
 
 fn written(alloc: Global, tree: &JpQuery) -> Given<Value> {
     match to_query_text(alloc, tree)? {
-        Some(written) => {
-            let is_spelled = is_spelled(alloc, tree, &written)?;
-            given_if(is_spelled, Value::String(written))
-        }
+        Some(written) => given_if(is_spelled(alloc, tree, &written)?, Value::String(written)),
         None => Ok(Value::Null),
     }
 }

@@ -1,7 +1,7 @@
 //! Errors: the text of each, which is made by its maker where it has one.
-use jsonpath_rust::parser::errors::JsonPathError;
-use rows_common::arguments::{given, given_if};
-use rows_common::{Given, Refusal};
+use crate::arguments::{given, given_if};
+use crate::refusal::{Given, Refusal};
+use jsonpath_parser::errors::JsonPathError;
 use serde_json::Value;
 use std::alloc::Global;
 
