@@ -1,5 +1,5 @@
 -- What the Normalized Path of a location deletes, and what it puts another tree in the place of.
-use Rattle.std.proofs.Common.{◌≡◌, ℕ, List, [], ◌∷◌, map, Option, Some, None, is_some, option_to_list, if◌then◌else◌, IsTrue, Result, Ok, Err, IfOk, IfErr, OnOk, MatchResult, true≢false, refl, sym, ap, ◌∙◌}
+use Rattle.std.proofs.Common.{◌≡◌, ℕ, [], ◌∷◌, map, Option, Some, None, is_some, option_to_list, if◌then◌else◌, IsTrue, Result, Ok, Err, IfOk, IfErr, OnOk, MatchResult, true≢false, refl, sym, ap, ◌∙◌}
 use Rattle.jsonpath_parser.specs.Location.{Location}
 use Rattle.jsonpath_parser.specs.tree.Steps.{steps_query}
 use Rattle.jsonpath_parser.specs.tree.Syntax.{Query}

@@ -30,7 +30,7 @@ pub trait JsonPath: Queryable {
         ensures answered { IfOk result (λ v. Lists IsNodeAt MAX_NESTING_DEPTH path.now
             (document_of Self.tree Self.custom self.now) (shown Self.tree v.items)) }
 
-        // Whatever query the text derives, its nodes are answered, unless memory ran out or a
+        // Whatever query the text derives, its nodes are returned, unless memory ran out or a
         // pattern was refused.
         ensures only { (q : Query) → Derives MAX_NESTING_DEPTH path.now q → MatchResult result
             (λ v. AllZip (IsNodeAt (document_of Self.tree Self.custom self.now))
@@ -54,7 +54,7 @@ pub trait JsonPath: Queryable {
         ensures answered { IfOk result (λ v. Lists IsPathAt MAX_NESTING_DEPTH path.now
             (document_of Self.tree Self.custom self.now) (paths_of v.items)) }
 
-        // Whatever query the text derives, its nodes' paths are answered, unless memory ran out or
+        // Whatever query the text derives, its nodes' paths are returned, unless memory ran out or
         // a pattern was refused.
         ensures only { (q : Query) → Derives MAX_NESTING_DEPTH path.now q → MatchResult result
             (λ v. AllZip (IsPathAt (document_of Self.tree Self.custom self.now))
@@ -71,7 +71,7 @@ pub trait JsonPath: Queryable {
         ensures answered { IfOk result (λ v. Lists IsValueAt MAX_NESTING_DEPTH path.now
             (document_of Self.tree Self.custom self.now) (map (λ x. Self.tree x.now) v.items)) }
 
-        // Whatever query the text derives, its nodes' values are answered, unless memory ran out or
+        // Whatever query the text derives, its nodes' values are returned, unless memory ran out or
         // a pattern was refused.
         ensures only { (q : Query) → Derives MAX_NESTING_DEPTH path.now q → MatchResult result
             (λ v. AllZip (IsValueAt (document_of Self.tree Self.custom self.now))

@@ -72,7 +72,7 @@ pub fn js_path<'a, T: Queryable>(
     ensures answered { IfOk result (λ v. Lists IsNodeAt MAX_NESTING_DEPTH path.now
         (document_of T.tree T.custom value.now) (shown T.tree v.items)) }
 
-    // Whatever query the text derives, its nodes are answered, unless memory ran out or a pattern
+    // Whatever query the text derives, its nodes are returned, unless memory ran out or a pattern
     // was refused.
     ensures only { (q : Query) → Derives MAX_NESTING_DEPTH path.now q → MatchResult result
         (λ v. AllZip (IsNodeAt (document_of T.tree T.custom value.now))
@@ -106,7 +106,7 @@ pub fn js_path_within<'a, T: Queryable>(
     requires { IsTrue (T.is_whole value.now) }
     ensures answered { IfOk result (λ v. Lists IsNodeAt depth path.now (document_of T.tree T.custom value.now) (shown T.tree v.items)) }
 
-    // Whatever query the text derives, its nodes are answered, unless memory ran out or a pattern
+    // Whatever query the text derives, its nodes are returned, unless memory ran out or a pattern
     // was refused.
     ensures only { (q : Query) → Derives depth path.now q → MatchResult result
         (λ v. AllZip (IsNodeAt (document_of T.tree T.custom value.now))
@@ -144,7 +144,7 @@ pub fn js_path_limited<'a, T: Queryable>(
     ensures answered { IfOk result (λ w. IfDone w (λ v. Lists IsNodeAt MAX_NESTING_DEPTH path.now
         (document_of T.tree T.custom value.now) (shown T.tree v.items))) }
 
-    // Whatever query the text derives, its nodes are answered, unless the work, or memory, ran out
+    // Whatever query the text derives, its nodes are returned, unless the work, or memory, ran out
     // or a pattern was refused.
     ensures only { (q : Query) → Derives MAX_NESTING_DEPTH path.now q → MatchResult result
         (λ w. IfDone w (λ v. AllZip (IsNodeAt (document_of T.tree T.custom value.now))
@@ -181,7 +181,7 @@ pub fn js_path_vals<'a, T: Queryable>(
     ensures answered { IfOk result (λ v. Lists IsValueAt MAX_NESTING_DEPTH path.now
         (document_of T.tree T.custom value.now) (map (λ x. T.tree x.now) v.items)) }
 
-    // Whatever query the text derives, its nodes' values are answered, unless memory ran out or a
+    // Whatever query the text derives, its nodes' values are returned, unless memory ran out or a
     // pattern was refused.
     ensures only { (q : Query) → Derives MAX_NESTING_DEPTH path.now q → MatchResult result
         (λ v. AllZip (IsValueAt (document_of T.tree T.custom value.now))
@@ -206,7 +206,7 @@ pub fn js_path_path<T: Queryable>(alloc: Global, path: &str, value: &T) -> Queri
     ensures answered { IfOk result (λ v. Lists IsPathAt MAX_NESTING_DEPTH path.now
         (document_of T.tree T.custom value.now) (paths_of v.items)) }
 
-    // Whatever query the text derives, its nodes' paths are answered, unless memory ran out or a
+    // Whatever query the text derives, its nodes' paths are returned, unless memory ran out or a
     // pattern was refused.
     ensures only { (q : Query) → Derives MAX_NESTING_DEPTH path.now q → MatchResult result
         (λ v. AllZip (IsPathAt (document_of T.tree T.custom value.now))

@@ -9,7 +9,7 @@ use Rattle.jsonpath_parser.specs.Location.{Location}
 use Rattle.jsonpath_parser.specs.tree.Syntax as syntax
 use Rattle.jsonpath_parser.specs.tree.Syntax.{Literal, string, bool, Selector, wildcard, slice, Selectors, no_selectors, selector, Segment, one, several, descendant, Segments, no_segments, segment, Filter, or, and, atom, Filters, no_filters, filter_then, Atom, group, test, comparison, Comparison, compare, Test, relative, absolute, call, Call, custom_call, length_call, value_call, count_call, search_call, match_call, Argument, literal_argument, test_argument, filter_argument, Arguments, no_arguments, argument, Query}
 use Rattle.jsonpath_base.specs.Tree as tree
-use Rattle.jsonpath_base.specs.Tree.{Tree, truth, get, as_list}
+use Rattle.jsonpath_base.specs.Tree.{Tree, truth, as_list}
 use Rattle.jsonpath_base.specs.Places.{child}
 use Rattle.jsonpath_base.specs.Slice.{slice_of}
 use Rattle.jsonpath_base.specs.Values.{tree_of_number}

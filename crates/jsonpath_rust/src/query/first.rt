@@ -33,7 +33,7 @@ pub fn js_path_first<'a, T: Queryable>(
     ensures answered { IfOk result (λ o. LeadsTo MAX_NESTING_DEPTH path.now
         (document_of T.tree T.custom value.now) (first_shown T.tree o)) }
 
-    // Whatever query the text derives, its first node is answered, unless memory ran out or a
+    // Whatever query the text derives, its first node is returned, unless memory ran out or a
     // pattern was refused.
     ensures only { (q : Query) → Derives MAX_NESTING_DEPTH path.now q → MatchResult result
         (λ o. IsFirst q (document_of T.tree T.custom value.now) (first_shown T.tree o))

@@ -34,8 +34,8 @@ pub fn location_of(alloc: Global, query: &JpQuery) -> Queried<Option<Vec<Step>>>
 }
 
 /// The location that a query text means in every document, as [`location_of`]; of a Normalized Path
-/// with indexes below 2^53 it is the path's own. Where nothing needs to be in the document, this
-/// leads from the paths that queries return to steps.
+/// with indexes below 2^53 it is the path's own. It asks no document, so it leads from the paths
+/// that queries return to their steps.
 ///
 /// # Errors
 ///
@@ -43,7 +43,7 @@ pub fn location_of(alloc: Global, query: &JpQuery) -> Queried<Option<Vec<Step>>>
 pub fn location_by_path(alloc: Global, path: &str) -> Queried<Option<Vec<Step>>>
     ensures location { IfOk result (λ o. IsLocationByPath path.now (option_map (λ v. location_view v.items) o)) }
 
-    // Whatever query the text derives, its location is answered, unless memory ran out.
+    // Whatever query the text derives, its location is returned, unless memory ran out.
     ensures only { (q : Query) → Derives MAX_NESTING_DEPTH path.now q → MatchResult result
         (λ o. IsLocationOf q (option_map (λ v. location_view v.items) o))
         (λ e. e ≡ OutOfMemory) }

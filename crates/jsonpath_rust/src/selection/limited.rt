@@ -55,8 +55,8 @@ use std::fmt::{Debug, Formatter, Write};
 ///
 /// Names and indexes cost nothing by themselves, so a unit takes longer where the query is longer.
 /// How long it takes is measured, and no clause says it. What is spent at once is counted first, as
-/// far as what is left; so a call that returns `Spent` may have listed the members of one object,
-/// and looked at a few times as many values more as it had units.
+/// far as units are left; so a call that returns `Spent` may have listed the members of one object,
+/// and counted some times as many values as it had units.
 #[derive(Drop)]
 pub struct Limited<'p> {
     runner: Runner<'p>,

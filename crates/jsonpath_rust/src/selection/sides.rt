@@ -42,7 +42,8 @@ impl<'a: 's, 's, T: Queryable> Task<'a, 's, T> {
             (value_of (side_view (kept_of self.now) comparison.entry.2.now) (document self.now) n))) }
         ensures halts { IfErr result (IsHalt self.now.limit [] (document self.now)) }
     {
-        if !is_at_hand(comparison.1, cache) || !is_at_hand(comparison.2, cache) {
+        // Nothing is spent on a left side that is not at hand, and on one that is only where both are.
+        if !is_at_hand(comparison.2, cache) {
             return Ok(None);
         }
         let Some(left) = self.lent_side(comparison.1, at, cache, budget)? else {

@@ -26,7 +26,7 @@ impl<T: Queryable> Whole<T> {
         ensures answered { IfOk result (λ v. Lists IsNodeAt MAX_NESTING_DEPTH path.now
             (document_of T.tree T.custom self.now.value) (shown T.tree v.items)) }
 
-        // Whatever query the text derives, its nodes are answered, unless memory ran out or a
+        // Whatever query the text derives, its nodes are returned, unless memory ran out or a
         // pattern was refused.
         ensures only { (q : Query) → Derives MAX_NESTING_DEPTH path.now q → MatchResult result
             (λ v. AllZip (IsNodeAt (document_of T.tree T.custom self.now.value))
@@ -49,7 +49,7 @@ impl<T: Queryable> Whole<T> {
         ensures answered { IfOk result (λ v. Lists IsPathAt MAX_NESTING_DEPTH path.now
             (document_of T.tree T.custom self.now.value) (paths_of v.items)) }
 
-        // Whatever query the text derives, its nodes' paths are answered, unless memory ran out or
+        // Whatever query the text derives, its nodes' paths are returned, unless memory ran out or
         // a pattern was refused.
         ensures only { (q : Query) → Derives MAX_NESTING_DEPTH path.now q → MatchResult result
             (λ v. AllZip (IsPathAt (document_of T.tree T.custom self.now.value))
@@ -65,7 +65,7 @@ impl<T: Queryable> Whole<T> {
         ensures answered { IfOk result (λ v. Lists IsValueAt MAX_NESTING_DEPTH path.now
             (document_of T.tree T.custom self.now.value) (map (λ x. T.tree x.now) v.items)) }
 
-        // Whatever query the text derives, its nodes' values are answered, unless memory ran out or
+        // Whatever query the text derives, its nodes' values are returned, unless memory ran out or
         // a pattern was refused.
         ensures only { (q : Query) → Derives MAX_NESTING_DEPTH path.now q → MatchResult result
             (λ v. AllZip (IsValueAt (document_of T.tree T.custom self.now.value))
@@ -86,7 +86,7 @@ impl<'a, T: Queryable> WholeRef<'a, T> {
         ensures answered { IfOk result (λ v. Lists IsNodeAt MAX_NESTING_DEPTH path.now
             (document_of T.tree T.custom self.entry.value.now) (shown T.tree v.items)) }
 
-        // Whatever query the text derives, its nodes are answered, unless memory ran out or a
+        // Whatever query the text derives, its nodes are returned, unless memory ran out or a
         // pattern was refused.
         ensures only { (q : Query) → Derives MAX_NESTING_DEPTH path.now q → MatchResult result
             (λ v. AllZip (IsNodeAt (document_of T.tree T.custom self.entry.value.now))
@@ -109,7 +109,7 @@ impl<'a, T: Queryable> WholeRef<'a, T> {
         ensures answered { IfOk result (λ v. Lists IsPathAt MAX_NESTING_DEPTH path.now
             (document_of T.tree T.custom self.entry.value.now) (paths_of v.items)) }
 
-        // Whatever query the text derives, its nodes' paths are answered, unless memory ran out or
+        // Whatever query the text derives, its nodes' paths are returned, unless memory ran out or
         // a pattern was refused.
         ensures only { (q : Query) → Derives MAX_NESTING_DEPTH path.now q → MatchResult result
             (λ v. AllZip (IsPathAt (document_of T.tree T.custom self.entry.value.now))
@@ -125,7 +125,7 @@ impl<'a, T: Queryable> WholeRef<'a, T> {
         ensures answered { IfOk result (λ v. Lists IsValueAt MAX_NESTING_DEPTH path.now
             (document_of T.tree T.custom self.entry.value.now) (map (λ x. T.tree x.now) v.items)) }
 
-        // Whatever query the text derives, its nodes' values are answered, unless memory ran out or
+        // Whatever query the text derives, its nodes' values are returned, unless memory ran out or
         // a pattern was refused.
         ensures only { (q : Query) → Derives MAX_NESTING_DEPTH path.now q → MatchResult result
             (λ v. AllZip (IsValueAt (document_of T.tree T.custom self.entry.value.now))

@@ -4,9 +4,7 @@ use Rattle.jsonpath_parser.specs.Location.{Step, name, index, Location}
 use Rattle.jsonpath_parser.specs.tree.Syntax as syntax
 use Rattle.jsonpath_parser.specs.tree.Syntax.{Segment, one, several, descendant, relative, absolute}
 use Rattle.jsonpath_parser.specs.tree.Typing.{is_singular}
-use Rattle.jsonpath_parser.specs.tree.View.{segments_of, step_view}
-use Rattle.jsonpath_parser.specs.declared.tree.model.SingularQuerySegment.{SingularQuerySegment}
-use Rattle.jsonpath_parser.specs.declared.tree.model.SingularQuerySegment.TheVariants as step
+use Rattle.jsonpath_parser.specs.tree.View.{segments_of}
 use Rattle.jsonpath_base.specs.Places.{child}
 use Rattle.jsonpath_base.specs.Tree.{Tree, as_list}
 use Rattle.jsonpath_rust.specs.documents.Document.{Document}
@@ -16,12 +14,6 @@ use Rattle.jsonpath_rust.specs.documents.Node.{Node, root_node}
 use Rattle.jsonpath_rust.specs.documents.inner.Following.{step_to, segment_child, followed}
 use Rattle.jsonpath_rust.specs.documents.inner.Singular.{stepped, value_at}
 use Rattle.jsonpath_rust.proofs.laws.documents.Following.{nodes_of, applied_followed}
-
--- the steps of the code are names and indexes
-pub steps_singular : (ss : List SingularQuerySegment) → IsTrue (is_singular (segments_of (map step_view ss)))
-steps_singular [] = refl
-steps_singular (step.Index i ∷ ss) = steps_singular ss
-steps_singular (step.Name n ∷ ss) = steps_singular ss
 
 -- what is behind a step, and what is at a location
 abbrev behind : Step × Tree → Tree

@@ -1,5 +1,5 @@
 -- What a sink has, once it was given nodes along the way.
-use Rattle.std.proofs.Common.{◌≡◌, ℕ, ◌+◌, ◌<◌, ◌≤◌, List, [], ◌∷◌, ◌++◌, drop, take, length, map, get_or, append-nil, refl, sym, ◌∙◌, ap, arith, subst, Bool, true, false, Option, Some, None, Result, IfOk, rules}
+use Rattle.std.proofs.Common.{◌≡◌, ℕ, ◌+◌, ◌<◌, ◌≤◌, List, [], ◌∷◌, ◌++◌, drop, take, length, map, get_or, append-nil, sym, ◌∙◌, ap, arith, subst, Bool, true, false, Some, Result, rules}
 use Rattle.std.proofs.lemmas.Result.{IfOk-weaker}
 use Rattle.std.proofs.lemmas.List.{take-append-le, take-take, take-append-drop, length-map, map-append}
 use Rattle.std.specs.List.{flat_map}
@@ -13,7 +13,7 @@ use Rattle.jsonpath_base.specs.declared.step.StepRef.{StepRef}
 use Rattle.jsonpath_base.specs.declared.way.Way.{Way}
 use Rattle.jsonpath_base.proofs.LastMarks.{ends_less}
 use Rattle.jsonpath_rust.specs.documents.Node.{Node, element_nodes, member_nodes, children_at}
-use Rattle.jsonpath_rust.specs.selection.inner.Sinks.{Seen, seen, start, give, Took, Takes, IsTied, TookAlong, TakesAlong}
+use Rattle.jsonpath_rust.specs.selection.inner.Sinks.{seen, start, give, Took, Takes, IsTied, TookAlong, TakesAlong}
 use Rattle.jsonpath_rust.specs.declared.documents.queryable.Queryable.{Ghosts}
 use Rattle.jsonpath_rust.specs.declared.selection.sink.Sink.{Sink}
 use Rattle.jsonpath_rust.specs.declared.selection.sink.Sink.TheVariants as sink

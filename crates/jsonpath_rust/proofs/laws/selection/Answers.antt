@@ -16,7 +16,7 @@ use Rattle.jsonpath_rust.specs.documents.Answer.{IsNodeAt, IsPathAt, IsValueAt}
 use Rattle.jsonpath_rust.specs.selection.Only.{IsOnly, node_count}
 use Rattle.jsonpath_rust.specs.selection.Prepared.{IsFirstNode}
 use Rattle.jsonpath_rust.specs.selection.inner.Only.{only_seen, only_told}
-use Rattle.jsonpath_rust.specs.selection.inner.Sinks.{any, count, first, nothing, one, several, any_in, count_in, first_in, give, path_and_tree}
+use Rattle.jsonpath_rust.specs.selection.inner.Sinks.{any, count, first, nothing, several, any_in, count_in, first_in, give, path_and_tree}
 use Rattle.jsonpath_rust.specs.declared.selection.only.Only.{Only}
 use Rattle.jsonpath_rust.specs.declared.selection.only.Only.TheVariants.{Nothing, One, Several}
 use Rattle.jsonpath_rust.proofs.laws.documents.NodesAt.{nodes_at}

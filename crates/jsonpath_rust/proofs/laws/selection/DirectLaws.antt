@@ -4,6 +4,7 @@ use Rattle.jsonpath_parser.specs.tree.Syntax.{absolute, relative, Query}
 use Rattle.jsonpath_parser.specs.tree.Typing.{is_singular}
 use Rattle.jsonpath_parser.specs.tree.View.{step_view}
 use Rattle.jsonpath_parser.specs.declared.tree.model.SingularQuerySegment.{SingularQuerySegment}
+use Rattle.jsonpath_parser.proofs.laws.tree.Steps.{steps_singular}
 use Rattle.jsonpath_base.specs.Tree.{Tree}
 use Rattle.jsonpath_rust.specs.documents.Document.{Document}
 use Rattle.jsonpath_rust.specs.documents.Functions.{as_nodes, as_truth, as_value, count_of, count_value}
@@ -14,7 +15,7 @@ use Rattle.jsonpath_rust.specs.selection.inner.PlanViews.{Constants, IsSettled, 
 use Rattle.jsonpath_rust.specs.selection.inner.Walking.{through}
 use Rattle.jsonpath_rust.specs.declared.selection.plan.Constant.{Constant}
 use Rattle.jsonpath_rust.specs.declared.selection.plan.Constant.TheVariants as constant
-use Rattle.jsonpath_rust.proofs.laws.documents.Singular.{absolute_value, relative_value, steps_singular}
+use Rattle.jsonpath_rust.proofs.laws.documents.Singular.{absolute_value, relative_value}
 use Rattle.jsonpath_rust.proofs.laws.selection.NodelistLaws.{through-applied}
 
 -- ---- the value of the only node

@@ -3,6 +3,7 @@ use Rattle.std.proofs.Common.{◌≡◌, List, [], ◌∷◌, map, refl, sym, �
 use Rattle.jsonpath_parser.specs.tree.Syntax.{relative}
 use Rattle.jsonpath_parser.specs.tree.View.{step_view}
 use Rattle.jsonpath_parser.specs.declared.tree.model.SingularQuerySegment.{SingularQuerySegment}
+use Rattle.jsonpath_parser.proofs.laws.tree.Steps.{steps_singular}
 use Rattle.jsonpath_base.specs.Tree.{Tree}
 use Rattle.jsonpath_rust.specs.documents.Document.{Document}
 use Rattle.jsonpath_rust.specs.documents.Functions.{of_nodes, as_trees, as_truth}
@@ -13,7 +14,7 @@ use Rattle.jsonpath_rust.specs.selection.inner.PlanViews.{steps_query}
 use Rattle.jsonpath_rust.specs.selection.inner.Wanting.{wanted_of}
 use Rattle.jsonpath_rust.specs.declared.selection.sink.Wanted.{Wanted}
 use Rattle.jsonpath_rust.specs.declared.selection.sink.Wanted.TheVariants as wanted
-use Rattle.jsonpath_rust.proofs.laws.documents.Singular.{singular_trees, steps_singular}
+use Rattle.jsonpath_rust.proofs.laws.documents.Singular.{singular_trees}
 
 abbrev pub trees_of : List Node → List Tree
 trees_of ns = map (λ n. n.tree) ns

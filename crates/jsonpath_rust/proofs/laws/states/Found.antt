@@ -5,7 +5,7 @@ use Rattle.std.specs.List.{flat_map}
 use Rattle.jsonpath_parser.specs.Location.{Location, name, index}
 use Rattle.jsonpath_parser.specs.Normal.{step_text, steps_text}
 use Rattle.jsonpath_base.specs.Tree as base
-use Rattle.jsonpath_base.specs.Tree.{Tree, null, truth, number, text, list, object, Trees, no_trees, Members, no_members, elements, pairs, as_list, as_members}
+use Rattle.jsonpath_base.specs.Tree.{Tree, null, truth, number, text, list, object, Trees, no_trees, Members, no_members, elements, pairs, as_list}
 use Rattle.jsonpath_rust.specs.documents.Node.{Node, root_node, element_nodes, member_nodes, children, children_at, subtree, subtree_at, subtrees_at, member_subtrees}
 use Rattle.jsonpath_rust.specs.states.Process.{lists_same, lists_targets}
 use Rattle.jsonpath_rust.specs.states.State.{Target, refs, under, found_from, has_parts, parents_in, in_parts, target_of}
