@@ -15,10 +15,10 @@ use std::io;
 #[derive(Drop)]
 enum Outcome {
     Holds,
-    /// The line is no row on a call.
-    NoRow,
     /// This came, and not the answer that is wanted.
-    Fails(Given<Value>),
+    Came(Value),
+    /// Nothing came, and why.
+    Nothing(&'static str),
 }
 
 /// Asks each row, of the call that its name leads to, tells which do not hold and what came, and last how many hold.
@@ -56,17 +56,10 @@ fn tell(
 ) -> io::Result<()> {
     match outcome {
         Outcome::Holds => Ok(()),
-        Outcome::NoRow => println!(rt; "row {number} is no row: {line}"),
-        Outcome::Fails(Ok(answer)) => {
+        Outcome::Came(answer) => {
             println!(rt; "row {number} does not hold: {line}, but {answer}")
         }
-        Outcome::Fails(Err(refusal)) if refusal.is_memory() => {
-            println!(rt; "row {number}: out of memory")
-        }
-        Outcome::Fails(Err(refusal)) => {
-            let words = refusal.words();
-            println!(rt; "row {number} does not hold: {line}, but {words}")
-        }
+        Outcome::Nothing(why) => println!(rt; "row {number}, {why}: {line}"),
     }
 }
 
@@ -80,14 +73,14 @@ fn ask<C: Fn(Global, &str, &[Value]) -> Given<Value>>(
 {
     let row = match Value::from_str(alloc, line) {
         Ok(row) => row,
-        Err(error) if error.is_memory() => return Outcome::Fails(Err(Refusal::memory())),
-        Err(_) => return Outcome::NoRow,
+        Err(error) if error.is_memory() => return Outcome::Nothing("out of memory"),
+        Err(_) => return Outcome::Nothing("no row"),
     };
     let outcome = match parts_of(&row) {
         Ok((name, arguments, wanted)) => {
             beside(answered(alloc, call(alloc, name, arguments)), wanted)
         }
-        Err(_) => Outcome::NoRow,
+        Err(_) => Outcome::Nothing("no row"),
     };
     drop(row);
     outcome
@@ -107,9 +100,11 @@ fn parts_of(row: &Value) -> Given<(&str, &[Value], &Value)> {
 fn beside(given: Given<Value>, wanted: &Value) -> Outcome {
     if is_wanted(&given, wanted) {
         drop(given);
-        Outcome::Holds
-    } else {
-        Outcome::Fails(given)
+        return Outcome::Holds;
+    }
+    match given {
+        Ok(answer) => Outcome::Came(answer),
+        Err(refusal) => Outcome::Nothing(refusal.words()),
     }
 }
 

@@ -6,7 +6,7 @@ use crate::trees::{Form, told, tree};
 use jsonpath_build::{
     and, atom_cmp, atom_test, cmp, comparable_fn, comparable_lit, filter, jq, lit_int, or,
     segment_descendant, segment_many, segment_one, selector_filter, selector_index,
-    selector_wildcard, test_function, test_rel,
+    selector_wildcard, slice_end, test_function, test_rel,
 };
 use jsonpath_parser::model::{
     Comparison, Filter, FilterAtom, FnArg, JpQuery, Segment, Test, TestFunction, slice_from,
@@ -22,7 +22,7 @@ pub fn made(alloc: Global, name: &str) -> Given<Value> {
             let segments = vec![in alloc; Segment::name(alloc, "a")?]?;
             told(alloc, Form::Shown, Ok(JpQuery::new(segments)))
         }
-        "slice_from" => told(alloc, Form::Shown, Ok(slice_from((None, Some(2), Some(3))))),
+        "slice_from" => told(alloc, Form::Shown, Ok(slice_from(slice_end(2)))),
         "FilterAtom::filter" => {
             let negated = FilterAtom::filter(alloc, Filter::Or(Vec::new(alloc)), true);
             told(alloc, Form::Shown, negated)

@@ -41,9 +41,10 @@ impl Refusal {
         matches!(self, Refusal::Error(JsonPathError::OutOfMemory))
     }
 
-    /// What came in place of an answer, unless memory ran out.
+    /// Why no answer came.
     pub fn words(&self) -> &'static str {
         match self {
+            Refusal::Error(JsonPathError::OutOfMemory) => "out of memory",
             Refusal::Changed => "the document changed",
             _ => "there is no answer",
         }

@@ -135,8 +135,7 @@ fn asked(alloc: Global, name: &str, tree: &JpQuery, beside: &Value) -> Given<Val
 
 /// What is written of the tree of that name that no text spells: null.
 pub fn unspelled(alloc: Global, name: &str, part: &str) -> Given<Value> {
-    let tree = makers::unspelled(alloc, name, part)?;
-    written(alloc, &tree)
+    written(alloc, &makers::unspelled(alloc, name, part)?)
 }
 
 fn written(alloc: Global, tree: &JpQuery) -> Given<Value> {
