@@ -9,11 +9,8 @@ use rows_common::{Cause, Given, Refusal};
 use serde_json::Value;
 use std::alloc::Global;
 
-/// A value of whole numbers.
-pub type Lent<'v> = WholeRef<'v, Value>;
-
 /// The value, if its numbers are whole.
-pub fn whole(value: &Value) -> Given<Lent<'_>> {
+pub fn whole(value: &Value) -> Given<WholeRef<'_, Value>> {
     given(WholeRef::new(value))
 }
 

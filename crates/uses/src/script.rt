@@ -19,7 +19,7 @@ pub enum Edit {
     Replace(String, Whole<Value>),
 }
 
-/// Makes each of the edits of a document, in order, and answers None; or the index of the first that finds nothing to
+/// Makes each of the edits of a document, in order, and returns None; or the index of the first that finds nothing to
 /// remove or to replace.
 ///
 /// Only where all are made is the document another one than before: they are made of a copy, which takes its place at the
@@ -52,7 +52,7 @@ pub fn apply_edits(
     }
 }
 
-/// Makes the edits, up to the first that finds nothing, and answers its index.
+/// Makes the edits, up to the first that finds nothing, and returns its index.
 fn make_each(alloc: Global, edits: &[Edit], document: &mut Whole<Value>) -> Queried<Option<usize>>
     ensures made { IfOk result (λ o. IfNone o (AllLeave edits.now (value_tree document.old.value) (value_tree document.new.value))) }
     ensures stuck { IfOk result (λ o. IfSome o (λ i. IsReached edits.now (value_tree document.old.value) i FindsNothing)) }
@@ -66,7 +66,7 @@ fn make_each(alloc: Global, edits: &[Edit], document: &mut Whole<Value>) -> Quer
     Ok(None)
 }
 
-/// Makes one edit, and answers whether it found something.
+/// Makes one edit, and returns whether it found something.
 fn make(alloc: Global, edit: &Edit, document: &mut Whole<Value>) -> Queried<bool>
     ensures made { IfOk result (λ found. Leaves edit.now (value_tree document.old.value) found (value_tree document.new.value)) }
     ensures refused { IfErr result (IsEditRefusal edit.now (value_tree document.old.value)) }

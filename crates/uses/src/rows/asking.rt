@@ -9,47 +9,41 @@ use crate::inbox::matching;
 use crate::methods::methods_answers;
 use crate::policy::{Rule, first_violation};
 use crate::routing::route;
-use crate::rows::{Lent, whole, whole_copy};
+use crate::rows::{whole, whole_copy};
 use crate::same::is_same_query;
 use jsonpath_rust::parser::model::JpQuery;
 use jsonpath_rust::parser::{MAX_NESTING_DEPTH, parse_json_path};
 use jsonpath_rust::query::Prepared;
-use jsonpath_rust::{Condition, ReadError, Whole};
+use jsonpath_rust::{Condition, ReadError};
 use rows_common::answers::{self, list_of, listed, pair};
-use rows_common::arguments::{each, list, size, steps, text, texts};
+use rows_common::arguments::{each, exactly, list, size, steps, text, texts};
 use rows_common::{Cause, Given, Refusal};
 use serde_json::{Value, json};
 use std::alloc::Global;
 
 /// What the call of that name answers.
 pub fn answer(alloc: Global, name: &str, asked: &[Value]) -> Given<Value> {
-    match (name, asked) {
-        ("without_dear", [store]) => cleared(alloc, text(store)?),
-        ("first_violation", [rules, document]) => violation(alloc, rules, whole(document)?),
-        ("route", [table, document]) => routed(alloc, table, whole(document)?),
-        ("failures", [texts, document]) => failed(alloc, texts, whole(document)?),
-        ("difference_of", [query, document, other_query, other]) => {
-            let first = (text(query)?, whole(document)?);
-            difference(alloc, first, (text(other_query)?, whole(other)?))
-        }
-        ("is_same_query", [left, right]) => are_same(alloc, text(left)?, text(right)?),
-        ("first_again", [query, document]) => first(alloc, text(query)?, &whole_copy(document)?),
-        ("values_below", [query, document, location]) => {
-            below(alloc, text(query)?, &whole_copy(document)?, location)
-        }
-        ("matching", [query, documents]) => matched(alloc, text(query)?, documents),
-        ("admit", [query, part, functions, document]) => {
-            admitted(alloc, text(query)?, [part, functions], whole(document)?)
-        }
-        ("query_with_path", [document, query]) => found(alloc, text(query)?, whole(document)?),
-        ("counts", [bytes]) => counted(alloc, size(bytes)?),
+    match name {
+        "without_dear" => cleared(alloc, asked),
+        "first_violation" => violation(alloc, asked),
+        "route" => routed(alloc, asked),
+        "failures" => failed(alloc, asked),
+        "difference_of" => difference(alloc, asked),
+        "is_same_query" => are_same(alloc, asked),
+        "first_again" => first(alloc, asked),
+        "values_below" => below(alloc, asked),
+        "matching" => matched(alloc, asked),
+        "admit" => admitted(alloc, asked),
+        "query_with_path" => found(alloc, asked),
+        "counts" => counted(alloc, asked),
         _ => Err(Refusal::NoAnswer),
     }
 }
 
 /// How many books of a store README's first steps delete, and what is left.
-fn cleared(alloc: Global, store: &str) -> Given<Value> {
-    match without_dear(alloc, store) {
+fn cleared(alloc: Global, asked: &[Value]) -> Given<Value> {
+    let [store] = exactly::<1>(asked)?;
+    match without_dear(alloc, text(store)?) {
         Ok((left, deleted)) => pair(alloc, Value::from(deleted), left.into_inner()),
         Err(StoreError::Read(ReadError::NotJson)) => Err(Refusal::Other(Cause::NotJson)),
         Err(StoreError::Read(ReadError::NotWhole)) => Err(Refusal::Other(Cause::NotWhole)),
@@ -60,32 +54,37 @@ fn cleared(alloc: Global, store: &str) -> Given<Value> {
 }
 
 /// `{"rule": .., "path": ..}` of the first violation of a policy.
-fn violation(alloc: Global, rules: &Value, document: Lent<'_>) -> Given<Value> {
+fn violation(alloc: Global, asked: &[Value]) -> Given<Value> {
+    let [rules, document] = exactly::<2>(asked)?;
     let policy = each(alloc, list(rules)?, |rule| rule_of(alloc, rule))?;
-    match first_violation(alloc, &policy, document)? {
+    match first_violation(alloc, &policy, whole(document)?)? {
         Some(violation) => Ok(json!(in alloc; {"rule": violation.rule, "path": violation.path})?),
         None => Ok(Value::Null),
     }
 }
 
 /// The index of the first condition that holds.
-fn routed(alloc: Global, table: &Value, document: Lent<'_>) -> Given<Value> {
+fn routed(alloc: Global, asked: &[Value]) -> Given<Value> {
+    let [table, document] = exactly::<2>(asked)?;
     let conditions = each(alloc, list(table)?, |it| condition_of(alloc, text_of(it)))?;
-    Ok(Value::from(route(alloc, &conditions, document)?))
+    Ok(Value::from(route(alloc, &conditions, whole(document)?)?))
 }
 
 /// The texts of the assertions that fail, in order.
-fn failed(alloc: Global, texts: &Value, document: Lent<'_>) -> Given<Value> {
+fn failed(alloc: Global, asked: &[Value]) -> Given<Value> {
+    let [texts, document] = exactly::<2>(asked)?;
     let assertions = each(alloc, list(texts)?, |text| assertion_of(alloc, text))?;
-    let failed = failures(alloc, &assertions, document)?;
+    let failed = failures(alloc, &assertions, whole(document)?)?;
     list_of(alloc, &failed, |failed| answers::text(alloc, &failed.text))
 }
 
 /// `{"index": .., "missing": ..}` of where two queries, each of its document, differ first.
-fn difference(alloc: Global, first: (&str, Lent<'_>), second: (&str, Lent<'_>)) -> Given<Value> {
-    let query = parse_json_path(alloc, first.0)?;
-    let other_query = parse_json_path(alloc, second.0)?;
-    match difference_of(alloc, &query, first.1, &other_query, second.1)? {
+fn difference(alloc: Global, asked: &[Value]) -> Given<Value> {
+    let [query, document, other_query, other] = exactly::<4>(asked)?;
+    let (document, other) = (whole(document)?, whole(other)?);
+    let query = parse_json_path(alloc, text(query)?)?;
+    let other_query = parse_json_path(alloc, text(other_query)?)?;
+    match difference_of(alloc, &query, document, &other_query, other)? {
         Some(Difference { index, missing }) => {
             Ok(json!(in alloc; {"index": index, "missing": word_of(missing)})?)
         }
@@ -103,42 +102,46 @@ fn word_of(missing: Missing) -> &'static str {
 }
 
 /// Whether two texts spell one query.
-fn are_same(alloc: Global, left: &str, right: &str) -> Given<Value> {
-    let left = parse_json_path(alloc, left)?;
-    let right = parse_json_path(alloc, right)?;
+fn are_same(alloc: Global, asked: &[Value]) -> Given<Value> {
+    let [left, right] = exactly::<2>(asked)?;
+    let left = parse_json_path(alloc, text(left)?)?;
+    let right = parse_json_path(alloc, text(right)?)?;
     Ok(Value::from(is_same_query(&left, &right)))
 }
 
 /// The value of the first node, found again.
-fn first(alloc: Global, query: &str, document: &Whole<Value>) -> Given<Value> {
-    let query = parse_json_path(alloc, query)?;
-    match first_again(alloc, &query, document)? {
-        Some(value) => Ok(value.clone()?),
-        None => Ok(Value::Null),
-    }
+fn first(alloc: Global, asked: &[Value]) -> Given<Value> {
+    let [query, document] = exactly::<2>(asked)?;
+    let document = whole_copy(document)?;
+    let query = parse_json_path(alloc, text(query)?)?;
+    let first = first_again(alloc, &query, &document)?;
+    Ok(first.unwrap_or(&Value::Null).clone()?)
 }
 
 /// The values of a query in the part of a document at a location.
-fn below(alloc: Global, query: &str, document: &Whole<Value>, location: &Value) -> Given<Value> {
-    let steps = steps(alloc, location)?;
-    let query = parse_json_path(alloc, query)?;
-    listed(alloc, values_below(alloc, &query, document, &steps)?)
+fn below(alloc: Global, asked: &[Value]) -> Given<Value> {
+    let [query, document, location] = exactly::<3>(asked)?;
+    let (document, steps) = (whole_copy(document)?, steps(alloc, location)?);
+    let query = parse_json_path(alloc, text(query)?)?;
+    listed(alloc, values_below(alloc, &query, &document, &steps)?)
 }
 
 /// In which of the documents a query selects something.
-fn matched(alloc: Global, query: &str, documents: &Value) -> Given<Value> {
+fn matched(alloc: Global, asked: &[Value]) -> Given<Value> {
+    let [query, documents] = exactly::<2>(asked)?;
     let documents = each(alloc, list(documents)?, whole_copy)?;
-    let query = Prepared::read(alloc, query)?;
+    let query = Prepared::read(alloc, text(query)?)?;
     let told = matching(alloc, &query, &documents);
     drop(query);
     listed(alloc, told?)
 }
 
 /// The paths that a query selects, if it is admitted to the part of documents at a location, with these functions.
-fn admitted(alloc: Global, query: &str, limits: [&Value; 2], document: Lent<'_>) -> Given<Value> {
-    let [part, functions] = limits;
+fn admitted(alloc: Global, asked: &[Value]) -> Given<Value> {
+    let [query, part, functions, document] = exactly::<4>(asked)?;
     let (part, functions) = (steps(alloc, part)?, texts(alloc, functions)?);
-    match admit(alloc, query, &part, &functions)? {
+    let document = whole(document)?;
+    match admit(alloc, text(query)?, &part, &functions)? {
         Some(query) => {
             let paths = query.runner(alloc).paths(alloc, document.get());
             drop(query);
@@ -149,16 +152,18 @@ fn admitted(alloc: Global, query: &str, limits: [&Value; 2], document: Lent<'_>)
 }
 
 /// The nodes that the methods of a document find, each a list of its path and its value.
-fn found(alloc: Global, query: &str, document: Lent<'_>) -> Given<Value> {
-    let found = methods_answers(alloc, query, document.get())?;
+fn found(alloc: Global, asked: &[Value]) -> Given<Value> {
+    let [document, query] = exactly::<2>(asked)?;
+    let found = methods_answers(alloc, text(query)?, whole(document)?.get())?;
     list_of(alloc, &found.nodes, |node| {
         pair(alloc, answers::text(alloc, &node.path)?, node.val.clone()?)
     })
 }
 
 /// How much each query of the bench selects, and its text.
-fn counted(alloc: Global, bytes: usize) -> Given<Value> {
-    list_of(alloc, &all_counts(alloc, bytes)?, |count| {
+fn counted(alloc: Global, asked: &[Value]) -> Given<Value> {
+    let [bytes] = exactly::<1>(asked)?;
+    list_of(alloc, &all_counts(alloc, size(bytes)?)?, |count| {
         let query = answers::text(alloc, count.query)?;
         pair(alloc, Value::from(count.selected), query)
     })
@@ -181,8 +186,7 @@ fn assertion_of(alloc: Global, told: &Value) -> Given<Assertion> {
     Ok(Assertion { text, condition })
 }
 
-/// The rule of a condition and the query that shows where it is not met; or of a query alone, that it selects nothing. The query is read
-/// first, so what is none is refused as one.
+/// The rule of a condition and the query that shows where it is not met; of a query alone, read first, the rule that it selects nothing.
 fn rule_of(alloc: Global, told: &Value) -> Given<Rule> {
     let (condition, shown) = match told.as_array().map(|parts| parts.as_slice()) {
         Some([condition, shown]) => (String::from_str(alloc, text_of(condition))?, shown),

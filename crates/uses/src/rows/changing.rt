@@ -7,7 +7,7 @@ use crate::rows::whole_copy;
 use crate::script::{Edit, apply_edits};
 use jsonpath_rust::Whole;
 use jsonpath_rust::parser::{let_go, parse_json_path};
-use jsonpath_rust::query::{Prepared, Queried, Runner, Within, at, selected_locations};
+use jsonpath_rust::query::{Prepared, Runner, Within, at, selected_locations};
 use rows_common::answers::{optional, pair, with_left};
 use rows_common::arguments::{each, exactly, given, list, size, steps, text, text_copy};
 use rows_common::{Cause, Given, Refusal};
@@ -37,41 +37,54 @@ fn taken(alloc: Global, asked: &[Value]) -> Given<Value> {
 }
 
 fn changed(alloc: Global, name: &str, change: &[Value], left: &mut Whole<Value>) -> Given<Value> {
-    match (name, change) {
-        ("redact", [rules, mask]) => {
-            let mask = whole_copy(mask)?;
-            let queries = each(alloc, list(rules)?, |rule| query_of(alloc, rule))?;
-            Ok(Value::from(redact(alloc, &queries, left, &mask)?))
-        }
-        ("apply_edits", [edits]) => {
-            let edits = each(alloc, list(edits)?, |edit| edit_of(alloc, edit))?;
-            Ok(Value::from(apply_edits(alloc, &edits, left)?))
-        }
-        ("apply_patch", [patch]) => {
-            Ok(Value::from(apply_patch(alloc, &patch_of(alloc, patch)?, left)?))
-        }
-        ("add_one", [query]) => Ok(Value::from(add_one(alloc, text(query)?, left)?)),
-        ("put_each", [changes]) => {
-            let changes = each(alloc, list(changes)?, |change| change_of(alloc, change))?;
-            put_each(changes, left);
-            Ok(Value::Null)
-        }
-        ("Whole::add_at", [location, new]) => {
-            let mut parent = steps(alloc, location)?;
-            let step = given(parent.pop())?;
-            Ok(Value::from(left.add_at(alloc, &parent, step, whole_copy(new)?)?))
-        }
-        ("Whole::delete_within", [query, depth]) => {
-            Ok(Value::from(left.delete_within(alloc, text(query)?, size(depth)?)?))
-        }
-        _ if is_run(name) => run(alloc, name, change, left),
+    match name {
+        "redact" => redacted(alloc, change, left),
+        "apply_edits" => edited(alloc, change, left),
+        "apply_patch" => patched(alloc, change, left),
+        "add_one" => one_added(alloc, change, left),
+        "put_each" => put(alloc, change, left),
+        "Whole::add_at" => added(alloc, change, left),
+        "Whole::delete_within" => deleted(alloc, change, left),
+        _ if name.starts_with("Whole::") => run(alloc, name, change, left),
         _ => Err(Refusal::NoAnswer),
     }
 }
 
-fn is_run(name: &str) -> bool {
-    matches!(name, "Whole::delete_by_runner" | "Whole::replace_by_runner")
-        || matches!(name, "Whole::delete_limited" | "Whole::replace_limited")
+fn redacted(alloc: Global, change: &[Value], left: &mut Whole<Value>) -> Given<Value> {
+    let [rules, mask] = exactly::<2>(change)?;
+    let mask = whole_copy(mask)?;
+    let queries = each(alloc, list(rules)?, |rule| query_of(alloc, rule))?;
+    Ok(Value::from(redact(alloc, &queries, left, &mask)?))
+}
+
+fn edited(alloc: Global, change: &[Value], left: &mut Whole<Value>) -> Given<Value> {
+    let [edits] = exactly::<1>(change)?;
+    let edits = each(alloc, list(edits)?, |edit| edit_of(alloc, edit))?;
+    Ok(Value::from(apply_edits(alloc, &edits, left)?))
+}
+
+fn patched(alloc: Global, change: &[Value], left: &mut Whole<Value>) -> Given<Value> {
+    let [patch] = exactly::<1>(change)?;
+    Ok(Value::from(apply_patch(alloc, &patch_of(alloc, patch)?, left)?))
+}
+
+fn put(alloc: Global, change: &[Value], left: &mut Whole<Value>) -> Given<Value> {
+    let [changes] = exactly::<1>(change)?;
+    let changes = each(alloc, list(changes)?, |change| change_of(alloc, change))?;
+    put_each(changes, left);
+    Ok(Value::Null)
+}
+
+fn added(alloc: Global, change: &[Value], left: &mut Whole<Value>) -> Given<Value> {
+    let [location, new] = exactly::<2>(change)?;
+    let mut parent = steps(alloc, location)?;
+    let step = given(parent.pop())?;
+    Ok(Value::from(left.add_at(alloc, &parent, step, whole_copy(new)?)?))
+}
+
+fn deleted(alloc: Global, change: &[Value], left: &mut Whole<Value>) -> Given<Value> {
+    let [query, depth] = exactly::<2>(change)?;
+    Ok(Value::from(left.delete_within(alloc, text(query)?, size(depth)?)?))
 }
 
 /// What the call of that name answers, by a runner of the query, which is its first argument.
@@ -90,22 +103,21 @@ fn run_by(
     change: &[Value],
     left: &mut Whole<Value>,
 ) -> Given<Value> {
-    match (name, change) {
-        ("Whole::delete_by_runner", []) => {
-            Ok(Value::from(left.delete_by_runner(alloc, &mut runner)?))
+    match name {
+        "Whole::delete_by_runner" => Ok(Value::from(left.delete_by_runner(alloc, &mut runner)?)),
+        "Whole::replace_by_runner" => {
+            let [new] = exactly::<1>(change)?;
+            Ok(Value::from(left.replace_by_runner(alloc, &mut runner, &whole_copy(new)?)?))
         }
-        ("Whole::replace_by_runner", [new]) => {
-            let new = whole_copy(new)?;
-            Ok(Value::from(left.replace_by_runner(alloc, &mut runner, &new)?))
-        }
-        ("Whole::delete_limited", [units]) => {
+        "Whole::delete_limited" => {
+            let [units] = exactly::<1>(change)?;
             let mut limited = runner.limited(size(units)?);
             Ok(told(left.delete_limited(alloc, &mut limited)?))
         }
-        ("Whole::replace_limited", [units, new]) => {
+        "Whole::replace_limited" => {
+            let [units, new] = exactly::<2>(change)?;
             let mut limited = runner.limited(size(units)?);
-            let new = whole_copy(new)?;
-            Ok(told(left.replace_limited(alloc, &mut limited, &new)?))
+            Ok(told(left.replace_limited(alloc, &mut limited, &whole_copy(new)?)?))
         }
         _ => Err(Refusal::NoAnswer),
     }
@@ -119,13 +131,12 @@ fn told(count: Within<usize>) -> Value {
     }
 }
 
-/// Adds one to each whole number that the query selects.
-fn add_one(alloc: Global, query: &str, document: &mut Whole<Value>) -> Queried<()> {
-    let query = parse_json_path(alloc, query)?;
+/// Adds one to each whole number that the query selects: the new values are put when all of them are made, of the old ones.
+fn one_added(alloc: Global, change: &[Value], document: &mut Whole<Value>) -> Given<Value> {
+    let [query] = exactly::<1>(change)?;
+    let query = parse_json_path(alloc, text(query)?)?;
     let places = selected_locations(alloc, &query, document.get());
     let_go(query);
-
-    // The new values are made of the old ones, which are borrowed, and put when all of them stand.
     let mut changes = Vec::new(alloc);
     for place in places? {
         if let Some(value) = one_more(at(document.get(), &place)) {
@@ -133,7 +144,7 @@ fn add_one(alloc: Global, query: &str, document: &mut Whole<Value>) -> Queried<(
         }
     }
     put_each(changes, document);
-    Ok(())
+    Ok(Value::Null)
 }
 
 /// One more than a whole number, unless it is the greatest.
