@@ -44,7 +44,10 @@ fn changed(alloc: Global, name: &str, change: &[Value], left: &mut Whole<Value>)
         "add_one" => one_added(alloc, change, left),
         "put_each" => put(alloc, change, left),
         "Whole::add_at" => added(alloc, change, left),
-        "Whole::delete_within" => deleted(alloc, change, left),
+        "Whole::delete_within" => {
+            let [query, depth] = exactly::<2>(change)?;
+            Ok(Value::from(left.delete_within(alloc, text(query)?, size(depth)?)?))
+        }
         _ if name.starts_with("Whole::") => run(alloc, name, change, left),
         _ => Err(Refusal::NoAnswer),
     }
@@ -82,11 +85,6 @@ fn added(alloc: Global, change: &[Value], left: &mut Whole<Value>) -> Given<Valu
     Ok(Value::from(left.add_at(alloc, &parent, step, whole_copy(new)?)?))
 }
 
-fn deleted(alloc: Global, change: &[Value], left: &mut Whole<Value>) -> Given<Value> {
-    let [query, depth] = exactly::<2>(change)?;
-    Ok(Value::from(left.delete_within(alloc, text(query)?, size(depth)?)?))
-}
-
 /// What the call of that name answers, by a runner of the query, which is its first argument.
 fn run(alloc: Global, name: &str, asked: &[Value], left: &mut Whole<Value>) -> Given<Value> {
     let (query, change) = given(asked.split_first())?;
@@ -104,7 +102,9 @@ fn run_by(
     left: &mut Whole<Value>,
 ) -> Given<Value> {
     match name {
-        "Whole::delete_by_runner" => Ok(Value::from(left.delete_by_runner(alloc, &mut runner)?)),
+        "Whole::delete_by_runner" if change.is_empty() => {
+            Ok(Value::from(left.delete_by_runner(alloc, &mut runner)?))
+        }
         "Whole::replace_by_runner" => {
             let [new] = exactly::<1>(change)?;
             Ok(Value::from(left.replace_by_runner(alloc, &mut runner, &whole_copy(new)?)?))
