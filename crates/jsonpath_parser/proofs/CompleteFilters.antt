@@ -1,16 +1,17 @@
 -- Filters and arguments that are spelled are read, where the text after them cannot continue them.
 use Rattle.std.proofs.Common.{◌≡◌, ℕ, suc, ◌+◌, ◌-◌, ◌<◌, ◌≤◌, Bool, true, false, ◌==◌, ℤ, List, [], ◌∷◌, ◌++◌, length, drop, codes, Option, Some, refl, ap, ◌∙◌, append_assoc, length-append, arith}
 use Rattle.std.proofs.lemmas.Bool.Decides.{nat_tests}
-use Rattle.jsonpath_parser.specs.Grammar.{Between, IsNoBareTest, SpellsLogical, SpellsConjunction, SpellsMoreOr, SpellsMoreAnd, SpellsBasic, SpellsComparison, SpellsTest, SpellsArgument}
+use Rattle.jsonpath_parser.specs.Grammar.{Between, IsNoBareTest, SpellsLogical, SpellsMoreOr, SpellsMoreAnd, SpellsTest, SpellsArgument}
+use Rattle.jsonpath_parser.specs.Parts.{SpellsConjunction, SpellsBasic}
 use Rattle.jsonpath_parser.specs.words.Lexical.{is_blank}
 use Rattle.jsonpath_parser.specs.words.inner.Reading.{Read, first, skip_blank}
 use Rattle.jsonpath_parser.specs.inner.ReadingGrammar.{is_int_first, operand_behind, comparable_of, filter_of, is_operator_first, is_twice, operator_at, logical_at, operand_at, group_at, negated_at, compared_at, plain_at, basic_at, ands_at, conjunction_at, ors_at, disjunction_at}
-use Rattle.jsonpath_parser.specs.tree.Syntax.{Operator, Filter, or, and, atom, Filters, no_filters, filter_then, Atom, group, test, comparison, Comparison, compare, Test, Argument, literal_argument, test_argument, filter_argument}
+use Rattle.jsonpath_parser.specs.tree.Syntax.{Operator, Filter, or, and, Filters, no_filters, filter_then, group, test, compare, Test, Argument, literal_argument, test_argument, filter_argument}
 use Rattle.jsonpath_parser.proofs.laws.words.Fronts.{skip_over}
 use Rattle.jsonpath_parser.proofs.Turns.{many_end, many_read, operand_read}
 use Rattle.jsonpath_parser.proofs.NumberComplete.{EndsNumber}
 use Rattle.jsonpath_parser.proofs.CompleteParts.{ends_logical, ends_conjunction, ends_basic, ends_operand, EndsLogical, EndsConjunction, EndsBasic, EndsOperand, logical_ends, conjunction_ends, basic_ends, follows, front_other}
-use Rattle.jsonpath_parser.proofs.CompleteStarts.{starts_operand, operand_other, basic_other, literal_start, comparable_start, test_start, basic_start, conjunction_start, logical_start}
+use Rattle.jsonpath_parser.proofs.CompleteStarts.{starts_operand, operand_other, basic_other, literal_start, comparable_start, test_start, logical_start}
 use Rattle.jsonpath_parser.proofs.CompleteWords.{operator_over, operator_start}
 use Rattle.jsonpath_parser.proofs.CompleteSegments.{as_argument, filter_back, complete_logical}
 use Rattle.jsonpath_parser.proofs.CompleteOperands.{comparable_back, complete_literal, complete_test, complete_comparable}
@@ -77,12 +78,12 @@ module _ (Number : Option ℤ → List ℕ → Type 0) (number_first : (v : Opti
   -- ---- groups
 
   group_reads : (negated : Bool) (inner start rest behind : List ℕ) (f : Filter) → skip_blank inner ≡ start → logical_at literal_at argument_at start ≡ Some (f, rest) → skip_blank rest ≡ 41 ∷ behind
-      → group_at literal_at argument_at negated (40 ∷ inner) ≡ Some (filter_argument (atom (group negated f)), behind)
+      → group_at literal_at argument_at negated (40 ∷ inner) ≡ Some (filter_argument (group negated f), behind)
   unfolding group_at
   group_reads negated inner start rest behind f skipped read close = rw (skipped, read, close) refl
 
   complete_group : (negated : Bool) (f : Filter) (a more : List ℕ) → Between (codes "(") (SpellsLogical Number f) (codes ")") a → length (a ++ more) ≤ n
-      → group_at literal_at argument_at negated (a ++ more) ≡ Some (filter_argument (atom (group negated f)), more)
+      → group_at literal_at argument_at negated (a ++ more) ≡ Some (filter_argument (group negated f), more)
   complete_group negated f a more h fits =
       let (b, s, c, hb, hs, hc, e) = h in
       let tail : List ℕ = c ++ 41 ∷ more in
@@ -101,7 +102,7 @@ module _ (Number : Option ℤ → List ℕ → Type 0) (number_first : (v : Opti
 
   compared_reads : (text behind start rest : List ℕ) (op : Operator) (x y l r : Argument) → operator_at text ≡ Some (op, behind) → skip_blank behind ≡ start
       → operand_at literal_at argument_at start ≡ Some (y, rest)
-      → comparable_of x ≡ Some l → comparable_of y ≡ Some r → compared_at literal_at argument_at x text ≡ Some (filter_argument (atom (comparison (compare op l r))), rest)
+      → comparable_of x ≡ Some l → comparable_of y ≡ Some r → compared_at literal_at argument_at x text ≡ Some (filter_argument (compare op l r), rest)
   unfolding compared_at
   compared_reads text behind start rest op x y l r mark skipped read left right = rw (mark, skipped, read, left, right) refl
 
@@ -114,9 +115,9 @@ module _ (Number : Option ℤ → List ℕ → Type 0) (number_first : (v : Opti
   unfolding plain_at
   plain_compared text rest start x read skipped mark = rw (read, skipped, mark) refl
 
-  complete_comparison : (c : Comparison) (a more : List ℕ) → SpellsComparison Number c a → EndsOperand more → length (a ++ more) ≤ n
-      → plain_at literal_at argument_at (a ++ more) ≡ Some (filter_argument (atom (comparison c)), more)
-  complete_comparison (compare op l r) a more h stop fits =
+  complete_comparison : (op : Operator) (l r : Argument) (a more : List ℕ) → SpellsLogical Number (compare op l r) a → EndsOperand more → length (a ++ more) ≤ n
+      → plain_at literal_at argument_at (a ++ more) ≡ Some (filter_argument (compare op l r), more)
+  complete_comparison op l r a more h stop fits =
       let (x, b, o, c, d, hx, hb, ho, hc, hd, e) = h in
       let right : List ℕ = d ++ more in
       let behind : List ℕ = c ++ right in
@@ -154,9 +155,15 @@ module _ (Number : Option ℤ → List ℕ → Type 0) (number_first : (v : Opti
   negated_group text open_ = rw open_ refl
 
   negated_test : (text rest : List ℕ) (t : Test) → (first text == 40) ≡ false → operand_at literal_at argument_at text ≡ Some (test_argument t, rest)
-      → negated_at literal_at argument_at text ≡ Some (filter_argument (atom (test true t)), rest)
+      → negated_at literal_at argument_at text ≡ Some (filter_argument (test true t), rest)
   unfolding negated_at
   negated_test text rest t other read = rw (other, read) refl
+
+  -- a comparison begins as its left side does
+  comparison_start : (op : Operator) (l r : Argument) (a more : List ℕ) → SpellsLogical Number (compare op l r) a → starts_operand (first (a ++ more)) ≡ true
+  comparison_start op l r a more h =
+      let (x, b, o, c, d, hx, hb, ho, hc, hd, e) = h in
+      rw (e, comparison_pieces x b o c d more) (comparable_start Number number_first l x (b ++ (o ++ (c ++ (d ++ more)))) hx)
 
   -- a query or a call alone
   complete_alone : (t : Test) (a more : List ℕ) → SpellsTest Number t a → EndsBasic more → length (a ++ more) ≤ n → basic_at literal_at argument_at (a ++ more) ≡ Some (test_argument t, more)
@@ -164,14 +171,16 @@ module _ (Number : Option ℤ → List ℕ → Type 0) (number_first : (v : Opti
       basic_plain (a ++ more) (test_start Number number_first t a more h)
       ∙ plain_alone (a ++ more) more (test_argument t) (complete_test Number number_first literal_at number_over argument_at n oracle t a more h (basic_ends more stop) fits) (no_operator (first (skip_blank more)) stop)
 
-  pub complete_basic : (x : Atom) (a more : List ℕ) → SpellsBasic Number x a → EndsBasic more → length (a ++ more) ≤ n → basic_at literal_at argument_at (a ++ more) ≡ Some (as_argument (atom x), more)
+  pub complete_basic : (f : Filter) (a more : List ℕ) → SpellsBasic Number f a → EndsBasic more → length (a ++ more) ≤ n → basic_at literal_at argument_at (a ++ more) ≡ Some (as_argument f, more)
+  complete_basic (or fs) a more h stop fits = let none = h.0 in absurd (cc)
+  complete_basic (and fs) a more h stop fits = let none = h.0 in absurd (cc)
   complete_basic (group false f) a more h stop fits =
-      let (p, q, hp, hq, e) = h in
+      let (p, q, hp, hq, e) = h.1 in
       let text : a ++ more ≡ q ++ more = rw (e, hp) refl in
       let size : length (q ++ more) ≤ n = rw text at fits in
       rw text (basic_group (q ++ more) (group_first f q more hq) ∙ complete_group false f q more hq size)
   complete_basic (group true f) a more h stop fits =
-      let (p, q, hp, hq, e) = h in
+      let (p, q, hp, hq, e) = h.1 in
       let (b, hb, ep) = hp in
       let text : a ++ more ≡ 33 ∷ (b ++ (q ++ more)) = rw (e, ep) (ap (λ t. 33 ∷ t) (append_assoc b q more)) in
       let open_ : first (q ++ more) ≡ 40 = group_first f q more hq in
@@ -179,25 +188,20 @@ module _ (Number : Option ℤ → List ℕ → Type 0) (number_first : (v : Opti
       let size : length (q ++ more) ≤ n = omega (arith, fits, ap length text, length-append b (q ++ more)) in
       rw text (basic_not (b ++ (q ++ more)) (q ++ more) (skip_over b (q ++ more) hb other) ∙ negated_group (q ++ more) open_ ∙ complete_group true f q more hq size)
   complete_basic (test false t) a more h stop fits =
-      let (p, q, hp, hq, e) = h in
+      let (p, q, hp, hq, e) = h.1 in
       let text : a ++ more ≡ q ++ more = rw (e, hp) refl in
       let size : length (q ++ more) ≤ n = rw text at fits in
       rw text (complete_alone t q more hq stop size)
   complete_basic (test true t) a more h stop fits =
-      let (p, q, hp, hq, e) = h in
+      let (p, q, hp, hq, e) = h.1 in
       let (b, hb, ep) = hp in
       let text : a ++ more ≡ 33 ∷ (b ++ (q ++ more)) = rw (e, ep) (ap (λ t. 33 ∷ t) (append_assoc b q more)) in
       let facts = operand_other (first (q ++ more)) (test_start Number number_first t q more hq) in
       let size : length (q ++ more) ≤ n = omega (arith, fits, ap length text, length-append b (q ++ more)) in
       let read = complete_test Number number_first literal_at number_over argument_at n oracle t q more hq (basic_ends more stop) size in
       rw text (basic_not (b ++ (q ++ more)) (q ++ more) (skip_over b (q ++ more) hb facts.0) ∙ negated_test (q ++ more) more t facts.2 read)
-  complete_basic (comparison c) a more h stop fits =
-      basic_plain (a ++ more) (comparison_start c a more h) ∙ complete_comparison c a more h (basic_ends more stop) fits
-    where
-      comparison_start : (c : Comparison) (a more : List ℕ) → SpellsComparison Number c a → starts_operand (first (a ++ more)) ≡ true
-      comparison_start (compare op l r) a more h =
-          let (x, b, o, c, d, hx, hb, ho, hc, hd, e) = h in
-          rw (e, comparison_pieces x b o c d more) (comparable_start Number number_first l x (b ++ (o ++ (c ++ (d ++ more)))) hx)
+  complete_basic (compare op l r) a more h stop fits =
+      basic_plain (a ++ more) (comparison_start op l r a more h.1) ∙ complete_comparison op l r a more h.1 (basic_ends more stop) fits
 
   -- ---- `&&`
 
@@ -207,20 +211,18 @@ module _ (Number : Option ℤ → List ℕ → Type 0) (number_first : (v : Opti
   complete_ands no_filters k r more h stop fits room =
       let other : is_twice 38 (skip_blank more) ≡ false = once 38 (skip_blank more) (no_and (first (skip_blank more)) stop) in
       rw h (many_end filter_then no_filters (operand_behind (basic_at literal_at argument_at)) (λ t. is_twice 38 (skip_blank t)) k more (omega (arith, room)) other)
-  complete_ands (filter_then (or gs) fs) k r more h stop fits room = let (b, c, a, d, hb, hc, ha, hd, e) = h in absurd ha
-  complete_ands (filter_then (and gs) fs) k r more h stop fits room = let (b, c, a, d, hb, hc, ha, hd, e) = h in absurd ha
-  complete_ands (filter_then (atom y) fs) k r more h stop fits room =
+  complete_ands (filter_then f fs) k r more h stop fits room =
       let (b, c, a, d, hb, hc, ha, hd, e) = h in
       let rest : List ℕ = d ++ more in
       let start : List ℕ = a ++ rest in
       let text : r ++ more ≡ b ++ (38 ∷ 38 ∷ (c ++ start)) = rw e (twice_pieces b c a d more 38) in
       let mark : skip_blank (r ++ more) ≡ 38 ∷ 38 ∷ (c ++ start) = rw text (follows b (38 ∷ (c ++ start)) 38 hb refl) in
-      let skipped : skip_blank (c ++ start) ≡ start = skip_over c start hc (basic_other (first start) (basic_start Number number_first y a rest ha)).0 in
+      let skipped : skip_blank (c ++ start) ≡ start = skip_over c start hc (basic_other (first start) (logical_start Number number_first f a rest ha.1)).0 in
       let size : length (r ++ more) ≡ length b + (2 + (length c + (length a + length rest))) =
       omega (arith, ap length text, length-append b (38 ∷ 38 ∷ (c ++ start)), length-append c start, length-append a rest) in
       let small : length start ≤ n = omega (arith, fits, size, length-append a rest) in
-      let read = complete_basic y a rest ha (and_ends Number fs d more hd stop) small in
-      many_read filter_then no_filters (operand_behind (basic_at literal_at argument_at)) (λ t. is_twice 38 (skip_blank t)) k (r ++ more) (atom y) rest fs more (omega (arith, room)) (ap (is_twice 38) mark) (operand_read (basic_at literal_at argument_at) (r ++ more) (as_argument (atom y)) rest (atom y) (ap (λ t. basic_at literal_at argument_at (skip_blank (drop 2 t))) mark ∙ ap (basic_at literal_at argument_at) skipped ∙ read) (filter_back (atom y)))
+      let read = complete_basic f a rest ha (and_ends Number fs d more hd stop) small in
+      many_read filter_then no_filters (operand_behind (basic_at literal_at argument_at)) (λ t. is_twice 38 (skip_blank t)) k (r ++ more) f rest fs more (omega (arith, room)) (ap (is_twice 38) mark) (operand_read (basic_at literal_at argument_at) (r ++ more) (as_argument f) rest f (ap (λ t. basic_at literal_at argument_at (skip_blank (drop 2 t))) mark ∙ ap (basic_at literal_at argument_at) skipped ∙ read) (filter_back f))
       (complete_ands fs (k - 1) d more hd stop (omega (arith, fits, size)) (omega (arith, room, size)))
 
   conjunction_alone : (text rest : List ℕ) (x : Argument) → basic_at literal_at argument_at text ≡ Some (x, rest) → is_twice 38 (skip_blank rest) ≡ false → conjunction_at literal_at argument_at text ≡ Some (x, rest)
@@ -240,27 +242,31 @@ module _ (Number : Option ℤ → List ℕ → Type 0) (number_first : (v : Opti
       rw skipped refl
 
   -- a text of two or more operands
-  complete_and : (y : Atom) (g : Filter) (gs : Filters) (a x r more : List ℕ) → SpellsBasic Number y x → SpellsMoreAnd Number (filter_then g gs) r → a ≡ x ++ r → EndsConjunction more → length (a ++ more) ≤ n
-      → conjunction_at literal_at argument_at (a ++ more) ≡ Some (filter_argument (and (filter_then (atom y) (filter_then g gs))), more)
+  complete_and : (y g : Filter) (gs : Filters) (a x r more : List ℕ) → SpellsBasic Number y x → SpellsMoreAnd Number (filter_then g gs) r → a ≡ x ++ r → EndsConjunction more → length (a ++ more) ≤ n
+      → conjunction_at literal_at argument_at (a ++ more) ≡ Some (filter_argument (and (filter_then y (filter_then g gs))), more)
   complete_and y g gs a x r more hx hr e stop fits =
       let middle : List ℕ = r ++ more in
       let text : a ++ more ≡ x ++ middle = rw e (append_assoc x r more) in
       let size : length (x ++ middle) ≤ n = rw text at fits in
       let size_middle : length middle ≤ n = omega (arith, size, length-append x middle) in
       let read = complete_basic y x middle hx (and_ends Number (filter_then g gs) r more hr stop) size in
-      rw text (conjunction_more (x ++ middle) middle more (as_argument (atom y)) (atom y) (filter_then g gs) read (and_twice g gs r more hr) (filter_back (atom y))
+      rw text (conjunction_more (x ++ middle) middle more (as_argument y) y (filter_then g gs) read (and_twice g gs r more hr) (filter_back y)
       (complete_ands (filter_then g gs) (suc (length middle)) r more hr stop size_middle (omega arith)))
+
+  -- a text of one operand
+  complete_only : (f : Filter) (a more : List ℕ) → SpellsBasic Number f a → EndsConjunction more → length (a ++ more) ≤ n → conjunction_at literal_at argument_at (a ++ more) ≡ Some (as_argument f, more)
+  complete_only f a more h stop fits =
+      conjunction_alone (a ++ more) more (as_argument f) (complete_basic f a more h (conjunction_ends more stop) fits) (once 38 (skip_blank more) (no_and (first (skip_blank more)) stop))
 
   -- an operand of `||`
   pub complete_conjunction : (f : Filter) (a more : List ℕ) → SpellsConjunction Number f a → EndsConjunction more → length (a ++ more) ≤ n → conjunction_at literal_at argument_at (a ++ more) ≡ Some (as_argument f, more)
-  complete_conjunction (or fs) a more h stop fits = absurd h
-  complete_conjunction (and no_filters) a more h stop fits = absurd h.0
-  complete_conjunction (and (filter_then f no_filters)) a more h stop fits = absurd h.0
-  complete_conjunction (and (filter_then (or fs) (filter_then g gs))) a more h stop fits = let (x, r, hx, hr, e) = h.1 in absurd hx
-  complete_conjunction (and (filter_then (and fs) (filter_then g gs))) a more h stop fits = let (x, r, hx, hr, e) = h.1 in absurd hx
-  complete_conjunction (and (filter_then (atom y) (filter_then g gs))) a more h stop fits = let (x, r, hx, hr, e) = h.1 in complete_and y g gs a x r more hx hr e stop fits
-  complete_conjunction (atom y) a more h stop fits =
-      conjunction_alone (a ++ more) more (as_argument (atom y)) (complete_basic y a more h (conjunction_ends more stop) fits) (once 38 (skip_blank more) (no_and (first (skip_blank more)) stop))
+  complete_conjunction (or fs) a more h stop fits = let none = h.0 in absurd (cc)
+  complete_conjunction (and no_filters) a more h stop fits = absurd h.1.0
+  complete_conjunction (and (filter_then f no_filters)) a more h stop fits = absurd h.1.0
+  complete_conjunction (and (filter_then f (filter_then g gs))) a more h stop fits = let (x, r, hx, hr, e) = h.1.1 in complete_and f g gs a x r more hx hr e stop fits
+  complete_conjunction (group negated f) a more h stop fits = complete_only (group negated f) a more (refl, h.1) stop fits
+  complete_conjunction (test negated t) a more h stop fits = complete_only (test negated t) a more (refl, h.1) stop fits
+  complete_conjunction (compare op l r) a more h stop fits = complete_only (compare op l r) a more (refl, h.1) stop fits
 
   -- ---- `||`
 
@@ -276,7 +282,7 @@ module _ (Number : Option ℤ → List ℕ → Type 0) (number_first : (v : Opti
       let start : List ℕ = a ++ rest in
       let text : r ++ more ≡ b ++ (124 ∷ 124 ∷ (c ++ start)) = rw e (twice_pieces b c a d more 124) in
       let mark : skip_blank (r ++ more) ≡ 124 ∷ 124 ∷ (c ++ start) = rw text (follows b (124 ∷ (c ++ start)) 124 hb refl) in
-      let skipped : skip_blank (c ++ start) ≡ start = skip_over c start hc (basic_other (first start) (conjunction_start Number number_first f a rest ha)).0 in
+      let skipped : skip_blank (c ++ start) ≡ start = skip_over c start hc (basic_other (first start) (logical_start Number number_first f a rest ha.1)).0 in
       let size : length (r ++ more) ≡ length b + (2 + (length c + (length a + length rest))) =
       omega (arith, ap length text, length-append b (124 ∷ 124 ∷ (c ++ start)), length-append c start, length-append a rest) in
       let small : length start ≤ n = omega (arith, fits, size, length-append a rest) in
@@ -318,8 +324,10 @@ module _ (Number : Option ℤ → List ℕ → Type 0) (number_first : (v : Opti
       let read = complete_conjunction f x middle hx (or_ends Number (filter_then g gs) r more hr stop) size in
       rw text (disjunction_more (x ++ middle) middle more (as_argument f) f (filter_then g gs) read (or_twice g gs r more hr) (filter_back f)
       (complete_ors (filter_then g gs) (suc (length middle)) r more hr stop size_middle (omega arith)))
-  complete_disjunction (and fs) a more h stop fits = complete_lone (and fs) a more h stop fits
-  complete_disjunction (atom y) a more h stop fits = complete_lone (atom y) a more h stop fits
+  complete_disjunction (and fs) a more h stop fits = complete_lone (and fs) a more (refl, h) stop fits
+  complete_disjunction (group negated f) a more h stop fits = complete_lone (group negated f) a more (refl, h) stop fits
+  complete_disjunction (test negated t) a more h stop fits = complete_lone (test negated t) a more (refl, h) stop fits
+  complete_disjunction (compare op l r) a more h stop fits = complete_lone (compare op l r) a more (refl, h) stop fits
 
   -- ---- arguments
 
@@ -327,10 +335,10 @@ module _ (Number : Option ℤ → List ℕ → Type 0) (number_first : (v : Opti
   bare : (f : Filter) → IsNoBareTest f → as_argument f ≡ filter_argument f
   bare (or fs) h = refl
   bare (and fs) h = refl
-  bare (atom (group negated f)) h = refl
-  bare (atom (test true t)) h = refl
-  bare (atom (test false t)) h = absurd h
-  bare (atom (comparison c)) h = refl
+  bare (group negated f) h = refl
+  bare (test true t) h = refl
+  bare (test false t) h = absurd h
+  bare (compare op l r) h = refl
 
   -- what is read at once, up to what ends an argument
   complete_single : (x : Argument) (text more : List ℕ) → basic_at literal_at argument_at text ≡ Some (x, more) → EndsLogical more → disjunction_at literal_at argument_at text ≡ Some (x, more)

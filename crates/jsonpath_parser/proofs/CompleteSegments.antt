@@ -8,7 +8,7 @@ use Rattle.jsonpath_parser.specs.words.Lexical.{is_name_byte, IsBlank, is_quote}
 use Rattle.jsonpath_parser.specs.words.inner.Reading.{Read, first, skip_blank}
 use Rattle.jsonpath_parser.specs.inner.ReadingGrammar.{is_int_first, selection_of, filter_of, starts_segment, numbered_at, shorthand_at, logical_at, selector_at, selectors_at, selection_at, descendant_at, segment_at, segments_at, all_segments_at}
 use Rattle.jsonpath_parser.specs.words.inner.ReadingStrings.{string_at}
-use Rattle.jsonpath_parser.specs.tree.Syntax.{Selector, name, wildcard, index, slice, filter, Selectors, no_selectors, selector, Segment, one, several, descendant, Segments, no_segments, segment, Filter, or, and, atom, group, test, comparison, Argument, test_argument, filter_argument}
+use Rattle.jsonpath_parser.specs.tree.Syntax.{Selector, name, wildcard, index, slice, filter, Selectors, no_selectors, selector, Segment, one, several, descendant, Segments, no_segments, segment, Filter, or, and, group, test, compare, Argument, test_argument, filter_argument}
 use Rattle.jsonpath_parser.proofs.laws.words.Fronts.{skip_over}
 use Rattle.jsonpath_parser.proofs.Turns.{many_end, many_read, separated_end, separated_read}
 use Rattle.jsonpath_parser.proofs.laws.words.StringComplete.{complete_string}
@@ -29,16 +29,16 @@ selection_several (selector s (selector t ss)) h = refl
 
 -- the argument that is read where this filter stands
 abbrev pub as_argument : Filter → Argument
-as_argument (atom (test false t)) = test_argument t
+as_argument (test false t) = test_argument t
 as_argument f = filter_argument f
 
 pub filter_back : (f : Filter) → filter_of (as_argument f) ≡ Some f
 filter_back (or fs) = refl
 filter_back (and fs) = refl
-filter_back (atom (group negated f)) = refl
-filter_back (atom (test false t)) = refl
-filter_back (atom (test true t)) = refl
-filter_back (atom (comparison c)) = refl
+filter_back (group negated f) = refl
+filter_back (test false t) = refl
+filter_back (test true t) = refl
+filter_back (compare op l r) = refl
 
 -- ---- pieces
 
@@ -55,10 +55,10 @@ module _ (Number : Option ℤ → List ℕ → Type 0) where
   pub spells_argument : (f : Filter) (a : List ℕ) → SpellsLogical Number f a → SpellsArgument Number (as_argument f) a
   spells_argument (or fs) a h = (tt, h)
   spells_argument (and fs) a h = (tt, h)
-  spells_argument (atom (group negated f)) a h = (tt, h)
-  spells_argument (atom (test true t)) a h = (tt, h)
-  spells_argument (atom (comparison c)) a h = (tt, h)
-  spells_argument (atom (test false t)) a h = let (p, q, hp, hq, e) = h in let same : a ≡ q = rw (e, hp) refl in subst (λ v. SpellsTest Number t v) (sym same) hq
+  spells_argument (group negated f) a h = (tt, h)
+  spells_argument (test true t) a h = (tt, h)
+  spells_argument (compare op l r) a h = (tt, h)
+  spells_argument (test false t) a h = let (p, q, hp, hq, e) = h in let same : a ≡ q = rw (e, hp) refl in subst (λ v. SpellsTest Number t v) (sym same) hq
 
 module _ (Number : Option ℤ → List ℕ → Type 0) (number_first : (v : Option ℤ) (a more : List ℕ) → Number v a → is_int_first (first (a ++ more)) ≡ true)
     (literal_at : List ℕ → Read (Option ℤ)) (argument_at : List ℕ → Read Argument) (n : ℕ)

@@ -1,11 +1,11 @@
 -- How each part of the grammar begins.
 use Rattle.std.proofs.Common.{◌≡◌, ℕ, ◌<◌, Bool, true, false, ◌||◌, ◌==◌, ℤ, List, ◌++◌, length, codes, Option, refl, inl, inr, append_assoc, arith}
 use Rattle.std.proofs.lemmas.Bool.Decides.{nat_tests}
-use Rattle.jsonpath_parser.specs.Grammar.{SpellsNot, SpellsLiteral, SpellsSelector, SpellsSegment, SpellsSegments, SpellsLogical, SpellsConjunction, SpellsOr, SpellsAnd, SpellsBasic, SpellsTest, SpellsCall, SpellsArgument}
+use Rattle.jsonpath_parser.specs.Grammar.{SpellsNot, SpellsLiteral, SpellsSelector, SpellsSegment, SpellsSegments, SpellsLogical, SpellsOr, SpellsAnd, SpellsTest, SpellsCall, SpellsArgument}
 use Rattle.jsonpath_parser.specs.words.Lexical.{is_blank, is_name_byte, is_function_first, is_quote}
 use Rattle.jsonpath_parser.specs.words.inner.Reading.{first}
 use Rattle.jsonpath_parser.specs.inner.ReadingGrammar.{is_int_first, starts_segment}
-use Rattle.jsonpath_parser.specs.tree.Syntax.{Literal, number, string, bool, null, Selector, name, wildcard, index, slice, filter, Segment, one, several, descendant, Segments, no_segments, segment, Filter, or, and, atom, Filters, no_filters, filter_then, Atom, group, test, comparison, compare, Test, relative, absolute, call, Call, custom_call, length_call, value_call, count_call, search_call, match_call, Argument, literal_argument, test_argument, filter_argument}
+use Rattle.jsonpath_parser.specs.tree.Syntax.{Literal, number, string, bool, null, Selector, name, wildcard, index, slice, filter, Segment, one, several, descendant, Segments, no_segments, segment, Filter, or, and, Filters, no_filters, filter_then, group, test, compare, Test, relative, absolute, call, Call, custom_call, length_call, value_call, count_call, search_call, match_call, Argument, literal_argument, test_argument, filter_argument}
 use Rattle.jsonpath_parser.proofs.CompleteParts.{front_other}
 use Rattle.jsonpath_parser.proofs.CompleteSlices.{numbered_other, index_start, slice_start}
 use Rattle.jsonpath_parser.proofs.CompleteWords.{word_start, string_start}
@@ -108,41 +108,31 @@ module _ (Number : Option ℤ → List ℕ → Type 0) where
     comparable_start (test_argument t) a more h = test_start t a more h.1
     comparable_start (filter_argument f) a more h = let none = h.0 in absurd (cc)
 
-    -- an operand of `&&`
-    pub basic_start : (x : Atom) (a more : List ℕ) → SpellsBasic Number x a → starts_basic (first (a ++ more)) ≡ true
-    basic_start (group negated f) a more h =
-        let (p, q, hp, hq, e) = h in
-        let (b, x, c, hb, hx, hc, eq) = hq in
-        let behind : starts_basic (first (q ++ more)) ≡ true = rw eq refl in
-        rw (e, append_assoc p q more) (not_start negated p (q ++ more) hp behind)
-    basic_start (test negated t) a more h =
-        let (p, q, hp, hq, e) = h in
-        let behind : starts_basic (first (q ++ more)) ≡ true = operand_basic (first (q ++ more)) (test_start t q more hq) in
-        rw (e, append_assoc p q more) (not_start negated p (q ++ more) hp behind)
-    basic_start (comparison (compare op l r)) a more h =
-        let (x, b, o, c, d, hx, hb, ho, hc, hd, e) = h in
-        rw (e, append_assoc x (b ++ (o ++ (c ++ d))) more) (operand_basic (first (x ++ ((b ++ (o ++ (c ++ d))) ++ more))) (comparable_start l x ((b ++ (o ++ (c ++ d))) ++ more) hx))
+    mutual
+      -- a logical expression; all its operands are such
+      pub logical_start : (f : Filter) (a more : List ℕ) → SpellsLogical Number f a → starts_basic (first (a ++ more)) ≡ true
+      logical_start (or fs) a more h = or_start fs a more h.1
+      logical_start (and fs) a more h = and_start fs a more h.1
+      logical_start (group negated f) a more h =
+          let (p, q, hp, hq, e) = h in
+          let (b, x, c, hb, hx, hc, eq) = hq in
+          let behind : starts_basic (first (q ++ more)) ≡ true = rw eq refl in
+          rw (e, append_assoc p q more) (not_start negated p (q ++ more) hp behind)
+      logical_start (test negated t) a more h =
+          let (p, q, hp, hq, e) = h in
+          let behind : starts_basic (first (q ++ more)) ≡ true = operand_basic (first (q ++ more)) (test_start t q more hq) in
+          rw (e, append_assoc p q more) (not_start negated p (q ++ more) hp behind)
+      logical_start (compare op l r) a more h =
+          let (x, b, o, c, d, hx, hb, ho, hc, hd, e) = h in
+          rw (e, append_assoc x (b ++ (o ++ (c ++ d))) more) (operand_basic (first (x ++ ((b ++ (o ++ (c ++ d))) ++ more))) (comparable_start l x ((b ++ (o ++ (c ++ d))) ++ more) hx))
 
-    and_start : (fs : Filters) (a more : List ℕ) → SpellsAnd Number fs a → starts_basic (first (a ++ more)) ≡ true
-    and_start no_filters a more h = absurd h
-    and_start (filter_then (or gs) fs) a more h = let (x, d, hx, hd, e) = h in absurd hx
-    and_start (filter_then (and gs) fs) a more h = let (x, d, hx, hd, e) = h in absurd hx
-    and_start (filter_then (atom y) fs) a more h = let (x, d, hx, hd, e) = h in rw (e, append_assoc x d more) (basic_start y x (d ++ more) hx)
+      and_start : (fs : Filters) (a more : List ℕ) → SpellsAnd Number fs a → starts_basic (first (a ++ more)) ≡ true
+      and_start no_filters a more h = absurd h
+      and_start (filter_then f fs) a more h = let (x, d, hx, hd, e) = h in rw (e, append_assoc x d more) (logical_start f x (d ++ more) hx.1)
 
-    -- an operand of `||`
-    pub conjunction_start : (f : Filter) (a more : List ℕ) → SpellsConjunction Number f a → starts_basic (first (a ++ more)) ≡ true
-    conjunction_start (or fs) a more h = absurd h
-    conjunction_start (and fs) a more h = and_start fs a more h.1
-    conjunction_start (atom x) a more h = basic_start x a more h
-
-    or_start : (fs : Filters) (a more : List ℕ) → SpellsOr Number fs a → starts_basic (first (a ++ more)) ≡ true
-    or_start no_filters a more h = absurd h
-    or_start (filter_then f fs) a more h = let (x, d, hx, hd, e) = h in rw (e, append_assoc x d more) (conjunction_start f x (d ++ more) hx)
-
-    pub logical_start : (f : Filter) (a more : List ℕ) → SpellsLogical Number f a → starts_basic (first (a ++ more)) ≡ true
-    logical_start (or fs) a more h = or_start fs a more h.1
-    logical_start (and fs) a more h = and_start fs a more h.1
-    logical_start (atom x) a more h = basic_start x a more h
+      or_start : (fs : Filters) (a more : List ℕ) → SpellsOr Number fs a → starts_basic (first (a ++ more)) ≡ true
+      or_start no_filters a more h = absurd h
+      or_start (filter_then f fs) a more h = let (x, d, hx, hd, e) = h in rw (e, append_assoc x d more) (logical_start f x (d ++ more) hx.1)
 
     pub argument_start : (x : Argument) (a more : List ℕ) → SpellsArgument Number x a → starts_basic (first (a ++ more)) ≡ true
     argument_start (literal_argument l) a more h = operand_basic (first (a ++ more)) (literal_start l a more h)

@@ -1,14 +1,14 @@
 -- Each kind of tree is read as it is spelled.
 use Rattle.std.proofs.Common.{◌≡◌, ℕ, suc, ◌<◌, ◌≤◌, ◌==◌, Bool, true, false, ℤ, List, [], ◌∷◌, ◌++◌, length, codes, Option, Some, le_refl, refl, sym, ap, ◌∙◌, subst, inl, inr, append-nil, arith, IsTrue}
 use Rattle.std.proofs.lemmas.Option.{cond_some}
-use Rattle.jsonpath_parser.specs.Grammar.{Spells, SpellsArgument, SpellsSegments, SpellsSegment, SpellsSelector, SpellsSelectors, SpellsLogical, SpellsConjunction, SpellsOperand, SpellsBasic, SpellsComparison, SpellsLiteral, SpellsTest, SpellsCall, SpellsShorthand, Between}
+use Rattle.jsonpath_parser.specs.Grammar.{Spells, SpellsArgument, SpellsSegments, SpellsSegment, SpellsSelector, SpellsSelectors, SpellsLogical, SpellsLiteral, SpellsTest, SpellsCall, SpellsShorthand, Between, is_basic}
 use Rattle.jsonpath_parser.specs.words.Numbers.{SpellsNumber}
-use Rattle.jsonpath_parser.specs.Parts.{Spelling, SpellsRelative, SpellsChild, SpellsSliceParts, SpellsSteps, SpellsSingular, always, SpellsComparable}
+use Rattle.jsonpath_parser.specs.Parts.{Spelling, SpellsRelative, SpellsChild, SpellsSliceParts, SpellsSteps, SpellsSingular, SpellsConjunction, SpellsBasic, SpellsComparison, is_comparison, always, SpellsComparable}
 use Rattle.jsonpath_parser.specs.words.inner.Reading.{Read, first, skip_blank}
 use Rattle.jsonpath_parser.specs.inner.ReadingGrammar.{number_reading, is_int_first, filter_of, comparable_of, steps_of, numbered_at, shorthand_at, selection_at, descendant_at, argument_at, IsAny, steps_in}
-use Rattle.jsonpath_parser.specs.inner.ReadingParts.{taken_at, inner_at, operand_in, basic_in, conjunction_in, logical_in, segments_in, segment_in, selector_in, child_in, literal_in, test_in, call_in, relative_in, query_in, singular_of, singular_in, atom_of, atom_in, comparison_of_atom, comparison_in, slice_in}
-use Rattle.jsonpath_parser.specs.tree.Syntax.{Literal, Selector, name, wildcard, index, slice, filter, Segment, one, several, descendant, Segments, Filter, or, and, atom, Atom, group, test, comparison, Comparison, Test, relative, absolute, call, Call, Argument, literal_argument, test_argument, filter_argument, Query}
-use Rattle.jsonpath_parser.specs.tree.Typing.{is_typed, is_typed_segment, is_typed_selector, is_typed_filter, is_typed_atom, is_typed_comparison, is_typed_truth, is_typed_call, is_singular_test, is_typed_side}
+use Rattle.jsonpath_parser.specs.inner.ReadingParts.{taken_at, inner_at, operand_in, basic_in, conjunction_in, logical_in, segments_in, segment_in, selector_in, child_in, literal_in, test_in, call_in, relative_in, query_in, singular_of, singular_in, where_it_is, atom_in, comparison_in, slice_in}
+use Rattle.jsonpath_parser.specs.tree.Syntax.{Literal, Selector, name, wildcard, index, slice, filter, Segment, one, several, descendant, Segments, Filter, or, and, group, test, Test, relative, absolute, call, Call, Argument, literal_argument, test_argument, filter_argument, Query}
+use Rattle.jsonpath_parser.specs.tree.Typing.{is_typed, is_typed_segment, is_typed_selector, is_typed_filter, is_typed_truth, is_typed_call, is_singular_test, is_typed_side}
 use Rattle.jsonpath_parser.specs.declared.grammar.literals.Numbers.{Numbers}
 use Rattle.jsonpath_parser.specs.declared.grammar.literals.Numbers.TheVariants.{Valued, Any}
 use Rattle.jsonpath_parser.specs.Unambiguous.{IsUnambiguous}
@@ -194,39 +194,42 @@ singular_law = taken_law SpellsAlone SpellsSingular singular_in always operand_i
 basic_front : (numbers : Numbers) (x : Argument) (text rest : List ℕ) → basic_in numbers text ≡ Some (x, rest) → Spelled (SpellsBasicArgument (as_read numbers)) x text rest
 basic_front numbers x text rest e = sound_basic (as_read numbers) (number_reading numbers) (as_sound numbers) (inner_at numbers text) (inner_sound numbers (length text)) x text rest e
 
-basic_back : (numbers : Numbers) (x : Atom) (text : List ℕ) → SpellsBasic (as_read numbers) x text → basic_in numbers text ≡ Some (as_argument (atom x), [])
+basic_back : (numbers : Numbers) (x : Filter) (text : List ℕ) → SpellsBasic (as_read numbers) x text → basic_in numbers text ≡ Some (as_argument x, [])
 unfolding skip_blank
 basic_back numbers x text h =
     rw append-nil at (complete_basic (as_read numbers) (as_start numbers) (number_reading numbers) (as_over numbers) (inner_at numbers text) (length text) (inner_read numbers (length text)) x text [] h refl (all_of text))
 
-atom_side : (numbers : Numbers) (f : Filter) (x : Atom) (a : List ℕ) → SpellsOperand (as_read numbers) f a → atom_of f ≡ Some x → SpellsBasic (as_read numbers) x a
-atom_side numbers (or fs) x a h e = absurd h
-atom_side numbers (and fs) x a h e = absurd h
-atom_side numbers (atom y) x a h e = same_tree SpellsBasic numbers y x a h e
+-- a filter that passes a test
+passes : (keeps : Filter → Bool) (f x : Filter) → where_it_is keeps f ≡ Some x → (keeps f ≡ true) × (f ≡ x)
+passes keeps f x e = cond_some (keeps f) f x e
 
-atom_is : (numbers : Numbers) (x : Argument) (y : Atom) (a : List ℕ) → SpellsBasicArgument (as_read numbers) x a → atom_in x ≡ Some y → SpellsBasic (as_read numbers) y a
+atom_is : (numbers : Numbers) (x : Argument) (y : Filter) (a : List ℕ) → SpellsBasicArgument (as_read numbers) x a → atom_in x ≡ Some y → SpellsBasic (as_read numbers) y a
 atom_is numbers x y a h e =
     let (f, is, e1) = bind_ok _ (filter_of x) _ e in
-    atom_side numbers f y a (basic_operand (as_read numbers) x f a h is) e1
+    subst (λ v. SpellsBasic (as_read numbers) v a) (passes is_basic f y e1).1 (basic_operand (as_read numbers) x f a h is)
 
-atom_made : (x : Atom) → atom_in (as_argument (atom x)) ≡ Some x
-atom_made x = rw (filter_back (atom x)) refl
+atom_made : (x : Filter) → IsTrue (is_basic x) → atom_in (as_argument x) ≡ Some x
+atom_made x h = rw (filter_back x, h) refl
 
-pub atom_law : Law SpellsBasic is_typed_atom (λ numbers text. taken_at atom_in is_typed_atom (basic_in numbers text))
-atom_law = taken_law SpellsBasicArgument SpellsBasic atom_in is_typed_atom basic_in basic_front atom_is (λ numbers x text h. (as_argument (atom x), basic_back numbers x text h, atom_made x)) (basic_wider IsValued SpellsNumber as_written) basic_unambiguous (λ N M again v a h. let (w, k, alike) = basic_again N M again v a h in (w, k, alike.0))
+pub atom_law : Law SpellsBasic is_typed_filter (λ numbers text. taken_at atom_in is_typed_filter (basic_in numbers text))
+atom_law = taken_law SpellsBasicArgument SpellsBasic atom_in is_typed_filter basic_in basic_front atom_is (λ numbers x text h. (as_argument x, basic_back numbers x text h, atom_made x h.0)) (basic_wider IsValued SpellsNumber as_written) basic_unambiguous (λ N M again v a h. let (w, k, alike) = basic_again N M again v a h in (w, k, alike.0))
 
-comparison_side : (numbers : Numbers) (x : Atom) (c : Comparison) (a : List ℕ) → SpellsBasic (as_read numbers) x a → comparison_of_atom x ≡ Some c → SpellsComparison (as_read numbers) c a
-comparison_side numbers (group negated f) c a h e = absurd (cc)
-comparison_side numbers (test negated t) c a h e = absurd (cc)
-comparison_side numbers (comparison d) c a h e = same_tree SpellsComparison numbers d c a h e
-
-comparison_is : (numbers : Numbers) (x : Argument) (c : Comparison) (a : List ℕ) → SpellsBasicArgument (as_read numbers) x a → comparison_in x ≡ Some c → SpellsComparison (as_read numbers) c a
+comparison_is : (numbers : Numbers) (x : Argument) (c : Filter) (a : List ℕ) → SpellsBasicArgument (as_read numbers) x a → comparison_in x ≡ Some c → SpellsComparison (as_read numbers) c a
 comparison_is numbers x c a h e =
     let (y, is, e1) = bind_ok _ (atom_in x) _ e in
-    comparison_side numbers y c a (atom_is numbers x y a h is) e1
+    let (holds, same) = passes is_comparison y c e1 in
+    subst (λ v. SpellsComparison (as_read numbers) v a) same (holds, (atom_is numbers x y a h is).1)
 
-pub comparison_law : Law SpellsComparison is_typed_comparison (λ numbers text. taken_at comparison_in is_typed_comparison (basic_in numbers text))
-comparison_law = taken_law SpellsBasicArgument SpellsComparison comparison_in is_typed_comparison basic_in basic_front comparison_is (λ numbers c text h. (as_argument (atom (comparison c)), basic_back numbers (comparison c) text h, refl)) (comparison_wider IsValued SpellsNumber as_written) comparison_unambiguous comparison_again
+comparison_is_basic : (f : Filter) → IsTrue (is_comparison f) → IsTrue (is_basic f)
+comparison_is_basic (or fs) h = h
+comparison_is_basic (and fs) h = h
+comparison_is_basic f h = refl
+
+comparison_made : (c : Filter) → IsTrue (is_comparison c) → comparison_in (as_argument c) ≡ Some c
+comparison_made c h = rw (filter_back c, comparison_is_basic c h, h) refl
+
+pub comparison_law : Law SpellsComparison is_typed_filter (λ numbers text. taken_at comparison_in is_typed_filter (basic_in numbers text))
+comparison_law = taken_law SpellsBasicArgument SpellsComparison comparison_in is_typed_filter basic_in basic_front comparison_is (λ numbers c text h. (as_argument c, basic_back numbers c text (comparison_is_basic c h.0, h.1), comparison_made c h.0)) (comparison_wider IsValued SpellsNumber as_written) comparison_unambiguous (λ N M again v a h. let (w, k, alike) = comparison_again N M again v a h in (w, k, alike.0))
 
 conjunction_front : (numbers : Numbers) (x : Argument) (text rest : List ℕ) → conjunction_in numbers text ≡ Some (x, rest) → Spelled (SpellsConjunctionArgument (as_read numbers)) x text rest
 conjunction_front numbers x text rest e = sound_conjunction (as_read numbers) (number_reading numbers) (as_sound numbers) (inner_at numbers text) (inner_sound numbers (length text)) x text rest e

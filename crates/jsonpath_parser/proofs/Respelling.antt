@@ -2,10 +2,10 @@
 use Rattle.std.proofs.Common.{◌∙◌, ◌≡◌, refl, ap, inl, inr, ℕ, ℤ, pos, Bool, true, false, not, ◌&&◌, Option, Some, unwrap_or, List, ◌++◌, codes}
 use Rattle.jsonpath_parser.specs.inner.ReadingGrammar.{IsAny}
 use Rattle.jsonpath_parser.specs.words.Numbers.{SpellsNumber}
-use Rattle.jsonpath_parser.specs.Grammar.{Between, Behind, Then, IsSeveral, IsPlural, IsNoBareTest, SpellsLiteral, SpellsSelector, SpellsSelectors, SpellsMoreSelectors, SpellsSegment, SpellsSegments, SpellsLogical, SpellsConjunction, SpellsOperand, SpellsOr, SpellsMoreOr, SpellsAnd, SpellsMoreAnd, SpellsBasic, SpellsComparison, SpellsTest, SpellsCall, SpellsArgument, SpellsArguments, SpellsMoreArguments, Spells}
-use Rattle.jsonpath_parser.specs.tree.Syntax.{Literal, number, string, bool, null, Selector, name, wildcard, index, slice, filter, Selectors, no_selectors, selector, Segment, one, several, descendant, Segments, no_segments, segment, Filter, or, and, atom, Filters, no_filters, filter_then, Atom, group, test, comparison, Comparison, compare, Test, relative, absolute, call, Call, custom_call, length_call, value_call, count_call, search_call, match_call, Argument, literal_argument, test_argument, filter_argument, Arguments, no_arguments, argument, Query}
-use Rattle.jsonpath_parser.specs.tree.Typing.{gives_value, is_step, is_singular, is_value_test, is_query_test, is_truth_test, is_value_argument, is_query_argument, is_typed, is_typed_segment, is_typed_selector, are_typed_selectors, is_typed_filter, are_typed_filters, is_typed_atom, is_typed_comparison, is_typed_test, is_typed_call, is_typed_argument, are_typed_arguments, is_comparable, is_singular_test, is_typed_side}
-use Rattle.jsonpath_parser.specs.Parts.{SpellsComparable}
+use Rattle.jsonpath_parser.specs.Grammar.{Between, Behind, Then, is_conjunction, is_basic, IsSeveral, IsPlural, IsNoBareTest, SpellsLiteral, SpellsSelector, SpellsSelectors, SpellsMoreSelectors, SpellsSegment, SpellsSegments, SpellsLogical, SpellsOr, SpellsMoreOr, SpellsAnd, SpellsMoreAnd, SpellsTest, SpellsCall, SpellsArgument, SpellsArguments, SpellsMoreArguments, Spells}
+use Rattle.jsonpath_parser.specs.tree.Syntax.{Literal, number, string, bool, null, Selector, name, wildcard, index, slice, filter, Selectors, no_selectors, selector, Segment, one, several, descendant, Segments, no_segments, segment, Filter, or, and, Filters, no_filters, filter_then, group, test, compare, Test, relative, absolute, call, Call, custom_call, length_call, value_call, count_call, search_call, match_call, Argument, literal_argument, test_argument, filter_argument, Arguments, no_arguments, argument, Query}
+use Rattle.jsonpath_parser.specs.tree.Typing.{gives_value, is_step, is_singular, is_value_test, is_query_test, is_truth_test, is_value_argument, is_query_argument, is_typed, is_typed_segment, is_typed_selector, are_typed_selectors, is_typed_filter, are_typed_filters, is_typed_test, is_typed_call, is_typed_argument, are_typed_arguments, is_comparable, is_singular_test, is_typed_side}
+use Rattle.jsonpath_parser.specs.Parts.{SpellsConjunction, SpellsBasic, is_comparison, SpellsComparison, SpellsComparable}
 
 -- a number literal as it is written, whatever stands for it
 pub from_any : (v : Option ℤ) (a : List ℕ) → IsAny v a → (w : Option ℤ) × SpellsNumber w a
@@ -30,6 +30,11 @@ behind_again : {V W : Type 0} (S U : List ℕ → Type 0) (T : V → List ℕ �
 behind_again S U T X F G first others mark text h =
     let (b, c, a, d, hb, hc, ha, hd, e) = h in let (v, hv, f) = first a ha in let (w, hw, g) = others d hd in (v, w, (b, c, a, d, hb, hc, hv, hw, e), f, g)
 
+-- a filter that passes a test gives way to one that passes it
+kept_again : (keeps : Filter → Bool) (f : Filter) (S : List ℕ → Type 0) (T : Filter → List ℕ → Type 0) (F : Filter → Type 0) → ((a : List ℕ) → S a → (g : Filter) × T g a × F g) → ((g : Filter) → F g → keeps g ≡ keeps f)
+    → (a : List ℕ) → (keeps f ≡ true) × S a → (g : Filter) × ((keeps g ≡ true) × T g a) × F g
+kept_again keeps f S T F again alike a h = let (g, k, is) = again a h.1 in (g, (alike g is ∙ h.0, k), is)
+
 -- ---- what two trees have in common, whatever their number literals are
 
 abbrev pub AlikeSelector : Selector → Selector → Type 0
@@ -48,16 +53,13 @@ abbrev pub AlikeSegments : Segments → Segments → Type 0
 AlikeSegments gs hs = (is_typed hs ≡ is_typed gs) × (is_singular hs ≡ is_singular gs)
 
 abbrev pub AlikeFilter : Filter → Filter → Type 0
-AlikeFilter f g = (is_typed_filter g ≡ is_typed_filter f) × (IsNoBareTest f → IsNoBareTest g)
+AlikeFilter f g = (is_typed_filter g ≡ is_typed_filter f) × (IsNoBareTest f → IsNoBareTest g) × (is_conjunction g ≡ is_conjunction f) × (is_basic g ≡ is_basic f) × (is_comparison g ≡ is_comparison f)
 
 abbrev pub AlikeFilters : Filters → Filters → Type 0
 AlikeFilters fs gs = (are_typed_filters gs ≡ are_typed_filters fs) × (IsPlural fs → IsPlural gs)
 
 abbrev pub AlikeMoreFilters : Filters → Filters → Type 0
 AlikeMoreFilters fs gs = (are_typed_filters gs ≡ are_typed_filters fs) × ((f g : Filter) → IsPlural (filter_then f fs) → IsPlural (filter_then g gs))
-
-abbrev pub AlikeAtom : Atom → Atom → Type 0
-AlikeAtom x y = (is_typed_atom y ≡ is_typed_atom x) × (IsNoBareTest (atom x) → IsNoBareTest (atom y))
 
 abbrev pub AlikeTest : Test → Test → Type 0
 AlikeTest t u = (is_typed_test u ≡ is_typed_test t) × (is_truth_test u ≡ is_truth_test t) × (is_value_test u ≡ is_value_test t) × (is_query_test u ≡ is_query_test t) × (is_comparable (test_argument u) ≡ is_comparable (test_argument t)) × (is_singular_test u ≡ is_singular_test t)
@@ -132,63 +134,47 @@ module _ (N M : Option ℤ → List ℕ → Type 0) (again : (v : Option ℤ) (a
         (segment first others, (b, x, c, hb, k, ks, e), (and_alike alike.0 all_alike.0, and_alike alike.1 all_alike.1))
 
     pub logical_again : (f : Filter) (a : List ℕ) → SpellsLogical N f a → (g : Filter) × SpellsLogical M g a × AlikeFilter f g
-    logical_again (or fs) a h = let (gs, k, alike) = or_again fs a h.1 in (or gs, (alike.1 h.0, k), (alike.0, λ n. n))
-    logical_again (and fs) a h = let (gs, k, alike) = and_again fs a h.1 in (and gs, (alike.1 h.0, k), (alike.0, λ n. n))
-    logical_again (atom x) a h = let (y, k, alike) = basic_again x a h in (atom y, k, (alike.0, alike.1))
-
-    pub conjunction_again : (f : Filter) (a : List ℕ) → SpellsConjunction N f a → (g : Filter) × SpellsConjunction M g a × AlikeFilter f g
-    conjunction_again (or fs) a h = absurd h
-    conjunction_again (and fs) a h = let (gs, k, alike) = and_again fs a h.1 in (and gs, (alike.1 h.0, k), (alike.0, λ n. n))
-    conjunction_again (atom x) a h = let (y, k, alike) = basic_again x a h in (atom y, k, (alike.0, alike.1))
-
-    operand_again : (f : Filter) (a : List ℕ) → SpellsOperand N f a → (g : Filter) × SpellsOperand M g a × AlikeFilter f g
-    operand_again (or fs) a h = absurd h
-    operand_again (and fs) a h = absurd h
-    operand_again (atom x) a h = let (y, k, alike) = basic_again x a h in (atom y, k, (alike.0, alike.1))
+    logical_again (or fs) a h = let (gs, k, alike) = or_again fs a h.1 in (or gs, (alike.1 h.0, k), (alike.0, λ n. n, refl, refl, refl))
+    logical_again (and fs) a h = let (gs, k, alike) = and_again fs a h.1 in (and gs, (alike.1 h.0, k), (alike.0, λ n. n, refl, refl, refl))
+    logical_again (group negated f) a h =
+        let (b, c, hb, hc, e) = h in
+        let (g, k, alike) = between_again (SpellsLogical N f) (SpellsLogical M) (AlikeFilter f) (logical_again f) (codes "(") (codes ")") c hc in
+        (group negated g, (b, c, hb, k, e), (alike.0, λ n. n, refl, refl, refl))
+    logical_again (test true t) a h =
+        let (b, c, hb, hc, e) = h in let (u, k, alike) = test_again t c hc in
+        (test true u, (b, c, hb, k, e), (and_alike alike.1 alike.0, λ n. n, refl, refl, refl))
+    logical_again (test false t) a h =
+        let (b, c, hb, hc, e) = h in let (u, k, alike) = test_again t c hc in
+        (test false u, (b, c, hb, k, e), (and_alike alike.1 alike.0, λ n. n, refl, refl, refl))
+    logical_again (compare op l r) a h =
+        let (x, b, o, c, y, hx, hb, ho, hc, hy, e) = h in
+        let (left, kl, al) = argument_again l x hx.1 in
+        let (right, kr, ar) = argument_again r y hy.1 in
+        (compare op left right, (x, b, o, c, y, (al.3 ∙ hx.0, kl), hb, ho, hc, (ar.3 ∙ hy.0, kr), e), (and_alike (and_alike al.1 al.0) (and_alike ar.1 ar.0), λ n. n, refl, refl, refl))
 
     or_again : (fs : Filters) (a : List ℕ) → SpellsOr N fs a → (gs : Filters) × SpellsOr M gs a × AlikeFilters fs gs
     or_again no_filters a h = absurd h
     or_again (filter_then f fs) a h =
-        let (g, gs, k, first, others) = then_again (SpellsConjunction N f) (SpellsMoreOr N fs) (SpellsConjunction M) (SpellsMoreOr M) (AlikeFilter f) (AlikeMoreFilters fs) (conjunction_again f) (more_or_again fs) a h in
+        let (g, gs, k, first, others) = then_again (SpellsConjunction N f) (SpellsMoreOr N fs) (SpellsConjunction M) (SpellsMoreOr M) (AlikeFilter f) (AlikeMoreFilters fs) (kept_again is_conjunction f (SpellsLogical N f) (SpellsLogical M) (AlikeFilter f) (logical_again f) (λ g alike. alike.2)) (more_or_again fs) a h in
         (filter_then g gs, k, (and_alike first.0 others.0, others.1 f g))
 
     more_or_again : (fs : Filters) (a : List ℕ) → SpellsMoreOr N fs a → (gs : Filters) × SpellsMoreOr M gs a × AlikeMoreFilters fs gs
     more_or_again no_filters a h = (no_filters, h, (refl, λ f g k. k))
     more_or_again (filter_then f fs) a h =
-        let (g, gs, k, first, others) = behind_again (SpellsConjunction N f) (SpellsMoreOr N fs) (SpellsConjunction M) (SpellsMoreOr M) (AlikeFilter f) (AlikeMoreFilters fs) (conjunction_again f) (more_or_again fs) (codes "||") a h in
+        let (g, gs, k, first, others) = behind_again (SpellsConjunction N f) (SpellsMoreOr N fs) (SpellsConjunction M) (SpellsMoreOr M) (AlikeFilter f) (AlikeMoreFilters fs) (kept_again is_conjunction f (SpellsLogical N f) (SpellsLogical M) (AlikeFilter f) (logical_again f) (λ g alike. alike.2)) (more_or_again fs) (codes "||") a h in
         (filter_then g gs, k, (and_alike first.0 others.0, λ x y n. n))
 
     and_again : (fs : Filters) (a : List ℕ) → SpellsAnd N fs a → (gs : Filters) × SpellsAnd M gs a × AlikeFilters fs gs
     and_again no_filters a h = absurd h
     and_again (filter_then f fs) a h =
-        let (g, gs, k, first, others) = then_again (SpellsOperand N f) (SpellsMoreAnd N fs) (SpellsOperand M) (SpellsMoreAnd M) (AlikeFilter f) (AlikeMoreFilters fs) (operand_again f) (more_and_again fs) a h in
+        let (g, gs, k, first, others) = then_again (SpellsBasic N f) (SpellsMoreAnd N fs) (SpellsBasic M) (SpellsMoreAnd M) (AlikeFilter f) (AlikeMoreFilters fs) (kept_again is_basic f (SpellsLogical N f) (SpellsLogical M) (AlikeFilter f) (logical_again f) (λ g alike. alike.3)) (more_and_again fs) a h in
         (filter_then g gs, k, (and_alike first.0 others.0, others.1 f g))
 
     more_and_again : (fs : Filters) (a : List ℕ) → SpellsMoreAnd N fs a → (gs : Filters) × SpellsMoreAnd M gs a × AlikeMoreFilters fs gs
     more_and_again no_filters a h = (no_filters, h, (refl, λ f g k. k))
     more_and_again (filter_then f fs) a h =
-        let (g, gs, k, first, others) = behind_again (SpellsOperand N f) (SpellsMoreAnd N fs) (SpellsOperand M) (SpellsMoreAnd M) (AlikeFilter f) (AlikeMoreFilters fs) (operand_again f) (more_and_again fs) (codes "&&") a h in
+        let (g, gs, k, first, others) = behind_again (SpellsBasic N f) (SpellsMoreAnd N fs) (SpellsBasic M) (SpellsMoreAnd M) (AlikeFilter f) (AlikeMoreFilters fs) (kept_again is_basic f (SpellsLogical N f) (SpellsLogical M) (AlikeFilter f) (logical_again f) (λ g alike. alike.3)) (more_and_again fs) (codes "&&") a h in
         (filter_then g gs, k, (and_alike first.0 others.0, λ x y n. n))
-
-    pub basic_again : (x : Atom) (a : List ℕ) → SpellsBasic N x a → (y : Atom) × SpellsBasic M y a × AlikeAtom x y
-    basic_again (group negated f) a h =
-        let (b, c, hb, hc, e) = h in
-        let (g, k, alike) = between_again (SpellsLogical N f) (SpellsLogical M) (AlikeFilter f) (logical_again f) (codes "(") (codes ")") c hc in
-        (group negated g, (b, c, hb, k, e), (alike.0, λ n. n))
-    basic_again (test true t) a h =
-        let (b, c, hb, hc, e) = h in let (u, k, alike) = test_again t c hc in
-        (test true u, (b, c, hb, k, e), (and_alike alike.1 alike.0, λ n. n))
-    basic_again (test false t) a h =
-        let (b, c, hb, hc, e) = h in let (u, k, alike) = test_again t c hc in
-        (test false u, (b, c, hb, k, e), (and_alike alike.1 alike.0, λ n. n))
-    basic_again (comparison c) a h = let (d, k, alike) = comparison_again c a h in (comparison d, k, (alike, λ n. n))
-
-    pub comparison_again : (c : Comparison) (a : List ℕ) → SpellsComparison N c a → (d : Comparison) × SpellsComparison M d a × (is_typed_comparison d ≡ is_typed_comparison c)
-    comparison_again (compare op l r) a h =
-        let (x, b, o, c, y, hx, hb, ho, hc, hy, e) = h in
-        let (left, kl, al) = argument_again l x hx.1 in
-        let (right, kr, ar) = argument_again r y hy.1 in
-        (compare op left right, (x, b, o, c, y, (al.3 ∙ hx.0, kl), hb, ho, hc, (ar.3 ∙ hy.0, kr), e), and_alike (and_alike al.1 al.0) (and_alike ar.1 ar.0))
 
     pub test_again : (t : Test) (a : List ℕ) → SpellsTest N t a → (u : Test) × SpellsTest M u a × AlikeTest t u
     test_again (relative gs) a h = let (x, hx, e) = h in let (hs, k, alike) = segments_again gs x hx in (relative hs, (x, k, e), (alike.0, refl, alike.1, refl, alike.1, alike.1))
@@ -239,6 +225,15 @@ module _ (N M : Option ℤ → List ℕ → Type 0) (again : (v : Option ℤ) (a
     more_arguments_again (argument x xs) a h =
         let (y, ys, k, first, others) = behind_again (SpellsArgument N x) (SpellsMoreArguments N xs) (SpellsArgument M) (SpellsMoreArguments M) (AlikeArgument x) (AlikeArguments xs) (argument_again x) (more_arguments_again xs) (codes ",") a h in
         (argument y ys, k, and_alike first.0 others)
+
+  pub conjunction_again : (f : Filter) (a : List ℕ) → SpellsConjunction N f a → (g : Filter) × SpellsConjunction M g a × AlikeFilter f g
+  conjunction_again f = kept_again is_conjunction f (SpellsLogical N f) (SpellsLogical M) (AlikeFilter f) (logical_again f) (λ g alike. alike.2)
+
+  pub basic_again : (f : Filter) (a : List ℕ) → SpellsBasic N f a → (g : Filter) × SpellsBasic M g a × AlikeFilter f g
+  basic_again f = kept_again is_basic f (SpellsLogical N f) (SpellsLogical M) (AlikeFilter f) (logical_again f) (λ g alike. alike.3)
+
+  pub comparison_again : (f : Filter) (a : List ℕ) → SpellsComparison N f a → (g : Filter) × SpellsComparison M g a × AlikeFilter f g
+  comparison_again f = kept_again is_comparison f (SpellsLogical N f) (SpellsLogical M) (AlikeFilter f) (logical_again f) (λ g alike. alike.4)
 
   pub comparable_again : (x : Argument) (a : List ℕ) → SpellsComparable N x a → (y : Argument) × SpellsComparable M y a × (is_typed_side y ≡ is_typed_side x)
   comparable_again x a h = let (y, k, alike) = argument_again x a h.1 in (y, (alike.3 ∙ h.0, k), and_alike alike.1 alike.0)

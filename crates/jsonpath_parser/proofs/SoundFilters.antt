@@ -1,14 +1,14 @@
 -- What is read is spelled so: calls, operands, comparisons, groups, and what `&&` and `||` join.
 --
 -- What an argument of a call reads is taken as a premise, so no law is mutual.
-use Rattle.std.proofs.Common.{◌≡◌, ℕ, suc, Bool, true, false, ◌==◌, bytes_eq, ℤ, List, [], ◌∷◌, ◌++◌, length, drop, codes, Option, Some, option_map, refl, sym, ap, ◌∙◌, subst, inl, inr, append_assoc, arith}
-use Rattle.jsonpath_parser.specs.Grammar.{IsNoBareTest, SpellsNot, SpellsCalled, SpellsLiteral, SpellsConjunction, SpellsOperand, SpellsMoreOr, SpellsMoreAnd, SpellsTest, SpellsCall, SpellsArgument, SpellsArguments, SpellsMoreArguments}
+use Rattle.std.proofs.Common.{◌≡◌, ℕ, suc, Bool, true, false, ◌==◌, bytes_eq, ℤ, List, [], ◌∷◌, ◌++◌, length, drop, codes, Option, Some, option_map, refl, sym, ap, ◌∙◌, subst, inl, inr, append_assoc, arith, IsTrue}
+use Rattle.jsonpath_parser.specs.Grammar.{is_conjunction, is_basic, IsNoBareTest, SpellsNot, SpellsCalled, SpellsLiteral, SpellsMoreOr, SpellsMoreAnd, SpellsTest, SpellsCall, SpellsArgument, SpellsArguments, SpellsMoreArguments}
 use Rattle.jsonpath_parser.specs.words.Lexical.{IsBlank, IsFunctionName, is_quote}
 use Rattle.jsonpath_parser.specs.words.inner.Reading.{Read, first, after_byte, skip_blank}
 use Rattle.jsonpath_parser.specs.inner.ReadingGrammar.{operand_behind, steps_of, comparable_of, filter_of, negated_of, is_int_first, word_at, word_literal, is_operator_first, operator_at, is_twice, logical_at, all_segments_at, all_arguments_at, called_at, word_operand_at, operand_at, group_at, negated_at, compared_at, plain_at, basic_at, ands_at, conjunction_at, ors_at, disjunction_at, steps_in}
 use Rattle.jsonpath_parser.specs.inner.ReadingLists.{found_then}
 use Rattle.jsonpath_parser.specs.words.inner.ReadingStrings.{string_at}
-use Rattle.jsonpath_parser.specs.tree.Syntax.{number, string, Filter, or, and, atom, Filters, no_filters, filter_then, group, test, comparison, compare, relative, absolute, call, Call, custom_call, length_call, value_call, count_call, search_call, match_call, Argument, literal_argument, test_argument, filter_argument, Arguments, no_arguments, argument}
+use Rattle.jsonpath_parser.specs.tree.Syntax.{number, string, Filter, or, and, Filters, no_filters, filter_then, group, test, compare, relative, absolute, call, Call, custom_call, length_call, value_call, count_call, search_call, match_call, Argument, literal_argument, test_argument, filter_argument, Arguments, no_arguments, argument}
 use Rattle.jsonpath_parser.specs.tree.Typing.{one_argument, two_arguments, call_of, is_table_name}
 use Rattle.jsonpath_parser.proofs.laws.words.Fronts.{skip_split}
 use Rattle.jsonpath_parser.proofs.FilterPieces.{twice_front, marked, marked_others, call_pieces, group_pieces, compared_pieces, within, one_spelled, SpellsTwo, two_spelled}
@@ -16,7 +16,7 @@ use Rattle.jsonpath_parser.proofs.SoundLists.{sound_many, many_some, sound_separ
 use Rattle.jsonpath_parser.proofs.SoundParts.{bind_ok, map_ok, chosen, at_front, byte_read, Spelled, same_parts, moved, glue, same_word, word_sound, sound_operator, word_spelled}
 use Rattle.jsonpath_parser.proofs.SoundSegments.{gathered, steps_spelled, sound_logical, sound_all_segments}
 use Rattle.jsonpath_parser.proofs.laws.words.StringSound.{sound_string}
-use Rattle.jsonpath_parser.specs.Parts.{SpellsComparable}
+use Rattle.jsonpath_parser.specs.Parts.{SpellsConjunction, SpellsBasic, SpellsComparable}
 
 module _ (Number : Option ℤ → List ℕ → Type 0) where
   -- ---- arguments
@@ -33,7 +33,7 @@ module _ (Number : Option ℤ → List ℕ → Type 0) where
 
   -- an operand of `&&`
   abbrev pub SpellsBasicArgument : Argument → List ℕ → Type 0
-  SpellsBasicArgument x text = SpellsBy (SpellsOperand Number) x text
+  SpellsBasicArgument x text = SpellsBy (SpellsBasic Number) x text
 
   -- an operand of `||`
   abbrev pub SpellsConjunctionArgument : Argument → List ℕ → Type 0
@@ -45,29 +45,29 @@ module _ (Number : Option ℤ → List ℕ → Type 0) where
   alone_basic (test_argument t) a h = h
   alone_basic (filter_argument f) a h = absurd h.1
 
+  basic_is_conjunction : (f : Filter) → IsTrue (is_basic f) → IsTrue (is_conjunction f)
+  basic_is_conjunction (or fs) h = h
+  basic_is_conjunction f h = refl
+
   basic_conjunction : (x : Argument) (a : List ℕ) → SpellsBasicArgument x a → SpellsConjunctionArgument x a
   basic_conjunction (literal_argument l) a h = h
   basic_conjunction (test_argument t) a h = h
-  basic_conjunction (filter_argument (or fs)) a h = absurd h.1
-  basic_conjunction (filter_argument (and fs)) a h = absurd h.1
-  basic_conjunction (filter_argument (atom b)) a h = h
+  basic_conjunction (filter_argument f) a h = (h.0, (basic_is_conjunction f h.1.0, h.1.1))
 
   conjunction_argument : (x : Argument) (a : List ℕ) → SpellsConjunctionArgument x a → SpellsArgument Number x a
   conjunction_argument (literal_argument l) a h = h
   conjunction_argument (test_argument t) a h = h
-  conjunction_argument (filter_argument (or fs)) a h = absurd h.1
-  conjunction_argument (filter_argument (and fs)) a h = h
-  conjunction_argument (filter_argument (atom b)) a h = h
+  conjunction_argument (filter_argument f) a h = (h.0, h.1.1)
 
   -- as a filter
-  pub basic_operand : (x : Argument) (f : Filter) (a : List ℕ) → SpellsBasicArgument x a → filter_of x ≡ Some f → SpellsOperand Number f a
+  pub basic_operand : (x : Argument) (f : Filter) (a : List ℕ) → SpellsBasicArgument x a → filter_of x ≡ Some f → SpellsBasic Number f a
   basic_operand (literal_argument l) f a h e = absurd (cc)
-  basic_operand (test_argument t) f a h e = let k : atom (test false t) ≡ f = cc in subst (λ v. SpellsOperand Number v a) k ([], a, refl, h, refl)
-  basic_operand (filter_argument g) f a h e = let k : g ≡ f = cc in subst (λ v. SpellsOperand Number v a) k h.1
+  basic_operand (test_argument t) f a h e = let k : test false t ≡ f = cc in subst (λ v. SpellsBasic Number v a) k (refl, ([], a, refl, h, refl))
+  basic_operand (filter_argument g) f a h e = let k : g ≡ f = cc in subst (λ v. SpellsBasic Number v a) k h.1
 
   pub conjunction_operand : (x : Argument) (f : Filter) (a : List ℕ) → SpellsConjunctionArgument x a → filter_of x ≡ Some f → SpellsConjunction Number f a
   conjunction_operand (literal_argument l) f a h e = absurd (cc)
-  conjunction_operand (test_argument t) f a h e = let k : atom (test false t) ≡ f = cc in subst (λ v. SpellsConjunction Number v a) k ([], a, refl, h, refl)
+  conjunction_operand (test_argument t) f a h e = let k : test false t ≡ f = cc in subst (λ v. SpellsConjunction Number v a) k (refl, ([], a, refl, h, refl))
   conjunction_operand (filter_argument g) f a h e = let k : g ≡ f = cc in subst (λ v. SpellsConjunction Number v a) k h.1
 
   -- as a side of a comparison
@@ -89,7 +89,7 @@ module _ (Number : Option ℤ → List ℕ → Type 0) where
   -- behind `!`
   negated_spelled : (x y : Argument) (p a : List ℕ) → SpellsNot true p → SpellsAlone x a → negated_of x ≡ Some y → SpellsBasicArgument y (p ++ a)
   negated_spelled (literal_argument l) y p a hp h e = absurd (cc)
-  negated_spelled (test_argument t) y p a hp h e = let k : filter_argument (atom (test true t)) ≡ y = cc in subst (λ v. SpellsBasicArgument v (p ++ a)) k (tt, (p, a, hp, h, refl))
+  negated_spelled (test_argument t) y p a hp h e = let k : filter_argument (test true t) ≡ y = cc in subst (λ v. SpellsBasicArgument v (p ++ a)) k (tt, (refl, (p, a, hp, h, refl)))
   negated_spelled (filter_argument f) y p a hp h e = absurd (cc)
 
   -- ---- calls
@@ -144,9 +144,9 @@ module _ (Number : Option ℤ → List ℕ → Type 0) where
   IsSome no_filters = ⊥
   IsSome (filter_then f fs) = Unit {0}
 
-  ands_spelled : (fs : Filters) (f : Filter) (gs : Filters) (a r : List ℕ) → fs ≡ filter_then f gs → IsSome gs → SpellsOperand Number f a → SpellsMoreAnd Number gs r → SpellsConjunctionArgument (filter_argument (and fs)) (a ++ r)
+  ands_spelled : (fs : Filters) (f : Filter) (gs : Filters) (a r : List ℕ) → fs ≡ filter_then f gs → IsSome gs → SpellsBasic Number f a → SpellsMoreAnd Number gs r → SpellsConjunctionArgument (filter_argument (and fs)) (a ++ r)
   ands_spelled fs f no_filters a r same some ha hr = absurd some
-  ands_spelled fs f (filter_then g gs) a r same some ha hr = rw same (tt, (tt, (a, r, ha, hr, refl)))
+  ands_spelled fs f (filter_then g gs) a r same some ha hr = rw same (tt, (refl, (tt, (a, r, ha, hr, refl))))
 
   ors_spelled : (fs : Filters) (f : Filter) (gs : Filters) (a r : List ℕ) → fs ≡ filter_then f gs → IsSome gs → SpellsConjunction Number f a → SpellsMoreOr Number gs r → SpellsArgument Number (filter_argument (or fs)) (a ++ r)
   ors_spelled fs f no_filters a r same some ha hr = absurd some
@@ -240,9 +240,9 @@ module _ (Number : Option ℤ → List ℕ → Type 0)
       let (b, hb, eb) = skip_split inner in
       let (c, hc, ec) = skip_split f.1 in
       let (a, ha, ea) = sound_logical Number number_literal_at argument_at oracle f.0 (skip_blank inner) f.1 read in
-      moved (SpellsBasicArgument Number) (filter_argument (atom (group negated f.0))) x (p ++ text) end rest e3 (
+      moved (SpellsBasicArgument Number) (filter_argument (group negated f.0)) x (p ++ text) end rest e3 (
         p ++ (40 ∷ (b ++ (a ++ (c ++ 41 ∷ [])))),
-        (tt, (p, 40 ∷ (b ++ (a ++ (c ++ 41 ∷ []))), hp, (b, a, c, hb, ha, hc, refl), refl)),
+        (tt, (refl, (p, 40 ∷ (b ++ (a ++ (c ++ 41 ∷ []))), hp, (b, a, c, hb, ha, hc, refl), refl))),
         group_pieces p text inner (skip_blank inner) f.1 (skip_blank f.1) end b a c (byte_read text 40 inner open_ (omega arith)) eb ea ec (byte_read (skip_blank f.1) 41 end close (omega arith)),
       )
 
@@ -269,9 +269,9 @@ module _ (Number : Option ℤ → List ℕ → Type 0)
       let (o, ho, eo) = sound_operator op.0 text op.1 sign in
       let (c, hc, ec) = skip_split op.1 in
       let (d, hd, ed) = sound_operand right.0 (skip_blank op.1) right.1 read in
-      moved (SpellsBasicArgument Number) (filter_argument (atom (comparison (compare op.0 l r)))) x (a ++ (b ++ text)) right.1 rest e4 (
+      moved (SpellsBasicArgument Number) (filter_argument (compare op.0 l r)) x (a ++ (b ++ text)) right.1 rest e4 (
         a ++ (b ++ (o ++ (c ++ d))),
-        (tt, (a, b, o, c, d, comparable_spelled Number left l a ha lis, hb, ho, hc, comparable_spelled Number right.0 r d hd ris, refl)),
+        (tt, (refl, (a, b, o, c, d, comparable_spelled Number left l a ha lis, hb, ho, hc, comparable_spelled Number right.0 r d hd ris, refl))),
         compared_pieces a b text op.1 (skip_blank op.1) right.1 o c d eo ec ed,
       )
 
@@ -307,7 +307,7 @@ module _ (Number : Option ℤ → List ℕ → Type 0)
 
   -- an operand of `&&` behind one
   abbrev SpellsNextAnd : Filter → List ℕ → Type 0
-  SpellsNextAnd f text = (b c a : List ℕ) × IsBlank b × IsBlank c × SpellsOperand Number f a × (text ≡ b ++ (38 ∷ 38 ∷ (c ++ a)))
+  SpellsNextAnd f text = (b c a : List ℕ) × IsBlank b × IsBlank c × SpellsBasic Number f a × (text ≡ b ++ (38 ∷ 38 ∷ (c ++ a)))
 
   sound_next_and : (f : Filter) (text rest : List ℕ) → is_twice 38 (skip_blank text) ≡ true → operand_behind (basic_at number_literal_at argument_at) text ≡ Some (f, rest) → Spelled SpellsNextAnd f text rest
   sound_next_and f text rest go e =

@@ -7,7 +7,7 @@ use Rattle.jsonpath_parser.specs.words.Lexical.{IsBlank, is_quote}
 use Rattle.jsonpath_parser.specs.words.inner.Reading.{Read, first, after_byte, skip_blank}
 use Rattle.jsonpath_parser.specs.inner.ReadingGrammar.{selection_of, step_of_segment, steps_of, filter_of, shorthand_at, starts_segment, logical_at, selector_at, selectors_at, selection_at, descendant_at, segment_at, all_segments_at, steps_in}
 use Rattle.jsonpath_parser.specs.words.inner.ReadingStrings.{string_at}
-use Rattle.jsonpath_parser.specs.tree.Syntax.{Selector, name, wildcard, index, slice, filter, Selectors, no_selectors, selector, Segment, one, several, descendant, Segments, no_segments, segment, Filter, atom, test, Argument, literal_argument, test_argument, filter_argument, list_of}
+use Rattle.jsonpath_parser.specs.tree.Syntax.{Selector, name, wildcard, index, slice, filter, Selectors, no_selectors, selector, Segment, one, several, descendant, Segments, no_segments, segment, Filter, test, Argument, literal_argument, test_argument, filter_argument, list_of}
 use Rattle.jsonpath_parser.proofs.laws.words.Fronts.{skip_split}
 use Rattle.jsonpath_parser.proofs.SoundLists.{sound_many, sound_separated}
 use Rattle.jsonpath_parser.proofs.SoundParts.{bind_ok, chosen, at_front, two_front, byte_read, Spelled, moved, glue, sound_shorthand, sound_numbered}
@@ -78,7 +78,7 @@ module _ (Number : Option ℤ → List ℕ → Type 0) where
   -- an argument as a logical expression
   argument_logical : (x : Argument) (f : Filter) (a : List ℕ) → SpellsArgument Number x a → filter_of x ≡ Some f → SpellsLogical Number f a
   argument_logical (literal_argument l) f a h e = absurd (cc)
-  argument_logical (test_argument t) f a h e = let k : atom (test false t) ≡ f = cc in subst (λ v. SpellsLogical Number v a) k ([], a, refl, h, refl)
+  argument_logical (test_argument t) f a h e = let k : test false t ≡ f = cc in subst (λ v. SpellsLogical Number v a) k ([], a, refl, h, refl)
   argument_logical (filter_argument g) f a h e = let k : g ≡ f = cc in subst (λ v. SpellsLogical Number v a) k h.1
 
 module _ (Number : Option ℤ → List ℕ → Type 0)

@@ -4,14 +4,14 @@ use Rattle.std.proofs.lemmas.Bool.{not_from_false}
 use Rattle.std.proofs.Math.Dec.{T}
 use Rattle.std.specs.Int.Signed.{le_z}
 use Rattle.std.specs.List.{list_all}
-use Rattle.jsonpath_parser.specs.Grammar.{IsSeveral, IsPlural, IsNoBareTest, IsCustomName, IsInRange, SpellsBound, SpellsStep, SpellsShorthand, SpellsLiteral, SpellsSelector, SpellsSelectors, SpellsMoreSelectors, SpellsSegment, SpellsSegments, SpellsLogical, SpellsConjunction, SpellsOperand, SpellsOr, SpellsMoreOr, SpellsAnd, SpellsMoreAnd, SpellsBasic, SpellsComparison, SpellsTest, SpellsCall, SpellsArgument, SpellsArguments, SpellsMoreArguments, Spells}
+use Rattle.jsonpath_parser.specs.Grammar.{IsSeveral, IsPlural, IsNoBareTest, IsCustomName, IsInRange, SpellsBound, SpellsStep, SpellsShorthand, SpellsLiteral, SpellsSelector, SpellsSelectors, SpellsMoreSelectors, SpellsSegment, SpellsSegments, SpellsLogical, SpellsOr, SpellsMoreOr, SpellsAnd, SpellsMoreAnd, SpellsTest, SpellsCall, SpellsArgument, SpellsArguments, SpellsMoreArguments, Spells}
 use Rattle.jsonpath_parser.specs.words.Lexical.{IsRun, IsFunctionName, is_function_first, is_function_byte}
 use Rattle.jsonpath_parser.specs.words.Numbers.{IsLong}
 use Rattle.jsonpath_parser.specs.tree.Typing.{is_table_name}
-use Rattle.jsonpath_parser.specs.tree.Syntax.{Literal, number, string, bool, null, Selector, name, wildcard, index, slice, filter, Selectors, no_selectors, selector, Segment, one, several, descendant, Segments, no_segments, segment, Filter, or, and, atom, Filters, no_filters, filter_then, Atom, group, test, comparison, Comparison, compare, Test, relative, absolute, call, Call, custom_call, length_call, value_call, count_call, search_call, match_call, Argument, literal_argument, test_argument, filter_argument, Arguments, no_arguments, argument, Query}
+use Rattle.jsonpath_parser.specs.tree.Syntax.{Literal, number, string, bool, null, Selector, name, wildcard, index, slice, filter, Selectors, no_selectors, selector, Segment, one, several, descendant, Segments, no_segments, segment, Filter, or, and, Filters, no_filters, filter_then, group, test, compare, Test, relative, absolute, call, Call, custom_call, length_call, value_call, count_call, search_call, match_call, Argument, literal_argument, test_argument, filter_argument, Arguments, no_arguments, argument, Query}
 use Rattle.jsonpath_parser.specs.Derives.{Derives}
 use Rattle.jsonpath_parser.specs.Values.{IsValued}
-use Rattle.jsonpath_parser.specs.inner.Spellable.{is_in_range, is_long, is_bound, is_function_name, is_custom_name, is_spelled_literal, are_several_selectors, are_several_filters, is_conjunction, is_operand, is_no_bare_test, is_spelled, is_spelled_segment, is_spelled_selector, are_spelled_selectors, is_spelled_filter, are_spelled_conjunctions, are_spelled_operands, is_spelled_atom, is_spelled_comparison, is_spelled_test, is_spelled_call, is_spelled_argument, are_spelled_arguments}
+use Rattle.jsonpath_parser.specs.inner.Spellable.{is_in_range, is_long, is_bound, is_function_name, is_custom_name, is_spelled_literal, are_several_selectors, are_several_filters, is_no_bare_test, is_spelled, is_spelled_segment, is_spelled_selector, are_spelled_selectors, is_spelled_filter, are_spelled_conjunctions, are_spelled_operands, is_spelled_test, is_spelled_call, is_spelled_argument, are_spelled_arguments}
 use Rattle.jsonpath_parser.proofs.Respelling.{and_alike}
 
 -- ---- words
@@ -72,10 +72,10 @@ plural_pass (filter_then f (filter_then g fs)) h = refl
 no_bare_passes : (f : Filter) → IsNoBareTest f → is_no_bare_test f ≡ true
 no_bare_passes (or fs) h = refl
 no_bare_passes (and fs) h = refl
-no_bare_passes (atom (group negated f)) h = refl
-no_bare_passes (atom (test true t)) h = refl
-no_bare_passes (atom (test false t)) h = absurd h
-no_bare_passes (atom (comparison c)) h = refl
+no_bare_passes (group negated f) h = refl
+no_bare_passes (test true t) h = refl
+no_bare_passes (test false t) h = absurd h
+no_bare_passes (compare op l r) h = refl
 
 shorthand_passes : (s : Selector) (a : List ℕ) → SpellsShorthand s a → is_spelled_selector s ≡ true
 shorthand_passes (name n) a h = refl
@@ -118,41 +118,25 @@ mutual
   filter_passes : (f : Filter) (a : List ℕ) → SpellsLogical IsValued f a → is_spelled_filter f ≡ true
   filter_passes (or fs) a h = both (plural_pass fs h.0) (or_passes fs a h.1)
   filter_passes (and fs) a h = both (plural_pass fs h.0) (and_passes fs a h.1)
-  filter_passes (atom x) a h = atom_passes x a h
-
-  conjunction_passes : (f : Filter) (a : List ℕ) → SpellsConjunction IsValued f a → (is_conjunction f && is_spelled_filter f) ≡ true
-  conjunction_passes (or fs) a h = absurd h
-  conjunction_passes (and fs) a h = both refl (both (plural_pass fs h.0) (and_passes fs a h.1))
-  conjunction_passes (atom x) a h = both refl (atom_passes x a h)
-
-  operand_passes : (f : Filter) (a : List ℕ) → SpellsOperand IsValued f a → (is_operand f && is_spelled_filter f) ≡ true
-  operand_passes (or fs) a h = absurd h
-  operand_passes (and fs) a h = absurd h
-  operand_passes (atom x) a h = both refl (atom_passes x a h)
+  filter_passes (group negated f) a h = let (b, c, hb, hc, e) = h in let (p, y, q, hp, hy, hq, e2) = hc in filter_passes f y hy
+  filter_passes (test negated t) a h = let (b, c, hb, hc, e) = h in test_passes t c hc
+  filter_passes (compare op l r) a h = let (x, b, o, c, y, hx, hb, ho, hc, hy, e) = h in both (both hx.0 (argument_passes l x hx.1)) (both hy.0 (argument_passes r y hy.1))
 
   or_passes : (fs : Filters) (a : List ℕ) → SpellsOr IsValued fs a → are_spelled_conjunctions fs ≡ true
   or_passes no_filters a h = absurd h
-  or_passes (filter_then f fs) a h = let (x, d, hx, hd, e) = h in both (conjunction_passes f x hx) (more_or_passes fs d hd)
+  or_passes (filter_then f fs) a h = let (x, d, hx, hd, e) = h in both (both hx.0 (filter_passes f x hx.1)) (more_or_passes fs d hd)
 
   more_or_passes : (fs : Filters) (a : List ℕ) → SpellsMoreOr IsValued fs a → are_spelled_conjunctions fs ≡ true
   more_or_passes no_filters a h = refl
-  more_or_passes (filter_then f fs) a h = let (b, c, x, d, hb, hc, hx, hd, e) = h in both (conjunction_passes f x hx) (more_or_passes fs d hd)
+  more_or_passes (filter_then f fs) a h = let (b, c, x, d, hb, hc, hx, hd, e) = h in both (both hx.0 (filter_passes f x hx.1)) (more_or_passes fs d hd)
 
   and_passes : (fs : Filters) (a : List ℕ) → SpellsAnd IsValued fs a → are_spelled_operands fs ≡ true
   and_passes no_filters a h = absurd h
-  and_passes (filter_then f fs) a h = let (x, d, hx, hd, e) = h in both (operand_passes f x hx) (more_and_passes fs d hd)
+  and_passes (filter_then f fs) a h = let (x, d, hx, hd, e) = h in both (both hx.0 (filter_passes f x hx.1)) (more_and_passes fs d hd)
 
   more_and_passes : (fs : Filters) (a : List ℕ) → SpellsMoreAnd IsValued fs a → are_spelled_operands fs ≡ true
   more_and_passes no_filters a h = refl
-  more_and_passes (filter_then f fs) a h = let (b, c, x, d, hb, hc, hx, hd, e) = h in both (operand_passes f x hx) (more_and_passes fs d hd)
-
-  atom_passes : (x : Atom) (a : List ℕ) → SpellsBasic IsValued x a → is_spelled_atom x ≡ true
-  atom_passes (group negated f) a h = let (b, c, hb, hc, e) = h in let (p, y, q, hp, hy, hq, e2) = hc in filter_passes f y hy
-  atom_passes (test negated t) a h = let (b, c, hb, hc, e) = h in test_passes t c hc
-  atom_passes (comparison c) a h = comparison_passes c a h
-
-  comparison_passes : (c : Comparison) (a : List ℕ) → SpellsComparison IsValued c a → is_spelled_comparison c ≡ true
-  comparison_passes (compare op l r) a h = let (x, b, o, c, y, hx, hb, ho, hc, hy, e) = h in both (both hx.0 (argument_passes l x hx.1)) (both hy.0 (argument_passes r y hy.1))
+  more_and_passes (filter_then f fs) a h = let (b, c, x, d, hb, hc, hx, hd, e) = h in both (both hx.0 (filter_passes f x hx.1)) (more_and_passes fs d hd)
 
   test_passes : (t : Test) (a : List ℕ) → SpellsTest IsValued t a → is_spelled_test t ≡ true
   test_passes (relative gs) a h = let (x, hx, e) = h in segments_pass gs x hx

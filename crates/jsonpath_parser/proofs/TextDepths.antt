@@ -4,10 +4,11 @@ use Rattle.jsonpath_parser.specs.words.Depth.{depth, depth_from, outside}
 use Rattle.jsonpath_parser.specs.words.Lexical.{IsBlank}
 use Rattle.jsonpath_parser.specs.words.Strings.{SpellsString}
 use Rattle.jsonpath_parser.specs.Derives.{Derives}
-use Rattle.jsonpath_parser.specs.Grammar.{Between, Behind, Then, IsNothing, SpellsIndex, SpellsBound, SpellsStep, SpellsSlice, SpellsShorthand, SpellsOperator, SpellsNot, SpellsCalled, SpellsLiteral, SpellsSelector, SpellsSelectors, SpellsMoreSelectors, SpellsSegment, SpellsSegments, SpellsLogical, SpellsConjunction, SpellsOperand, SpellsOr, SpellsMoreOr, SpellsAnd, SpellsMoreAnd, SpellsBasic, SpellsComparison, SpellsTest, SpellsCall, SpellsArgument, SpellsArguments, SpellsMoreArguments, Spells}
-use Rattle.jsonpath_parser.specs.tree.Syntax.{Literal, number, string, bool, null, Operator, equal, not_equal, greater, greater_or_equal, less, less_or_equal, Selector, name, wildcard, index, slice, filter, Selectors, no_selectors, selector, Segment, one, several, descendant, Segments, no_segments, segment, Filter, or, and, atom, Filters, no_filters, filter_then, Atom, group, test, comparison, Comparison, compare, Test, relative, absolute, call, Call, custom_call, length_call, value_call, count_call, search_call, match_call, Argument, literal_argument, test_argument, filter_argument, Arguments, no_arguments, argument, Query}
+use Rattle.jsonpath_parser.specs.Grammar.{Between, Behind, Then, IsNothing, SpellsIndex, SpellsBound, SpellsStep, SpellsSlice, SpellsShorthand, SpellsOperator, SpellsNot, SpellsCalled, SpellsLiteral, SpellsSelector, SpellsSelectors, SpellsMoreSelectors, SpellsSegment, SpellsSegments, SpellsLogical, SpellsOr, SpellsMoreOr, SpellsAnd, SpellsMoreAnd, SpellsTest, SpellsCall, SpellsArgument, SpellsArguments, SpellsMoreArguments, Spells}
+use Rattle.jsonpath_parser.specs.tree.Syntax.{Literal, number, string, bool, null, Operator, equal, not_equal, greater, greater_or_equal, less, less_or_equal, Selector, name, wildcard, index, slice, filter, Selectors, no_selectors, selector, Segment, one, several, descendant, Segments, no_segments, segment, Filter, or, and, Filters, no_filters, filter_then, group, test, compare, Test, relative, absolute, call, Call, custom_call, length_call, value_call, count_call, search_call, match_call, Argument, literal_argument, test_argument, filter_argument, Arguments, no_arguments, argument, Query}
+use Rattle.jsonpath_parser.specs.Parts.{SpellsConjunction, SpellsBasic}
 use Rattle.jsonpath_parser.specs.Values.{IsValued}
-use Rattle.jsonpath_parser.specs.inner.Nesting.{nesting, segment_nesting, selector_nesting, selectors_nesting, filter_nesting, filters_nesting, atom_nesting, comparison_nesting, argument_nesting, test_nesting, call_nesting, argument_nesting, arguments_nesting}
+use Rattle.jsonpath_parser.specs.inner.Nesting.{nesting, segment_nesting, selector_nesting, selectors_nesting, filter_nesting, filters_nesting, test_nesting, call_nesting, argument_nesting, arguments_nesting}
 use Rattle.jsonpath_parser.proofs.laws.words.Openings.{Opens, opens_append, opens_flat, opens_nothing, opens_same, opens_blank, opens_name, opens_function_name, opens_int, opens_number, opens_string, opens_square, opens_round}
 
 -- the text opens so many brackets at once, or one less
@@ -221,50 +222,34 @@ mutual
   logical_nests : (f : Filter) (a : List ℕ) → SpellsLogical IsValued f a → Nests (filter_nesting f) a
   logical_nests (or fs) a h = or_nests fs a h.1
   logical_nests (and fs) a h = and_nests fs a h.1
-  logical_nests (atom x) a h = basic_nests x a h
-
-  conjunction_nests : (f : Filter) (a : List ℕ) → SpellsConjunction IsValued f a → Nests (filter_nesting f) a
-  conjunction_nests (or fs) a h = absurd h
-  conjunction_nests (and fs) a h = and_nests fs a h.1
-  conjunction_nests (atom x) a h = basic_nests x a h
-
-  operand_nests : (f : Filter) (a : List ℕ) → SpellsOperand IsValued f a → Nests (filter_nesting f) a
-  operand_nests (or fs) a h = absurd h
-  operand_nests (and fs) a h = absurd h
-  operand_nests (atom x) a h = basic_nests x a h
-
-  or_nests : (fs : Filters) (a : List ℕ) → SpellsOr IsValued fs a → Nests (filters_nesting fs) a
-  or_nests no_filters a h = absurd h
-  or_nests (filter_then f fs) a h = then_others (SpellsConjunction IsValued f) (SpellsMoreOr IsValued fs) (filter_nesting f) (filters_nesting fs) (conjunction_nests f) (more_or_nests fs) a h
-
-  more_or_nests : (fs : Filters) (a : List ℕ) → SpellsMoreOr IsValued fs a → Nests (filters_nesting fs) a
-  more_or_nests no_filters a h = nothing_nests a h
-  more_or_nests (filter_then f fs) a h = behind (codes "||") bars (SpellsConjunction IsValued f) (SpellsMoreOr IsValued fs) (filter_nesting f) (filters_nesting fs) (conjunction_nests f) (more_or_nests fs) a h
-
-  and_nests : (fs : Filters) (a : List ℕ) → SpellsAnd IsValued fs a → Nests (filters_nesting fs) a
-  and_nests no_filters a h = absurd h
-  and_nests (filter_then f fs) a h = then_others (SpellsOperand IsValued f) (SpellsMoreAnd IsValued fs) (filter_nesting f) (filters_nesting fs) (operand_nests f) (more_and_nests fs) a h
-
-  more_and_nests : (fs : Filters) (a : List ℕ) → SpellsMoreAnd IsValued fs a → Nests (filters_nesting fs) a
-  more_and_nests no_filters a h = nothing_nests a h
-  more_and_nests (filter_then f fs) a h = behind (codes "&&") ampersands (SpellsOperand IsValued f) (SpellsMoreAnd IsValued fs) (filter_nesting f) (filters_nesting fs) (operand_nests f) (more_and_nests fs) a h
-
-  basic_nests : (x : Atom) (a : List ℕ) → SpellsBasic IsValued x a → Nests (atom_nesting x) a
-  basic_nests (group negated f) a h =
+  logical_nests (group negated f) a h =
       let (b, c, hb, hc, e) = h in
       same (suc (filter_nesting f)) a (b ++ c) e (in_front (suc (filter_nesting f)) b c (not_flat negated b hb) (in_round (SpellsLogical IsValued f) (filter_nesting f) (logical_nests f) c hc))
-  basic_nests (test negated t) a h =
+  logical_nests (test negated t) a h =
       let (b, c, hb, hc, e) = h in
       same (test_nesting t) a (b ++ c) e (in_front (test_nesting t) b c (not_flat negated b hb) (test_nests t c hc))
-  basic_nests (comparison c) a h = comparison_nests c a h
-
-  comparison_nests : (c : Comparison) (a : List ℕ) → SpellsComparison IsValued c a → Nests (comparison_nesting c) a
-  comparison_nests (compare op l r) a h =
+  logical_nests (compare op l r) a h =
       let (x, b, o, c, y, hx, hb, ho, hc, hy, e) = h in
       same (max (argument_nesting l) (argument_nesting r)) a (x ++ (b ++ (o ++ (c ++ y)))) e
       (joined (argument_nesting l) (argument_nesting r) x (b ++ (o ++ (c ++ y))) (argument_nests l x hx.1)
       (in_front (argument_nesting r) b (o ++ (c ++ y)) (opens_blank b hb) (in_front (argument_nesting r) o (c ++ y) (operator_flat op o ho)
       (in_front (argument_nesting r) c y (opens_blank c hc) (argument_nests r y hy.1)))))
+
+  or_nests : (fs : Filters) (a : List ℕ) → SpellsOr IsValued fs a → Nests (filters_nesting fs) a
+  or_nests no_filters a h = absurd h
+  or_nests (filter_then f fs) a h = then_others (SpellsConjunction IsValued f) (SpellsMoreOr IsValued fs) (filter_nesting f) (filters_nesting fs) (λ x hx. logical_nests f x hx.1) (more_or_nests fs) a h
+
+  more_or_nests : (fs : Filters) (a : List ℕ) → SpellsMoreOr IsValued fs a → Nests (filters_nesting fs) a
+  more_or_nests no_filters a h = nothing_nests a h
+  more_or_nests (filter_then f fs) a h = behind (codes "||") bars (SpellsConjunction IsValued f) (SpellsMoreOr IsValued fs) (filter_nesting f) (filters_nesting fs) (λ x hx. logical_nests f x hx.1) (more_or_nests fs) a h
+
+  and_nests : (fs : Filters) (a : List ℕ) → SpellsAnd IsValued fs a → Nests (filters_nesting fs) a
+  and_nests no_filters a h = absurd h
+  and_nests (filter_then f fs) a h = then_others (SpellsBasic IsValued f) (SpellsMoreAnd IsValued fs) (filter_nesting f) (filters_nesting fs) (λ x hx. logical_nests f x hx.1) (more_and_nests fs) a h
+
+  more_and_nests : (fs : Filters) (a : List ℕ) → SpellsMoreAnd IsValued fs a → Nests (filters_nesting fs) a
+  more_and_nests no_filters a h = nothing_nests a h
+  more_and_nests (filter_then f fs) a h = behind (codes "&&") ampersands (SpellsBasic IsValued f) (SpellsMoreAnd IsValued fs) (filter_nesting f) (filters_nesting fs) (λ x hx. logical_nests f x hx.1) (more_and_nests fs) a h
 
   test_nests : (t : Test) (a : List ℕ) → SpellsTest IsValued t a → Nests (test_nesting t) a
   test_nests (relative gs) a h = let (x, hx, e) = h in same (nesting gs) a (codes "@" ++ x) e (in_front (nesting gs) (codes "@") x at_sign (segments_nest gs x hx))

@@ -8,17 +8,18 @@ use Rattle.std.specs.Int.Signed.{le_z, le_z_yes}
 use Rattle.std.specs.Fmt.{signed_decimal, decimal}
 use Rattle.std.specs.List.{list_all}
 use Rattle.std.specs.Str.Parse.{digits_value}
-use Rattle.jsonpath_parser.specs.Grammar.{Between, Behind, Then, IsNothing, IsSeveral, IsPlural, IsNoBareTest, IsCustomName, IsInRange, SpellsInt, SpellsIndex, SpellsBound, SpellsStep, SpellsSlice, SpellsOperator, SpellsNot, SpellsLiteral, SpellsSelector, SpellsSelectors, SpellsMoreSelectors, SpellsSegment, SpellsSegments, SpellsLogical, SpellsConjunction, SpellsOperand, SpellsOr, SpellsMoreOr, SpellsAnd, SpellsMoreAnd, SpellsBasic, SpellsComparison, SpellsTest, SpellsCall, SpellsArgument, SpellsArguments, SpellsMoreArguments, Spells}
+use Rattle.jsonpath_parser.specs.Grammar.{Between, Behind, Then, is_conjunction, is_basic, IsNothing, IsSeveral, IsPlural, IsNoBareTest, IsCustomName, IsInRange, SpellsInt, SpellsIndex, SpellsBound, SpellsStep, SpellsSlice, SpellsOperator, SpellsNot, SpellsLiteral, SpellsSelector, SpellsSelectors, SpellsMoreSelectors, SpellsSegment, SpellsSegments, SpellsLogical, SpellsOr, SpellsMoreOr, SpellsAnd, SpellsMoreAnd, SpellsTest, SpellsCall, SpellsArgument, SpellsArguments, SpellsMoreArguments, Spells}
 use Rattle.jsonpath_parser.specs.words.Lexical.{IsRun, IsFunctionName, is_function_first, is_function_byte}
 use Rattle.jsonpath_parser.specs.words.Numbers.{SpellsSign, IsWholePart, raised, signed, IsLong, SpellsNumber}
 use Rattle.jsonpath_parser.specs.words.Strings.{SpellsString}
 use Rattle.jsonpath_parser.specs.Normal.{index_digits}
 use Rattle.jsonpath_parser.specs.tree.Shown.{not_shown, operator_shown}
 use Rattle.jsonpath_parser.specs.tree.Typing.{is_table_name, is_comparable}
-use Rattle.jsonpath_parser.specs.tree.Syntax.{Literal, number, string, bool, null, Operator, equal, not_equal, greater, greater_or_equal, less, less_or_equal, Selector, name, wildcard, index, slice, filter, Selectors, no_selectors, selector, Segment, one, several, descendant, Segments, no_segments, segment, Filter, or, and, atom, Filters, no_filters, filter_then, Atom, group, test, comparison, Comparison, compare, Test, relative, absolute, call, Call, custom_call, length_call, value_call, count_call, search_call, match_call, Argument, literal_argument, test_argument, filter_argument, Arguments, no_arguments, argument, Query}
+use Rattle.jsonpath_parser.specs.tree.Syntax.{Literal, number, string, bool, null, Operator, equal, not_equal, greater, greater_or_equal, less, less_or_equal, Selector, name, wildcard, index, slice, filter, Selectors, no_selectors, selector, Segment, one, several, descendant, Segments, no_segments, segment, Filter, or, and, Filters, no_filters, filter_then, group, test, compare, Test, relative, absolute, call, Call, custom_call, length_call, value_call, count_call, search_call, match_call, Argument, literal_argument, test_argument, filter_argument, Arguments, no_arguments, argument, Query}
+use Rattle.jsonpath_parser.specs.Parts.{SpellsConjunction, SpellsBasic}
 use Rattle.jsonpath_parser.specs.Values.{IsValued}
-use Rattle.jsonpath_parser.specs.inner.Spellable.{is_in_range, is_long, is_bound, is_function_name, is_custom_name, is_spelled_literal, are_several_selectors, are_several_filters, is_conjunction, is_operand, is_no_bare_test, is_spelled, is_spelled_segment, is_spelled_selector, are_spelled_selectors, is_spelled_filter, are_spelled_conjunctions, are_spelled_operands, is_spelled_atom, is_spelled_comparison, is_spelled_test, is_spelled_call, is_spelled_argument, are_spelled_arguments}
-use Rattle.jsonpath_parser.specs.inner.QueryTexts.{string_text, bound_text, slice_step_text, slice_text, literal_text, segments_text, segment_text, selector_text, selectors_text, filter_text, filters_text, atom_text, comparison_text, test_text, call_text, argument_text, arguments_text, query_text}
+use Rattle.jsonpath_parser.specs.inner.Spellable.{is_in_range, is_long, is_bound, is_function_name, is_custom_name, is_spelled_literal, are_several_selectors, are_several_filters, is_no_bare_test, is_spelled, is_spelled_segment, is_spelled_selector, are_spelled_selectors, is_spelled_filter, are_spelled_conjunctions, are_spelled_operands, is_spelled_test, is_spelled_call, is_spelled_argument, are_spelled_arguments}
+use Rattle.jsonpath_parser.specs.inner.QueryTexts.{string_text, bound_text, slice_step_text, slice_text, literal_text, segments_text, segment_text, selector_text, selectors_text, filter_text, filters_text, test_text, call_text, argument_text, arguments_text, query_text}
 use Rattle.jsonpath_parser.proofs.NormalQueries.{name_spelled, index_spelled}
 use Rattle.jsonpath_parser.proofs.laws.words.Quoting.{decimal_index}
 
@@ -157,10 +158,10 @@ plural_two (filter_then f (filter_then g fs)) h = tt
 no_bare : (f : Filter) → is_no_bare_test f ≡ true → IsNoBareTest f
 no_bare (or fs) h = tt
 no_bare (and fs) h = tt
-no_bare (atom (group negated f)) h = tt
-no_bare (atom (test true t)) h = tt
-no_bare (atom (test false t)) h = absurd (cc)
-no_bare (atom (comparison c)) h = tt
+no_bare (group negated f) h = tt
+no_bare (test true t) h = tt
+no_bare (test false t) h = absurd (cc)
+no_bare (compare op l r) h = tt
 
 -- ---- each kind of tree
 
@@ -209,59 +210,41 @@ mutual
   logical_spelled (and fs) h =
       let p = and_parts (are_several_filters fs) (are_spelled_operands fs) h in
       (plural_two fs p.0, and_spelled fs p.0 p.1)
-  logical_spelled (atom a) h = basic_spelled a h
-
-  conjunction_spelled : (f : Filter) → is_conjunction f ≡ true → is_spelled_filter f ≡ true → SpellsConjunction IsValued f (filter_text f)
-  conjunction_spelled (or fs) is h = absurd (cc)
-  conjunction_spelled (and fs) is h =
-      let p = and_parts (are_several_filters fs) (are_spelled_operands fs) h in
-      (plural_two fs p.0, and_spelled fs p.0 p.1)
-  conjunction_spelled (atom a) is h = basic_spelled a h
-
-  operand_spelled : (f : Filter) → is_operand f ≡ true → is_spelled_filter f ≡ true → SpellsOperand IsValued f (filter_text f)
-  operand_spelled (or fs) is h = absurd (cc)
-  operand_spelled (and fs) is h = absurd (cc)
-  operand_spelled (atom a) is h = basic_spelled a h
+  logical_spelled (group negated f) h = (not_shown negated, codes "(" ++ (filter_text f ++ codes ")"), not_spelled negated, between_bare (SpellsLogical IsValued f) (codes "(") (filter_text f) (codes ")") (logical_spelled f h), refl)
+  logical_spelled (test negated t) h = (not_shown negated, test_text t, not_spelled negated, test_spelled t h, refl)
+  logical_spelled (compare op l r) h =
+      let p = and_parts (is_comparable l && is_spelled_argument l) (is_comparable r && is_spelled_argument r) h in
+      let left = and_parts (is_comparable l) (is_spelled_argument l) p.0 in
+      let right = and_parts (is_comparable r) (is_spelled_argument r) p.1 in
+      (argument_text l, [], operator_shown op, [], argument_text r, (left.0, argument_spelled l left.1), tt, operator_spelled op, tt, (right.0, argument_spelled r right.1), refl)
 
   or_spelled : (fs : Filters) → are_several_filters fs ≡ true → are_spelled_conjunctions fs ≡ true → SpellsOr IsValued fs (filters_text (codes "||") [] fs)
   or_spelled no_filters some h = absurd (cc)
   or_spelled (filter_then f fs) some h =
       let p = and_parts (is_conjunction f && is_spelled_filter f) (are_spelled_conjunctions fs) h in
       let q = and_parts (is_conjunction f) (is_spelled_filter f) p.0 in
-      (filter_text f, filters_text (codes "||") (codes "||") fs, conjunction_spelled f q.0 q.1, more_or_spelled fs p.1, refl)
+      (filter_text f, filters_text (codes "||") (codes "||") fs, (q.0, logical_spelled f q.1), more_or_spelled fs p.1, refl)
 
   more_or_spelled : (fs : Filters) → are_spelled_conjunctions fs ≡ true → SpellsMoreOr IsValued fs (filters_text (codes "||") (codes "||") fs)
   more_or_spelled no_filters h = refl
   more_or_spelled (filter_then f fs) h =
       let p = and_parts (is_conjunction f && is_spelled_filter f) (are_spelled_conjunctions fs) h in
       let q = and_parts (is_conjunction f) (is_spelled_filter f) p.0 in
-      behind_bare (SpellsConjunction IsValued f) (SpellsMoreOr IsValued fs) (codes "||") (filter_text f) (filters_text (codes "||") (codes "||") fs) (conjunction_spelled f q.0 q.1) (more_or_spelled fs p.1)
+      behind_bare (SpellsConjunction IsValued f) (SpellsMoreOr IsValued fs) (codes "||") (filter_text f) (filters_text (codes "||") (codes "||") fs) (q.0, logical_spelled f q.1) (more_or_spelled fs p.1)
 
   and_spelled : (fs : Filters) → are_several_filters fs ≡ true → are_spelled_operands fs ≡ true → SpellsAnd IsValued fs (filters_text (codes "&&") [] fs)
   and_spelled no_filters some h = absurd (cc)
   and_spelled (filter_then f fs) some h =
-      let p = and_parts (is_operand f && is_spelled_filter f) (are_spelled_operands fs) h in
-      let q = and_parts (is_operand f) (is_spelled_filter f) p.0 in
-      (filter_text f, filters_text (codes "&&") (codes "&&") fs, operand_spelled f q.0 q.1, more_and_spelled fs p.1, refl)
+      let p = and_parts (is_basic f && is_spelled_filter f) (are_spelled_operands fs) h in
+      let q = and_parts (is_basic f) (is_spelled_filter f) p.0 in
+      (filter_text f, filters_text (codes "&&") (codes "&&") fs, (q.0, logical_spelled f q.1), more_and_spelled fs p.1, refl)
 
   more_and_spelled : (fs : Filters) → are_spelled_operands fs ≡ true → SpellsMoreAnd IsValued fs (filters_text (codes "&&") (codes "&&") fs)
   more_and_spelled no_filters h = refl
   more_and_spelled (filter_then f fs) h =
-      let p = and_parts (is_operand f && is_spelled_filter f) (are_spelled_operands fs) h in
-      let q = and_parts (is_operand f) (is_spelled_filter f) p.0 in
-      behind_bare (SpellsOperand IsValued f) (SpellsMoreAnd IsValued fs) (codes "&&") (filter_text f) (filters_text (codes "&&") (codes "&&") fs) (operand_spelled f q.0 q.1) (more_and_spelled fs p.1)
-
-  basic_spelled : (a : Atom) → is_spelled_atom a ≡ true → SpellsBasic IsValued a (atom_text a)
-  basic_spelled (group negated f) h = (not_shown negated, codes "(" ++ (filter_text f ++ codes ")"), not_spelled negated, between_bare (SpellsLogical IsValued f) (codes "(") (filter_text f) (codes ")") (logical_spelled f h), refl)
-  basic_spelled (test negated t) h = (not_shown negated, test_text t, not_spelled negated, test_spelled t h, refl)
-  basic_spelled (comparison c) h = comparison_spelled c h
-
-  comparison_spelled : (c : Comparison) → is_spelled_comparison c ≡ true → SpellsComparison IsValued c (comparison_text c)
-  comparison_spelled (compare op l r) h =
-      let p = and_parts (is_comparable l && is_spelled_argument l) (is_comparable r && is_spelled_argument r) h in
-      let left = and_parts (is_comparable l) (is_spelled_argument l) p.0 in
-      let right = and_parts (is_comparable r) (is_spelled_argument r) p.1 in
-      (argument_text l, [], operator_shown op, [], argument_text r, (left.0, argument_spelled l left.1), tt, operator_spelled op, tt, (right.0, argument_spelled r right.1), refl)
+      let p = and_parts (is_basic f && is_spelled_filter f) (are_spelled_operands fs) h in
+      let q = and_parts (is_basic f) (is_spelled_filter f) p.0 in
+      behind_bare (SpellsBasic IsValued f) (SpellsMoreAnd IsValued fs) (codes "&&") (filter_text f) (filters_text (codes "&&") (codes "&&") fs) (q.0, logical_spelled f q.1) (more_and_spelled fs p.1)
 
   test_spelled : (t : Test) → is_spelled_test t ≡ true → SpellsTest IsValued t (test_text t)
   test_spelled (relative gs) h = (segments_text gs, segments_spelled gs h, refl)

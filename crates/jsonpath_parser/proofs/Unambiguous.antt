@@ -1,9 +1,9 @@
 -- No text spells two trees: a query that is spelled is read, and reading is a function, so a query's text spells one; and each other kind of tree can stand in a query.
 use Rattle.std.proofs.Common.{◌≡◌, ℕ, true, false, ℤ, List, [], ◌++◌, codes, Option, Some, refl, sym, ap, inl, append-nil}
-use Rattle.jsonpath_parser.specs.Grammar.{Spells, SpellsSegments, SpellsSegment, SpellsSelector, SpellsLogical, SpellsConjunction, SpellsBasic, SpellsComparison, SpellsLiteral, SpellsTest, SpellsCall}
+use Rattle.jsonpath_parser.specs.Grammar.{Spells, SpellsSegments, SpellsSegment, SpellsSelector, SpellsLogical, SpellsLiteral, SpellsTest, SpellsCall}
 use Rattle.jsonpath_parser.specs.words.Numbers.{SpellsNumber}
-use Rattle.jsonpath_parser.specs.Parts.{Spelling, SpellsRelative, SpellsChild, SpellsSliceParts, SpellsSteps, SpellsSingular, SpellsComparable}
-use Rattle.jsonpath_parser.specs.tree.Syntax.{equal, slice, filter, one, descendant, no_segments, segment, Filter, or, and, atom, test, comparison, compare, relative, call, literal_argument, test_argument, Test, absolute}
+use Rattle.jsonpath_parser.specs.Parts.{Spelling, SpellsRelative, SpellsChild, SpellsSliceParts, SpellsSteps, SpellsSingular, SpellsConjunction, SpellsBasic, SpellsComparison, SpellsComparable}
+use Rattle.jsonpath_parser.specs.tree.Syntax.{equal, slice, filter, one, descendant, no_segments, segment, Filter, or, and, test, compare, relative, call, literal_argument, test_argument, Test, absolute}
 use Rattle.jsonpath_parser.specs.Unambiguous.{NoTextDerivesTwoTrees, SpellsOneTree, IsUnambiguous}
 use Rattle.jsonpath_parser.specs.Values.{IsValued}
 use Rattle.jsonpath_parser.specs.words.inner.Reading.{Read, first}
@@ -73,25 +73,19 @@ slice_unambiguous = within SpellsSliceParts SpellsSelector (λ p. slice p.0 p.1 
 pub logical_unambiguous : IsUnambiguous SpellsLogical
 logical_unambiguous = within SpellsLogical SpellsSelector filter (λ text. codes "?" ++ text) (λ v w e. cc) (λ Number f text h. ([], text, tt, h, refl)) selector_unambiguous
 
--- an operand of `||` alone
-conjunction_alone : (Number : Option ℤ → List ℕ → Type 0) (f : Filter) (text : List ℕ) → SpellsConjunction Number f text → SpellsLogical Number f text
-conjunction_alone Number (or fs) text h = absurd h
-conjunction_alone Number (and fs) text h = h
-conjunction_alone Number (atom x) text h = h
-
+-- a logical expression that is an operand of `||` or of `&&`, or a comparison
 pub conjunction_unambiguous : IsUnambiguous SpellsConjunction
-conjunction_unambiguous = within SpellsConjunction SpellsLogical (λ f. f) (λ text. text) (λ v w e. e) conjunction_alone logical_unambiguous
+conjunction_unambiguous = within SpellsConjunction SpellsLogical (λ f. f) (λ text. text) (λ v w e. e) (λ Number f text h. h.1) logical_unambiguous
 
--- an operand of `&&` alone
 pub basic_unambiguous : IsUnambiguous SpellsBasic
-basic_unambiguous = within SpellsBasic SpellsLogical atom (λ text. text) (λ v w e. cc) (λ Number x text h. h) logical_unambiguous
+basic_unambiguous = within SpellsBasic SpellsLogical (λ f. f) (λ text. text) (λ v w e. e) (λ Number f text h. h.1) logical_unambiguous
 
 pub comparison_unambiguous : IsUnambiguous SpellsComparison
-comparison_unambiguous = within SpellsComparison SpellsBasic comparison (λ text. text) (λ v w e. cc) (λ Number c text h. h) basic_unambiguous
+comparison_unambiguous = within SpellsComparison SpellsLogical (λ f. f) (λ text. text) (λ v w e. e) (λ Number f text h. h.1) logical_unambiguous
 
 -- a side of `==`, compared with itself
 pub comparable_unambiguous : IsUnambiguous SpellsComparable
-comparable_unambiguous = within SpellsComparable SpellsComparison (λ c. compare equal c c) (λ text. text ++ (codes "==" ++ text)) (λ v w e. cc) (λ Number c text h. (text, [], codes "==", [], text, h, tt, refl, tt, h, refl)) comparison_unambiguous
+comparable_unambiguous = within SpellsComparable SpellsLogical (λ c. compare equal c c) (λ text. text ++ (codes "==" ++ text)) (λ v w e. cc) (λ Number c text h. (text, [], codes "==", [], text, h, tt, refl, tt, h, refl)) logical_unambiguous
 
 pub literal_unambiguous : IsUnambiguous SpellsLiteral
 literal_unambiguous = within SpellsLiteral SpellsComparable literal_argument (λ text. text) (λ v w e. cc) (λ Number l text h. (refl, h)) comparable_unambiguous
@@ -111,7 +105,7 @@ steps_unambiguous = within SpellsSteps SpellsSingular relative (λ text. codes "
 
 -- a test without `!`
 pub test_unambiguous : IsUnambiguous SpellsTest
-test_unambiguous = within SpellsTest SpellsBasic (λ t. test false t) (λ text. text) (λ v w e. cc) (λ Number t text h. ([], text, refl, h, refl)) basic_unambiguous
+test_unambiguous = within SpellsTest SpellsLogical (λ t. test false t) (λ text. text) (λ v w e. cc) (λ Number t text h. ([], text, refl, h, refl)) logical_unambiguous
 
 pub relative_unambiguous : IsUnambiguous SpellsRelative
 relative_unambiguous = within SpellsRelative SpellsTest relative (λ text. text) (λ v w e. cc) (λ Number gs text h. h) test_unambiguous

@@ -1,8 +1,8 @@
 -- What is spelled with some number literals is spelled with more of them.
 use Rattle.std.proofs.Common.{inl, inr, ℕ, ℤ, true, false, Option, List, ◌++◌, codes}
-use Rattle.jsonpath_parser.specs.Grammar.{Between, Behind, Then, IsNothing, SpellsLiteral, SpellsSelector, SpellsSelectors, SpellsMoreSelectors, SpellsSegment, SpellsSegments, SpellsLogical, SpellsConjunction, SpellsOperand, SpellsOr, SpellsMoreOr, SpellsAnd, SpellsMoreAnd, SpellsBasic, SpellsComparison, SpellsTest, SpellsCall, SpellsArgument, SpellsArguments, SpellsMoreArguments, Spells}
-use Rattle.jsonpath_parser.specs.tree.Syntax.{Literal, number, string, bool, null, Selector, name, wildcard, index, slice, filter, Selectors, no_selectors, selector, Segment, one, several, descendant, Segments, no_segments, segment, Filter, or, and, atom, Filters, no_filters, filter_then, Atom, group, test, comparison, Comparison, compare, Test, relative, absolute, call, Call, custom_call, length_call, value_call, count_call, search_call, match_call, Argument, literal_argument, test_argument, filter_argument, Arguments, no_arguments, argument, Query}
-use Rattle.jsonpath_parser.specs.Parts.{SpellsComparable}
+use Rattle.jsonpath_parser.specs.Grammar.{Between, Behind, Then, IsNothing, SpellsLiteral, SpellsSelector, SpellsSelectors, SpellsMoreSelectors, SpellsSegment, SpellsSegments, SpellsLogical, SpellsOr, SpellsMoreOr, SpellsAnd, SpellsMoreAnd, SpellsTest, SpellsCall, SpellsArgument, SpellsArguments, SpellsMoreArguments, Spells}
+use Rattle.jsonpath_parser.specs.tree.Syntax.{Literal, number, string, bool, null, Selector, name, wildcard, index, slice, filter, Selectors, no_selectors, selector, Segment, one, several, descendant, Segments, no_segments, segment, Filter, or, and, Filters, no_filters, filter_then, group, test, compare, Test, relative, absolute, call, Call, custom_call, length_call, value_call, count_call, search_call, match_call, Argument, literal_argument, test_argument, filter_argument, Arguments, no_arguments, argument, Query}
+use Rattle.jsonpath_parser.specs.Parts.{SpellsConjunction, SpellsBasic, SpellsComparison, SpellsComparable}
 
 between_wider : (S T : List ℕ → Type 0) → ((a : List ℕ) → S a → T a) → (x y text : List ℕ) → Between x S y text → Between x T y text
 between_wider S T wider x y text h = let (b, a, c, hb, ha, hc, e) = h in (b, a, c, hb, wider a ha, hc, e)
@@ -53,41 +53,25 @@ module _ (N M : Option ℤ → List ℕ → Type 0) (wider : (v : Option ℤ) (a
     pub logical_wider : (f : Filter) (a : List ℕ) → SpellsLogical N f a → SpellsLogical M f a
     logical_wider (or fs) a h = (h.0, or_wider fs a h.1)
     logical_wider (and fs) a h = (h.0, and_wider fs a h.1)
-    logical_wider (atom x) a h = basic_wider x a h
-
-    pub conjunction_wider : (f : Filter) (a : List ℕ) → SpellsConjunction N f a → SpellsConjunction M f a
-    conjunction_wider (or fs) a h = absurd h
-    conjunction_wider (and fs) a h = (h.0, and_wider fs a h.1)
-    conjunction_wider (atom x) a h = basic_wider x a h
-
-    operand_wider : (f : Filter) (a : List ℕ) → SpellsOperand N f a → SpellsOperand M f a
-    operand_wider (or fs) a h = absurd h
-    operand_wider (and fs) a h = absurd h
-    operand_wider (atom x) a h = basic_wider x a h
+    logical_wider (group negated f) a h = let (b, c, hb, hc, e) = h in (b, c, hb, between_wider (SpellsLogical N f) (SpellsLogical M f) (logical_wider f) (codes "(") (codes ")") c hc, e)
+    logical_wider (test negated t) a h = let (b, c, hb, hc, e) = h in (b, c, hb, test_wider t c hc, e)
+    logical_wider (compare op l r) a h = let (x, b, o, c, y, hx, hb, ho, hc, hy, e) = h in (x, b, o, c, y, (hx.0, argument_wider l x hx.1), hb, ho, hc, (hy.0, argument_wider r y hy.1), e)
 
     or_wider : (fs : Filters) (a : List ℕ) → SpellsOr N fs a → SpellsOr M fs a
     or_wider no_filters a h = absurd h
-    or_wider (filter_then f fs) a h = then_wider (SpellsConjunction N f) (SpellsConjunction M f) (SpellsMoreOr N fs) (SpellsMoreOr M fs) (conjunction_wider f) (more_or_wider fs) a h
+    or_wider (filter_then f fs) a h = then_wider (SpellsConjunction N f) (SpellsConjunction M f) (SpellsMoreOr N fs) (SpellsMoreOr M fs) (λ x hx. (hx.0, logical_wider f x hx.1)) (more_or_wider fs) a h
 
     more_or_wider : (fs : Filters) (a : List ℕ) → SpellsMoreOr N fs a → SpellsMoreOr M fs a
     more_or_wider no_filters a h = h
-    more_or_wider (filter_then f fs) a h = behind_wider (SpellsConjunction N f) (SpellsConjunction M f) (SpellsMoreOr N fs) (SpellsMoreOr M fs) (conjunction_wider f) (more_or_wider fs) (codes "||") a h
+    more_or_wider (filter_then f fs) a h = behind_wider (SpellsConjunction N f) (SpellsConjunction M f) (SpellsMoreOr N fs) (SpellsMoreOr M fs) (λ x hx. (hx.0, logical_wider f x hx.1)) (more_or_wider fs) (codes "||") a h
 
     and_wider : (fs : Filters) (a : List ℕ) → SpellsAnd N fs a → SpellsAnd M fs a
     and_wider no_filters a h = absurd h
-    and_wider (filter_then f fs) a h = then_wider (SpellsOperand N f) (SpellsOperand M f) (SpellsMoreAnd N fs) (SpellsMoreAnd M fs) (operand_wider f) (more_and_wider fs) a h
+    and_wider (filter_then f fs) a h = then_wider (SpellsBasic N f) (SpellsBasic M f) (SpellsMoreAnd N fs) (SpellsMoreAnd M fs) (λ x hx. (hx.0, logical_wider f x hx.1)) (more_and_wider fs) a h
 
     more_and_wider : (fs : Filters) (a : List ℕ) → SpellsMoreAnd N fs a → SpellsMoreAnd M fs a
     more_and_wider no_filters a h = h
-    more_and_wider (filter_then f fs) a h = behind_wider (SpellsOperand N f) (SpellsOperand M f) (SpellsMoreAnd N fs) (SpellsMoreAnd M fs) (operand_wider f) (more_and_wider fs) (codes "&&") a h
-
-    pub basic_wider : (x : Atom) (a : List ℕ) → SpellsBasic N x a → SpellsBasic M x a
-    basic_wider (group negated f) a h = let (b, c, hb, hc, e) = h in (b, c, hb, between_wider (SpellsLogical N f) (SpellsLogical M f) (logical_wider f) (codes "(") (codes ")") c hc, e)
-    basic_wider (test negated t) a h = let (b, c, hb, hc, e) = h in (b, c, hb, test_wider t c hc, e)
-    basic_wider (comparison c) a h = comparison_wider c a h
-
-    pub comparison_wider : (c : Comparison) (a : List ℕ) → SpellsComparison N c a → SpellsComparison M c a
-    comparison_wider (compare op l r) a h = let (x, b, o, c, y, hx, hb, ho, hc, hy, e) = h in (x, b, o, c, y, (hx.0, argument_wider l x hx.1), hb, ho, hc, (hy.0, argument_wider r y hy.1), e)
+    more_and_wider (filter_then f fs) a h = behind_wider (SpellsBasic N f) (SpellsBasic M f) (SpellsMoreAnd N fs) (SpellsMoreAnd M fs) (λ x hx. (hx.0, logical_wider f x hx.1)) (more_and_wider fs) (codes "&&") a h
 
     pub test_wider : (t : Test) (a : List ℕ) → SpellsTest N t a → SpellsTest M t a
     test_wider (relative gs) a h = let (x, hx, e) = h in (x, segments_wider gs x hx, e)
@@ -116,6 +100,15 @@ module _ (N M : Option ℤ → List ℕ → Type 0) (wider : (v : Option ℤ) (a
     more_arguments_wider : (xs : Arguments) (a : List ℕ) → SpellsMoreArguments N xs a → SpellsMoreArguments M xs a
     more_arguments_wider no_arguments a h = h
     more_arguments_wider (argument x xs) a h = behind_wider (SpellsArgument N x) (SpellsArgument M x) (SpellsMoreArguments N xs) (SpellsMoreArguments M xs) (argument_wider x) (more_arguments_wider xs) (codes ",") a h
+
+  pub conjunction_wider : (f : Filter) (a : List ℕ) → SpellsConjunction N f a → SpellsConjunction M f a
+  conjunction_wider f a h = (h.0, logical_wider f a h.1)
+
+  pub basic_wider : (f : Filter) (a : List ℕ) → SpellsBasic N f a → SpellsBasic M f a
+  basic_wider f a h = (h.0, logical_wider f a h.1)
+
+  pub comparison_wider : (f : Filter) (a : List ℕ) → SpellsComparison N f a → SpellsComparison M f a
+  comparison_wider f a h = (h.0, logical_wider f a h.1)
 
   pub comparable_wider : (x : Argument) (a : List ℕ) → SpellsComparable N x a → SpellsComparable M x a
   comparable_wider x a h = (h.0, argument_wider x a h.1)

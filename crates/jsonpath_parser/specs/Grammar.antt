@@ -8,7 +8,7 @@ use Rattle.std.specs.Char.{is_ascii_digit}
 use Rattle.jsonpath_parser.specs.words.Lexical.{IsRun, IsBlank, IsName, IsFunctionName}
 use Rattle.jsonpath_parser.specs.words.Strings.{SpellsString}
 use Rattle.jsonpath_parser.specs.tree.Typing.{is_comparable, is_table_name}
-use Rattle.jsonpath_parser.specs.tree.Syntax.{Literal, number, string, bool, null, Operator, equal, not_equal, greater, greater_or_equal, less, less_or_equal, Selector, name, wildcard, index, slice, filter, Selectors, no_selectors, selector, Segment, one, several, descendant, Segments, no_segments, segment, Filter, or, and, atom, Filters, no_filters, filter_then, Atom, group, test, comparison, Comparison, compare, Test, relative, absolute, call, Call, custom_call, length_call, value_call, count_call, search_call, match_call, Argument, literal_argument, test_argument, filter_argument, Arguments, no_arguments, argument, Query}
+use Rattle.jsonpath_parser.specs.tree.Syntax.{Literal, number, string, bool, null, Operator, equal, not_equal, greater, greater_or_equal, less, less_or_equal, Selector, name, wildcard, index, slice, filter, Selectors, no_selectors, selector, Segment, one, several, descendant, Segments, no_segments, segment, Filter, or, and, Filters, no_filters, filter_then, group, test, compare, Test, relative, absolute, call, Call, custom_call, length_call, value_call, count_call, search_call, match_call, Argument, literal_argument, test_argument, filter_argument, Arguments, no_arguments, argument, Query}
 
 -- a digit from 1 to 9, then digits (2.3.3.1)
 abbrev pub SpellsPositive : ℕ → List ℕ → Type 0
@@ -95,9 +95,20 @@ abbrev pub IsPlural : Filters → Type 0
 IsPlural (filter_then f (filter_then g fs)) = Unit {0}
 IsPlural _ = ⊥
 
+-- what may be an operand of `||`: no `||` (2.3.5.1)
+abbrev pub is_conjunction : Filter → Bool
+is_conjunction (or fs) = false
+is_conjunction _ = true
+
+-- what may be an operand of `&&`: neither `||` nor `&&`
+abbrev pub is_basic : Filter → Bool
+is_basic (or fs) = false
+is_basic (and fs) = false
+is_basic _ = true
+
 -- no test alone
 abbrev pub IsNoBareTest : Filter → Type 0
-IsNoBareTest (atom (test false t)) = ⊥
+IsNoBareTest (test false t) = ⊥
 IsNoBareTest _ = Unit {0}
 
 module _ (Number : Option ℤ → List ℕ → Type 0) where
@@ -140,48 +151,29 @@ module _ (Number : Option ℤ → List ℕ → Type 0) where
     SpellsSegments no_segments text = text ≡ []
     SpellsSegments (segment g gs) text = (b a c : List ℕ) × IsBlank b × SpellsSegment g a × SpellsSegments gs c × (text ≡ b ++ (a ++ c))
 
-    -- what a filter is: two or more operands of `||`, two or more of `&&`, or one (2.3.5.1)
+    -- two or more operands of `||`, two or more of `&&`, a filter in parentheses, a test, or a comparison (2.3.5.1)
     pub SpellsLogical : Filter → List ℕ → Type 0
     SpellsLogical (or fs) text = IsPlural fs × SpellsOr fs text
     SpellsLogical (and fs) text = IsPlural fs × SpellsAnd fs text
-    SpellsLogical (atom a) text = SpellsBasic a text
-
-    -- an operand of `||`
-    pub SpellsConjunction : Filter → List ℕ → Type 0
-    SpellsConjunction (or fs) text = ⊥
-    SpellsConjunction (and fs) text = IsPlural fs × SpellsAnd fs text
-    SpellsConjunction (atom a) text = SpellsBasic a text
-
-    -- an operand of `&&`
-    pub SpellsOperand : Filter → List ℕ → Type 0
-    SpellsOperand (atom a) text = SpellsBasic a text
-    SpellsOperand _ text = ⊥
+    SpellsLogical (group negated f) text = (a b : List ℕ) × SpellsNot negated a × Between (codes "(") (SpellsLogical f) (codes ")") b × (text ≡ a ++ b)
+    SpellsLogical (test negated t) text = (a b : List ℕ) × SpellsNot negated a × SpellsTest t b × (text ≡ a ++ b)
+    SpellsLogical (compare op l r) text = (a b o c d : List ℕ) × (IsTrue (is_comparable l) × SpellsArgument l a) × IsBlank b × SpellsOperator op o × IsBlank c × (IsTrue (is_comparable r) × SpellsArgument r d) × (text ≡ a ++ (b ++ (o ++ (c ++ d))))
 
     pub SpellsOr : Filters → List ℕ → Type 0
     SpellsOr no_filters text = ⊥
-    SpellsOr (filter_then f fs) text = Then (SpellsConjunction f) (SpellsMoreOr fs) text
+    SpellsOr (filter_then f fs) text = Then (λ a. IsTrue (is_conjunction f) × SpellsLogical f a) (SpellsMoreOr fs) text
 
     pub SpellsMoreOr : Filters → List ℕ → Type 0
     SpellsMoreOr no_filters text = text ≡ []
-    SpellsMoreOr (filter_then f fs) text = Behind (codes "||") (SpellsConjunction f) (SpellsMoreOr fs) text
+    SpellsMoreOr (filter_then f fs) text = Behind (codes "||") (λ a. IsTrue (is_conjunction f) × SpellsLogical f a) (SpellsMoreOr fs) text
 
     pub SpellsAnd : Filters → List ℕ → Type 0
     SpellsAnd no_filters text = ⊥
-    SpellsAnd (filter_then f fs) text = Then (SpellsOperand f) (SpellsMoreAnd fs) text
+    SpellsAnd (filter_then f fs) text = Then (λ a. IsTrue (is_basic f) × SpellsLogical f a) (SpellsMoreAnd fs) text
 
     pub SpellsMoreAnd : Filters → List ℕ → Type 0
     SpellsMoreAnd no_filters text = text ≡ []
-    SpellsMoreAnd (filter_then f fs) text = Behind (codes "&&") (SpellsOperand f) (SpellsMoreAnd fs) text
-
-    -- a group in parentheses, a test or a comparison
-    pub SpellsBasic : Atom → List ℕ → Type 0
-    SpellsBasic (group negated f) text = (a b : List ℕ) × SpellsNot negated a × Between (codes "(") (SpellsLogical f) (codes ")") b × (text ≡ a ++ b)
-    SpellsBasic (test negated t) text = (a b : List ℕ) × SpellsNot negated a × SpellsTest t b × (text ≡ a ++ b)
-    SpellsBasic (comparison c) text = SpellsComparison c text
-
-    -- 2.3.5.2.2
-    pub SpellsComparison : Comparison → List ℕ → Type 0
-    SpellsComparison (compare op l r) text = (a b o c d : List ℕ) × (IsTrue (is_comparable l) × SpellsArgument l a) × IsBlank b × SpellsOperator op o × IsBlank c × (IsTrue (is_comparable r) × SpellsArgument r d) × (text ≡ a ++ (b ++ (o ++ (c ++ d))))
+    SpellsMoreAnd (filter_then f fs) text = Behind (codes "&&") (λ a. IsTrue (is_basic f) × SpellsLogical f a) (SpellsMoreAnd fs) text
 
     pub SpellsTest : Test → List ℕ → Type 0
     SpellsTest (relative gs) text = (a : List ℕ) × SpellsSegments gs a × (text ≡ codes "@" ++ a)

@@ -1,9 +1,9 @@
 -- What the grammar functions of a cursor answer: each reads one kind of tree at the cursor's place (RFC 9535, 2.1 to 2.5).
-use Rattle.std.specs.Prelude.{◌≡◌, ℕ, ◌-◌, Bool, true, IsTrue, ℤ, List, [], ◌++◌, length, codes, Option, Result, MatchResult, IfOk, IfErr, OnErr, string_bytes, ⊤}
+use Rattle.std.specs.Prelude.{◌≡◌, ℕ, ◌-◌, Bool, true, false, IsTrue, ℤ, List, [], ◌++◌, length, codes, Option, Result, MatchResult, IfOk, IfErr, OnErr, string_bytes, ⊤}
 use Rattle.std.specs.Str.{IsCharBoundary}
-use Rattle.jsonpath_parser.specs.Grammar.{SpellsSlice, SpellsSegment, SpellsSegments, SpellsTest, SpellsArgument}
+use Rattle.jsonpath_parser.specs.Grammar.{SpellsSlice, SpellsSegment, SpellsSegments, SpellsLogical, SpellsTest, SpellsArgument, is_conjunction, is_basic}
 use Rattle.jsonpath_parser.specs.words.Numbers.{SpellsNumber}
-use Rattle.jsonpath_parser.specs.tree.Syntax.{Segment, descendant, Segments, Test, relative, Argument}
+use Rattle.jsonpath_parser.specs.tree.Syntax.{Segment, descendant, Segments, Filter, compare, Test, relative, Argument}
 use Rattle.jsonpath_parser.specs.tree.Typing.{is_singular, is_singular_test, is_comparable}
 use Rattle.jsonpath_parser.specs.Valueless.{IsValuelessIn}
 use Rattle.jsonpath_parser.specs.Values.{IsValued}
@@ -46,6 +46,22 @@ SpellsSteps Number gs text = IsTrue (is_singular gs) × SpellsSegments Number gs
 -- `@` or `$` and such steps
 abbrev pub SpellsSingular : Spelling Test
 SpellsSingular Number t text = IsTrue (is_singular_test t) × SpellsTest Number t text
+
+-- an operand of `||` (2.3.5.1)
+abbrev pub SpellsConjunction : Spelling Filter
+SpellsConjunction Number f text = IsTrue (is_conjunction f) × SpellsLogical Number f text
+
+-- an operand of `&&`
+abbrev pub SpellsBasic : Spelling Filter
+SpellsBasic Number f text = IsTrue (is_basic f) × SpellsLogical Number f text
+
+-- a comparison (2.3.5.2.2)
+abbrev pub is_comparison : Filter → Bool
+is_comparison (compare op left right) = true
+is_comparison _ = false
+
+abbrev pub SpellsComparison : Spelling Filter
+SpellsComparison Number f text = IsTrue (is_comparison f) × SpellsLogical Number f text
 
 -- a side of a comparison (2.3.5.1)
 abbrev pub SpellsComparable : Spelling Argument

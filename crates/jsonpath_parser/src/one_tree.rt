@@ -1,6 +1,6 @@
 //! The law that no text spells two trees (RFC 9535, 2.1 to 2.5).
-ghost use Rattle.jsonpath_parser.specs.Grammar.{Spells, SpellsSegments, SpellsSegment, SpellsSelector, SpellsLogical, SpellsConjunction, SpellsBasic, SpellsComparison, SpellsLiteral, SpellsTest, SpellsCall};
-ghost use Rattle.jsonpath_parser.specs.Parts.{SpellsRelative, SpellsChild, SpellsSliceParts, SpellsSteps, SpellsSingular, SpellsComparable};
+ghost use Rattle.jsonpath_parser.specs.Grammar.{Spells, SpellsSegments, SpellsSegment, SpellsSelector, SpellsLogical, SpellsLiteral, SpellsTest, SpellsCall};
+ghost use Rattle.jsonpath_parser.specs.Parts.{SpellsRelative, SpellsChild, SpellsSliceParts, SpellsSteps, SpellsSingular, SpellsConjunction, SpellsBasic, SpellsComparison, SpellsComparable};
 ghost use Rattle.jsonpath_parser.specs.Unambiguous.{NoTextDerivesTwoTrees, IsUnambiguous};
 
 /// States a law and does nothing: no text derives two trees, whatever the limits of depth.

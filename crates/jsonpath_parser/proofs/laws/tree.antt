@@ -1,5 +1,6 @@
 pub mod Calls
 pub mod Joined
+pub mod Kinds
 pub mod Reached
 pub mod Spellable
 pub mod Steps

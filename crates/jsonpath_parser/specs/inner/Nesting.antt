@@ -1,6 +1,6 @@
 -- How deep brackets nest in the text that the code writes for a tree. The laws of proofs/ join it to the depth of any text that spells the tree.
 use Rattle.std.specs.Prelude.{ℕ, suc, max, List, [], ◌∷◌}
-use Rattle.jsonpath_parser.specs.tree.Syntax.{Selector, filter, Selectors, no_selectors, selector, Segment, one, several, descendant, no_segments, segment, Filter, or, and, atom, Filters, no_filters, filter_then, Atom, group, test, comparison, Comparison, compare, Test, relative, absolute, call, Call, custom_call, length_call, value_call, count_call, search_call, match_call, Argument, literal_argument, test_argument, filter_argument, Arguments, no_arguments, argument, Query}
+use Rattle.jsonpath_parser.specs.tree.Syntax.{Selector, filter, Selectors, no_selectors, selector, Segment, one, several, descendant, no_segments, segment, Filter, or, and, Filters, no_filters, filter_then, group, test, compare, Test, relative, absolute, call, Call, custom_call, length_call, value_call, count_call, search_call, match_call, Argument, literal_argument, test_argument, filter_argument, Arguments, no_arguments, argument, Query}
 
 abbrev mutual
   pub nesting : Query → ℕ
@@ -23,19 +23,13 @@ abbrev mutual
   pub filter_nesting : Filter → ℕ
   filter_nesting (or fs) = filters_nesting fs
   filter_nesting (and fs) = filters_nesting fs
-  filter_nesting (atom a) = atom_nesting a
+  filter_nesting (group negated f) = suc (filter_nesting f)
+  filter_nesting (test negated t) = test_nesting t
+  filter_nesting (compare op left right) = max (argument_nesting left) (argument_nesting right)
 
   pub filters_nesting : Filters → ℕ
   filters_nesting no_filters = 0
   filters_nesting (filter_then f fs) = max (filter_nesting f) (filters_nesting fs)
-
-  pub atom_nesting : Atom → ℕ
-  atom_nesting (group negated f) = suc (filter_nesting f)
-  atom_nesting (test negated t) = test_nesting t
-  atom_nesting (comparison c) = comparison_nesting c
-
-  pub comparison_nesting : Comparison → ℕ
-  comparison_nesting (compare op left right) = max (argument_nesting left) (argument_nesting right)
 
   pub test_nesting : Test → ℕ
   test_nesting (relative gs) = nesting gs

@@ -3,7 +3,7 @@ use Rattle.std.specs.Prelude.{ℕ, ℤ, Bool, List, [], ◌∷◌, ◌++◌, cod
 use Rattle.std.specs.Fmt.{signed_decimal}
 use Rattle.jsonpath_parser.specs.Normal.{name_chars}
 use Rattle.jsonpath_parser.specs.tree.Shown.{not_shown, operator_shown}
-use Rattle.jsonpath_parser.specs.tree.Syntax.{Literal, number, string, bool, null, Selector, name, wildcard, index, slice, filter, Selectors, no_selectors, selector, Segment, one, several, descendant, Segments, no_segments, segment, Query, Filter, or, and, atom, Filters, no_filters, filter_then, Atom, group, test, comparison, Comparison, compare, Test, relative, absolute, call, Call, custom_call, length_call, value_call, count_call, search_call, match_call, Argument, literal_argument, test_argument, filter_argument, Arguments, no_arguments, argument}
+use Rattle.jsonpath_parser.specs.tree.Syntax.{Literal, number, string, bool, null, Selector, name, wildcard, index, slice, filter, Selectors, no_selectors, selector, Segment, one, several, descendant, Segments, no_segments, segment, Query, Filter, or, and, Filters, no_filters, filter_then, group, test, compare, Test, relative, absolute, call, Call, custom_call, length_call, value_call, count_call, search_call, match_call, Argument, literal_argument, test_argument, filter_argument, Arguments, no_arguments, argument}
 
 -- a string as a Normalized Path quotes a name (2.7)
 abbrev pub string_text : List ℕ → List ℕ
@@ -56,20 +56,14 @@ abbrev mutual
   pub filter_text : Filter → List ℕ
   filter_text (or fs) = filters_text (codes "||") [] fs
   filter_text (and fs) = filters_text (codes "&&") [] fs
-  filter_text (atom a) = atom_text a
+  filter_text (group negated f) = not_shown negated ++ (codes "(" ++ (filter_text f ++ codes ")"))
+  filter_text (test negated t) = not_shown negated ++ test_text t
+  filter_text (compare op left right) = argument_text left ++ (operator_shown op ++ argument_text right)
 
   -- the first behind a text, each other behind the operator
   pub filters_text : List ℕ → List ℕ → Filters → List ℕ
   filters_text between before no_filters = []
   filters_text between before (filter_then f fs) = before ++ (filter_text f ++ filters_text between between fs)
-
-  pub atom_text : Atom → List ℕ
-  atom_text (group negated f) = not_shown negated ++ (codes "(" ++ (filter_text f ++ codes ")"))
-  atom_text (test negated t) = not_shown negated ++ test_text t
-  atom_text (comparison c) = comparison_text c
-
-  pub comparison_text : Comparison → List ℕ
-  comparison_text (compare op left right) = argument_text left ++ (operator_shown op ++ argument_text right)
 
   pub test_text : Test → List ℕ
   test_text (relative gs) = codes "@" ++ segments_text gs

@@ -11,7 +11,7 @@ use Rattle.jsonpath_parser.specs.words.inner.ReadingNumbers.{number_at}
 use Rattle.jsonpath_parser.specs.words.inner.ReadingStrings.{string_at}
 use Rattle.jsonpath_parser.specs.declared.grammar.literals.Numbers.{Numbers}
 use Rattle.jsonpath_parser.specs.declared.grammar.literals.Numbers.TheVariants.{Valued, Any}
-use Rattle.jsonpath_parser.specs.tree.Syntax.{Literal, number, string, bool, null, Operator, equal, not_equal, greater, greater_or_equal, less, less_or_equal, Selector, name, wildcard, index, slice, filter, Selectors, no_selectors, selector, Segment, one, several, descendant, Segments, no_segments, segment, Filter, or, and, atom, Filters, no_filters, filter_then, group, test, comparison, compare, relative, absolute, call, Call, Argument, literal_argument, test_argument, filter_argument, Arguments, no_arguments, argument, Query, list_of}
+use Rattle.jsonpath_parser.specs.tree.Syntax.{Literal, number, string, bool, null, Operator, equal, not_equal, greater, greater_or_equal, less, less_or_equal, Selector, name, wildcard, index, slice, filter, Selectors, no_selectors, selector, Segment, one, several, descendant, Segments, no_segments, segment, Filter, or, and, Filters, no_filters, filter_then, group, test, compare, relative, absolute, call, Call, Argument, literal_argument, test_argument, filter_argument, Arguments, no_arguments, argument, Query, list_of}
 use Rattle.jsonpath_parser.specs.tree.Typing.{call_of}
 
 -- ---- how the code's values are seen
@@ -57,12 +57,12 @@ comparable_of (filter_argument f) = None
 -- and as a logical expression
 abbrev pub filter_of : Argument → Option Filter
 filter_of (literal_argument l) = None
-filter_of (test_argument t) = Some (atom (test false t))
+filter_of (test_argument t) = Some (test false t)
 filter_of (filter_argument f) = Some f
 
 -- a test behind `!`
 abbrev pub negated_of : Argument → Option Argument
-negated_of (test_argument t) = Some (filter_argument (atom (test true t)))
+negated_of (test_argument t) = Some (filter_argument (test true t))
 negated_of _ = None
 
 -- ---- slices and indexes
@@ -227,7 +227,7 @@ module _ (number_literal_at : List ℕ → Read (Option ℤ)) (argument_at : Lis
   group_at negated text =
       after_byte 40 text >>= (λ inner.
       logical_at (skip_blank inner) >>= (λ f.
-      after_byte 41 (skip_blank f.1) >>= (λ rest. Some (filter_argument (atom (group negated f.0)), rest))))
+      after_byte 41 (skip_blank f.1) >>= (λ rest. Some (filter_argument (group negated f.0), rest))))
 
   -- a group or a test, behind `!`
   unfoldable pub negated_at : List ℕ → Read Argument
@@ -241,7 +241,7 @@ module _ (number_literal_at : List ℕ → Read (Option ℤ)) (argument_at : Lis
       operator_at text >>= (λ op.
       operand_at (skip_blank op.1) >>= (λ right.
       comparable_of left >>= (λ l.
-      comparable_of right.0 >>= (λ r. Some (filter_argument (atom (comparison (compare op.0 l r))), right.1)))))
+      comparable_of right.0 >>= (λ r. Some (filter_argument (compare op.0 l r), right.1)))))
 
   -- an operand alone, or a comparison
   unfoldable pub plain_at : List ℕ → Read Argument

@@ -2,10 +2,11 @@
 use Rattle.std.specs.Prelude.{◌≡◌, ◌⊎◌, ℕ, suc, ◌==◌, Bool, true, false, if◌then◌else◌, ℤ, List, [], length, Option, Some, None, Result, Ok, Err, MatchResult, IsOkAnd, IfOk, IfErr, OnErr, ◌-◌, drop, string_bytes, ⊤}
 use Rattle.std.specs.Borrow.{Bor}
 use Rattle.std.specs.Str.{IsCharBoundary}
-use Rattle.jsonpath_parser.specs.Parts.{text_of, rest_of}
+use Rattle.jsonpath_parser.specs.Grammar.{is_basic}
+use Rattle.jsonpath_parser.specs.Parts.{text_of, rest_of, is_comparison}
 use Rattle.jsonpath_parser.specs.words.inner.Reading.{Read, ◌>>=◌, first}
 use Rattle.jsonpath_parser.specs.inner.ReadingGrammar.{number_reading, comparable_of, filter_of, shorthand_at, selection_at, operand_at, basic_at, conjunction_at, all_segments_at, segment_at, selector_at, logical_at, argument_at}
-use Rattle.jsonpath_parser.specs.tree.Syntax.{Literal, Selector, slice, Segment, one, Segments, Filter, atom, Atom, comparison, Comparison, Test, relative, absolute, call, Call, Argument, literal_argument, test_argument, Query}
+use Rattle.jsonpath_parser.specs.tree.Syntax.{Literal, Selector, slice, Segment, one, Segments, Filter, Test, relative, absolute, call, Call, Argument, literal_argument, test_argument, Query}
 use Rattle.jsonpath_parser.specs.Valueless.{IsValuelessIn}
 use Rattle.jsonpath_parser.specs.declared.errors.JsonPathError.{JsonPathError}
 use Rattle.jsonpath_parser.specs.declared.errors.JsonPathError.TheVariants.{PestError, InvalidNumber, OutOfMemory}
@@ -45,19 +46,15 @@ singular_of _ = None
 abbrev pub singular_in : Argument → Option Test
 singular_in x = comparable_of x >>= singular_of
 
-abbrev pub atom_of : Filter → Option Atom
-atom_of (atom a) = Some a
-atom_of _ = None
+-- the filter, if the test holds
+abbrev pub where_it_is : (Filter → Bool) → Filter → Option Filter
+where_it_is keeps f = if keeps f then Some f else None
 
-abbrev pub atom_in : Argument → Option Atom
-atom_in x = filter_of x >>= atom_of
+abbrev pub atom_in : Argument → Option Filter
+atom_in x = filter_of x >>= where_it_is is_basic
 
-abbrev pub comparison_of_atom : Atom → Option Comparison
-comparison_of_atom (comparison c) = Some c
-comparison_of_atom _ = None
-
-abbrev pub comparison_in : Argument → Option Comparison
-comparison_in x = atom_in x >>= comparison_of_atom
+abbrev pub comparison_in : Argument → Option Filter
+comparison_in x = atom_in x >>= where_it_is is_comparison
 
 abbrev pub slice_in : Selector → Option (Option ℤ × Option ℤ × Option ℤ)
 slice_in (slice start end step) = Some (start, end, step)

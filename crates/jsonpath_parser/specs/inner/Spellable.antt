@@ -3,8 +3,9 @@ use Rattle.std.specs.Prelude.{ℕ, ℤ, pos, negsuc, Bool, true, false, not, ◌
 use Rattle.std.specs.Int.Signed.{le_z}
 use Rattle.std.specs.List.{list_all}
 use Rattle.jsonpath_parser.specs.words.Lexical.{is_function_first, is_function_byte}
+use Rattle.jsonpath_parser.specs.Grammar.{is_conjunction, is_basic}
 use Rattle.jsonpath_parser.specs.tree.Typing.{is_comparable, is_table_name}
-use Rattle.jsonpath_parser.specs.tree.Syntax.{Literal, number, Selector, name, wildcard, index, slice, filter, Selectors, no_selectors, selector, Segment, one, several, descendant, no_segments, segment, Query, Filter, or, and, atom, Filters, no_filters, filter_then, Atom, group, test, comparison, Comparison, compare, Test, relative, absolute, call, Call, custom_call, length_call, value_call, count_call, search_call, match_call, Argument, literal_argument, test_argument, filter_argument, Arguments, no_arguments, argument}
+use Rattle.jsonpath_parser.specs.tree.Syntax.{Literal, number, Selector, name, wildcard, index, slice, filter, Selectors, no_selectors, selector, Segment, one, several, descendant, no_segments, segment, Query, Filter, or, and, Filters, no_filters, filter_then, group, test, compare, Test, relative, absolute, call, Call, custom_call, length_call, value_call, count_call, search_call, match_call, Argument, literal_argument, test_argument, filter_argument, Arguments, no_arguments, argument}
 
 -- from -(2^53 - 1) to 2^53 - 1 (2.1)
 abbrev pub is_in_range : ℤ → Bool
@@ -45,23 +46,9 @@ abbrev pub is_child : Segment → Bool
 is_child (descendant g) = false
 is_child _ = true
 
--- what may be an operand of `||`
-abbrev pub is_conjunction : Filter → Bool
-is_conjunction (or fs) = false
-is_conjunction _ = true
-
--- what may be an operand of `&&`
-abbrev pub is_operand : Filter → Bool
-is_operand (atom a) = true
-is_operand _ = false
-
--- a test without `!`
-abbrev pub is_bare_test : Atom → Bool
-is_bare_test (test negated t) = not negated
-is_bare_test _ = false
-
+-- no test without `!`
 abbrev pub is_no_bare_test : Filter → Bool
-is_no_bare_test (atom a) = not (is_bare_test a)
+is_no_bare_test (test negated t) = negated
 is_no_bare_test _ = true
 
 abbrev mutual
@@ -88,7 +75,9 @@ abbrev mutual
   pub is_spelled_filter : Filter → Bool
   is_spelled_filter (or fs) = are_several_filters fs && are_spelled_conjunctions fs
   is_spelled_filter (and fs) = are_several_filters fs && are_spelled_operands fs
-  is_spelled_filter (atom a) = is_spelled_atom a
+  is_spelled_filter (group negated f) = is_spelled_filter f
+  is_spelled_filter (test negated t) = is_spelled_test t
+  is_spelled_filter (compare op left right) = (is_comparable left && is_spelled_argument left) && (is_comparable right && is_spelled_argument right)
 
   pub are_spelled_conjunctions : Filters → Bool
   are_spelled_conjunctions no_filters = true
@@ -96,15 +85,7 @@ abbrev mutual
 
   pub are_spelled_operands : Filters → Bool
   are_spelled_operands no_filters = true
-  are_spelled_operands (filter_then f fs) = (is_operand f && is_spelled_filter f) && are_spelled_operands fs
-
-  pub is_spelled_atom : Atom → Bool
-  is_spelled_atom (group negated f) = is_spelled_filter f
-  is_spelled_atom (test negated t) = is_spelled_test t
-  is_spelled_atom (comparison c) = is_spelled_comparison c
-
-  pub is_spelled_comparison : Comparison → Bool
-  is_spelled_comparison (compare op left right) = (is_comparable left && is_spelled_argument left) && (is_comparable right && is_spelled_argument right)
+  are_spelled_operands (filter_then f fs) = (is_basic f && is_spelled_filter f) && are_spelled_operands fs
 
   pub is_spelled_test : Test → Bool
   is_spelled_test (relative gs) = is_spelled gs
@@ -136,4 +117,4 @@ abbrev pub is_spelled_conjunction : Filter → Bool
 is_spelled_conjunction f = is_conjunction f && is_spelled_filter f
 
 abbrev pub is_spelled_operand : Filter → Bool
-is_spelled_operand f = is_operand f && is_spelled_filter f
+is_spelled_operand f = is_basic f && is_spelled_filter f

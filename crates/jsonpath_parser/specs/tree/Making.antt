@@ -1,6 +1,6 @@
 -- What the makers of trees answer.
 use Rattle.std.specs.Prelude.{◌≡◌, ℕ, Bool, true, false, not, List, Option, Some, None, Result, MatchResult, ⊤, is_none, bytes_eq, codes, option_map, option_and_then, if◌then◌else◌}
-use Rattle.jsonpath_parser.specs.tree.Syntax.{Operator, equal, not_equal, greater, greater_or_equal, less, less_or_equal, Comparison, compare, Test, call, Call, Argument, literal_argument, filter_argument, Arguments}
+use Rattle.jsonpath_parser.specs.tree.Syntax.{Operator, equal, not_equal, greater, greater_or_equal, less, less_or_equal, Filter, compare, Test, call, Call, Argument, literal_argument, filter_argument, Arguments}
 use Rattle.jsonpath_parser.specs.tree.Typing.{call_of, gives_value, takes}
 use Rattle.jsonpath_parser.specs.declared.errors.JsonPathError.{JsonPathError}
 use Rattle.jsonpath_parser.specs.declared.errors.JsonPathError.TheVariants.{InvalidJsonPath, OutOfMemory}
@@ -27,7 +27,7 @@ operator_of text =
     else None)))))
 
 -- the comparison by this operator
-abbrev pub comparison_of : List ℕ → Argument → Argument → Option Comparison
+abbrev pub comparison_of : List ℕ → Argument → Argument → Option Filter
 comparison_of text left right = option_map (λ op. compare op left right) (operator_of text)
 
 -- the call of this name, where the function takes the arguments
@@ -35,8 +35,9 @@ abbrev pub typed_call_of : List ℕ → Arguments → Option Call
 typed_call_of name xs = option_and_then (λ c. if takes c then Some c else None) (call_of name xs)
 
 -- the left and the right of a comparison
-abbrev pub sides : Comparison → Argument × Argument
-sides (compare op left right) = (left, right)
+abbrev pub sides : Filter → Option (Argument × Argument)
+sides (compare op left right) = Some (left, right)
+sides _ = None
 
 -- a call that gives a truth
 abbrev pub is_truth_call : Test → Bool

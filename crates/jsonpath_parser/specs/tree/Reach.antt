@@ -2,7 +2,7 @@
 use Rattle.std.specs.Prelude.{ℕ, Bool, true, false, ◌&&◌, bytes_eq, List}
 use Rattle.std.specs.Borrow.{Bor}
 use Rattle.std.specs.List.{list_any}
-use Rattle.jsonpath_parser.specs.tree.Syntax.{Selector, name, filter, Selectors, no_selectors, selector, Segment, one, several, descendant, no_segments, segment, Query, Filter, or, and, atom, Filters, no_filters, filter_then, Atom, group, test, comparison, Comparison, compare, Test, relative, absolute, call, Call, custom_call, length_call, value_call, count_call, search_call, match_call, Argument, literal_argument, test_argument, filter_argument, Arguments, no_arguments, argument}
+use Rattle.jsonpath_parser.specs.tree.Syntax.{Selector, name, filter, Selectors, no_selectors, selector, Segment, one, several, descendant, no_segments, segment, Query, Filter, or, and, Filters, no_filters, filter_then, group, test, compare, Test, relative, absolute, call, Call, custom_call, length_call, value_call, count_call, search_call, match_call, Argument, literal_argument, test_argument, filter_argument, Arguments, no_arguments, argument}
 
 -- No filter has a `$`: no query from the root is a test, an argument of a call or a side of a comparison, at any depth (2.3.5). The `$` in front of the query stands in none.
 abbrev mutual
@@ -26,19 +26,13 @@ abbrev mutual
   pub is_local_filter : Filter → Bool
   is_local_filter (or fs) = are_local_filters fs
   is_local_filter (and fs) = are_local_filters fs
-  is_local_filter (atom a) = is_local_atom a
+  is_local_filter (group negated f) = is_local_filter f
+  is_local_filter (test negated t) = is_local_test t
+  is_local_filter (compare op left right) = is_local_argument left && is_local_argument right
 
   pub are_local_filters : Filters → Bool
   are_local_filters no_filters = true
   are_local_filters (filter_then f fs) = is_local_filter f && are_local_filters fs
-
-  pub is_local_atom : Atom → Bool
-  is_local_atom (group negated f) = is_local_filter f
-  is_local_atom (test negated t) = is_local_test t
-  is_local_atom (comparison c) = is_local_comparison c
-
-  pub is_local_comparison : Comparison → Bool
-  is_local_comparison (compare op left right) = is_local_argument left && is_local_argument right
 
   pub is_local_test : Test → Bool
   is_local_test (relative gs) = is_local gs
@@ -88,19 +82,13 @@ abbrev mutual
   pub filter_calls_only : (List ℕ → Bool) → Filter → Bool
   filter_calls_only known (or fs) = filters_call_only known fs
   filter_calls_only known (and fs) = filters_call_only known fs
-  filter_calls_only known (atom a) = atom_calls_only known a
+  filter_calls_only known (group negated f) = filter_calls_only known f
+  filter_calls_only known (test negated t) = test_calls_only known t
+  filter_calls_only known (compare op left right) = argument_calls_only known left && argument_calls_only known right
 
   pub filters_call_only : (List ℕ → Bool) → Filters → Bool
   filters_call_only known no_filters = true
   filters_call_only known (filter_then f fs) = filter_calls_only known f && filters_call_only known fs
-
-  pub atom_calls_only : (List ℕ → Bool) → Atom → Bool
-  atom_calls_only known (group negated f) = filter_calls_only known f
-  atom_calls_only known (test negated t) = test_calls_only known t
-  atom_calls_only known (comparison c) = comparison_calls_only known c
-
-  pub comparison_calls_only : (List ℕ → Bool) → Comparison → Bool
-  comparison_calls_only known (compare op left right) = argument_calls_only known left && argument_calls_only known right
 
   pub test_calls_only : (List ℕ → Bool) → Test → Bool
   test_calls_only known (relative gs) = calls_only known gs

@@ -3,7 +3,7 @@ use Rattle.std.specs.Prelude.{ℤ, pos, ℕ, List, [], ◌∷◌, ◌++◌, Bool
 use Rattle.std.specs.Fmt.{signed_decimal}
 use Rattle.std.specs.List.{concat}
 use Rattle.jsonpath_parser.specs.tree.Syntax as tree
-use Rattle.jsonpath_parser.specs.tree.Syntax.{Literal, number, string, bool, null, Operator, equal, not_equal, greater, greater_or_equal, less, less_or_equal, Selector, name, wildcard, index, slice, filter, Selectors, no_selectors, selector, Segment, one, several, descendant, Segments, no_segments, segment, Filter, or, and, atom, Filters, no_filters, filter_then, Atom, group, comparison, Comparison, compare, Test, relative, absolute, call, Call, custom_call, length_call, value_call, count_call, search_call, match_call, Argument, literal_argument, test_argument, filter_argument, Arguments, no_arguments, argument, Query}
+use Rattle.jsonpath_parser.specs.tree.Syntax.{Literal, number, string, bool, null, Operator, equal, not_equal, greater, greater_or_equal, less, less_or_equal, Selector, name, wildcard, index, slice, filter, Selectors, no_selectors, selector, Segment, one, several, descendant, Segments, no_segments, segment, Filter, or, and, Filters, no_filters, filter_then, group, compare, Test, relative, absolute, call, Call, custom_call, length_call, value_call, count_call, search_call, match_call, Argument, literal_argument, test_argument, filter_argument, Arguments, no_arguments, argument, Query}
 
 -- the texts, with this one between each two
 abbrev pub joined : List ℕ → List (List ℕ) → List ℕ
@@ -58,25 +58,18 @@ abbrev mutual
   segments_shown no_segments = []
   segments_shown (segment g gs) = segment_shown g ∷ segments_shown gs
 
-  -- the parts with the operator between each two; the basic expression
+  -- the parts with the operator between each two; the filter, without parentheses, or the test, behind `!` where it is turned round; left, the
+  -- operator and right of a comparison, with a blank between each two
   pub filter_shown : Filter → List ℕ
   filter_shown (or fs) = joined (codes " || ") (filters_shown fs)
   filter_shown (and fs) = joined (codes " && ") (filters_shown fs)
-  filter_shown (atom a) = atom_shown a
+  filter_shown (group not f) = not_shown not ++ filter_shown f
+  filter_shown (tree.Filter.test not t) = not_shown not ++ test_shown t
+  filter_shown (compare op left right) = comparable_shown left ++ (codes " " ++ (operator_shown op ++ (codes " " ++ comparable_shown right)))
 
   pub filters_shown : Filters → List (List ℕ)
   filters_shown no_filters = []
   filters_shown (filter_then f fs) = filter_shown f ∷ filters_shown fs
-
-  -- the filter, without parentheses, or the test, behind `!` where it is turned round; the comparison
-  pub atom_shown : Atom → List ℕ
-  atom_shown (group not f) = not_shown not ++ filter_shown f
-  atom_shown (tree.Atom.test not t) = not_shown not ++ test_shown t
-  atom_shown (comparison c) = comparison_shown c
-
-  -- left, the operator and right, with a blank between each two
-  pub comparison_shown : Comparison → List ℕ
-  comparison_shown (compare op left right) = comparable_shown left ++ (codes " " ++ (operator_shown op ++ (codes " " ++ comparable_shown right)))
 
   -- the literal; `@.` or `$.`, then the steps one after another; the call
   pub comparable_shown : Argument → List ℕ

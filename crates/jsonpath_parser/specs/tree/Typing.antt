@@ -1,6 +1,6 @@
 -- Which function takes which arguments, what it gives, and the calls of a query (RFC 9535, 2.4.1 to 2.4.3).
 use Rattle.std.specs.Prelude.{◌≡◌, ℕ, Bool, true, false, ◌&&◌, ◌||◌, not, bytes_eq, codes, List, Option, Some, None, option_map, if◌then◌else◌}
-use Rattle.jsonpath_parser.specs.tree.Syntax.{Selector, name, index, filter, Selectors, no_selectors, selector, Segment, one, several, descendant, Segments, no_segments, segment, Query, Filter, or, and, atom, Filters, no_filters, filter_then, Atom, group, test, comparison, Comparison, compare, Test, relative, absolute, call, Call, custom_call, length_call, value_call, count_call, search_call, match_call, Argument, literal_argument, test_argument, filter_argument, Arguments, no_arguments, argument}
+use Rattle.jsonpath_parser.specs.tree.Syntax.{Selector, name, index, filter, Selectors, no_selectors, selector, Segment, one, several, descendant, Segments, no_segments, segment, Query, Filter, or, and, Filters, no_filters, filter_then, group, test, compare, Test, relative, absolute, call, Call, custom_call, length_call, value_call, count_call, search_call, match_call, Argument, literal_argument, test_argument, filter_argument, Arguments, no_arguments, argument}
 
 -- `length`, `value` and `count` give a value, each other function a truth
 abbrev pub gives_value : Call → Bool
@@ -94,19 +94,13 @@ module _ {A : Type 0} (none : A) (both : A → A → A) (of_test : Test → A) (
     pub over_filter : Filter → A
     over_filter (or fs) = over_filters fs
     over_filter (and fs) = over_filters fs
-    over_filter (atom a) = over_atom a
+    over_filter (group negated f) = over_filter f
+    over_filter (test negated t) = both (of_test t) (over_test t)
+    over_filter (compare op left right) = both (both (of_side left) (over_argument left)) (both (of_side right) (over_argument right))
 
     pub over_filters : Filters → A
     over_filters no_filters = none
     over_filters (filter_then f fs) = both (over_filter f) (over_filters fs)
-
-    pub over_atom : Atom → A
-    over_atom (group negated f) = over_filter f
-    over_atom (test negated t) = both (of_test t) (over_test t)
-    over_atom (comparison c) = over_comparison c
-
-    pub over_comparison : Comparison → A
-    over_comparison (compare op left right) = both (both (of_side left) (over_argument left)) (both (of_side right) (over_argument right))
 
     pub over_test : Test → A
     over_test (relative gs) = over_segments gs
@@ -150,12 +144,6 @@ is_typed_filter = over_filter true ◌&&◌ is_truth_test is_value_argument take
 
 abbrev pub are_typed_filters : Filters → Bool
 are_typed_filters = over_filters true ◌&&◌ is_truth_test is_value_argument takes
-
-abbrev pub is_typed_atom : Atom → Bool
-is_typed_atom = over_atom true ◌&&◌ is_truth_test is_value_argument takes
-
-abbrev pub is_typed_comparison : Comparison → Bool
-is_typed_comparison = over_comparison true ◌&&◌ is_truth_test is_value_argument takes
 
 -- what stands in it; as an argument it may give a value too
 abbrev pub is_typed_test : Test → Bool

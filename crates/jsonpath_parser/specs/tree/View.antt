@@ -61,14 +61,14 @@ singular_view (Root v) = tree.absolute (steps_view v)
 -- One layer of each type, with its parts seen already.
 
 abbrev pub Layer : (Type 0 → Type 0 → Type 0 → Type 0 → Type 0 → Type 0 → Type 0 → Type 0 → Type 0 → Type 0 → Type 0) → Type 0
-Layer F = F tree.Argument tree.Comparison tree.Filter tree.Atom tree.Argument tree.Segment tree.Selector tree.Test tree.Call tree.Query
+Layer F = F tree.Argument tree.Filter tree.Filter tree.Filter tree.Argument tree.Segment tree.Selector tree.Test tree.Call tree.Query
 
 abbrev pub comparable_step : Layer Comparable-F → tree.Argument
 comparable_step (Comparable-F.«Comparable::Literal» l) = tree.literal_argument (literal_view l)
 comparable_step (Comparable-F.«Comparable::Function» f) = tree.test_argument (tree.call f)
 comparable_step (Comparable-F.SingularQuery q) = tree.test_argument (singular_view q)
 
-abbrev pub comparison_step : Layer Comparison-F → tree.Comparison
+abbrev pub comparison_step : Layer Comparison-F → tree.Filter
 comparison_step (Comparison-F.Eq a b) = tree.compare tree.equal a b
 comparison_step (Comparison-F.Ne a b) = tree.compare tree.not_equal a b
 comparison_step (Comparison-F.Gt a b) = tree.compare tree.greater a b
@@ -79,12 +79,12 @@ comparison_step (Comparison-F.Lte a b) = tree.compare tree.less_or_equal a b
 abbrev pub filter_step : Layer Filter-F → tree.Filter
 filter_step (Filter-F.Or v) = tree.or (filters_of v.items)
 filter_step (Filter-F.And v) = tree.and (filters_of v.items)
-filter_step (Filter-F.Atom a) = tree.atom a
+filter_step (Filter-F.Atom a) = a
 
-abbrev pub atom_step : Layer FilterAtom-F → tree.Atom
+abbrev pub atom_step : Layer FilterAtom-F → tree.Filter
 atom_step (FilterAtom-F.«FilterAtom::Filter» expr not) = tree.group not expr.value
 atom_step (FilterAtom-F.«FilterAtom::Test» expr not) = tree.test not expr.value
-atom_step (FilterAtom-F.Comparison c) = tree.comparison c.value
+atom_step (FilterAtom-F.Comparison c) = c.value
 
 abbrev pub argument_step : Layer FnArg-F → tree.Argument
 argument_step (FnArg-F.«FnArg::Literal» l) = tree.literal_argument (literal_view l)
@@ -122,34 +122,34 @@ query_step q = segments_of q.segments.items
 -- The folds. The steps stand in the order of the types: enums by alphabet, then structs.
 
 abbrev pub comparable_view : Comparable → tree.Argument
-comparable_view = fold-Comparable tree.Argument tree.Comparison tree.Filter tree.Atom tree.Argument tree.Segment tree.Selector tree.Test tree.Call tree.Query comparable_step comparison_step filter_step atom_step argument_step segment_step selector_step test_step call_step query_step
+comparable_view = fold-Comparable tree.Argument tree.Filter tree.Filter tree.Filter tree.Argument tree.Segment tree.Selector tree.Test tree.Call tree.Query comparable_step comparison_step filter_step atom_step argument_step segment_step selector_step test_step call_step query_step
 
-abbrev pub comparison_view : Comparison → tree.Comparison
-comparison_view = fold-Comparison tree.Argument tree.Comparison tree.Filter tree.Atom tree.Argument tree.Segment tree.Selector tree.Test tree.Call tree.Query comparable_step comparison_step filter_step atom_step argument_step segment_step selector_step test_step call_step query_step
+abbrev pub comparison_view : Comparison → tree.Filter
+comparison_view = fold-Comparison tree.Argument tree.Filter tree.Filter tree.Filter tree.Argument tree.Segment tree.Selector tree.Test tree.Call tree.Query comparable_step comparison_step filter_step atom_step argument_step segment_step selector_step test_step call_step query_step
 
 abbrev pub filter_view : Filter → tree.Filter
-filter_view = fold-Filter tree.Argument tree.Comparison tree.Filter tree.Atom tree.Argument tree.Segment tree.Selector tree.Test tree.Call tree.Query comparable_step comparison_step filter_step atom_step argument_step segment_step selector_step test_step call_step query_step
+filter_view = fold-Filter tree.Argument tree.Filter tree.Filter tree.Filter tree.Argument tree.Segment tree.Selector tree.Test tree.Call tree.Query comparable_step comparison_step filter_step atom_step argument_step segment_step selector_step test_step call_step query_step
 
-abbrev pub atom_view : FilterAtom → tree.Atom
-atom_view = fold-FilterAtom tree.Argument tree.Comparison tree.Filter tree.Atom tree.Argument tree.Segment tree.Selector tree.Test tree.Call tree.Query comparable_step comparison_step filter_step atom_step argument_step segment_step selector_step test_step call_step query_step
+abbrev pub atom_view : FilterAtom → tree.Filter
+atom_view = fold-FilterAtom tree.Argument tree.Filter tree.Filter tree.Filter tree.Argument tree.Segment tree.Selector tree.Test tree.Call tree.Query comparable_step comparison_step filter_step atom_step argument_step segment_step selector_step test_step call_step query_step
 
 abbrev pub argument_view : FnArg → tree.Argument
-argument_view = fold-FnArg tree.Argument tree.Comparison tree.Filter tree.Atom tree.Argument tree.Segment tree.Selector tree.Test tree.Call tree.Query comparable_step comparison_step filter_step atom_step argument_step segment_step selector_step test_step call_step query_step
+argument_view = fold-FnArg tree.Argument tree.Filter tree.Filter tree.Filter tree.Argument tree.Segment tree.Selector tree.Test tree.Call tree.Query comparable_step comparison_step filter_step atom_step argument_step segment_step selector_step test_step call_step query_step
 
 abbrev pub segment_view : Segment → tree.Segment
-segment_view = fold-Segment tree.Argument tree.Comparison tree.Filter tree.Atom tree.Argument tree.Segment tree.Selector tree.Test tree.Call tree.Query comparable_step comparison_step filter_step atom_step argument_step segment_step selector_step test_step call_step query_step
+segment_view = fold-Segment tree.Argument tree.Filter tree.Filter tree.Filter tree.Argument tree.Segment tree.Selector tree.Test tree.Call tree.Query comparable_step comparison_step filter_step atom_step argument_step segment_step selector_step test_step call_step query_step
 
 abbrev pub selector_view : Selector → tree.Selector
-selector_view = fold-Selector tree.Argument tree.Comparison tree.Filter tree.Atom tree.Argument tree.Segment tree.Selector tree.Test tree.Call tree.Query comparable_step comparison_step filter_step atom_step argument_step segment_step selector_step test_step call_step query_step
+selector_view = fold-Selector tree.Argument tree.Filter tree.Filter tree.Filter tree.Argument tree.Segment tree.Selector tree.Test tree.Call tree.Query comparable_step comparison_step filter_step atom_step argument_step segment_step selector_step test_step call_step query_step
 
 abbrev pub test_view : Test → tree.Test
-test_view = fold-Test tree.Argument tree.Comparison tree.Filter tree.Atom tree.Argument tree.Segment tree.Selector tree.Test tree.Call tree.Query comparable_step comparison_step filter_step atom_step argument_step segment_step selector_step test_step call_step query_step
+test_view = fold-Test tree.Argument tree.Filter tree.Filter tree.Filter tree.Argument tree.Segment tree.Selector tree.Test tree.Call tree.Query comparable_step comparison_step filter_step atom_step argument_step segment_step selector_step test_step call_step query_step
 
 abbrev pub call_view : TestFunction → tree.Call
-call_view = fold-TestFunction tree.Argument tree.Comparison tree.Filter tree.Atom tree.Argument tree.Segment tree.Selector tree.Test tree.Call tree.Query comparable_step comparison_step filter_step atom_step argument_step segment_step selector_step test_step call_step query_step
+call_view = fold-TestFunction tree.Argument tree.Filter tree.Filter tree.Filter tree.Argument tree.Segment tree.Selector tree.Test tree.Call tree.Query comparable_step comparison_step filter_step atom_step argument_step segment_step selector_step test_step call_step query_step
 
 abbrev pub query_view : JpQuery → tree.Query
-query_view = fold-JpQuery tree.Argument tree.Comparison tree.Filter tree.Atom tree.Argument tree.Segment tree.Selector tree.Test tree.Call tree.Query comparable_step comparison_step filter_step atom_step argument_step segment_step selector_step test_step call_step query_step
+query_view = fold-JpQuery tree.Argument tree.Filter tree.Filter tree.Filter tree.Argument tree.Segment tree.Selector tree.Test tree.Call tree.Query comparable_step comparison_step filter_step atom_step argument_step segment_step selector_step test_step call_step query_step
 
 -- a list of parts
 

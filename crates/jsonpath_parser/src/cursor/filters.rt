@@ -1,6 +1,6 @@
 //! The grammar functions for logical expressions and what stands in them (RFC 9535, 2.3.5.1 and 2.4).
-ghost use Rattle.jsonpath_parser.specs.Grammar.{SpellsLogical, SpellsConjunction, SpellsBasic, SpellsComparison, SpellsLiteral, SpellsTest, SpellsCall};
-ghost use Rattle.jsonpath_parser.specs.Parts.{ReadsPart, SpellsComparable, always};
+ghost use Rattle.jsonpath_parser.specs.Grammar.{SpellsLogical, SpellsLiteral, SpellsTest, SpellsCall};
+ghost use Rattle.jsonpath_parser.specs.Parts.{ReadsPart, SpellsConjunction, SpellsBasic, SpellsComparison, SpellsComparable, always};
 ghost use Rattle.jsonpath_parser.specs.tree.Typing as typed;
 ghost use Rattle.jsonpath_parser.specs.tree.View.{filter_view, atom_view, comparison_view, comparable_view, literal_view, test_view, call_view};
 
@@ -55,7 +55,7 @@ pub fn logical_expr_and(alloc: Global, cursor: &mut Cursor<'_>) -> Parsed<Filter
 ///
 /// Those of [`Cursor`].
 pub fn filter_atom(alloc: Global, cursor: &mut Cursor<'_>) -> Parsed<FilterAtom>
-    ensures { ReadsPart SpellsBasic typed.is_typed_atom atom_view cursor.old cursor.new result }
+    ensures { ReadsPart SpellsBasic typed.is_typed_filter atom_view cursor.old cursor.new result }
 {
     part(
         alloc,
@@ -72,7 +72,7 @@ pub fn filter_atom(alloc: Global, cursor: &mut Cursor<'_>) -> Parsed<FilterAtom>
 ///
 /// Those of [`Cursor`].
 pub fn comp_expr(alloc: Global, cursor: &mut Cursor<'_>) -> Parsed<Comparison>
-    ensures { ReadsPart SpellsComparison typed.is_typed_comparison comparison_view cursor.old cursor.new result }
+    ensures { ReadsPart SpellsComparison typed.is_typed_filter comparison_view cursor.old cursor.new result }
 {
     part(
         alloc,

@@ -116,6 +116,7 @@ pub fn singular_in(alloc: Global, operand: FnArg, left: usize) -> Result<Singula
 }
 
 /// The operand of `&&` that the argument is.
+#[tactic(auto, using(crate::proofs::laws::tree::Kinds::atom_is_basic))]
 pub fn atom_in(argument: FnArg, left: usize) -> Result<FilterAtom, Stop>
     ensures { Gives atom_view result (spec.atom_in (argument_view argument)) }
 {
@@ -126,6 +127,7 @@ pub fn atom_in(argument: FnArg, left: usize) -> Result<FilterAtom, Stop>
 }
 
 /// The comparison that the argument is.
+#[tactic(auto, using(crate::proofs::laws::tree::Kinds::comparison_is_comparison))]
 pub fn comparison_in(argument: FnArg, left: usize) -> Result<Comparison, Stop>
     ensures { Gives comparison_view result (spec.comparison_in (argument_view argument)) }
 {

@@ -1,5 +1,5 @@
 //! The query tree (RFC 9535, 2.1 to 2.5).
-ghost use Rattle.std.specs.Prelude.{◌≡◌, IfOk, IfErr, IsOk, IsSome};
+ghost use Rattle.std.specs.Prelude.{◌≡◌, Some, IfOk, IfErr, IsOk, IsSome};
 ghost use Rattle.jsonpath_parser.specs.tree.Making.{Makes, comparison_of, operator_of, sides};
 ghost use Rattle.jsonpath_parser.specs.tree.Syntax as tree;
 ghost use Rattle.jsonpath_parser.specs.tree.View.{query_view, segment_view, segments_view, selector_view, filter_view, atom_view, comparison_view, comparable_view, operator_view, test_view};
@@ -232,7 +232,7 @@ impl FilterAtom {
     ///
     /// `OutOfMemory` where memory ran out.
     pub fn test(alloc: Global, expr: Test, not: bool) -> Parsed<Self>
-        ensures made { IfOk result (λ a. atom_view a ≡ tree.Atom.test not (test_view expr)) }
+        ensures made { IfOk result (λ a. atom_view a ≡ tree.Filter.test not (test_view expr)) }
         ensures memory { IfErr result (λ e. e ≡ OutOfMemory) }
     {
         Ok(FilterAtom::Test {
@@ -243,7 +243,7 @@ impl FilterAtom {
 
     /// The comparison.
     pub fn cmp(comparison: Box<Comparison>) -> Self
-        ensures { atom_view result ≡ tree.comparison (comparison_view comparison.value) }
+        ensures { atom_view result ≡ comparison_view comparison.value }
     {
         FilterAtom::Comparison(comparison)
     }
@@ -288,7 +288,7 @@ impl Comparison {
 
     /// Left and right.
     pub fn vals(&self) -> (&Comparable, &Comparable)
-        ensures { (comparable_view result.0.now, comparable_view result.1.now) ≡ sides (comparison_view self.now) }
+        ensures { Some (comparable_view result.0.now, comparable_view result.1.now) ≡ sides (comparison_view self.now) }
     {
         let (_, left, right) = self.parts();
         (left, right)

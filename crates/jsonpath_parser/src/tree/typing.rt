@@ -89,7 +89,7 @@ pub fn filter(filter: &Filter) -> bool
 
 #[cycle(typing)]
 pub fn atom(atom: &FilterAtom) -> bool
-    ensures { result ≡ typing.is_typed_atom (atom_view atom.now) }
+    ensures { result ≡ typing.is_typed_filter (atom_view atom.now) }
 {
     match atom {
         FilterAtom::Filter { expr, .. } => filter(expr),
@@ -100,7 +100,7 @@ pub fn atom(atom: &FilterAtom) -> bool
 
 #[cycle(typing)]
 pub fn comparison(comparison: &Comparison) -> bool
-    ensures { result ≡ typing.is_typed_comparison (comparison_view comparison.now) }
+    ensures { result ≡ typing.is_typed_filter (comparison_view comparison.now) }
 {
     match comparison {
         Comparison::Eq(left, right)

@@ -7,6 +7,7 @@ use Rattle.std.specs.Option.{option_eq}
 use Rattle.jsonpath_parser.proofs.Deciding.{under, both, under_two, differ, string_same}
 use Rattle.jsonpath_parser.specs.tree.Syntax as tree
 use Rattle.jsonpath_parser.specs.tree.View.{literal_view, step_view, singular_view, operator_view, segments_of, selectors_of, filters_of, arguments_of, comparable_view, comparison_view, filter_view, atom_view, argument_view, segment_view, selector_view, test_view, call_view, query_view}
+use Rattle.jsonpath_parser.proofs.laws.tree.Kinds.{of_comparison, of_atom}
 use Rattle.jsonpath_parser.proofs.laws.tree.ViewEquations.{query_view-segments}
 use Rattle.jsonpath_parser.specs.declared.tree.model.Filter.{the_lemmas}
 use Rattle.jsonpath_parser.specs.declared.tree.model.Literal.{Literal}
@@ -148,13 +149,14 @@ comparison_kind (Comparison.Gte a0 a1) = 3
 comparison_kind (Comparison.Lt a0 a1) = 4
 comparison_kind (Comparison.Lte a0 a1) = 5
 
-abbrev comparison_kind_of : tree.Comparison → ℕ
+abbrev comparison_kind_of : tree.Filter → ℕ
 comparison_kind_of (tree.compare tree.equal a b) = 0
 comparison_kind_of (tree.compare tree.not_equal a b) = 1
 comparison_kind_of (tree.compare tree.greater a b) = 2
 comparison_kind_of (tree.compare tree.greater_or_equal a b) = 3
 comparison_kind_of (tree.compare tree.less a b) = 4
 comparison_kind_of (tree.compare tree.less_or_equal a b) = 5
+comparison_kind_of _ = 6
 
 comparison_kind_is : (x : Comparison) → comparison_kind_of (comparison_view x) ≡ comparison_kind x
 comparison_kind_is (Comparison.Eq a0 a1) = let e : comparison_view (Comparison.Eq a0 a1) ≡ tree.compare tree.equal (comparable_view a0) (comparable_view a1) = search layers in ap comparison_kind_of e
@@ -172,27 +174,27 @@ filter_kind (Filter.Atom a0) = 2
 abbrev filter_kind_of : tree.Filter → ℕ
 filter_kind_of (tree.or a) = 0
 filter_kind_of (tree.and a) = 1
-filter_kind_of (tree.atom a) = 2
+filter_kind_of _ = 2
 
 filter_kind_is : (x : Filter) → filter_kind_of (filter_view x) ≡ filter_kind x
 filter_kind_is (Filter.Or' sa0 a0) = let e : filter_view (Filter.Or' sa0 a0) ≡ tree.or (filters_of (map filter_view (items-the_row-Filter _ a0))) = search layers in ap filter_kind_of e
 filter_kind_is (Filter.And' sa0 a0) = let e : filter_view (Filter.And' sa0 a0) ≡ tree.and (filters_of (map filter_view (items-the_row-Filter _ a0))) = search layers in ap filter_kind_of e
-filter_kind_is (Filter.Atom a0) = let e : filter_view (Filter.Atom a0) ≡ tree.atom (atom_view a0) = search layers in ap filter_kind_of e
+filter_kind_is (Filter.Atom a0) = let e : filter_view (Filter.Atom a0) ≡ atom_view a0 = search layers in ap filter_kind_of e ∙ of_atom filter_kind_of 2 (λ b g. refl) (λ b t. refl) (λ op l r. refl) a0
 
 abbrev atom_kind : FilterAtom → ℕ
 atom_kind (FilterAtom.Filter' pa0 a0 a1) = 0
 atom_kind (FilterAtom.Test' pa0 a0 a1) = 1
 atom_kind (FilterAtom.Comparison' pa0 a0) = 2
 
-abbrev atom_kind_of : tree.Atom → ℕ
+abbrev atom_kind_of : tree.Filter → ℕ
 atom_kind_of (tree.group a b) = 0
-atom_kind_of (tree.Atom.test a b) = 1
-atom_kind_of (tree.comparison a) = 2
+atom_kind_of (tree.Filter.test a b) = 1
+atom_kind_of _ = 2
 
 atom_kind_is : (x : FilterAtom) → atom_kind_of (atom_view x) ≡ atom_kind x
 atom_kind_is (FilterAtom.Filter' pa0 a0 a1) = let e : atom_view (FilterAtom.Filter' pa0 a0 a1) ≡ tree.group a1 (filter_view a0) = search layers in ap atom_kind_of e
-atom_kind_is (FilterAtom.Test' pa0 a0 a1) = let e : atom_view (FilterAtom.Test' pa0 a0 a1) ≡ tree.Atom.test a1 (test_view a0) = search layers in ap atom_kind_of e
-atom_kind_is (FilterAtom.Comparison' pa0 a0) = let e : atom_view (FilterAtom.Comparison' pa0 a0) ≡ tree.comparison (comparison_view a0) = search layers in ap atom_kind_of e
+atom_kind_is (FilterAtom.Test' pa0 a0 a1) = let e : atom_view (FilterAtom.Test' pa0 a0 a1) ≡ tree.Filter.test a1 (test_view a0) = search layers in ap atom_kind_of e
+atom_kind_is (FilterAtom.Comparison' pa0 a0) = let e : atom_view (FilterAtom.Comparison' pa0 a0) ≡ comparison_view a0 = search layers in ap atom_kind_of e ∙ of_comparison atom_kind_of 2 (λ op l r. refl) a0
 
 abbrev argument_kind : FnArg → ℕ
 argument_kind (FnArg.Literal a0) = 0
@@ -304,13 +306,19 @@ mutual
   pub filter_same : (x y : Filter) → Decides (filter_eq.eq-value.it x y) (filter_view x ≡ filter_view y)
   filter_same (Filter.Or' sa0 a0) (Filter.Or' sb0 b0) = under tree.or (λ s t h. cc) (filters_same a0 b0) (filter_laws.is (Filter.Or' sa0 a0) (Filter.Or' sb0 b0) ∙ search layers) (search layers) (search layers)
   filter_same (Filter.And' sa0 a0) (Filter.And' sb0 b0) = under tree.and (λ s t h. cc) (filters_same a0 b0) (filter_laws.is (Filter.And' sa0 a0) (Filter.And' sb0 b0) ∙ search layers) (search layers) (search layers)
-  filter_same (Filter.Atom a0) (Filter.Atom b0) = under tree.atom (λ s t h. cc) (atom_same a0 b0) (filter_laws.is (Filter.Atom a0) (Filter.Atom b0) ∙ search layers) (search layers) (search layers)
+  filter_same (Filter.Atom a0) (Filter.Atom b0) =
+      let left : filter_view (Filter.Atom a0) ≡ atom_view a0 = search layers in
+      let right : filter_view (Filter.Atom b0) ≡ atom_view b0 = search layers in
+      under (λ v. v) (λ s t h. h) (atom_same a0 b0) (filter_laws.is (Filter.Atom a0) (Filter.Atom b0) ∙ search layers) left right
   filter_same x y = differ (filter_laws.is x y ∙ search layers) (λ e. let k : filter_kind x ≡ filter_kind y = sym (filter_kind_is x) ∙ ap filter_kind_of e ∙ filter_kind_is y in absurd (omega (arith, k)))
 
   pub atom_same : (x y : FilterAtom) → Decides (atom_eq.eq-value.it x y) (atom_view x ≡ atom_view y)
   atom_same (FilterAtom.Filter' pa0 a0 a1) (FilterAtom.Filter' pb0 b0 b1) = under_two (λ f b. tree.group b f) (λ a c b d h. (cc, cc)) (filter_same a0 b0) (bool_same a1 b1) (atom_laws.is (FilterAtom.Filter' pa0 a0 a1) (FilterAtom.Filter' pb0 b0 b1) ∙ search layers) (search layers) (search layers)
-  atom_same (FilterAtom.Test' pa0 a0 a1) (FilterAtom.Test' pb0 b0 b1) = under_two (λ t b. tree.Atom.test b t) (λ a c b d h. (cc, cc)) (test_same a0 b0) (bool_same a1 b1) (atom_laws.is (FilterAtom.Test' pa0 a0 a1) (FilterAtom.Test' pb0 b0 b1) ∙ search layers) (search layers) (search layers)
-  atom_same (FilterAtom.Comparison' pa0 a0) (FilterAtom.Comparison' pb0 b0) = under tree.comparison (λ s t h. cc) (comparison_same a0 b0) (atom_laws.is (FilterAtom.Comparison' pa0 a0) (FilterAtom.Comparison' pb0 b0) ∙ search layers) (search layers) (search layers)
+  atom_same (FilterAtom.Test' pa0 a0 a1) (FilterAtom.Test' pb0 b0 b1) = under_two (λ t b. tree.Filter.test b t) (λ a c b d h. (cc, cc)) (test_same a0 b0) (bool_same a1 b1) (atom_laws.is (FilterAtom.Test' pa0 a0 a1) (FilterAtom.Test' pb0 b0 b1) ∙ search layers) (search layers) (search layers)
+  atom_same (FilterAtom.Comparison' pa0 a0) (FilterAtom.Comparison' pb0 b0) =
+      let left : atom_view (FilterAtom.Comparison' pa0 a0) ≡ comparison_view a0 = search layers in
+      let right : atom_view (FilterAtom.Comparison' pb0 b0) ≡ comparison_view b0 = search layers in
+      under (λ v. v) (λ s t h. h) (comparison_same a0 b0) (atom_laws.is (FilterAtom.Comparison' pa0 a0) (FilterAtom.Comparison' pb0 b0) ∙ search layers) left right
   atom_same x y = differ (atom_laws.is x y ∙ search layers) (λ e. let k : atom_kind x ≡ atom_kind y = sym (atom_kind_is x) ∙ ap atom_kind_of e ∙ atom_kind_is y in absurd (omega (arith, k)))
 
   pub argument_same : (x y : FnArg) → Decides (argument_eq.eq-value.it x y) (argument_view x ≡ argument_view y)

@@ -56,16 +56,16 @@ filter_view-Or v = search (rules, the_lemmas)
 pub filter_view-And : (v : Vec Filter Global) → filter_view (Filter.And v) ≡ tree.and (filters_view v)
 filter_view-And v = search (rules, the_lemmas)
 
-pub filter_view-Atom : (a : FilterAtom) → filter_view (Filter.Atom a) ≡ tree.atom (atom_view a)
+pub filter_view-Atom : (a : FilterAtom) → filter_view (Filter.Atom a) ≡ atom_view a
 filter_view-Atom a = search (rules, the_lemmas)
 
 pub atom_view-Filter : (e : Box Filter Global) (b : Bool) → atom_view (FilterAtom.Filter e b) ≡ tree.group b (filter_view e.value)
 atom_view-Filter e b = search (rules, the_lemmas)
 
-pub atom_view-Test : (e : Box Test Global) (b : Bool) → atom_view (FilterAtom.Test e b) ≡ tree.Atom.test b (test_view e.value)
+pub atom_view-Test : (e : Box Test Global) (b : Bool) → atom_view (FilterAtom.Test e b) ≡ tree.Filter.test b (test_view e.value)
 atom_view-Test e b = search (rules, the_lemmas)
 
-pub atom_view-Comparison : (c : Box Comparison Global) → atom_view (FilterAtom.Comparison c) ≡ tree.comparison (comparison_view c.value)
+pub atom_view-Comparison : (c : Box Comparison Global) → atom_view (FilterAtom.Comparison c) ≡ comparison_view c.value
 atom_view-Comparison c = search (rules, the_lemmas)
 
 pub argument_view-Literal : (l : Literal) → argument_view (FnArg.Literal l) ≡ tree.literal_argument (literal_view l)

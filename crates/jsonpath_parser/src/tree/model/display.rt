@@ -2,7 +2,7 @@
 //! brackets, strings without escapes, and filters without parentheses.
 ghost use Rattle.std.specs.Prelude.{◌≡◌, ℕ, List, Some, map};
 ghost use Rattle.std.specs.Fmt.{WritesOnOk};
-ghost use Rattle.jsonpath_parser.specs.tree.Shown.{joined, not_shown, query_shown, segment_shown, selector_shown, filter_shown, atom_shown, comparison_shown, comparable_shown, singular_shown, test_shown, call_shown, argument_shown, literal_shown};
+ghost use Rattle.jsonpath_parser.specs.tree.Shown.{joined, not_shown, query_shown, segment_shown, selector_shown, filter_shown, comparable_shown, singular_shown, test_shown, call_shown, argument_shown, literal_shown};
 ghost use Rattle.jsonpath_parser.specs.tree.View.{query_view, segment_view, selector_view, filter_view, atom_view, comparison_view, comparable_view, singular_view, step_view, test_view, call_view, argument_view, literal_view};
 
 use super::{
@@ -104,7 +104,7 @@ pub(crate) fn not_sign(not: bool) -> &'static str
 
 /// The filter or the test, behind `!` where `not`, or the comparison.
 impl Display for FilterAtom {
-    ghost output = { λ a. Some (atom_shown (atom_view a)) };
+    ghost output = { λ a. Some (filter_shown (atom_view a)) };
 
     #[cycle(display)]
     #[tactic(auto, using(crate::proofs::laws::tree::ViewEquations::view_equations))]
@@ -119,7 +119,7 @@ impl Display for FilterAtom {
 
 /// Left, the operator and right, with a blank between each two.
 impl Display for Comparison {
-    ghost output = { λ c. Some (comparison_shown (comparison_view c)) };
+    ghost output = { λ c. Some (filter_shown (comparison_view c)) };
 
     #[cycle(display)]
     #[tactic(auto, using(crate::proofs::laws::tree::ViewEquations::view_equations))]

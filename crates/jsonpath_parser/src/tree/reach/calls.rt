@@ -90,7 +90,7 @@ fn filter(filter: &Filter, names: &[&str]) -> bool
 
 #[cycle(calls)]
 fn atom(atom: &FilterAtom, names: &[&str]) -> bool
-    ensures { result ≡ reach.atom_calls_only (reach.is_one_of names.now) (atom_view atom.now) }
+    ensures { result ≡ reach.filter_calls_only (reach.is_one_of names.now) (atom_view atom.now) }
 {
     match atom {
         FilterAtom::Filter { expr, .. } => filter(expr, names),
@@ -101,7 +101,7 @@ fn atom(atom: &FilterAtom, names: &[&str]) -> bool
 
 #[cycle(calls)]
 fn comparison(comparison: &Comparison, names: &[&str]) -> bool
-    ensures { result ≡ reach.comparison_calls_only (reach.is_one_of names.now) (comparison_view comparison.now) }
+    ensures { result ≡ reach.filter_calls_only (reach.is_one_of names.now) (comparison_view comparison.now) }
 {
     match comparison {
         Comparison::Eq(left, right)

@@ -90,7 +90,7 @@ fn filter(filter: &Filter) -> bool
 
 #[cycle(local)]
 fn atom(atom: &FilterAtom) -> bool
-    ensures { result ≡ reach.is_local_atom (atom_view atom.now) }
+    ensures { result ≡ reach.is_local_filter (atom_view atom.now) }
 {
     match atom {
         FilterAtom::Filter { expr, .. } => filter(expr),
@@ -101,7 +101,7 @@ fn atom(atom: &FilterAtom) -> bool
 
 #[cycle(local)]
 fn comparison(comparison: &Comparison) -> bool
-    ensures { result ≡ reach.is_local_comparison (comparison_view comparison.now) }
+    ensures { result ≡ reach.is_local_filter (comparison_view comparison.now) }
 {
     match comparison {
         Comparison::Eq(left, right)

@@ -1,6 +1,7 @@
 //! Whether some text spells a tree (RFC 9535, 2.1 to 2.5).
 ghost use Rattle.std.specs.Prelude.{◌≡◌, map};
 ghost use Rattle.std.specs.List.{list_all};
+ghost use Rattle.jsonpath_parser.specs.Grammar as grammar;
 ghost use Rattle.jsonpath_parser.specs.inner.Spellable as spec;
 ghost use Rattle.jsonpath_parser.specs.words.Lexical as lexical;
 ghost use Rattle.jsonpath_parser.specs.tree.Syntax.{test_argument};
@@ -141,8 +142,9 @@ fn conjunctions(filters: &[Filter]) -> bool
 }
 
 /// Whether it may be an operand of `||`.
+#[tactic(auto, using(crate::proofs::laws::tree::Kinds::atom_is_conjunction))]
 fn is_conjunction(filter: &Filter) -> bool
-    ensures { result ≡ spec.is_conjunction (filter_view filter.now) }
+    ensures { result ≡ grammar.is_conjunction (filter_view filter.now) }
 {
     match filter {
         Filter::Or(_) => false,
@@ -166,8 +168,9 @@ fn operands(filters: &[Filter]) -> bool
 }
 
 /// Whether it may be an operand of `&&`.
+#[tactic(auto, using(crate::proofs::laws::tree::Kinds::atom_is_basic))]
 fn is_operand(filter: &Filter) -> bool
-    ensures { result ≡ spec.is_operand (filter_view filter.now) }
+    ensures { result ≡ grammar.is_basic (filter_view filter.now) }
 {
     match filter {
         Filter::Or(_) | Filter::And(_) => false,
@@ -177,7 +180,7 @@ fn is_operand(filter: &Filter) -> bool
 
 #[cycle(spellable)]
 fn atom(atom: &FilterAtom) -> bool
-    ensures { result ≡ spec.is_spelled_atom (atom_view atom.now) }
+    ensures { result ≡ spec.is_spelled_filter (atom_view atom.now) }
 {
     match atom {
         FilterAtom::Filter { expr, .. } => filter(expr),
@@ -188,7 +191,7 @@ fn atom(atom: &FilterAtom) -> bool
 
 #[cycle(spellable)]
 fn comparison(comparison: &Comparison) -> bool
-    ensures { result ≡ spec.is_spelled_comparison (comparison_view comparison.now) }
+    ensures { result ≡ spec.is_spelled_filter (comparison_view comparison.now) }
 {
     match comparison {
         Comparison::Eq(left, right)
@@ -331,15 +334,16 @@ fn is_no_bare_test(filter: &Filter) -> bool
 {
     match filter {
         Filter::Or(_) | Filter::And(_) => true,
-        Filter::Atom(atom) => !is_bare_test(atom),
+        Filter::Atom(atom) => is_no_bare_atom(atom),
     }
 }
 
-fn is_bare_test(atom: &FilterAtom) -> bool
-    ensures { result ≡ spec.is_bare_test (atom_view atom.now) }
+#[tactic(auto, using(crate::proofs::laws::tree::Kinds::comparison_is_no_bare_test))]
+fn is_no_bare_atom(atom: &FilterAtom) -> bool
+    ensures { result ≡ spec.is_no_bare_test (atom_view atom.now) }
 {
     match atom {
-        FilterAtom::Test { not, .. } => !*not,
-        FilterAtom::Filter { .. } | FilterAtom::Comparison(_) => false,
+        FilterAtom::Test { not, .. } => *not,
+        FilterAtom::Filter { .. } | FilterAtom::Comparison(_) => true,
     }
 }

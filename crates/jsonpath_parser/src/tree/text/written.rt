@@ -145,7 +145,7 @@ fn filters(text: &mut String, between: &str, filters: &[Filter]) -> Result<(), A
 
 #[cycle(written)]
 fn atom(text: &mut String, atom: &FilterAtom) -> Result<(), AllocError>
-    ensures { OnOk result (string_bytes text.new ≡ string_bytes text.old ++ spec.atom_text (atom_view atom.now)) }
+    ensures { OnOk result (string_bytes text.new ≡ string_bytes text.old ++ spec.filter_text (atom_view atom.now)) }
 {
     match atom {
         FilterAtom::Filter { expr, not } => {
@@ -164,7 +164,7 @@ fn atom(text: &mut String, atom: &FilterAtom) -> Result<(), AllocError>
 
 #[cycle(written)]
 fn comparison(text: &mut String, comparison: &Comparison) -> Result<(), AllocError>
-    ensures { OnOk result (string_bytes text.new ≡ string_bytes text.old ++ spec.comparison_text (comparison_view comparison.now)) }
+    ensures { OnOk result (string_bytes text.new ≡ string_bytes text.old ++ spec.filter_text (comparison_view comparison.now)) }
 {
     match comparison {
         Comparison::Eq(left, right) => {
