@@ -1,5 +1,5 @@
 //! Logical expressions, and what they ask (RFC 9535, 2.3.5.1).
-ghost use Rattle.std.specs.Prelude.{◌≡◌, true, false, IfOk, IfErr, option_map};
+ghost use Rattle.std.specs.Prelude.{◌≡◌, true, false, IfOk, IfErr};
 ghost use Rattle.jsonpath_parser.specs.tree.Making.{Makes, comparison_of};
 ghost use Rattle.jsonpath_parser.specs.tree.Syntax as tree;
 ghost use Rattle.jsonpath_parser.specs.tree.View.{atom_view, call_view, comparable_view, filter_view, filters_view, query_view, segments_view, test_view};
@@ -54,7 +54,7 @@ pub fn and(parts: Vec<Filter>) -> Filter
 
 /// The expression that is this basic one.
 pub fn filter(atom: FilterAtom) -> Filter
-    ensures { filter_view result ≡ tree.atom (atom_view atom) }
+    ensures { filter_view result ≡ atom_view atom }
 {
     Filter::Atom(atom)
 }
@@ -89,7 +89,7 @@ pub fn atom_not(alloc: Global, expr: Filter) -> Parsed<FilterAtom>
 ///
 /// `OutOfMemory` where memory ran out.
 pub fn atom_test(alloc: Global, expr: Test) -> Parsed<FilterAtom>
-    ensures made { IfOk result (λ a. atom_view a ≡ tree.Atom.test false (test_view expr)) }
+    ensures made { IfOk result (λ a. atom_view a ≡ tree.Filter.test false (test_view expr)) }
     ensures memory { IfErr result (λ e. e ≡ OutOfMemory) }
 {
     FilterAtom::test(alloc, expr, false)
@@ -101,7 +101,7 @@ pub fn atom_test(alloc: Global, expr: Test) -> Parsed<FilterAtom>
 ///
 /// `OutOfMemory` where memory ran out.
 pub fn atom_test_not(alloc: Global, expr: Test) -> Parsed<FilterAtom>
-    ensures made { IfOk result (λ a. atom_view a ≡ tree.Atom.test true (test_view expr)) }
+    ensures made { IfOk result (λ a. atom_view a ≡ tree.Filter.test true (test_view expr)) }
     ensures memory { IfErr result (λ e. e ≡ OutOfMemory) }
 {
     FilterAtom::test(alloc, expr, true)
@@ -118,7 +118,7 @@ pub fn atom_cmp(
     operator: &str,
     right: Comparable,
 ) -> Parsed<FilterAtom>
-    ensures { Makes atom_view result (option_map tree.comparison (comparison_of operator.now (comparable_view left) (comparable_view right))) }
+    ensures { Makes atom_view result (comparison_of operator.now (comparable_view left) (comparable_view right)) }
 {
     Ok(FilterAtom::cmp(Box::new(alloc, cmp(alloc, left, operator, right)?)?))
 }
