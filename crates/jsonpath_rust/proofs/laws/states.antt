@@ -1,4 +1,5 @@
 pub mod Asking
+pub mod Basic
 pub mod Found
 pub mod Lies
 pub mod Maps

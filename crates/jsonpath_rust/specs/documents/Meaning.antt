@@ -7,7 +7,7 @@ use Rattle.std.specs.List.{flat_map}
 use Rattle.jsonpath_parser.specs.Location as location
 use Rattle.jsonpath_parser.specs.Location.{Location}
 use Rattle.jsonpath_parser.specs.tree.Syntax as syntax
-use Rattle.jsonpath_parser.specs.tree.Syntax.{Literal, string, bool, Selector, wildcard, slice, Selectors, no_selectors, selector, Segment, one, several, descendant, Segments, no_segments, segment, Filter, or, and, atom, Filters, no_filters, filter_then, Atom, group, test, comparison, Comparison, compare, Test, relative, absolute, call, Call, custom_call, length_call, value_call, count_call, search_call, match_call, Argument, literal_argument, test_argument, filter_argument, Arguments, no_arguments, argument, Query}
+use Rattle.jsonpath_parser.specs.tree.Syntax.{Literal, string, bool, Selector, wildcard, slice, Selectors, no_selectors, selector, Segment, one, several, descendant, Segments, no_segments, segment, Filter, or, and, Filters, no_filters, filter_then, group, test, compare, Test, relative, absolute, call, Call, custom_call, length_call, value_call, count_call, search_call, match_call, Argument, literal_argument, test_argument, filter_argument, Arguments, no_arguments, argument, Query}
 use Rattle.jsonpath_base.specs.Tree as tree
 use Rattle.jsonpath_base.specs.Tree.{Tree, truth, as_list}
 use Rattle.jsonpath_base.specs.Places.{child}
@@ -76,7 +76,9 @@ abbrev mutual
   pub holds : Filter → Document → Node → Bool
   holds (or fs) d n = some_holds fs d n
   holds (and fs) d n = each_holds fs d n
-  holds (atom a) d n = atom_holds a d n
+  holds (group t f) d n = negated t (holds f d n)
+  holds (test t q) d n = negated t (as_truth (tested q d n))
+  holds (compare op a b) d n = compares op (as_value (argued a d n)) (as_value (argued b d n))
 
   pub some_holds : Filters → Document → Node → Bool
   some_holds no_filters d n = false
@@ -85,14 +87,6 @@ abbrev mutual
   pub each_holds : Filters → Document → Node → Bool
   each_holds no_filters d n = true
   each_holds (filter_then f fs) d n = holds f d n && each_holds fs d n
-
-  pub atom_holds : Atom → Document → Node → Bool
-  atom_holds (group t f) d n = negated t (holds f d n)
-  atom_holds (test t q) d n = negated t (as_truth (tested q d n))
-  atom_holds (comparison c) d n = comparison_holds c d n
-
-  pub comparison_holds : Comparison → Document → Node → Bool
-  comparison_holds (compare op a b) d n = compares op (as_value (argued a d n)) (as_value (argued b d n))
 
   -- what a function answers, if it is not absent (2.4)
   pub answer : Call → Document → Node → Option Tree

@@ -1,8 +1,8 @@
 -- Which queries are refused for a pattern, and where. The definitions here are for the contracts that name that refusal.
 use Rattle.std.specs.Prelude.{◌≡◌, ℕ, List, [], ◌∷◌, ◌++◌, ◌⊎◌, Bool, true, false, Option, Some, IsSome}
 use Rattle.std.specs.List.{Contains}
-use Rattle.jsonpath_parser.specs.tree.Syntax.{Selector, Selectors, Segment, Segments, Filter, Filters, Atom, Comparison, Test, Call, search_call, match_call, Argument, Arguments, Query}
-use Rattle.jsonpath_parser.specs.tree.Typing.{over_segments, over_segment, over_selectors, over_selector, over_filter, over_filters, over_atom, over_comparison, over_test, over_call, over_argument, over_arguments}
+use Rattle.jsonpath_parser.specs.tree.Syntax.{Selector, Selectors, Segment, Segments, Filter, Filters, Test, Call, search_call, match_call, Argument, Arguments, Query}
+use Rattle.jsonpath_parser.specs.tree.Typing.{over_segments, over_segment, over_selectors, over_selector, over_filter, over_filters, over_test, over_call, over_argument, over_arguments}
 use Rattle.jsonpath_parser.specs.Derives.{Derives, IsRefusal}
 use Rattle.jsonpath_parser.specs.declared.errors.JsonPathError.{JsonPathError}
 use Rattle.jsonpath_parser.specs.declared.errors.JsonPathError.TheVariants.{OutOfMemory}
@@ -41,12 +41,6 @@ filter_patterns = over_filter [] ◌++◌ (λ t. []) (λ x. []) pattern_of
 
 abbrev pub filters_patterns : Filters → List (Bool × Argument)
 filters_patterns = over_filters [] ◌++◌ (λ t. []) (λ x. []) pattern_of
-
-abbrev pub atom_patterns : Atom → List (Bool × Argument)
-atom_patterns = over_atom [] ◌++◌ (λ t. []) (λ x. []) pattern_of
-
-abbrev pub comparison_patterns : Comparison → List (Bool × Argument)
-comparison_patterns = over_comparison [] ◌++◌ (λ t. []) (λ x. []) pattern_of
 
 abbrev pub test_patterns : Test → List (Bool × Argument)
 test_patterns = over_test [] ◌++◌ (λ t. []) (λ x. []) pattern_of

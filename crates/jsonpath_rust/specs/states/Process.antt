@@ -3,7 +3,7 @@
 use Rattle.std.specs.Prelude.{List, [], ◌∷◌, ◌++◌, length, map, Bool, true, false, not, ◌&&◌, ◌||◌, Option, Some, None}
 use Rattle.jsonpath_parser.specs.tree.Making.{is_truth_call}
 use Rattle.jsonpath_parser.specs.tree.Syntax as syntax
-use Rattle.jsonpath_parser.specs.tree.Syntax.{Operator, equal, not_equal, greater, greater_or_equal, less, less_or_equal, Selector, wildcard, slice, Selectors, no_selectors, selector, Segment, several, descendant, Segments, no_segments, segment, Filter, or, and, atom, Filters, no_filters, filter_then, Atom, group, test, comparison, Comparison, compare, Test, relative, absolute, call, Call, custom_call, length_call, value_call, count_call, search_call, match_call, Argument, literal_argument, test_argument, filter_argument, Arguments, no_arguments, argument}
+use Rattle.jsonpath_parser.specs.tree.Syntax.{Operator, equal, not_equal, greater, greater_or_equal, less, less_or_equal, Selector, wildcard, slice, Selectors, no_selectors, selector, Segment, several, descendant, Segments, no_segments, segment, Filter, or, and, Filters, no_filters, filter_then, group, test, compare, Test, relative, absolute, call, Call, custom_call, length_call, value_call, count_call, search_call, match_call, Argument, literal_argument, test_argument, filter_argument, Arguments, no_arguments, argument}
 use Rattle.jsonpath_base.specs.Same.{same}
 use Rattle.jsonpath_base.specs.Tree.{Tree, truth, list, elements}
 use Rattle.jsonpath_rust.specs.documents.Comparing.{is_below}
@@ -131,7 +131,9 @@ abbrev mutual
   pub holds_at : Filter → Document → Content → Bool
   holds_at (or fs) d c = some_holds_at fs d c
   holds_at (and fs) d c = each_holds_at fs d c
-  holds_at (atom a) d c = is_truth (atom_content a d c)
+  holds_at (group t f) d c = negated t (holds_at f d c)
+  holds_at (test t q) d c = is_truth (test_truth t (is_truth_call q) (test_content q d c))
+  holds_at (compare op a b) d c = contents_compare op (argument_content a d c) (argument_content b d c)
 
   pub some_holds_at : Filters → Document → Content → Bool
   some_holds_at no_filters d c = false
@@ -140,14 +142,6 @@ abbrev mutual
   pub each_holds_at : Filters → Document → Content → Bool
   each_holds_at no_filters d c = true
   each_holds_at (filter_then f fs) d c = holds_at f d c && each_holds_at fs d c
-
-  pub atom_content : Atom → Document → Content → Content
-  atom_content (group t f) d c = value (truth (negated t (holds_at f d c)))
-  atom_content (test t q) d c = test_truth t (is_truth_call q) (test_content q d c)
-  atom_content (comparison k) d c = value (truth (comparison_holds_at k d c))
-
-  pub comparison_holds_at : Comparison → Document → Content → Bool
-  comparison_holds_at (compare op a b) d c = contents_compare op (argument_content a d c) (argument_content b d c)
 
   pub test_content : Test → Document → Content → Content
   test_content (relative gs) d c = segments_content gs d c
@@ -174,6 +168,11 @@ abbrev mutual
 -- a filter by itself picks children
 abbrev pub filter_content : Filter → Document → Content → Content
 filter_content f d c = mapped (kept_from (holds_at f d)) c
+
+-- an operand of `&&` by itself: a call that gives a truth, without `!`, answers what it returns, each other operand its truth
+abbrev pub basic_content : Filter → Document → Content → Content
+basic_content (test t q) d c = test_truth t (is_truth_call q) (test_content q d c)
+basic_content f d c = value (truth (holds_at f d c))
 
 -- several selectors by themselves
 abbrev pub several_content : Selectors → Document → Content → Content

@@ -36,7 +36,7 @@ pub enum Given<'a, 's, T: Queryable> {
 }
 
 impl<'a, 's, T: Queryable> Given<'a, 's, T> {
-    /// The value, where that is given.
+    /// The value that was given; absent where it was none.
     #[inline(always)]
     pub fn into_value(self) -> Operand<'a, 's, T>
         ensures { operand_tree result ≡ given_value (Some (gave self.entry)) }
@@ -109,7 +109,7 @@ impl<'a, 's, T: Queryable> Cache<'a, 's, T> {
         }
     }
 
-    /// The value that the constant of this number gave, where it gave one.
+    /// The value that the constant of this number gave; absent where it gave none.
     #[inline(always)]
     pub fn value(&self, alloc: Global, number: usize) -> Walked<Operand<'a, 's, T>>
         ensures value { IfOk result (λ o. operand_tree o ≡ given_value (slot_at (slots_of self.now) number)) }

@@ -1,9 +1,9 @@
 //! Constants that are one value, an answer or a comparison: each is worked out when it is first
 //! asked, and then kept.
 ghost use Rattle.std.specs.Prelude.{◌≡◌, IfOk, IfErr, IfSome};
-ghost use Rattle.jsonpath_rust.specs.documents.Meaning.{answer, comparison_holds};
+ghost use Rattle.jsonpath_rust.specs.documents.Meaning.{answer, holds};
 ghost use Rattle.jsonpath_rust.specs.documents.Node.{Node};
-ghost use Rattle.jsonpath_rust.specs.documents.Patterns.{call_patterns, comparison_patterns};
+ghost use Rattle.jsonpath_rust.specs.documents.Patterns.{call_patterns, filter_patterns};
 ghost use Rattle.jsonpath_rust.specs.declared.documents.halt.Halt.TheVariants.{Memory};
 ghost use Rattle.jsonpath_rust.specs.documents.inner.Operands.{operand_tree};
 ghost use Rattle.jsonpath_rust.specs.documents.inner.Singular.{value_at};
@@ -43,7 +43,7 @@ impl<'a: 's, 's, T: Queryable> Task<'a, 's, T> {
         }
     }
 
-    /// The value that the steps lead to that have this number.
+    /// The value that the steps of this number lead to; the root where the plan has none.
     pub fn constant_value(
         &self,
         number: usize,
@@ -85,7 +85,7 @@ impl<'a: 's, 's, T: Queryable> Task<'a, 's, T> {
         }
     }
 
-    /// What the call returns that has this number.
+    /// What the call of this number returns; absent where the plan has none.
     #[cycle(walk)]
     fn constant_answer(
         &self,
@@ -111,7 +111,7 @@ impl<'a: 's, 's, T: Queryable> Task<'a, 's, T> {
         Ok(first)
     }
 
-    /// Whether the comparison holds that has this number.
+    /// Whether the comparison of this number holds; false where the plan has none.
     #[cycle(walk)]
     pub fn constant_comparison(
         &self,
@@ -120,8 +120,8 @@ impl<'a: 's, 's, T: Queryable> Task<'a, 's, T> {
     ) -> Walked<bool>
         requires { IsReady self.now trail.old.cache }
         ensures holds { (n : Node) → IfOk result (λ b. b
-            ≡ comparison_holds (comparison_at (kept_of self.now) number) (document self.now) n) }
-        ensures comes { Comes self.now trail.old trail.new (comparison_patterns (comparison_at (kept_of self.now) number)) result }
+            ≡ holds (comparison_at (kept_of self.now) number) (document self.now) n) }
+        ensures comes { Comes self.now trail.old trail.new (filter_patterns (comparison_at (kept_of self.now) number)) result }
     {
         let Some(comparison) = self.plan.constant_comparison(number) else {
             return Ok(false);

@@ -18,8 +18,8 @@ use crate::selection::walk::Task;
 use jsonpath_parser::model::SingularQuerySegment;
 
 impl<'a: 's, 's, T: Queryable> Task<'a, 's, T> {
-    /// How many children the value has that these steps lead to; none where there is no such value.
-    /// A member of an object costs a unit, for its type may have to list them.
+    /// How many children the value that these steps lead to has; 0 where there is no such value.
+    /// Each member of an object costs a unit, for the type may have to list them all.
     pub fn count_children(
         &self,
         steps: &[SingularQuerySegment],

@@ -92,7 +92,7 @@ pub fn is_direct(call: &Call) -> bool {
     }
 }
 
-/// The steps to the node that an argument is, if it is looked up.
+/// The steps of the query that an argument is, if that is a look-up.
 #[inline(always)]
 pub fn lookup_in(arg: &Argument) -> Option<&[SingularQuerySegment]>
     ensures { (kept : Constants) (w : Wanted) →
@@ -108,8 +108,8 @@ pub fn lookup_in(arg: &Argument) -> Option<&[SingularQuerySegment]>
     }
 }
 
-/// Whether there is a node (2.3.5.2.1), where it is looked up from the value; None where a query is
-/// walked, and where it is a constant.
+/// Whether there is a node (2.3.5.2.1), where it is looked up from the value; None where the query
+/// is walked or is a constant.
 #[inline(always)]
 pub fn is_there<T: Queryable>(nodes: &Nodes, at: WholeRef<'_, T>) -> Option<bool>
     ensures { (kept : Constants) (d : Document) (n : Node) → n.tree ≡ tree_of at.entry →

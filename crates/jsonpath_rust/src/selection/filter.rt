@@ -26,8 +26,8 @@ use crate::selection::trail::Trail;
 use crate::selection::walk::Task;
 
 impl<'a: 's, 's, T: Queryable> Task<'a, 's, T> {
-    /// Whether a filter holds at a value, to which the way leads. One that is a comparison is asked
-    /// with no call on the way.
+    /// Whether a filter holds at a value, to which the way leads. A comparison is asked at once,
+    /// without `filter_holds` between.
     #[cycle(walk)]
     #[inline(always)]
     pub fn is_met(
@@ -46,7 +46,7 @@ impl<'a: 's, 's, T: Queryable> Task<'a, 's, T> {
         self.filter_holds(filter, at, trail)
     }
 
-    /// The same of any filter.
+    /// The same; a comparison takes one call more.
     #[cycle(walk)]
     pub fn filter_holds(
         &self,
@@ -139,8 +139,8 @@ impl<'a: 's, 's, T: Queryable> Task<'a, 's, T> {
         Ok(self.nodes(nodes, Wanted::Any, at, trail)?.is_true())
     }
 
-    /// Whether the sides of a comparison compare so. What takes no walk is compared where it
-    /// stands, and nothing is made for it.
+    /// Whether a comparison holds. Where both sides are at hand they are compared as they are lent,
+    /// and nothing is made for them.
     #[cycle(walk)]
     pub fn comparison_holds(
         &self,
@@ -162,7 +162,7 @@ impl<'a: 's, 's, T: Queryable> Task<'a, 's, T> {
         self.walked_compare(comparison, at, trail)
     }
 
-    /// The same, where a side takes a walk, or is a constant that is not worked out yet.
+    /// The same, where a side is not at hand.
     #[cycle(walk)]
     #[inline(never)]
     fn walked_compare(

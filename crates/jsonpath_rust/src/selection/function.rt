@@ -74,8 +74,8 @@ impl<'a: 's, 's, T: Queryable> Task<'a, 's, T> {
         }
     }
 
-    /// What `match` returns of an entire text, or `search` of its substrings: a text and a pattern
-    /// (RFC 9535, 2.4.6 and 2.4.7).
+    /// What `match` or `search` returns of a text and a pattern: `match` asks of the entire text,
+    /// `search` of its substrings (RFC 9535, 2.4.6 and 2.4.7).
     #[cycle(walk)]
     fn match_or_search(
         &self,
@@ -189,7 +189,7 @@ impl<'a: 's, 's, T: Queryable> Task<'a, 's, T> {
     }
 }
 
-/// The query that an argument is, if it is one. Any other is a value, whatever is wanted.
+/// The query that an argument is, if it is one. Any other argument is a value, whatever is wanted.
 #[inline(always)]
 fn nodes_in(arg: &Argument) -> Option<&Nodes>
     ensures nodes { (kept : Constants) (w : Wanted) →
@@ -215,8 +215,8 @@ fn origin_of(arg: &Argument) -> Origin {
     }
 }
 
-/// What `match` or `search` returns for a value and a pattern. It refuses where the pattern cannot
-/// be built, and where memory ran out.
+/// What `match` or `search` returns for a value and a pattern. It refuses where the pattern is too
+/// large, and where memory ran out.
 fn is_matched<T: Queryable>(
     alloc: Global,
     finders: &mut Finders<'_, '_>,

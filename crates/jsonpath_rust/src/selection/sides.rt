@@ -1,4 +1,4 @@
-//! The sides of a comparison, where none takes a walk: they are lent, and nothing is made for them.
+//! The sides of a comparison, where both are at hand: they are lent, and nothing is made for them.
 ghost use Rattle.std.specs.Prelude.{◌≡◌, [], IfOk, IfErr, IfSome};
 ghost use Rattle.jsonpath_parser.specs.tree.View.{operator_view};
 ghost use Rattle.jsonpath_rust.specs.documents.Comparing.{compares};
@@ -26,7 +26,7 @@ use crate::selection::walk::Task;
 use jsonpath_parser::model::Operator;
 
 impl<'a: 's, 's, T: Queryable> Task<'a, 's, T> {
-    /// Whether the sides compare so at a value; None where one of them is not at hand.
+    /// Whether a comparison holds at a value; None where one of its sides is not at hand.
     #[inline(always)]
     pub fn lent_compare(
         &self,
@@ -42,7 +42,7 @@ impl<'a: 's, 's, T: Queryable> Task<'a, 's, T> {
             (value_of (side_view (kept_of self.now) comparison.entry.2.now) (document self.now) n))) }
         ensures halts { IfErr result (IsHalt self.now.limit [] (document self.now)) }
     {
-        // Nothing is spent on a left side that is not at hand, and on one that is only where both are.
+        // The right side is asked first, at no cost: the left one is paid for only where both are.
         if !is_at_hand(comparison.2, cache) {
             return Ok(None);
         }
@@ -56,7 +56,7 @@ impl<'a: 's, 's, T: Queryable> Task<'a, 's, T> {
         Ok(Some(held))
     }
 
-    /// Whether the sides compare so, for what that costs.
+    /// Whether the operator holds of these sides. What that costs is spent first.
     #[inline(always)]
     pub fn paid_compare<'k>(
         &self,
@@ -76,7 +76,7 @@ impl<'a: 's, 's, T: Queryable> Task<'a, 's, T> {
         Ok(compares(operator, &left, &right))
     }
 
-    /// What stands at a side; None where that is not at hand.
+    /// The value of a side; None where it is not at hand.
     #[inline(always)]
     fn lent_side<'k>(
         &self,
@@ -139,7 +139,7 @@ impl<'a: 's, 's, T: Queryable> Task<'a, 's, T> {
     }
 }
 
-/// Whether a side is at hand: it takes no walk, and is no constant that is not worked out yet.
+/// Whether a side is at hand: a literal, a look-up, a constant that is worked out, a direct call.
 #[inline(always)]
 fn is_at_hand<T: Queryable>(side: &plan::Side, cache: &Cache<'_, '_, T>) -> bool {
     match side {

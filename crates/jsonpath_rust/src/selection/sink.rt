@@ -39,8 +39,8 @@ pub enum Wanted {
 }
 
 impl Wanted {
-    /// What is wanted of one node, which has this value, or of none, as a value. All values are not
-    /// one: nothing.
+    /// What is wanted of one node, which has this value, or of none, as a value. `Values` is no
+    /// single value: absent.
     #[inline(always)]
     pub fn of<'a, 's, T: Queryable>(self, value: Option<WholeRef<'a, T>>) -> Operand<'a, 's, T>
         ensures { operand_tree result ≡ wanted_of self (of_nodes (map root_node (option_to_list (option_map tree_of value.entry)))) }
@@ -180,7 +180,7 @@ impl<'a, T: Queryable> Sink<'a, T> {
         }
     }
 
-    /// The only node that an `Only` was given.
+    /// What an `Only` was given: nothing, one node, or several.
     pub fn into_only(self) -> WholeOnly<'a, T>
         ensures { only_told (seen_only result) ≡ only_told (seen self.entry) }
     {
@@ -284,7 +284,7 @@ fn one_more(count: usize) -> usize
     }
 }
 
-/// Takes a node; it goes on if that is the first.
+/// Takes a node: true, so that the walk goes on, if that is the first.
 #[inline(always)]
 fn take_only<'a, T: Queryable>(only: &mut WholeOnly<'a, T>, value: WholeRef<'a, T>) -> bool
     ensures { (n : Node) → n.tree ≡ tree_of value.entry → Took (seen_only only.old) (n ∷ []) (seen_only only.new) result }
@@ -301,7 +301,7 @@ fn take_only<'a, T: Queryable>(only: &mut WholeOnly<'a, T>, value: WholeRef<'a, 
     }
 }
 
-/// Takes a node, if that is the first; it never goes on.
+/// Takes a node, if that is the first: always false, so the walk stops.
 fn take_first<'a, T: Queryable>(
     first: &mut Option<WholeNode<'a, T>>,
     alloc: Global,

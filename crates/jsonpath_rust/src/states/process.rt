@@ -9,11 +9,10 @@ ghost use Rattle.jsonpath_rust.specs.states.Asking.{IsProcessStop};
 ghost use Rattle.jsonpath_rust.specs.documents.Document.{Document, document_of};
 ghost use Rattle.jsonpath_rust.specs.documents.Meaning.{literal_tree};
 ghost use Rattle.jsonpath_rust.specs.states.Process.{segments_content, segment_content, selector_content, filter_content};
-ghost use Rattle.jsonpath_rust.specs.states.Process.{atom_content, comparison_holds_at, test_content};
+ghost use Rattle.jsonpath_rust.specs.states.Process.{basic_content, holds_at, test_content};
 ghost use Rattle.jsonpath_rust.specs.states.Process.{call_content, argument_content};
 ghost use Rattle.jsonpath_rust.specs.documents.Patterns.{segments_patterns, segment_patterns, selector_patterns};
-ghost use Rattle.jsonpath_rust.specs.documents.Patterns.{filter_patterns, atom_patterns, comparison_patterns};
-ghost use Rattle.jsonpath_rust.specs.documents.Patterns.{test_patterns, call_patterns, argument_patterns};
+ghost use Rattle.jsonpath_rust.specs.documents.Patterns.{filter_patterns, test_patterns, call_patterns, argument_patterns};
 ghost use Rattle.jsonpath_rust.specs.states.State.{Content, value, content_of, DataIsWhole};
 ghost use Rattle.jsonpath_rust.specs.declared.documents.halt.Halt.TheVariants.{Memory};
 ghost use Rattle.jsonpath_rust.specs.states.inner.Evaluating.{content_at, HaltsAt, HaltsBelow};
@@ -161,11 +160,11 @@ impl Query for Filter {
     }
 }
 
-/// Its truth; of a call that returns a truth, what the call returns.
+/// Its truth; of a call that returns a truth, without `!`, what the call returns.
 impl Query for FilterAtom {
-    ghost answers = { λ q. atom_content (atom_view q) };
+    ghost answers = { λ q. basic_content (atom_view q) };
 
-    ghost patterns = { λ q. atom_patterns (atom_view q) };
+    ghost patterns = { λ q. filter_patterns (atom_view q) };
 
     fn process<'a, T: Queryable>(&self, alloc: Global, state: State<'a, T>) -> Answered<'a, T> {
         let State { content, root } = state;
@@ -178,9 +177,9 @@ impl Query for FilterAtom {
 
 /// Its truth.
 impl Query for Comparison {
-    ghost answers = { λ q d c. value (truth (comparison_holds_at (comparison_view q) d c)) };
+    ghost answers = { λ q d c. value (truth (holds_at (comparison_view q) d c)) };
 
-    ghost patterns = { λ q. comparison_patterns (comparison_view q) };
+    ghost patterns = { λ q. filter_patterns (comparison_view q) };
 
     fn process<'a, T: Queryable>(&self, alloc: Global, state: State<'a, T>) -> Answered<'a, T> {
         let State { content, root } = state;

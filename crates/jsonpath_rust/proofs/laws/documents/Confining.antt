@@ -5,9 +5,9 @@ use Rattle.std.proofs.lemmas.List.Elements.{All-from_recursion, All-map, All-wea
 use Rattle.std.specs.List.{flat_map, AllByRecursion}
 use Rattle.std.specs.Option.{option_map_or}
 use Rattle.jsonpath_parser.specs.Location.{Step, name, index, Location, Begins}
-use Rattle.jsonpath_parser.specs.tree.Reach.{is_local, is_local_segment, are_local_selectors, is_local_selector, is_local_filter, are_local_filters, is_local_atom, is_local_comparison, is_local_test, is_local_call, is_local_argument, are_local_arguments}
+use Rattle.jsonpath_parser.specs.tree.Reach.{is_local, is_local_segment, are_local_selectors, is_local_selector, is_local_filter, are_local_filters, is_local_test, is_local_call, is_local_argument, are_local_arguments}
 use Rattle.jsonpath_parser.specs.tree.Syntax as syntax
-use Rattle.jsonpath_parser.specs.tree.Syntax.{Selector, wildcard, slice, Selectors, no_selectors, selector, Segment, one, several, descendant, Segments, no_segments, segment, Filter, or, and, atom, Filters, no_filters, filter_then, Atom, group, test, comparison, Comparison, compare, Test, relative, absolute, call, Call, custom_call, length_call, value_call, count_call, search_call, match_call, Argument, literal_argument, test_argument, filter_argument, Arguments, no_arguments, argument, Query}
+use Rattle.jsonpath_parser.specs.tree.Syntax.{Selector, wildcard, slice, Selectors, no_selectors, selector, Segment, one, several, descendant, Segments, no_segments, segment, Filter, or, and, Filters, no_filters, filter_then, group, test, compare, Test, relative, absolute, call, Call, custom_call, length_call, value_call, count_call, search_call, match_call, Argument, literal_argument, test_argument, filter_argument, Arguments, no_arguments, argument, Query}
 use Rattle.jsonpath_base.specs.FixedPart.{fixed_step, fixed_part}
 use Rattle.jsonpath_base.specs.Places.{child, at}
 use Rattle.jsonpath_base.specs.Slice.{slice_of}
@@ -17,7 +17,7 @@ use Rattle.jsonpath_rust.specs.documents.Comparing.{compares}
 use Rattle.jsonpath_rust.specs.documents.Confining.{SingularSelectsOneAtMost, SelectedBeginsWithFixedPart, AgreeAt, LocalIsConfined}
 use Rattle.jsonpath_rust.specs.documents.Document.{Document}
 use Rattle.jsonpath_rust.specs.documents.Functions.{length_of, count_of, only_value, is_matched, of_value, of_nodes, as_value, as_nodes, as_trees, as_truth}
-use Rattle.jsonpath_rust.specs.documents.Meaning.{element, element_of, picks, all_pick, replaced, all_applied, holds, some_holds, each_holds, atom_holds, comparison_holds, answer, argued, tested, all_trees, negated, nodelist, selected}
+use Rattle.jsonpath_rust.specs.documents.Meaning.{element, element_of, picks, all_pick, replaced, all_applied, holds, some_holds, each_holds, answer, argued, tested, all_trees, negated, nodelist, selected}
 use Rattle.jsonpath_rust.specs.documents.Node.{Node, root_node, below, element_nodes, member_nodes, children_at, children, subtree, subtree_at, subtrees_at, member_subtrees}
 use Rattle.jsonpath_rust.specs.documents.inner.Following.{followed}
 use Rattle.jsonpath_rust.proofs.laws.documents.Following.{node_at, nodes_of, applied_to_none, selected_followed}
@@ -185,7 +185,11 @@ mutual
   holds_alike : (f : Filter) (d e : Document) (n : Node) → SameCustom d e → IsTrue (is_local_filter f) → holds f d n ≡ holds f e n
   holds_alike (or fs) d e n same h = some_alike fs d e n same h
   holds_alike (and fs) d e n same h = each_alike fs d e n same h
-  holds_alike (atom a) d e n same h = atom_alike a d e n same h
+  holds_alike (group t f) d e n same h = ap (negated t) (holds_alike f d e n same h)
+  holds_alike (test t q) d e n same h = ap (λ x. negated t (as_truth x)) (tested_alike q d e n same h)
+  holds_alike (compare op a b) d e n same h =
+      let both = and_parts (is_local_argument a) (is_local_argument b) h in
+      ap (λ x. compares op (as_value x) (as_value (argued b d n))) (argued_alike a d e n same both.0) ∙ ap (λ x. compares op (as_value (argued a e n)) (as_value x)) (argued_alike b d e n same both.1)
 
   some_alike : (fs : Filters) (d e : Document) (n : Node) → SameCustom d e → IsTrue (are_local_filters fs) → some_holds fs d n ≡ some_holds fs e n
   some_alike no_filters d e n same h = refl
@@ -198,16 +202,6 @@ mutual
   each_alike (filter_then f fs) d e n same h =
       let both = and_parts (is_local_filter f) (are_local_filters fs) h in
       ap (λ b. b && each_holds fs d n) (holds_alike f d e n same both.0) ∙ ap (λ b. holds f e n && b) (each_alike fs d e n same both.1)
-
-  atom_alike : (a : Atom) (d e : Document) (n : Node) → SameCustom d e → IsTrue (is_local_atom a) → atom_holds a d n ≡ atom_holds a e n
-  atom_alike (group t f) d e n same h = ap (negated t) (holds_alike f d e n same h)
-  atom_alike (test t q) d e n same h = ap (λ x. negated t (as_truth x)) (tested_alike q d e n same h)
-  atom_alike (comparison c) d e n same h = comparison_alike c d e n same h
-
-  comparison_alike : (c : Comparison) (d e : Document) (n : Node) → SameCustom d e → IsTrue (is_local_comparison c) → comparison_holds c d n ≡ comparison_holds c e n
-  comparison_alike (compare op a b) d e n same h =
-      let both = and_parts (is_local_argument a) (is_local_argument b) h in
-      ap (λ x. compares op (as_value x) (as_value (argued b d n))) (argued_alike a d e n same both.0) ∙ ap (λ x. compares op (as_value (argued a e n)) (as_value x)) (argued_alike b d e n same both.1)
 
   tested_alike : (t : Test) (d e : Document) (n : Node) → SameCustom d e → IsTrue (is_local_test t) → tested t d n ≡ tested t e n
   tested_alike (relative gs) d e n same h = ap of_nodes (applied_alike gs d e (n ∷ []) same h)

@@ -119,12 +119,12 @@ mutual
   filter_same : (kept : Constants) (x y : Filter) → IsTrue (filter_eq.eq-value.it x y) → filter_view kept x ≡ filter_view kept y
   filter_same kept (Filter.Or' sa v) (Filter.Or' sb u) = under tree.or (filters_same kept v u) (filter_laws.is (Filter.Or' sa v) (Filter.Or' sb u) ∙ search layers) (search layers) (search layers)
   filter_same kept (Filter.And' sa v) (Filter.And' sb u) = under tree.and (filters_same kept v u) (filter_laws.is (Filter.And' sa v) (Filter.And' sb u) ∙ search layers) (search layers) (search layers)
-  filter_same kept (Filter.Group' pa a s) (Filter.Group' pb b t) = under_two (λ f n. tree.atom (tree.group n f)) (filter_same kept a b) (bool_same s t) (filter_laws.is (Filter.Group' pa a s) (Filter.Group' pb b t) ∙ search layers) (search layers) (search layers)
-  filter_same kept (Filter.Exists a s) (Filter.Exists b t) = under_two (λ q n. tree.atom (tree.Atom.test n q)) (nodes_same kept a b wanted.Any) (bool_same s t) (filter_laws.is (Filter.Exists a s) (Filter.Exists b t) ∙ search layers) (search layers) (search layers)
-  filter_same kept (Filter.HasChild v s) (Filter.HasChild u t) = under_two (λ ss n. tree.atom (tree.Atom.test n (tree.relative (children_query ss)))) (steps_same v.items u.items).0 (bool_same s t) (filter_laws.is (Filter.HasChild v s) (Filter.HasChild u t) ∙ search layers) (search layers) (search layers)
-  filter_same kept (Filter.Call a s) (Filter.Call b t) = under_two (λ c n. tree.atom (tree.Atom.test n (tree.call c))) (called_same kept a b) (bool_same s t) (filter_laws.is (Filter.Call a s) (Filter.Call b t) ∙ search layers) (search layers) (search layers)
-  filter_same kept (Filter.Comparison o a c) (Filter.Comparison p b d) = under_two (λ op (q : tree.Argument × tree.Argument). tree.atom (tree.comparison (tree.compare op q.0 q.1))) (operator_same o p).0 (under_two (λ (s t : tree.Argument). (s, t)) (side_same kept a b) (side_same kept c d) refl refl refl) (filter_laws.is (Filter.Comparison o a c) (Filter.Comparison p b d) ∙ search layers) (search layers) (search layers)
-  filter_same kept (Filter.Constant n) (Filter.Constant m) = under (λ k. tree.atom (tree.comparison (comparison_at kept k))) (Decides-eqb n m).0 (filter_laws.is (Filter.Constant n) (Filter.Constant m) ∙ search layers) (search layers) (search layers)
+  filter_same kept (Filter.Group' pa a s) (Filter.Group' pb b t) = under_two (λ f n. tree.group n f) (filter_same kept a b) (bool_same s t) (filter_laws.is (Filter.Group' pa a s) (Filter.Group' pb b t) ∙ search layers) (search layers) (search layers)
+  filter_same kept (Filter.Exists a s) (Filter.Exists b t) = under_two (λ q n. tree.Filter.test n q) (nodes_same kept a b wanted.Any) (bool_same s t) (filter_laws.is (Filter.Exists a s) (Filter.Exists b t) ∙ search layers) (search layers) (search layers)
+  filter_same kept (Filter.HasChild v s) (Filter.HasChild u t) = under_two (λ ss n. tree.Filter.test n (tree.relative (children_query ss))) (steps_same v.items u.items).0 (bool_same s t) (filter_laws.is (Filter.HasChild v s) (Filter.HasChild u t) ∙ search layers) (search layers) (search layers)
+  filter_same kept (Filter.Call a s) (Filter.Call b t) = under_two (λ c n. tree.Filter.test n (tree.call c)) (called_same kept a b) (bool_same s t) (filter_laws.is (Filter.Call a s) (Filter.Call b t) ∙ search layers) (search layers) (search layers)
+  filter_same kept (Filter.Comparison o a c) (Filter.Comparison p b d) = under_two (λ op (q : tree.Argument × tree.Argument). tree.compare op q.0 q.1) (operator_same o p).0 (under_two (λ (s t : tree.Argument). (s, t)) (side_same kept a b) (side_same kept c d) refl refl refl) (filter_laws.is (Filter.Comparison o a c) (Filter.Comparison p b d) ∙ search layers) (search layers) (search layers)
+  filter_same kept (Filter.Constant n) (Filter.Constant m) = under (comparison_at kept) (Decides-eqb n m).0 (filter_laws.is (Filter.Constant n) (Filter.Constant m) ∙ search layers) (search layers) (search layers)
   filter_same kept x y = differ (filter_laws.is x y ∙ search layers)
 
   nodes_same : (kept : Constants) (x y : Nodes) (w : Wanted) → IsTrue (nodes_eq.eq-value.it x y) → nodes_view kept x w ≡ nodes_view kept y w

@@ -77,22 +77,22 @@ filter_view-Or kept v = search (rules, the_lemmas)
 pub filter_view-And : (kept : Constants) (v : Vec Filter Global) → filter_view kept (Filter.And v) ≡ tree.and (filters_of (map (filter_view kept) v.items))
 filter_view-And kept v = search (rules, the_lemmas)
 
-pub filter_view-Group : (kept : Constants) (f : Box Filter Global) (b : Bool) → filter_view kept (Filter.Group f b) ≡ tree.atom (tree.group b (filter_view kept f.value))
+pub filter_view-Group : (kept : Constants) (f : Box Filter Global) (b : Bool) → filter_view kept (Filter.Group f b) ≡ tree.group b (filter_view kept f.value)
 filter_view-Group kept f b = search (rules, the_lemmas)
 
-pub filter_view-Exists : (kept : Constants) (ns : Nodes) (b : Bool) → filter_view kept (Filter.Exists ns b) ≡ tree.atom (tree.Atom.test b (nodes_view kept ns Any))
+pub filter_view-Exists : (kept : Constants) (ns : Nodes) (b : Bool) → filter_view kept (Filter.Exists ns b) ≡ tree.Filter.test b (nodes_view kept ns Any)
 filter_view-Exists kept ns b = search (rules, the_lemmas)
 
-pub filter_view-HasChild : (kept : Constants) (v : Vec SingularQuerySegment Global) (b : Bool) → filter_view kept (Filter.HasChild v b) ≡ tree.atom (tree.Atom.test b (tree.relative (children_query (map step_view v.items))))
+pub filter_view-HasChild : (kept : Constants) (v : Vec SingularQuerySegment Global) (b : Bool) → filter_view kept (Filter.HasChild v b) ≡ tree.Filter.test b (tree.relative (children_query (map step_view v.items)))
 filter_view-HasChild kept v b = search (rules, the_lemmas)
 
-pub filter_view-Call : (kept : Constants) (c : Called) (b : Bool) → filter_view kept (Filter.Call c b) ≡ tree.atom (tree.Atom.test b (tree.call (called_view kept c)))
+pub filter_view-Call : (kept : Constants) (c : Called) (b : Bool) → filter_view kept (Filter.Call c b) ≡ tree.Filter.test b (tree.call (called_view kept c))
 filter_view-Call kept c b = search (rules, the_lemmas)
 
-pub filter_view-Comparison : (kept : Constants) (op : Operator) (x y : Side) → filter_view kept (Filter.Comparison op x y) ≡ tree.atom (tree.comparison (tree.compare (operator_view op) (side_view kept x) (side_view kept y)))
+pub filter_view-Comparison : (kept : Constants) (op : Operator) (x y : Side) → filter_view kept (Filter.Comparison op x y) ≡ tree.compare (operator_view op) (side_view kept x) (side_view kept y)
 filter_view-Comparison kept op x y = search (rules, the_lemmas)
 
-pub filter_view-Constant : (kept : Constants) (n : ℕ) → filter_view kept (Filter.Constant n) ≡ tree.atom (tree.comparison (comparison_at kept n))
+pub filter_view-Constant : (kept : Constants) (n : ℕ) → filter_view kept (Filter.Constant n) ≡ comparison_at kept n
 filter_view-Constant kept n = search (rules, the_lemmas)
 
 pub nodes_view-Lookup : (kept : Constants) (v : Vec SingularQuerySegment Global) (w : Wanted) → nodes_view kept (Nodes.Lookup v) w ≡ tree.relative (steps_query (map step_view v.items))

@@ -2,23 +2,27 @@
 use Rattle.std.proofs.Common.{◌≡◌, ℕ, suc, zero, [], ◌∷◌, ◌++◌, refl, sym, ◌∙◌, ap, Bool, true, false, ◌&&◌, ◌||◌, Option, Some, IsTrue}
 use Rattle.std.proofs.lemmas.Bool.{and_parts}
 use Rattle.std.specs.List.{list_all}
-use Rattle.jsonpath_parser.specs.tree.Syntax.{Filter, or, and, atom, Filters, no_filters, filter_then, Atom, group, test, comparison, Comparison, compare, Test, relative, absolute, call, Call, custom_call, length_call, value_call, count_call, search_call, match_call, Argument, literal_argument, test_argument, filter_argument, Arguments, no_arguments, argument}
+use Rattle.jsonpath_parser.specs.tree.Syntax.{Filter, or, and, Filters, no_filters, filter_then, group, test, compare, Test, relative, absolute, call, Call, custom_call, length_call, value_call, count_call, search_call, match_call, Argument, literal_argument, test_argument, filter_argument, Arguments, no_arguments, argument}
 use Rattle.jsonpath_base.specs.Tree.{Tree, truth}
 use Rattle.jsonpath_rust.specs.documents.Comparing.{compares}
 use Rattle.jsonpath_rust.specs.documents.Document.{Document}
 use Rattle.jsonpath_rust.specs.documents.Functions.{length_of, count_of, only_value, is_matched, of_value, as_value, as_nodes, as_trees, as_truth}
-use Rattle.jsonpath_rust.specs.documents.Meaning.{holds, some_holds, each_holds, atom_holds, comparison_holds, answer, argued, tested, all_trees, negated}
+use Rattle.jsonpath_rust.specs.documents.Meaning.{holds, some_holds, each_holds, answer, argued, tested, all_trees, negated}
 use Rattle.jsonpath_rust.specs.documents.Node.{Node, root_node}
 use Rattle.jsonpath_rust.specs.selection.inner.Keeping.{given_by}
 use Rattle.jsonpath_rust.specs.selection.inner.Wanting as wanting
 use Rattle.jsonpath_rust.specs.selection.inner.PlanViews.{Constants, ConstantPart, nodes, value, answered, compared, part_at, part_is_rooted, call_in, comparison_in, call_at, comparison_at, AreRooted}
-use Rattle.jsonpath_rust.specs.selection.inner.Rooted.{filter_is_rooted, filters_are_rooted, atom_is_rooted, comparison_is_rooted, test_is_rooted, call_is_rooted, argument_is_rooted, arguments_are_rooted}
+use Rattle.jsonpath_rust.specs.selection.inner.Rooted.{filter_is_rooted, filters_are_rooted, test_is_rooted, call_is_rooted, argument_is_rooted, arguments_are_rooted}
 
 mutual
   filter_same : (f : Filter) (d : Document) (n m : Node) → IsTrue (filter_is_rooted f) → holds f d n ≡ holds f d m
   filter_same (or fs) d n m h = some_same fs d n m h
   filter_same (and fs) d n m h = each_same fs d n m h
-  filter_same (atom a) d n m h = atom_same a d n m h
+  filter_same (group t f) d n m h = ap (negated t) (filter_same f d n m h)
+  filter_same (test t q) d n m h = ap (λ e. negated t (as_truth e)) (test_same q d n m h)
+  filter_same (compare op a b) d n m h =
+      let both = and_parts (argument_is_rooted a) (argument_is_rooted b) h in
+      ap (λ e. compares op (as_value e) (as_value (argued b d n))) (argument_same a d n m both.0) ∙ ap (λ e. compares op (as_value (argued a d m)) (as_value e)) (argument_same b d n m both.1)
 
   some_same : (fs : Filters) (d : Document) (n m : Node) → IsTrue (filters_are_rooted fs) → some_holds fs d n ≡ some_holds fs d m
   some_same no_filters d n m h = refl
@@ -31,16 +35,6 @@ mutual
   each_same (filter_then f fs) d n m h =
       let both = and_parts (filter_is_rooted f) (filters_are_rooted fs) h in
       ap (λ b. b && each_holds fs d n) (filter_same f d n m both.0) ∙ ap (λ b. holds f d m && b) (each_same fs d n m both.1)
-
-  atom_same : (a : Atom) (d : Document) (n m : Node) → IsTrue (atom_is_rooted a) → atom_holds a d n ≡ atom_holds a d m
-  atom_same (group t f) d n m h = ap (negated t) (filter_same f d n m h)
-  atom_same (test t q) d n m h = ap (λ e. negated t (as_truth e)) (test_same q d n m h)
-  atom_same (comparison c) d n m h = comparison_same c d n m h
-
-  pub comparison_same : (c : Comparison) (d : Document) (n m : Node) → IsTrue (comparison_is_rooted c) → comparison_holds c d n ≡ comparison_holds c d m
-  comparison_same (compare op a b) d n m h =
-      let both = and_parts (argument_is_rooted a) (argument_is_rooted b) h in
-      ap (λ e. compares op (as_value e) (as_value (argued b d n))) (argument_same a d n m both.0) ∙ ap (λ e. compares op (as_value (argued a d m)) (as_value e)) (argument_same b d n m both.1)
 
   test_same : (t : Test) (d : Document) (n m : Node) → IsTrue (test_is_rooted t) → tested t d n ≡ tested t d m
   test_same (relative gs) d n m h = absurd cc
@@ -83,7 +77,7 @@ call_in_rooted (value ss) h = refl
 call_in_rooted (answered c) h = h
 call_in_rooted (compared c) h = refl
 
-comparison_in_rooted : (p : ConstantPart) → IsTrue (part_is_rooted p) → IsTrue (comparison_is_rooted (comparison_in p))
+comparison_in_rooted : (p : ConstantPart) → IsTrue (part_is_rooted p) → IsTrue (filter_is_rooted (comparison_in p))
 comparison_in_rooted (nodes w q) h = refl
 comparison_in_rooted (value ss) h = refl
 comparison_in_rooted (answered c) h = refl
@@ -92,8 +86,8 @@ comparison_in_rooted (compared c) h = h
 pub kept_call_same : (kept : Constants) (k : ℕ) (d : Document) (n m : Node) → AreRooted kept → answer (call_at kept k) d n ≡ answer (call_at kept k) d m
 kept_call_same kept k d n m h = call_same (call_at kept k) d n m (call_in_rooted (part_at kept k) (part_rooted kept k h))
 
-pub kept_comparison_same : (kept : Constants) (k : ℕ) (d : Document) (n m : Node) → AreRooted kept → comparison_holds (comparison_at kept k) d n ≡ comparison_holds (comparison_at kept k) d m
-kept_comparison_same kept k d n m h = comparison_same (comparison_at kept k) d n m (comparison_in_rooted (part_at kept k) (part_rooted kept k h))
+pub kept_comparison_same : (kept : Constants) (k : ℕ) (d : Document) (n m : Node) → AreRooted kept → holds (comparison_at kept k) d n ≡ holds (comparison_at kept k) d m
+kept_comparison_same kept k d n m h = filter_same (comparison_at kept k) d n m (comparison_in_rooted (part_at kept k) (part_rooted kept k h))
 
 -- ---- what is worked out at the root
 
@@ -103,8 +97,8 @@ answer_as f g d n m t e k h = h ∙ ap (answer f d) k ∙ sym (ap (λ x. answer 
 pub answer_kept : (p : ConstantPart) (f : Call) (d : Document) (n : Node) (t : Option Tree) → p ≡ answered f → n ≡ root_node d.root → t ≡ answer f d n → wanting.value t ≡ given_by p d
 answer_kept p f d n t e k h = ap wanting.value (h ∙ ap (answer f d) k) ∙ sym (ap (λ x. given_by x d) e)
 
-pub comparison_as : (q r : Comparison) (d : Document) (n m : Node) (b : Bool) → r ≡ q → n ≡ m → b ≡ comparison_holds q d n → b ≡ comparison_holds r d m
-comparison_as q r d n m b e k h = h ∙ ap (comparison_holds q d) k ∙ sym (ap (λ x. comparison_holds x d m) e)
+pub comparison_as : (q r : Filter) (d : Document) (n m : Node) (b : Bool) → r ≡ q → n ≡ m → b ≡ holds q d n → b ≡ holds r d m
+comparison_as q r d n m b e k h = h ∙ ap (holds q d) k ∙ sym (ap (λ x. holds x d m) e)
 
-pub comparison_kept : (p : ConstantPart) (q : Comparison) (d : Document) (n : Node) (b : Bool) → p ≡ compared q → n ≡ root_node d.root → b ≡ comparison_holds q d n → wanting.value (Some (truth b)) ≡ given_by p d
-comparison_kept p q d n b e k h = ap (λ x. wanting.value (Some (truth x))) (h ∙ ap (comparison_holds q d) k) ∙ sym (ap (λ x. given_by x d) e)
+pub comparison_kept : (p : ConstantPart) (q : Filter) (d : Document) (n : Node) (b : Bool) → p ≡ compared q → n ≡ root_node d.root → b ≡ holds q d n → wanting.value (Some (truth b)) ≡ given_by p d
+comparison_kept p q d n b e k h = ap (λ x. wanting.value (Some (truth x))) (h ∙ ap (holds q d) k) ∙ sym (ap (λ x. given_by x d) e)

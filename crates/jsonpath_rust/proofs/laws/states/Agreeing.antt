@@ -5,17 +5,17 @@ use Rattle.std.specs.List.{AllByRecursion, AllZip, flat_map}
 use Rattle.std.specs.Prelude.{codes}
 use Rattle.jsonpath_parser.specs.Normal.{normal}
 use Rattle.jsonpath_parser.specs.tree.Syntax as syntax
-use Rattle.jsonpath_parser.specs.tree.Syntax.{Selector, wildcard, slice, Selectors, no_selectors, selector, Segment, one, several, descendant, Segments, no_segments, segment, Filter, or, and, atom, Filters, no_filters, filter_then, Atom, group, test, comparison, Comparison, compare, Test, relative, absolute, call, Call, custom_call, length_call, value_call, count_call, search_call, match_call, Argument, literal_argument, test_argument, filter_argument, Arguments, no_arguments, argument, Query}
-use Rattle.jsonpath_parser.specs.tree.Typing.{takes, is_truth_test, is_value_argument, is_typed, is_typed_segment, is_typed_selector, are_typed_selectors, is_typed_filter, are_typed_filters, is_typed_atom, is_typed_comparison, is_typed_side, is_typed_test, is_typed_call, is_typed_argument, are_typed_arguments}
+use Rattle.jsonpath_parser.specs.tree.Syntax.{Selector, wildcard, slice, Selectors, no_selectors, selector, Segment, one, several, descendant, Segments, no_segments, segment, Filter, or, and, Filters, no_filters, filter_then, group, test, compare, Test, relative, absolute, call, Call, custom_call, length_call, value_call, count_call, search_call, match_call, Argument, literal_argument, test_argument, filter_argument, Arguments, no_arguments, argument, Query}
+use Rattle.jsonpath_parser.specs.tree.Typing.{takes, is_truth_test, is_value_argument, is_typed, is_typed_segment, is_typed_selector, are_typed_selectors, is_typed_filter, are_typed_filters, is_typed_side, is_typed_test, is_typed_call, is_typed_argument, are_typed_arguments}
 use Rattle.jsonpath_base.specs.Places.{at}
 use Rattle.jsonpath_base.specs.Tree.{Tree, truth, has_distinct_names}
 use Rattle.jsonpath_rust.specs.documents.Answer.{IsNodeAt, IsValueAt}
 use Rattle.jsonpath_rust.specs.documents.Comparing.{compares}
 use Rattle.jsonpath_rust.specs.documents.Document.{Document}
 use Rattle.jsonpath_rust.specs.documents.Functions.{as_value, as_nodes, as_trees, length_of, is_matched}
-use Rattle.jsonpath_rust.specs.documents.Meaning.{named, indexed, sliced, negated, picks, all_pick, replaced, all_applied, holds, some_holds, each_holds, atom_holds, comparison_holds, answer, argued, tested, all_trees, nodelist, selected}
+use Rattle.jsonpath_rust.specs.documents.Meaning.{named, indexed, sliced, negated, picks, all_pick, replaced, all_applied, holds, some_holds, each_holds, answer, argued, tested, all_trees, nodelist, selected}
 use Rattle.jsonpath_rust.specs.documents.Node.{Node, root_node, children}
-use Rattle.jsonpath_rust.specs.states.Process.{plain, is_truth, unless_none, selector_content, joined_from, segment_content, segments_content, holds_at, some_holds_at, each_holds_at, atom_content, comparison_holds_at, test_content, call_content, argument_content, arguments_trees}
+use Rattle.jsonpath_rust.specs.states.Process.{plain, unless_none, selector_content, joined_from, segment_content, segments_content, holds_at, some_holds_at, each_holds_at, test_content, call_content, argument_content, arguments_trees}
 use Rattle.jsonpath_rust.specs.states.Processed.{processed, ProcessGivesTheNodelist}
 use Rattle.jsonpath_rust.specs.states.State.{Target, Content, ref, nothing, targets, mapped, reduced, found_from, inside, parents_from, root_content}
 use Rattle.jsonpath_rust.proofs.laws.documents.NodesAt.{nodes_at}
@@ -115,7 +115,17 @@ mutual
   filter-agrees : (f : Filter) (d : Document) (n : Node) (p : Target) → IsTrue (is_typed_filter f) → n.tree ≡ p.tree → holds_at f d (ref p) ≡ holds f d n
   filter-agrees (or fs) d n p h e = some-agree fs d n p h e
   filter-agrees (and fs) d n p h e = each-agree fs d n p h e
-  filter-agrees (atom a) d n p h e = atom-agrees a d n p h e
+  filter-agrees (group turn f) d n p h e = ap (negated turn) (filter-agrees f d n p h e)
+  filter-agrees (test turn q) d n p h e =
+      let both = and_parts (is_truth_test q) (is_typed_test q) h in
+      meant-truth turn q d n (ref p) both.0 (test-agrees q d n p both.1 e)
+  filter-agrees (compare op a b) d n p h e =
+      let both = and_parts (is_typed_side a) (is_typed_side b) h in
+      let one_side = and_parts (is_value_argument a) (is_typed_argument a) both.0 in
+      let other = and_parts (is_value_argument b) (is_typed_argument b) both.1 in
+      let left = side-agrees a d n p one_side.0 (argument-agrees a d n p one_side.1 e) in
+      let right = side-agrees b d n p other.0 (argument-agrees b d n p other.1 e) in
+      compare-plain op (argument_content a d (ref p)) (argument_content b d (ref p)) left.0 right.0 ∙ ap (λ o. compares op o (plain (argument_content b d (ref p)))) left.1 ∙ ap (compares op (as_value (argued a d n))) right.1
 
   some-agree : (fs : Filters) (d : Document) (n : Node) (p : Target) → IsTrue (are_typed_filters fs) → n.tree ≡ p.tree → some_holds_at fs d (ref p) ≡ some_holds fs d n
   some-agree no_filters d n p h e = refl
@@ -128,22 +138,6 @@ mutual
   each-agree (filter_then f fs) d n p h e =
       let both = and_parts (is_typed_filter f) (are_typed_filters fs) h in
       ap (λ b. b && each_holds_at fs d (ref p)) (filter-agrees f d n p both.0 e) ∙ ap (λ b. holds f d n && b) (each-agree fs d n p both.1 e)
-
-  atom-agrees : (a : Atom) (d : Document) (n : Node) (p : Target) → IsTrue (is_typed_atom a) → n.tree ≡ p.tree → is_truth (atom_content a d (ref p)) ≡ atom_holds a d n
-  atom-agrees (group turn f) d n p h e = ap (negated turn) (filter-agrees f d n p h e)
-  atom-agrees (test turn q) d n p h e =
-      let both = and_parts (is_truth_test q) (is_typed_test q) h in
-      meant-truth turn q d n (ref p) both.0 (test-agrees q d n p both.1 e)
-  atom-agrees (comparison k) d n p h e = comparison-agrees k d n p h e
-
-  comparison-agrees : (k : Comparison) (d : Document) (n : Node) (p : Target) → IsTrue (is_typed_comparison k) → n.tree ≡ p.tree → comparison_holds_at k d (ref p) ≡ comparison_holds k d n
-  comparison-agrees (compare op a b) d n p h e =
-      let both = and_parts (is_typed_side a) (is_typed_side b) h in
-      let one_side = and_parts (is_value_argument a) (is_typed_argument a) both.0 in
-      let other = and_parts (is_value_argument b) (is_typed_argument b) both.1 in
-      let left = side-agrees a d n p one_side.0 (argument-agrees a d n p one_side.1 e) in
-      let right = side-agrees b d n p other.0 (argument-agrees b d n p other.1 e) in
-      compare-plain op (argument_content a d (ref p)) (argument_content b d (ref p)) left.0 right.0 ∙ ap (λ o. compares op o (plain (argument_content b d (ref p)))) left.1 ∙ ap (compares op (as_value (argued a d n))) right.1
 
   test-agrees : (q : Test) (d : Document) (n : Node) (p : Target) → IsTrue (is_typed_test q) → n.tree ≡ p.tree → Means (test_content q d (ref p)) (tested q d n)
   test-agrees (relative gs) d n p h e = (segments-nodes gs d (ref p) tt, segments-agree gs d false (n ∷ []) (ref p) h (alone n p e, tt))

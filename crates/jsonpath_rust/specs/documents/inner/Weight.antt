@@ -1,7 +1,7 @@
 -- How much work a part of a query is, for the measures of the walk and of the plain evaluator.
 use Rattle.std.specs.Prelude.{ℕ, ◌+◌}
 use Rattle.jsonpath_parser.specs.tree.Syntax as syntax
-use Rattle.jsonpath_parser.specs.tree.Syntax.{Selector, slice, Selectors, no_selectors, selector, Segment, one, several, descendant, Segments, no_segments, segment, Filter, or, and, atom, Filters, no_filters, filter_then, Atom, group, test, comparison, Comparison, compare, Test, relative, absolute, call, Call, custom_call, length_call, value_call, count_call, search_call, match_call, Argument, literal_argument, test_argument, filter_argument, Arguments, no_arguments, argument}
+use Rattle.jsonpath_parser.specs.tree.Syntax.{Selector, slice, Selectors, no_selectors, selector, Segment, one, several, descendant, Segments, no_segments, segment, Filter, or, and, Filters, no_filters, filter_then, group, test, compare, Test, relative, absolute, call, Call, custom_call, length_call, value_call, count_call, search_call, match_call, Argument, literal_argument, test_argument, filter_argument, Arguments, no_arguments, argument}
 
 -- every part is less than the whole
 abbrev mutual
@@ -26,19 +26,13 @@ abbrev mutual
   pub filter_weight : Filter → ℕ
   filter_weight (or fs) = filters_weight fs + 2
   filter_weight (and fs) = filters_weight fs + 2
-  filter_weight (atom a) = atom_weight a + 1
+  filter_weight (group t f) = filter_weight f + 2
+  filter_weight (test t q) = test_weight q + 2
+  filter_weight (compare op a b) = argument_weight a + argument_weight b + 3
 
   pub filters_weight : Filters → ℕ
   filters_weight no_filters = 0
   filters_weight (filter_then f fs) = filter_weight f + filters_weight fs
-
-  pub atom_weight : Atom → ℕ
-  atom_weight (group t f) = filter_weight f + 1
-  atom_weight (test t q) = test_weight q + 1
-  atom_weight (comparison c) = comparison_weight c + 1
-
-  pub comparison_weight : Comparison → ℕ
-  comparison_weight (compare op a b) = argument_weight a + argument_weight b + 1
 
   pub test_weight : Test → ℕ
   test_weight (relative gs) = segments_weight gs + 4

@@ -5,9 +5,9 @@ use Rattle.jsonpath_parser.specs.tree.Syntax.{Argument}
 use Rattle.jsonpath_base.specs.Tree.{Tree, truth}
 use Rattle.jsonpath_rust.specs.documents.Document.{Document}
 use Rattle.jsonpath_rust.specs.documents.Functions.{of_nodes}
-use Rattle.jsonpath_rust.specs.documents.Meaning.{nodelist, answer, comparison_holds}
+use Rattle.jsonpath_rust.specs.documents.Meaning.{nodelist, holds, answer}
 use Rattle.jsonpath_rust.specs.documents.Node.{root_node}
-use Rattle.jsonpath_rust.specs.documents.Patterns.{AsksPattern, segments_patterns, call_patterns, comparison_patterns}
+use Rattle.jsonpath_rust.specs.documents.Patterns.{AsksPattern, segments_patterns, filter_patterns, call_patterns}
 use Rattle.jsonpath_rust.specs.documents.inner.Singular.{value_at}
 use Rattle.jsonpath_rust.specs.documents.inner.Whole.{document_at}
 use Rattle.jsonpath_rust.specs.selection.inner.PlanViews.{Constants, ConstantPart, kept_view, part_at}
@@ -30,7 +30,7 @@ abbrev pub value_by : ConstantPart → Document → Option Tree
 value_by (plan.nodes w q) doc = wanted_of w (of_nodes (nodelist q doc))
 value_by (plan.value ss) doc = value_at ss doc.root
 value_by (plan.answered c) doc = answer c doc (root_node doc.root)
-value_by (plan.compared c) doc = Some (truth (comparison_holds c doc (root_node doc.root)))
+value_by (plan.compared f) doc = Some (truth (holds f doc (root_node doc.root)))
 
 -- what a part of the query without `@` gives
 abbrev pub given_by : ConstantPart → Document → Gave
@@ -42,7 +42,7 @@ abbrev pub part_patterns : ConstantPart → List (Bool × Argument)
 part_patterns (plan.nodes w q) = segments_patterns q
 part_patterns (plan.value ss) = []
 part_patterns (plan.answered c) = call_patterns c
-part_patterns (plan.compared c) = comparison_patterns c
+part_patterns (plan.compared f) = filter_patterns f
 
 -- what is kept is what the part gives; where it is refused, the part asks a pattern
 abbrev pub IsGiven : Gave → ConstantPart → Document → Type 0

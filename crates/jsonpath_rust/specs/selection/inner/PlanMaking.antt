@@ -1,6 +1,6 @@
 -- How a plan is made, for the contracts of its maker alone: the definitions here are no part of what a query means.
 use Rattle.std.specs.Prelude.{◌≡◌, ℕ, ◌<◌, Bool, true, List, [], ◌∷◌, ◌++◌, map, length, IsTrue}
-use Rattle.jsonpath_parser.specs.tree.Syntax.{Comparison, atom, comparison}
+use Rattle.jsonpath_parser.specs.tree.Syntax as tree
 use Rattle.jsonpath_rust.specs.selection.inner.PlanViews.{Constants, ConstantPart, compared, kept_view, part_at, part_is_rooted, constant_view, AreRooted, filter_view}
 use Rattle.jsonpath_rust.specs.selection.inner.Rooted.{filter_is_rooted}
 use Rattle.jsonpath_rust.specs.declared.selection.plan.Filter.{Filter}
@@ -60,4 +60,4 @@ pub record IsNumbered (old new : Maker) (part : Constant) (n : ℕ) : Type 0 whe
 
 -- what the comparison that was begun and made stands for, the filter stands for too
 pub record IsCompared (around : Met) (old new : Maker) (part : Constant) (f : Filter) : Type 0 where
-  pub made : {first begun : Maker} {c : Comparison} → IsBeside begun first around.rooted → Made part_is_rooted begun old (λ kept. constant_view kept part) (compared c) → Made filter_is_rooted first new (λ kept. filter_view kept f) (atom (comparison c))
+  pub made : {first begun : Maker} {c : tree.Filter} → IsBeside begun first around.rooted → Made part_is_rooted begun old (λ kept. constant_view kept part) (compared c) → Made filter_is_rooted first new (λ kept. filter_view kept f) c

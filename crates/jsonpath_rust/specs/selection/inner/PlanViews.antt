@@ -8,7 +8,7 @@ use Rattle.jsonpath_parser.specs.tree.View.{literal_view, step_view, operator_vi
 use Rattle.jsonpath_rust.specs.declared.selection.plan.Constant.{Constant}
 use Rattle.jsonpath_rust.specs.declared.selection.plan.Constant.TheVariants as constant
 use Rattle.jsonpath_rust.specs.declared.selection.plan.Argument.{Argument, Argument-F, fold-Argument}
-use Rattle.jsonpath_rust.specs.selection.inner.Rooted.{Call-set, Comparison-set, Segment-set, call_is_rooted, comparison_is_rooted, Query-set}
+use Rattle.jsonpath_rust.specs.selection.inner.Rooted.{Call-set, Filter-set, Segment-set, call_is_rooted, filter_is_rooted, Query-set}
 use Rattle.jsonpath_rust.specs.declared.selection.plan.Call.{Call, Call-F, fold-Call}
 use Rattle.jsonpath_rust.specs.declared.selection.plan.Called.{Called, Called-F, fold-Called}
 use Rattle.jsonpath_rust.specs.declared.selection.plan.Filter.{Filter, Filter-F, fold-Filter}
@@ -27,12 +27,12 @@ is_same_wanted Values Values = true
 is_same_wanted _ _ = false
 
 -- a part of the query without `@`: what is wanted of the nodes of a query from the root, the value of one of names and indexes alone,
--- what a call answers, or whether a comparison holds
+-- what a call answers, or whether a filter holds, which is a comparison in each plan that is made
 pub data ConstantPart : Type 0 where
   nodes : Wanted → tree.Query → ConstantPart
   value : List tree.Segment → ConstantPart
   answered : tree.Call → ConstantPart
-  compared : tree.Comparison → ConstantPart
+  compared : tree.Filter → ConstantPart
   deriving IsSet as ConstantPart_set
 
 -- what is kept, by number
@@ -43,14 +43,14 @@ ruleset sets = (Coded-set, codes)
 
 -- what is kept is data: there is one proof that two of it are the same
 pub Constants-set : IsSet Constants
-Constants-set = is_set (ConstantPart_set (hlevel sets) Query-set (is_set Segment-set) Call-set Comparison-set)
+Constants-set = is_set (ConstantPart_set (hlevel sets) Query-set (is_set Segment-set) Call-set Filter-set)
 
 -- it has no `@`
 abbrev pub part_is_rooted : ConstantPart → Bool
 part_is_rooted (nodes v q) = true
 part_is_rooted (value ss) = true
 part_is_rooted (answered c) = call_is_rooted c
-part_is_rooted (compared c) = comparison_is_rooted c
+part_is_rooted (compared c) = filter_is_rooted c
 
 abbrev pub AreRooted : Constants → Type 0
 AreRooted kept = IsTrue (list_all part_is_rooted kept)
@@ -83,11 +83,11 @@ abbrev pub call_at : Constants → ℕ → tree.Call
 call_at kept n = call_in (part_at kept n)
 
 -- the comparison that is kept; one that does not hold where there is none
-abbrev pub comparison_in : ConstantPart → tree.Comparison
+abbrev pub comparison_in : ConstantPart → tree.Filter
 comparison_in (compared c) = c
 comparison_in _ = tree.compare tree.less (tree.literal_argument tree.null) (tree.literal_argument tree.null)
 
-abbrev pub comparison_at : Constants → ℕ → tree.Comparison
+abbrev pub comparison_at : Constants → ℕ → tree.Filter
 comparison_at kept n = comparison_in (part_at kept n)
 
 -- the query of these steps (RFC 9535, 2.3.5.1)
@@ -126,12 +126,12 @@ called_step kept (Called-F.«Called::Constant» n) = call_at kept n
 abbrev pub filter_step : Constants → Layer Filter-F → tree.Filter
 filter_step kept (Filter-F.Or v) = tree.or (filters_of v.items)
 filter_step kept (Filter-F.And v) = tree.and (filters_of v.items)
-filter_step kept (Filter-F.Group f not) = tree.atom (tree.group not f.value)
-filter_step kept (Filter-F.Exists ns not) = tree.atom (tree.test not (ns Any))
-filter_step kept (Filter-F.HasChild v not) = tree.atom (tree.test not (tree.relative (children_query (map step_view v.items))))
-filter_step kept (Filter-F.«Filter::Call» c not) = tree.atom (tree.test not (tree.call c))
-filter_step kept (Filter-F.Comparison op a b) = tree.atom (tree.comparison (tree.compare (operator_view op) a b))
-filter_step kept (Filter-F.«Filter::Constant» n) = tree.atom (tree.comparison (comparison_at kept n))
+filter_step kept (Filter-F.Group f not) = tree.group not f.value
+filter_step kept (Filter-F.Exists ns not) = tree.test not (ns Any)
+filter_step kept (Filter-F.HasChild v not) = tree.test not (tree.relative (children_query (map step_view v.items)))
+filter_step kept (Filter-F.«Filter::Call» c not) = tree.test not (tree.call c)
+filter_step kept (Filter-F.Comparison op a b) = tree.compare (operator_view op) a b
+filter_step kept (Filter-F.«Filter::Constant» n) = comparison_at kept n
 
 abbrev pub nodes_step : Constants → Layer Nodes-F → Wanted → tree.Test
 nodes_step kept (Nodes-F.«Nodes::Lookup» v) w = tree.relative (steps_query (map step_view v.items))

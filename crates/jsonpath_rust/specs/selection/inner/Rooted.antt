@@ -4,25 +4,19 @@ use mathlib.Core.Path.{refl, sym, ◌∙◌, ap}
 use Rattle.std.specs.Coded.{Coded-set, codes}
 use mathlib.Core.HLevel.{collapsible→set}
 use Rattle.jsonpath_parser.specs.tree.Syntax as syntax
-use Rattle.jsonpath_parser.specs.tree.Syntax.{Filter, or, and, atom, Filters, no_filters, filter_then, Atom, group, test, comparison, Comparison, compare, Test, relative, absolute, call, Call, custom_call, length_call, value_call, count_call, search_call, match_call, Argument, literal_argument, test_argument, filter_argument, Arguments, no_arguments, argument, Query}
+use Rattle.jsonpath_parser.specs.tree.Syntax.{Filter, or, and, Filters, no_filters, filter_then, group, test, compare, Test, relative, absolute, call, Call, custom_call, length_call, value_call, count_call, search_call, match_call, Argument, literal_argument, test_argument, filter_argument, Arguments, no_arguments, argument, Query}
 
 abbrev mutual
   pub filter_is_rooted : Filter → Bool
   filter_is_rooted (or fs) = filters_are_rooted fs
   filter_is_rooted (and fs) = filters_are_rooted fs
-  filter_is_rooted (atom a) = atom_is_rooted a
+  filter_is_rooted (group t f) = filter_is_rooted f
+  filter_is_rooted (test t q) = test_is_rooted q
+  filter_is_rooted (compare op a b) = argument_is_rooted a && argument_is_rooted b
 
   pub filters_are_rooted : Filters → Bool
   filters_are_rooted no_filters = true
   filters_are_rooted (filter_then f fs) = filter_is_rooted f && filters_are_rooted fs
-
-  pub atom_is_rooted : Atom → Bool
-  atom_is_rooted (group t f) = filter_is_rooted f
-  atom_is_rooted (test t q) = test_is_rooted q
-  atom_is_rooted (comparison c) = comparison_is_rooted c
-
-  pub comparison_is_rooted : Comparison → Bool
-  comparison_is_rooted (compare op a b) = argument_is_rooted a && argument_is_rooted b
 
   pub test_is_rooted : Test → Bool
   test_is_rooted (relative gs) = false
@@ -57,21 +51,17 @@ Query-set = syntax.Segments_set (hlevel sets) (hlevel sets) (hlevel sets) (hleve
 set_by : {A B : Type 0} (to : A → B) (from : B → A) → ((a : A) → from (to a) ≡ a) → IsSet B → IsSet A
 set_by to from back Bs = collapsible→set (λ x y p. sym (back x) ∙ ap from (ap to p) ∙ back y) (λ x y p q. ap (λ (r : to x ≡ to y). sym (back x) ∙ ap from r ∙ back y) (Bs (to x) (to y) (ap to p) (ap to q)))
 
--- the query of all children for which the atom holds
-abbrev atom_query : Atom → Query
-atom_query a = syntax.segment (syntax.one (syntax.filter (atom a))) syntax.no_segments
+-- the query of all children for which the filter holds
+abbrev filter_query : Filter → Query
+filter_query f = syntax.segment (syntax.one (syntax.filter f)) syntax.no_segments
 
-abbrev query_atom : Query → Atom
-query_atom (syntax.segment (syntax.one (syntax.filter (atom a))) syntax.no_segments) = a
-query_atom _ = group true (or no_filters)
+abbrev query_filter : Query → Filter
+query_filter (syntax.segment (syntax.one (syntax.filter f)) syntax.no_segments) = f
+query_filter _ = or no_filters
 
-abbrev atom_call : Atom → Call
-atom_call (test t (call c)) = c
-atom_call _ = length_call (literal_argument syntax.null)
-
-abbrev atom_comparison : Atom → Comparison
-atom_comparison (comparison c) = c
-atom_comparison _ = compare syntax.less (literal_argument syntax.null) (literal_argument syntax.null)
+abbrev filter_call : Filter → Call
+filter_call (test t (call c)) = c
+filter_call _ = length_call (literal_argument syntax.null)
 
 abbrev query_segment : Query → syntax.Segment
 query_segment (syntax.segment g gs) = g
@@ -81,7 +71,7 @@ pub Segment-set : IsSet syntax.Segment
 Segment-set = set_by (λ g. syntax.segment g syntax.no_segments) query_segment (λ g. refl) Query-set
 
 pub Call-set : IsSet Call
-Call-set = set_by (λ c. atom_query (test true (call c))) (λ q. atom_call (query_atom q)) (λ c. refl) Query-set
+Call-set = set_by (λ c. filter_query (test true (call c))) (λ q. filter_call (query_filter q)) (λ c. refl) Query-set
 
-pub Comparison-set : IsSet Comparison
-Comparison-set = set_by (λ c. atom_query (comparison c)) (λ q. atom_comparison (query_atom q)) (λ c. refl) Query-set
+pub Filter-set : IsSet Filter
+Filter-set = set_by filter_query query_filter (λ f. refl) Query-set

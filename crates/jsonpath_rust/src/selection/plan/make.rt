@@ -144,7 +144,7 @@ impl<'q> Maker<'q> {
     #[cycle(make)]
     fn atom(&mut self, atom: &'q tree::FilterAtom) -> Parsed<Filter>
         ensures made { IfOk result (λ f. Made filter_is_rooted self.old self.new (λ kept. plan.filter_view kept f)
-            (syntax.atom (tree.atom_view atom.now))) }
+            (tree.atom_view atom.now)) }
         ensures memory { MemoryAlone result }
     {
         match atom {
@@ -164,7 +164,7 @@ impl<'q> Maker<'q> {
     #[cycle(make)]
     fn test(&mut self, test: &'q tree::Test, not: bool) -> Parsed<Filter>
         ensures made { IfOk result (λ f. Made filter_is_rooted self.old self.new (λ kept. plan.filter_view kept f)
-            (syntax.atom (syntax.Atom.test not (tree.test_view test.now)))) }
+            (syntax.Filter.test not (tree.test_view test.now))) }
         ensures memory { MemoryAlone result }
     {
         match test {
@@ -190,7 +190,7 @@ impl<'q> Maker<'q> {
     #[cycle(make)]
     fn comparison(&mut self, comparison: &'q tree::Comparison) -> Parsed<Filter>
         ensures made { IfOk result (λ f. Made filter_is_rooted self.old self.new (λ kept. plan.filter_view kept f)
-            (syntax.atom (syntax.comparison (tree.comparison_view comparison.now)))) }
+            (tree.comparison_view comparison.now)) }
         ensures memory { MemoryAlone result }
     {
         let around = self.begin();

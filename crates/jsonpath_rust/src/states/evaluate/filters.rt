@@ -2,10 +2,9 @@
 ghost use Rattle.std.specs.Prelude.{◌≡◌, IfOk, IfErr};
 ghost use Rattle.jsonpath_parser.specs.tree.View.{filter_view, atom_view, comparison_view, comparable_view};
 ghost use Rattle.jsonpath_parser.specs.tree.View.{test_view, call_view, argument_view};
-ghost use Rattle.jsonpath_rust.specs.documents.Patterns.{filter_patterns, filters_patterns, atom_patterns, comparison_patterns};
-ghost use Rattle.jsonpath_rust.specs.documents.Patterns.{test_patterns, call_patterns, arguments_patterns};
-ghost use Rattle.jsonpath_rust.specs.documents.Patterns.{argument_patterns};
-ghost use Rattle.jsonpath_rust.specs.states.Process.{holds_at, some_holds_at, each_holds_at, atom_content, comparison_holds_at};
+ghost use Rattle.jsonpath_rust.specs.documents.Patterns.{filter_patterns, filters_patterns, test_patterns, call_patterns};
+ghost use Rattle.jsonpath_rust.specs.documents.Patterns.{argument_patterns, arguments_patterns};
+ghost use Rattle.jsonpath_rust.specs.states.Process.{holds_at, some_holds_at, each_holds_at, basic_content};
 ghost use Rattle.jsonpath_rust.specs.states.Process.{test_content, call_content, argument_content, arguments_trees};
 ghost use Rattle.jsonpath_base.specs.Tree.{truth};
 ghost use Rattle.jsonpath_rust.specs.states.State.{value};
@@ -75,8 +74,8 @@ impl<'a, T: Queryable> Evaluation<'a, T> {
     /// A basic expression.
     #[cycle(evaluate)]
     pub fn atom_data(&self, atom: &FilterAtom, given: &WholeData<'a, T>) -> Returned<'a, T>
-        ensures value { IfOk result (λ d. content_at d ≡ atom_content (atom_view atom.now) (document self.now) (content_at given.now)) }
-        ensures refused { IfErr result (HaltsAt (atom_patterns (atom_view atom.now)) (document self.now) (content_at given.now)) }
+        ensures value { IfOk result (λ d. content_at d ≡ basic_content (atom_view atom.now) (document self.now) (content_at given.now)) }
+        ensures refused { IfErr result (HaltsAt (filter_patterns (atom_view atom.now)) (document self.now) (content_at given.now)) }
     {
         match atom {
             FilterAtom::Filter { expr, not } => {
@@ -101,11 +100,9 @@ impl<'a, T: Queryable> Evaluation<'a, T> {
         comparison: &Comparison,
         given: &WholeData<'a, T>,
     ) -> Walked<bool>
-        ensures value { IfOk result (λ b. b
-            ≡ comparison_holds_at (comparison_view comparison.now) (document self.now)
-            (content_at given.now)) }
+        ensures value { IfOk result (λ b. b ≡ holds_at (comparison_view comparison.now) (document self.now) (content_at given.now)) }
         ensures refused { IfErr result (HaltsAt
-            (comparison_patterns (comparison_view comparison.now)) (document self.now)
+            (filter_patterns (comparison_view comparison.now)) (document self.now)
             (content_at given.now)) }
     {
         let (operator, left, right) = comparison.parts();
@@ -121,10 +118,9 @@ impl<'a, T: Queryable> Evaluation<'a, T> {
         given: &WholeData<'a, T>,
     ) -> Returned<'a, T>
         ensures value { IfOk result (λ d. content_at d
-            ≡ value (truth (comparison_holds_at (comparison_view comparison.now) (document self.now)
-            (content_at given.now)))) }
+            ≡ value (truth (holds_at (comparison_view comparison.now) (document self.now) (content_at given.now)))) }
         ensures refused { IfErr result (HaltsAt
-            (comparison_patterns (comparison_view comparison.now)) (document self.now)
+            (filter_patterns (comparison_view comparison.now)) (document self.now)
             (content_at given.now)) }
     {
         let truth = self.comparison_holds(comparison, given)?;

@@ -20,9 +20,9 @@ use Rattle.jsonpath_base.specs.Tree.{get, truth, text}
 use Rattle.jsonpath_base.specs.Slice.{slice_of}
 use Rattle.jsonpath_base.specs.SliceSteps.{places_left}
 use Rattle.jsonpath_rust.specs.documents.Node.{below, children, root_node, subtree}
-use Rattle.jsonpath_rust.specs.documents.Meaning.{picks, all_pick, replaced, indexed, element, holds, some_holds, each_holds, answer, comparison_holds, negated, nodelist, all_trees, argued, tested}
+use Rattle.jsonpath_rust.specs.documents.Meaning.{picks, all_pick, replaced, indexed, element, holds, some_holds, each_holds, answer, negated, nodelist, all_trees, argued, tested}
 use Rattle.jsonpath_rust.specs.selection.inner.Passing.{action_weight}
-use Rattle.jsonpath_rust.specs.documents.inner.Weight.{segment_weight, selectors_weight, selector_weight, segments_weight, filter_weight, filters_weight, test_weight, comparison_weight, call_weight, argument_weight, arguments_weight}
+use Rattle.jsonpath_rust.specs.documents.inner.Weight.{segment_weight, selectors_weight, selector_weight, segments_weight, filter_weight, filters_weight, test_weight, call_weight, argument_weight, arguments_weight}
 use Rattle.jsonpath_rust.specs.documents.Patterns.{AsksPattern, segments_patterns, selectors_patterns, selector_patterns, filter_patterns, filters_patterns, call_patterns, argument_patterns, arguments_patterns}
 use Rattle.jsonpath_base.specs.Steps.{lent_step, lent_location}
 use Rattle.jsonpath_rust.specs.selection.inner.Walking.{action_patterns, through, node_of, acted}
@@ -854,7 +854,7 @@ pub filter_holds-constant_comparison-requires : goal.filter_holds-constant_compa
 filter_holds-constant_comparison-requires g t c κs within =
     let kept = kept_of c.args.self.now in
     let e = ap (filter_view kept) c.in-Constant.is ∙ filter_view-Constant kept c.in-Constant.number in
-    (down _ _ _ _ _ _ c.decreases (omega (arith, ap filter_weight e)) (omega arith), (within, c.requires.ready))
+    (down_same _ _ _ _ _ _ c.decreases (sym (ap filter_weight e)) (omega arith), (within, c.requires.ready))
 
 pub filter_holds-returns-in-Or-clause-holds : goal.filter_holds-returns-in-Or-clause-holds
 filter_holds-returns-in-Or-clause-holds g t c =
@@ -1456,7 +1456,7 @@ pub constant_comparison-comparison_holds-requires : goal.constant_comparison-com
 constant_comparison-comparison_holds-requires g t c κs within =
     let e = ap comparison_in c.in-Some.ensures.part in
     let root = at_root (ap (λ w. w.steps.items) c.replace-here.ensures.after ∙ c.new-root.ensures) c.requires in
-    (down_same _ _ _ _ _ _ c.decreases (sym (ap comparison_weight e)) (omega arith), (within, root))
+    (down _ _ _ _ _ _ c.decreases (omega (arith, ap filter_weight e)) (omega arith), (within, root))
 
 pub constant_comparison-keep-requires : goal.constant_comparison-keep-requires
 constant_comparison-keep-requires g t c = subst (λ k. c.args.number < k) (sym c.in_ok-held.ensures.comes.back.ready.room) c.in-Some.ensures.within
@@ -1464,13 +1464,13 @@ constant_comparison-keep-requires g t c = subst (λ k. c.args.number < k) (sym c
 pub constant_comparison-returns-in_default-clause-holds : goal.constant_comparison-returns-in_default-clause-holds
 constant_comparison-returns-in_default-clause-holds g t c = λ n.
     let d = document c.args.self.now in
-    sym (ap (λ q. comparison_holds q d n) c.in_default.ensures.none)
+    sym (ap (λ f. holds f d n) c.in_default.ensures.none)
 
 pub constant_comparison-returns-in-Some-2-clause-holds : goal.constant_comparison-returns-in-Some-2-clause-holds
 constant_comparison-returns-in-Some-2-clause-holds g t c = λ n.
     let kept = kept_of c.args.self.now in
     let d = document c.args.self.now in
-    c.is_true.ensures ∙ ap is_true (of_some (λ v. operand_tree v ≡ value_by (plan.part_at kept c.args.number) d) _ _ c.in-Some-2.is c.in_ok-value.ensures.value ∙ ap (λ p. value_by p d) c.in-Some.ensures.part) ∙ sym (ap (λ p. comparison_holds (comparison_in p) d (root_node d.root)) c.in-Some.ensures.part) ∙ kept_comparison_same kept c.args.number d (root_node d.root) n c.args.self.now.plan.now.rooted
+    c.is_true.ensures ∙ ap is_true (of_some (λ v. operand_tree v ≡ value_by (plan.part_at kept c.args.number) d) _ _ c.in-Some-2.is c.in_ok-value.ensures.value ∙ ap (λ p. value_by p d) c.in-Some.ensures.part) ∙ sym (ap (λ p. holds (comparison_in p) d (root_node d.root)) c.in-Some.ensures.part) ∙ kept_comparison_same kept c.args.number d (root_node d.root) n c.args.self.now.plan.now.rooted
 
 pub constant_comparison-returns-clause-holds : goal.constant_comparison-returns-clause-holds
 constant_comparison-returns-clause-holds g t c = λ n.

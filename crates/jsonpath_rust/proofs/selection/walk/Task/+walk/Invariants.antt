@@ -14,7 +14,7 @@ use Rattle.jsonpath_rust.specs.documents.inner.Size.{size}
 use Rattle.jsonpath_rust.proofs.laws.selection.Along.{Goes}
 use Rattle.jsonpath_rust.proofs.laws.selection.Work.{work}
 use Rattle.jsonpath_rust.specs.selection.inner.Passing.{action_weight}
-use Rattle.jsonpath_rust.specs.documents.inner.Weight.{segments_weight, segment_weight, selectors_weight, selector_weight, filter_weight, filters_weight, test_weight, comparison_weight, call_weight, argument_weight, arguments_weight}
+use Rattle.jsonpath_rust.specs.documents.inner.Weight.{segments_weight, segment_weight, selectors_weight, selector_weight, filter_weight, filters_weight, test_weight, call_weight, argument_weight, arguments_weight}
 use Rattle.jsonpath_rust.specs.declared.selection.sink.Wanted.TheVariants.{Any, Only, Values}
 use Rattle.jsonpath_rust.proofs.selection.walk.Task.+walk.Given as goal
 
@@ -52,7 +52,7 @@ abbrev pub decreases-is_met : goal.decreases-is_met
 decreases-is_met g l = work (filter_weight (filter_view (kept_of l.self.now) l.filter.now)) (size (tree_of l.self.now.root)) (5 * size (tree_of l.at) + 2)
 
 abbrev pub decreases-filter_holds : goal.decreases-filter_holds
-decreases-filter_holds g l = work (filter_weight (filter_view (kept_of l.self.now) l.filter.now)) (size (tree_of l.self.now.root)) (5 * size (tree_of l.at))
+decreases-filter_holds g l = work (filter_weight (filter_view (kept_of l.self.now) l.filter.now)) (size (tree_of l.self.now.root)) (5 * size (tree_of l.at) + 1)
 
 abbrev pub decreases-some_holds : goal.decreases-some_holds
 decreases-some_holds g l = work (filters_weight (filters_meant (kept_of l.self.now) l.parts.now) + 1) (size (tree_of l.self.now.root)) (5 * size (tree_of l.at))
@@ -70,7 +70,7 @@ abbrev pub decreases-constant_answer : goal.decreases-constant_answer
 decreases-constant_answer g l = work (call_weight (call_at (kept_of l.self.now) l.number)) (size (tree_of l.self.now.root)) (5 * size (tree_of l.self.now.root) + 3)
 
 abbrev pub decreases-constant_comparison : goal.decreases-constant_comparison
-decreases-constant_comparison g l = work (comparison_weight (comparison_at (kept_of l.self.now) l.number)) (size (tree_of l.self.now.root)) (5 * size (tree_of l.self.now.root) + 3)
+decreases-constant_comparison g l = work (filter_weight (comparison_at (kept_of l.self.now) l.number)) (size (tree_of l.self.now.root)) 0
 
 abbrev pub decreases-match_or_search : goal.decreases-match_or_search
 decreases-match_or_search g l = work (argument_weight (argument_view (kept_of l.self.now) l.args.0.now Only) + argument_weight (argument_view (kept_of l.self.now) l.args.1.now Only) + 1) (size (tree_of l.self.now.root)) (5 * size (tree_of l.at))

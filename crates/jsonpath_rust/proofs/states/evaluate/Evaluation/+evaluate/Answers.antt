@@ -1,14 +1,15 @@
 use Rattle.std.proofs.Common.{rules, refl, sym, ap, ◌∙◌, arith, ◌≡◌, ◌∷◌, ◌++◌, [], map, filter, cond, List, Bool, Some, option_map, w64, SFits, string_bytes, inl, true, false}
 use Rattle.std.proofs.lemmas.Int.{to_z-of_z}
 use Rattle.std.specs.List.{flat_map}
-use Rattle.jsonpath_parser.specs.tree.View.{segment_view, selector_view, filter_view, call_view, argument_view, test_view}
+use Rattle.jsonpath_parser.specs.tree.View.{segment_view, selector_view, filter_view, atom_view, comparison_view, call_view, argument_view, test_view}
 use Rattle.jsonpath_parser.specs.declared.tree.model.Filter.{Filter}
 use Rattle.jsonpath_parser.specs.declared.tree.model.Segment.{Segment}
 use Rattle.jsonpath_parser.specs.declared.tree.model.Selector.{Selector}
 use Rattle.jsonpath_parser.specs.declared.tree.model.FnArg.{FnArg}
-use Rattle.jsonpath_parser.proofs.laws.tree.ViewEquations.{segment_view-Selectors, selector_view-Index, selector_view-Slice, call_view-Custom, segment_view-Descendant, test_view-RelQuery, test_view-AbsQuery, query_view-segments, call_view-Search, call_view-Match}
-use Rattle.jsonpath_base.specs.Tree.{Tree}
-use Rattle.jsonpath_rust.specs.states.Process.{holds_at, some_holds_at, each_holds_at, several_content, segments_content, segment_content, selector_content, joined_from, call_content, arguments_trees, plain}
+use Rattle.jsonpath_parser.proofs.laws.tree.ViewEquations.{segment_view-Selectors, selector_view-Index, selector_view-Slice, call_view-Custom, segment_view-Descendant, filter_view-Atom, atom_view-Comparison, test_view-RelQuery, test_view-AbsQuery, query_view-segments, call_view-Search, call_view-Match}
+use Rattle.jsonpath_parser.proofs.laws.tree.Kinds.{comparison_is_comparison}
+use Rattle.jsonpath_base.specs.Tree.{Tree, truth}
+use Rattle.jsonpath_rust.specs.states.Process.{holds_at, some_holds_at, each_holds_at, basic_content, is_truth, several_content, segments_content, segment_content, selector_content, joined_from, call_content, arguments_trees, plain}
 use Rattle.jsonpath_rust.specs.states.State.{Target, Content, ref, refs, value, mapped, reduced, targets, inside, indexed_from, target_of, content_of, root_content}
 use Rattle.jsonpath_rust.specs.states.inner.Evaluating.{document, content_at, target_at, targets_at, parts_from, part_content}
 use Rattle.jsonpath_rust.specs.documents.inner.Parts.{segments_in, selectors_in, filters_in, arguments_in}
@@ -16,8 +17,9 @@ use Rattle.jsonpath_rust.specs.documents.inner.Weight.{segment_weight, segments_
 use Rattle.jsonpath_rust.proofs.laws.states.Found.{kept-parts}
 use Rattle.jsonpath_rust.proofs.laws.documents.Parts.{part_of, some_found, some_next, each_failed, each_next, fold_next, parts_end, ok_through, joined_next, joined_end, filter_more}
 use Rattle.jsonpath_parser.specs.tree.Syntax.{absolute}
-use Rattle.jsonpath_rust.specs.documents.Patterns.{segments_patterns, segment_patterns, selectors_patterns, selector_patterns, filters_patterns, filter_patterns, test_patterns, comparison_patterns, call_patterns, argument_patterns, arguments_patterns}
+use Rattle.jsonpath_rust.specs.documents.Patterns.{segments_patterns, segment_patterns, selectors_patterns, selector_patterns, filters_patterns, filter_patterns, test_patterns, call_patterns, argument_patterns, arguments_patterns}
 use Rattle.jsonpath_rust.proofs.laws.states.Asking.{asks_left, asks_right, asks_rest, asks_at, asks_here, asks_nothing, asks_same, asks_below, asks_parents, asks_target, asks_child, asks_root, asks_too, asks_within, stays_next, data-distinct, halts_as, halts_so}
+use Rattle.jsonpath_rust.proofs.laws.states.Basic.{basic-truth, basic-comparison}
 use Rattle.jsonpath_rust.proofs.laws.states.Lies.{stays-itself}
 use Rattle.jsonpath_rust.proofs.states.evaluate.Evaluation.+evaluate.Goals as goal
 
@@ -178,6 +180,21 @@ each_holds-returns-clause-value g t c =
     let d = document c.args.self.now in
     parts_end (λ (fs : List Filter). each_holds_at (filters_in fs) d (content_at c.args.given.now)) c.args.parts.now c.loop-part.part-index _ c.loop-part-test.false c.loop-part.invariant
 
+pub holds-returns-in_ok-atom_data-in-Atom-clause-value : goal.holds-returns-in_ok-atom_data-in-Atom-clause-value
+holds-returns-in_ok-atom_data-in-Atom-clause-value g t c =
+    let d = document c.args.self.now in
+    let k = content_at c.args.given.now in
+    let e = ap filter_view c.in-Atom.is ∙ filter_view-Atom c.in-Atom.atom in
+    c.is_true.ensures ∙ ap is_truth c.in_ok-atom_data-in-Atom.ensures.value ∙ basic-truth (atom_view c.in-Atom.atom) d k ∙ sym (ap (λ f. holds_at f d k) e)
+
+pub atom_data-returns-in_ok-truth-in-Comparison-clause-value : goal.atom_data-returns-in_ok-truth-in-Comparison-clause-value
+atom_data-returns-in_ok-truth-in-Comparison-clause-value g t c =
+    let d = document c.args.self.now in
+    let k = content_at c.args.given.now in
+    let e = ap atom_view c.in-Comparison.is ∙ atom_view-Comparison c.in-Comparison.comparison ∙ ap comparison_view (sym c.deref-in-Comparison.ensures) in
+    let compared = c.deref-in-Comparison.result.now in
+    ok_through _ content_at _ _ (ap (λ b. value (truth b)) c.in_ok-truth-in-Comparison.ensures.value ∙ sym (basic-comparison (comparison_view compared) d k (comparison_is_comparison compared)) ∙ sym (ap (λ f. basic_content f d k) e)) c.truth_data-in-Comparison.ensures.value
+
 pub segment_data-returns-in_err-below-in-Descendant-clause-refused : goal.segment_data-returns-in_err-below-in-Descendant-clause-refused
 segment_data-returns-in_err-below-in-Descendant-clause-refused g t c =
     halts_so _ _ c.from_residual.ensures.1 c.in_err-below-in-Descendant.ensures.refused (λ h. asks_nothing _ h)
@@ -218,12 +235,12 @@ kept-returns-in_err-is_kept-in-Some-clause-refused g t c =
 
 pub comparison_holds-returns-in_err-left-clause-refused : goal.comparison_holds-returns-in_err-left-clause-refused
 comparison_holds-returns-in_err-left-clause-refused g t c =
-    let e = ap comparison_patterns c.parts-operator.ensures in
+    let e = ap filter_patterns c.parts-operator.ensures in
     halts_so _ _ c.from_residual.ensures.1 c.in_err-left.ensures.refused (λ h. asks_same _ _ (sym e) (asks_left _ _ h))
 
 pub comparison_holds-returns-in_err-right-clause-refused : goal.comparison_holds-returns-in_err-right-clause-refused
 comparison_holds-returns-in_err-right-clause-refused g t c =
-    let e = ap comparison_patterns c.parts-operator.ensures in
+    let e = ap filter_patterns c.parts-operator.ensures in
     halts_so _ _ c.from_residual-in_err-right.ensures.1 c.in_err-right.ensures.refused (λ h. asks_same _ _ (sym e) (asks_right _ _ h))
 
 pub test_data-returns-in_ok-here-in-RelQuery-clause-refused : goal.test_data-returns-in_ok-here-in-RelQuery-clause-refused

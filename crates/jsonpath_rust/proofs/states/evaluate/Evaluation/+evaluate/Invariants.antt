@@ -7,7 +7,7 @@ use Rattle.jsonpath_rust.specs.states.State.{Target, nothing, targets, inside, t
 use Rattle.jsonpath_rust.specs.states.inner.Evaluating.{document, content_at, target_at, targets_at, part_content}
 use Rattle.jsonpath_rust.specs.documents.inner.Parts.{segments_in, selectors_in, filters_in, arguments_in}
 use Rattle.jsonpath_rust.proofs.laws.states.PartWeight.{part_weight}
-use Rattle.jsonpath_rust.specs.documents.inner.Weight.{segments_weight, segment_weight, selectors_weight, selector_weight, filter_weight, filters_weight, atom_weight, test_weight, comparison_weight, call_weight, argument_weight, arguments_weight}
+use Rattle.jsonpath_rust.specs.documents.inner.Weight.{segments_weight, segment_weight, selectors_weight, selector_weight, filter_weight, filters_weight, test_weight, call_weight, argument_weight, arguments_weight}
 use Rattle.jsonpath_rust.specs.states.Asking.{tops}
 use Rattle.jsonpath_rust.proofs.laws.states.Lies.{Stays}
 use Rattle.jsonpath_rust.proofs.states.evaluate.Evaluation.+evaluate.Given as goal
@@ -31,25 +31,25 @@ abbrev pub decreases-at_target : goal.decreases-at_target
 decreases-at_target g l = 4 * part_weight l.part + 1
 
 abbrev pub decreases-kept : goal.decreases-kept
-decreases-kept g l = 4 * filter_weight (filter_view l.filter.now) + 1
+decreases-kept g l = 4 * filter_weight (filter_view l.filter.now) + 3
 
 abbrev pub decreases-joined : goal.decreases-joined
 decreases-joined g l = 4 * selectors_weight (selectors_in l.selectors.now) + 1
 
 abbrev pub decreases-holds : goal.decreases-holds
-decreases-holds g l = 4 * filter_weight (filter_view l.filter.now)
+decreases-holds g l = 4 * filter_weight (filter_view l.filter.now) + 2
 
 abbrev pub decreases-some_holds : goal.decreases-some_holds
-decreases-some_holds g l = 4 * filters_weight (filters_in l.parts.now) + 1
+decreases-some_holds g l = 4 * filters_weight (filters_in l.parts.now) + 3
 
 abbrev pub decreases-each_holds : goal.decreases-each_holds
-decreases-each_holds g l = 4 * filters_weight (filters_in l.parts.now) + 1
+decreases-each_holds g l = 4 * filters_weight (filters_in l.parts.now) + 3
 
 abbrev pub decreases-atom_data : goal.decreases-atom_data
-decreases-atom_data g l = 4 * atom_weight (atom_view l.atom.now)
+decreases-atom_data g l = 4 * filter_weight (atom_view l.atom.now) + 1
 
 abbrev pub decreases-comparison_holds : goal.decreases-comparison_holds
-decreases-comparison_holds g l = 4 * comparison_weight (comparison_view l.comparison.now)
+decreases-comparison_holds g l = 4 * filter_weight (comparison_view l.comparison.now)
 
 abbrev pub decreases-comparable_data : goal.decreases-comparable_data
 decreases-comparable_data g l = 4 * argument_weight (comparable_view l.comparable.now)

@@ -114,31 +114,31 @@ filter-returns-in-Atom-clause-made t c =
 
 pub atom-returns-in_ok-new-in-Filter-clause-made : goal.atom-returns-in_ok-new-in-Filter-clause-made
 atom-returns-in_ok-new-in-Filter-clause-made t c =
-    made_as (λ f. syntax.atom (syntax.group c.in-Filter.not f)) _ _ (λ kept. plan.filter_view-Group kept _ _ ∙ ap (λ x. syntax.atom (syntax.group c.in-Filter.not (filter_view kept x))) (search rules)) (ap syntax.atom (ap tree.atom_view c.in-Filter.is ∙ source.atom_view-Filter c.in-Filter.expr c.in-Filter.not ∙ ap (λ x. syntax.group c.in-Filter.not (tree.filter_view x)) (sym c.deref.ensures))) (λ h. h) c.in_ok-inner-in-Filter.ensures.made
+    made_as (syntax.group c.in-Filter.not) _ _ (λ kept. plan.filter_view-Group kept _ _ ∙ ap (λ x. syntax.group c.in-Filter.not (filter_view kept x)) (search rules)) (ap tree.atom_view c.in-Filter.is ∙ source.atom_view-Filter c.in-Filter.expr c.in-Filter.not ∙ ap (λ x. syntax.group c.in-Filter.not (tree.filter_view x)) (sym c.deref.ensures)) (λ h. h) c.in_ok-inner-in-Filter.ensures.made
 
 pub atom-returns-in-Test-clause-made : goal.atom-returns-in-Test-clause-made
 atom-returns-in-Test-clause-made t c =
-    rw (ap tree.atom_view c.in-Test.is ∙ source.atom_view-Test c.in-Test.expr c.in-Test.not ∙ ap (λ x. syntax.Atom.test c.in-Test.not (tree.test_view x)) (sym c.deref-in-Test.ensures)) c.test.ensures.made
+    rw (ap tree.atom_view c.in-Test.is ∙ source.atom_view-Test c.in-Test.expr c.in-Test.not ∙ ap (λ x. syntax.Filter.test c.in-Test.not (tree.test_view x)) (sym c.deref-in-Test.ensures)) c.test.ensures.made
 
 pub atom-returns-in-Comparison-clause-made : goal.atom-returns-in-Comparison-clause-made
 atom-returns-in-Comparison-clause-made t c =
-    rw (ap tree.atom_view c.in-Comparison.is ∙ source.atom_view-Comparison c.in-Comparison.comparison ∙ ap (λ x. syntax.comparison (tree.comparison_view x)) (sym c.deref-in-Comparison.ensures)) c.comparison.ensures.made
+    rw (ap tree.atom_view c.in-Comparison.is ∙ source.atom_view-Comparison c.in-Comparison.comparison ∙ ap tree.comparison_view (sym c.deref-in-Comparison.ensures)) c.comparison.ensures.made
 
 pub test-returns-in-Some-clause-made : goal.test-returns-in-Some-clause-made
 test-returns-in-Some-clause-made t c =
-    made_here c.meet_current.ensures (made_none {test = every} _ _ (λ kept. plan.filter_view-HasChild kept _ _ ∙ ap (λ q. syntax.atom (syntax.Atom.test c.args.not (syntax.relative q))) (rw c.in-Some.is at c.in_ok-steps-in-RelQuery.ensures.same)) (ap (λ x. syntax.atom (syntax.Atom.test c.args.not x)) (ap tree.test_view c.in-RelQuery.is ∙ source.test_view-RelQuery c.in-RelQuery.segments ∙ ap (λ xs. syntax.relative (tree.segments_of (map tree.segment_view xs))) (sym c.deref.ensures.value))) refl)
+    made_here c.meet_current.ensures (made_none {test = every} _ _ (λ kept. plan.filter_view-HasChild kept _ _ ∙ ap (λ q. syntax.Filter.test c.args.not (syntax.relative q)) (rw c.in-Some.is at c.in_ok-steps-in-RelQuery.ensures.same)) (ap (syntax.Filter.test c.args.not) (ap tree.test_view c.in-RelQuery.is ∙ source.test_view-RelQuery c.in-RelQuery.segments ∙ ap (λ xs. syntax.relative (tree.segments_of (map tree.segment_view xs))) (sym c.deref.ensures.value))) refl)
 
 pub test-returns-in_ok-nodes-in-RelQuery-clause-made : goal.test-returns-in_ok-nodes-in-RelQuery-clause-made
 test-returns-in_ok-nodes-in-RelQuery-clause-made t c =
-    made_as (λ x. syntax.atom (syntax.Atom.test c.args.not x)) _ _ (λ kept. plan.filter_view-Exists kept _ _) (ap (λ x. syntax.atom (syntax.Atom.test c.args.not x)) (ap tree.test_view c.in-RelQuery.is ∙ source.test_view-RelQuery c.in-RelQuery.segments ∙ ap (λ xs. syntax.relative (tree.segments_of (map tree.segment_view xs))) (sym c.deref-in-RelQuery.ensures.value))) (λ h. h) (c.in_ok-nodes-in-RelQuery.ensures.made Any)
+    made_as (syntax.Filter.test c.args.not) _ _ (λ kept. plan.filter_view-Exists kept _ _) (ap (syntax.Filter.test c.args.not) (ap tree.test_view c.in-RelQuery.is ∙ source.test_view-RelQuery c.in-RelQuery.segments ∙ ap (λ xs. syntax.relative (tree.segments_of (map tree.segment_view xs))) (sym c.deref-in-RelQuery.ensures.value))) (λ h. h) (c.in_ok-nodes-in-RelQuery.ensures.made Any)
 
 pub test-returns-in_ok-absolute-in-AbsQuery-clause-made : goal.test-returns-in_ok-absolute-in-AbsQuery-clause-made
 test-returns-in_ok-absolute-in-AbsQuery-clause-made t c =
-    made_as (λ q. syntax.atom (syntax.Atom.test c.args.not (syntax.absolute q))) _ _ (λ kept. plan.filter_view-Exists kept _ _ ∙ ap (λ x. syntax.atom (syntax.Atom.test c.args.not x)) (plan.nodes_view-Constant kept _ Any)) (ap (λ x. syntax.atom (syntax.Atom.test c.args.not x)) (ap tree.test_view c.in-AbsQuery.is ∙ source.test_view-AbsQuery c.in-AbsQuery.query)) (λ h. h) c.in_ok-absolute-in-AbsQuery.ensures.made
+    made_as (λ q. syntax.Filter.test c.args.not (syntax.absolute q)) _ _ (λ kept. plan.filter_view-Exists kept _ _ ∙ ap (syntax.Filter.test c.args.not) (plan.nodes_view-Constant kept _ Any)) (ap (syntax.Filter.test c.args.not) (ap tree.test_view c.in-AbsQuery.is ∙ source.test_view-AbsQuery c.in-AbsQuery.query)) (λ h. h) c.in_ok-absolute-in-AbsQuery.ensures.made
 
 pub test-returns-in_ok-call-in-Function-clause-made : goal.test-returns-in_ok-call-in-Function-clause-made
 test-returns-in_ok-call-in-Function-clause-made t c =
-    made_as (λ x. syntax.atom (syntax.Atom.test c.args.not (syntax.call x))) _ _ (λ kept. plan.filter_view-Call kept _ _) (ap (λ x. syntax.atom (syntax.Atom.test c.args.not x)) (ap tree.test_view c.in-Function.is ∙ source.test_view-Function c.in-Function.function ∙ ap (λ x. syntax.call (tree.call_view x)) (sym c.deref-in-Function.ensures))) (λ h. h) c.in_ok-call-in-Function.ensures.made
+    made_as (λ x. syntax.Filter.test c.args.not (syntax.call x)) _ _ (λ kept. plan.filter_view-Call kept _ _) (ap (syntax.Filter.test c.args.not) (ap tree.test_view c.in-Function.is ∙ source.test_view-Function c.in-Function.function ∙ ap (λ x. syntax.call (tree.call_view x)) (sym c.deref-in-Function.ensures))) (λ h. h) c.in_ok-call-in-Function.ensures.made
 
 pub side-returns-in_ok-try_clone-in-Literal-clause-made : goal.side-returns-in_ok-try_clone-in-Literal-clause-made
 side-returns-in_ok-try_clone-in-Literal-clause-made t c =

@@ -1,5 +1,4 @@
 use Rattle.std.proofs.Common.{◌∙◌, refl, sym}
-use Rattle.jsonpath_parser.specs.tree.Syntax.{atom, comparison}
 use Rattle.jsonpath_rust.specs.selection.inner.PlanViews.{comparison_in}
 use Rattle.jsonpath_rust.proofs.laws.selection.PlanEquations.{filter_view-Comparison, filter_view-Constant}
 use Rattle.jsonpath_rust.proofs.laws.selection.PlanLaws.{made_as, made_ended}
@@ -7,8 +6,8 @@ use Rattle.jsonpath_rust.proofs.selection.plan.make.Maker.compare.Goals as goal
 
 pub returns-then-end-clause-made : goal.returns-then-end-clause-made
 returns-then-end-clause-made c = record {
-  made = λ b m. made_as (λ p. atom (comparison (comparison_in p))) _ _ (λ kept. filter_view-Constant kept _) refl (λ h. h) (c.in_ok-number.ensures.numbered.made (made_ended b c.end.ensures.beside m) (m.rooted (sym c.end.ensures.rooted ∙ c.if-end.true)).1);
+  made = λ b m. made_as comparison_in _ _ (λ kept. filter_view-Constant kept _) refl (λ h. h) (c.in_ok-number.ensures.numbered.made (made_ended b c.end.ensures.beside m) (m.rooted (sym c.end.ensures.rooted ∙ c.if-end.true)).1);
 }
 
 pub returns-clause-made : goal.returns-clause-made
-returns-clause-made c = record { made = λ b m. made_as (λ p. atom (comparison (comparison_in p))) _ _ (λ kept. filter_view-Comparison kept _ _ _) refl (λ h. h) (made_ended b c.end.ensures.beside m) }
+returns-clause-made c = record { made = λ b m. made_as comparison_in _ _ (λ kept. filter_view-Comparison kept _ _ _) refl (λ h. h) (made_ended b c.end.ensures.beside m) }
