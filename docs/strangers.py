@@ -2,7 +2,7 @@
 
     python3 docs/strangers.py times crates/jpath/out/jpath
     python3 docs/strangers.py stack crates/jpath/out/jpath
-    python3 docs/strangers.py units crates/uses/out/uses
+    python3 docs/strangers.py units crates/bench/out/bench
 
 Each row of the first table is a query with its document, in several sizes: the least of three runs of `jpath values`, in
 processor seconds, a slash between the sizes. Its like, which looks at the current node where the query looks at the

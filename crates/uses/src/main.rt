@@ -1,10 +1,9 @@
 //! Callers of `jsonpath_rust`, each with a contract of its own that is proved from the contracts of what it calls; and a program.
-//! Without words on its command line it asks rows of these callers, on standard input; with words it is the bench.
+//! It asks rows of these callers, on standard input, and takes no words on its command line.
 #![tactic(auto)]
 
 pub mod again;
 pub mod assertion;
-mod bench;
 pub mod changing;
 pub mod difference;
 pub mod first;
@@ -25,16 +24,9 @@ use std::io::ErrorKind;
 use std::{env, io};
 
 fn main(rt: HostRuntime) -> io::Result<()> {
-    let mut words = Vec::new(rt.alloc());
-    for word in env::args(&rt)?.skip(1) {
-        words.push(word)?;
+    if env::args(&rt)?.len() > 1 {
+        return Err(ErrorKind::InvalidInput.into());
     }
-    match words.as_slice() {
-        [] => {
-            let input = io::read_to_string(rt.alloc(), rt.reader())?;
-            ask_calls(&rt, input.as_str(), rows::answer)
-        }
-        [word, size] => bench::run(&rt, word.as_str(), size.as_str()),
-        _ => Err(ErrorKind::InvalidInput.into()),
-    }
+    let input = io::read_to_string(rt.alloc(), rt.reader())?;
+    ask_calls(&rt, input.as_str(), rows::answer)
 }

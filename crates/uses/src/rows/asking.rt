@@ -1,7 +1,6 @@
 //! Calls that ask documents, or queries alone. Null stands for None.
 use crate::again::{first_again, values_below};
 use crate::assertion::{Assertion, failures};
-use crate::bench::counts::all_counts;
 use crate::difference::{Difference, Missing, difference_of};
 use crate::first_steps::{StoreError, without_dear};
 use crate::gateway::admit;
@@ -16,7 +15,7 @@ use jsonpath_rust::parser::{MAX_NESTING_DEPTH, parse_json_path};
 use jsonpath_rust::query::Prepared;
 use jsonpath_rust::{Condition, ReadError};
 use rows_common::answers::{self, list_of, listed, pair};
-use rows_common::arguments::{each, exactly, list, size, steps, text, texts};
+use rows_common::arguments::{each, exactly, list, steps, text, texts};
 use rows_common::{Cause, Given, Refusal};
 use serde_json::{Value, json};
 use std::alloc::Global;
@@ -35,7 +34,6 @@ pub fn answer(alloc: Global, name: &str, asked: &[Value]) -> Given<Value> {
         "matching" => matched(alloc, asked),
         "admit" => admitted(alloc, asked),
         "query_with_path" => found(alloc, asked),
-        "counts" => counted(alloc, asked),
         _ => Err(Refusal::NoAnswer),
     }
 }
@@ -157,15 +155,6 @@ fn found(alloc: Global, asked: &[Value]) -> Given<Value> {
     let found = methods_answers(alloc, text(query)?, whole(document)?.get())?;
     list_of(alloc, &found.nodes, |node| {
         pair(alloc, answers::text(alloc, &node.path)?, node.val.clone()?)
-    })
-}
-
-/// How much each query of the bench selects, and its text.
-fn counted(alloc: Global, asked: &[Value]) -> Given<Value> {
-    let [bytes] = exactly::<1>(asked)?;
-    list_of(alloc, &all_counts(alloc, size(bytes)?)?, |count| {
-        let query = answers::text(alloc, count.query)?;
-        pair(alloc, Value::from(count.selected), query)
     })
 }
 

@@ -1,7 +1,7 @@
 //! How long units of work take: a query of a document under a limit, both from standard input.
 
-use crate::bench::documents::read;
-use crate::bench::timing::refused;
+use crate::documents::read;
+use crate::timing::refused;
 use jsonpath_rust::Whole;
 use jsonpath_rust::query::{Within, js_path_limited};
 use serde_json::Value;

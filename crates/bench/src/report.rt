@@ -1,11 +1,11 @@
 //! What is printed of the queries.
 
-use crate::bench::calls::{deletion, masking, reading_calls, walking_calls};
-use crate::bench::counts::{Count, all_counts};
-use crate::bench::documents::{Dice, bookstore, inbox, message, numbers, read};
-use crate::bench::queries::{QUERIES, TABLE};
-use crate::bench::routes::{prepared, routed};
-use crate::bench::timing::{fastest, reading, refused};
+use crate::calls::{deletion, masking, reading_calls, walking_calls};
+use crate::counts::{Count, all_counts};
+use crate::documents::{Dice, bookstore, inbox, message, numbers, read};
+use crate::queries::{QUERIES, TABLE};
+use crate::routes::{prepared, routed};
+use crate::timing::{fastest, reading, refused};
 use jsonpath_rust::Whole;
 use serde_json::Value;
 use std::io;

@@ -1,9 +1,9 @@
 //! How many nodes the queries select.
 
-use crate::bench::documents::{bookstore, inbox, read};
-use crate::bench::queries::{QUERIES, TABLE};
-use crate::bench::routes::{counted, prepared};
-use crate::bench::timing::refused;
+use crate::documents::{bookstore, inbox, read};
+use crate::queries::{QUERIES, TABLE};
+use crate::routes::{counted, prepared};
+use crate::timing::refused;
 use jsonpath_rust::Whole;
 use jsonpath_rust::parser::model::JpQuery;
 use jsonpath_rust::parser::{let_go, parse_json_path};

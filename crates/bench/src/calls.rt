@@ -1,5 +1,5 @@
 //! Calls that are made many times, on a small document, and deletions and maskings.
-use crate::bench::timing::refused;
+use crate::timing::refused;
 use jsonpath_rust::Whole;
 use jsonpath_rust::parser::{let_go, parse_json_path};
 use jsonpath_rust::query::{Queried, js_path, selected_nodes};

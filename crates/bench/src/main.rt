@@ -9,8 +9,10 @@
 //! - `units COUNT`: whether so many units of work are enough for the query that is the first line of standard input on the document
 //!   that is the second one, and nanoseconds.
 //! - `document BYTES`, `messages COUNT`: what was asked; before the messages stand the queries of the table.
+#![tactic(auto)]
+
 mod calls;
-pub mod counts;
+mod counts;
 mod documents;
 mod queries;
 mod report;
@@ -18,11 +20,11 @@ mod routes;
 mod timing;
 mod units;
 
-use std::io;
 use std::io::ErrorKind;
+use std::{env, io};
 
 /// Does what the word says, for documents of that size.
-pub fn run(rt: &HostRuntime, word: &str, size: &str) -> io::Result<()> {
+fn run(rt: &HostRuntime, word: &str, size: &str) -> io::Result<()> {
     match (word, size.parse()) {
         ("counts", Ok(bytes)) => report::counts(rt, bytes),
         ("time", Ok(bytes)) => report::times(rt, bytes),
@@ -32,6 +34,17 @@ pub fn run(rt: &HostRuntime, word: &str, size: &str) -> io::Result<()> {
         ("units", Ok(count)) => units::limited(rt, count),
         ("document", Ok(bytes)) => report::document(rt, bytes),
         ("messages", Ok(count)) => report::messages(rt, count),
+        _ => Err(ErrorKind::InvalidInput.into()),
+    }
+}
+
+fn main(rt: HostRuntime) -> io::Result<()> {
+    let mut words = Vec::new(rt.alloc());
+    for word in env::args(&rt)?.skip(1) {
+        words.push(word)?;
+    }
+    match words.as_slice() {
+        [word, size] => run(&rt, word.as_str(), size.as_str()),
         _ => Err(ErrorKind::InvalidInput.into()),
     }
 }

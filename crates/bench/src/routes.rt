@@ -1,6 +1,6 @@
 //! A router's table, asked of each message: by runners that stay, by runners made for it, and by `js_path_process`.
 
-use crate::bench::timing::refused;
+use crate::timing::refused;
 use jsonpath_rust::Whole;
 use jsonpath_rust::query::{Prepared, Queried, QueryRef, Runner, js_path_process};
 use serde_json::Value;
