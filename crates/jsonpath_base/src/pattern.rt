@@ -1,8 +1,8 @@
 //! The patterns of `match` and `search` (RFC 9535, 2.4.6 and 2.4.7): read (`Pattern`), asked of many texts (`Finder`), and kept
 //! with what asks them for the length of a call (`cells`, `finders`). `weight` estimates what one takes, `unbuilt` has why one
 //! cannot be built.
-ghost use Rattle.std.specs.Prelude.{◌≡◌, ◌↔◌, ◌++◌, ◌==◌, IsTrue, false, is_some, chars, codes, IfOk, IfErr, OnOk, string_bytes, encode_utf8_all};
-ghost use Rattle.jsonpath_base.specs.Pattern.{translated, reading, wrapped, is_entire, sought, pattern_sought, found, IsPatternRefusal, IsUnbuilt};
+ghost use Rattle.std.specs.Prelude.{◌≡◌, ◌↔◌, ◌++◌, ◌==◌, IsTrue, false, is_some, chars, IfOk, IfErr, OnOk, string_bytes, encode_utf8_all};
+ghost use Rattle.jsonpath_base.specs.Pattern.{translated, reading, wrapped, is_entire, pattern_sought, found, IsPatternRefusal, IsUnbuilt};
 ghost use Rattle.jsonpath_base.specs.inner.PatternParts.{written, inside_after, escaped_after, FindsSame, MatchesSame};
 
 pub mod cells;

@@ -8,8 +8,8 @@ ghost use Rattle.jsonpath_base.specs.declared.step.StepRef.{StepRef};
 use crate::step::{Step, StepRef, add_index, add_name};
 use std::alloc::{AllocError, Global};
 
-/// The steps from the root to the value at hand. A step is settled when a node at its end or below is returned or marked, and
-/// then no more while it stands here: its text is held, or it is held among marks.
+/// The steps from the root to the value at hand. A step is settled once a path with it was written, or a location with it was
+/// marked; it stays so until it is popped, and is neither spelled nor compared again.
 #[derive(Drop)]
 pub struct Way<'s> {
     pub steps: Vec<StepRef<'s>>,
@@ -86,7 +86,7 @@ impl<'s> Way<'s> {
         }
     }
 
-    /// The Normalized Path. All steps are settled.
+    /// The Normalized Path. It settles all steps.
     pub fn path(&mut self, alloc: Global) -> Result<String, AllocError>
         ensures value { IfOk result (λ path. string_bytes path ≡ normal (lent_location self.old.steps.items)) }
         ensures same { self.new.steps.items ≡ self.old.steps.items }

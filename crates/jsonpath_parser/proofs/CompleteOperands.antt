@@ -1,7 +1,7 @@
 -- Literals, queries and calls that are spelled are read, where the text after them cannot continue them.
-use Rattle.std.proofs.Common.{◌≡◌, ℕ, suc, ◌+◌, ◌-◌, ◌<◌, ◌≤◌, true, false, ◌==◌, ℤ, List, [], ◌∷◌, ◌++◌, length, codes, Option, Some, refl, sym, ap, ◌∙◌, inl, inr, append_assoc, append-nil, length-append, arith, IsTrue}
+use Rattle.std.proofs.Common.{◌≡◌, ℕ, suc, ◌+◌, ◌-◌, ◌<◌, ◌≤◌, true, false, ◌==◌, ℤ, List, [], ◌∷◌, ◌++◌, length, codes, Option, Some, refl, sym, ap, ◌∙◌, append_assoc, append-nil, length-append, arith, IsTrue}
 use Rattle.std.proofs.lemmas.Bool.Decides.{nat_tests}
-use Rattle.jsonpath_parser.specs.Grammar.{SpellsCalled, SpellsLiteral, SpellsSegment, SpellsSegments, SpellsTest, SpellsCall, SpellsArgument, SpellsArguments, SpellsMoreArguments}
+use Rattle.jsonpath_parser.specs.Grammar.{SpellsCalled, SpellsLiteral, SpellsSegments, SpellsTest, SpellsCall, SpellsArgument, SpellsArguments, SpellsMoreArguments}
 use Rattle.jsonpath_parser.specs.words.Lexical.{is_function_first, IsBlank, IsFunctionName, is_quote}
 use Rattle.jsonpath_parser.specs.words.inner.Reading.{Read, first, skip_blank}
 use Rattle.jsonpath_parser.specs.inner.ReadingGrammar.{is_int_first, steps_of, comparable_of, word_at, word_literal, all_segments_at, arguments_at, all_arguments_at, called_at, word_operand_at, operand_at, steps_in}

@@ -5,9 +5,9 @@ use Rattle.jsonpath_parser.specs.Grammar.{Spells, SpellsArgument, SpellsSegments
 use Rattle.jsonpath_parser.specs.words.Numbers.{SpellsNumber}
 use Rattle.jsonpath_parser.specs.Parts.{Spelling, SpellsRelative, SpellsChild, SpellsSliceParts, SpellsSteps, SpellsSingular, SpellsConjunction, SpellsBasic, SpellsComparison, is_comparison, always, SpellsComparable}
 use Rattle.jsonpath_parser.specs.words.inner.Reading.{Read, first, skip_blank}
-use Rattle.jsonpath_parser.specs.inner.ReadingGrammar.{number_reading, is_int_first, filter_of, comparable_of, steps_of, numbered_at, shorthand_at, selection_at, descendant_at, argument_at, IsAny, steps_in}
+use Rattle.jsonpath_parser.specs.inner.ReadingGrammar.{number_reading, is_int_first, filter_of, comparable_of, numbered_at, shorthand_at, selection_at, descendant_at, argument_at, IsAny, steps_in}
 use Rattle.jsonpath_parser.specs.inner.ReadingParts.{taken_at, inner_at, operand_in, basic_in, conjunction_in, logical_in, segments_in, segment_in, selector_in, child_in, literal_in, test_in, call_in, relative_in, query_in, singular_of, singular_in, where_it_is, atom_in, comparison_in, slice_in}
-use Rattle.jsonpath_parser.specs.tree.Syntax.{Literal, Selector, name, wildcard, index, slice, filter, Segment, one, several, descendant, Segments, Filter, or, and, group, test, Test, relative, absolute, call, Call, Argument, literal_argument, test_argument, filter_argument, Query}
+use Rattle.jsonpath_parser.specs.tree.Syntax.{Literal, Selector, name, wildcard, index, slice, filter, Segment, one, several, descendant, Segments, Filter, or, and, test, Test, relative, absolute, call, Call, Argument, literal_argument, test_argument, filter_argument, Query}
 use Rattle.jsonpath_parser.specs.tree.Typing.{is_typed, is_typed_segment, is_typed_selector, is_typed_filter, is_typed_truth, is_typed_call, is_singular_test, is_typed_side}
 use Rattle.jsonpath_parser.specs.declared.grammar.literals.Numbers.{Numbers}
 use Rattle.jsonpath_parser.specs.declared.grammar.literals.Numbers.TheVariants.{Valued, Any}

@@ -5,7 +5,7 @@ use Rattle.std.proofs.Common.{◌≡◌, ℕ, suc, Bool, true, false, ◌==◌, 
 use Rattle.jsonpath_parser.specs.Grammar.{is_conjunction, is_basic, IsNoBareTest, SpellsNot, SpellsCalled, SpellsLiteral, SpellsMoreOr, SpellsMoreAnd, SpellsTest, SpellsCall, SpellsArgument, SpellsArguments, SpellsMoreArguments}
 use Rattle.jsonpath_parser.specs.words.Lexical.{IsBlank, IsFunctionName, is_quote}
 use Rattle.jsonpath_parser.specs.words.inner.Reading.{Read, first, after_byte, skip_blank}
-use Rattle.jsonpath_parser.specs.inner.ReadingGrammar.{operand_behind, steps_of, comparable_of, filter_of, negated_of, is_int_first, word_at, word_literal, is_operator_first, operator_at, is_twice, logical_at, all_segments_at, all_arguments_at, called_at, word_operand_at, operand_at, group_at, negated_at, compared_at, plain_at, basic_at, ands_at, conjunction_at, ors_at, disjunction_at, steps_in}
+use Rattle.jsonpath_parser.specs.inner.ReadingGrammar.{operand_behind, comparable_of, filter_of, negated_of, is_int_first, word_at, word_literal, is_operator_first, operator_at, is_twice, logical_at, all_segments_at, all_arguments_at, called_at, word_operand_at, operand_at, group_at, negated_at, compared_at, plain_at, basic_at, ands_at, conjunction_at, ors_at, disjunction_at, steps_in}
 use Rattle.jsonpath_parser.specs.inner.ReadingLists.{found_then}
 use Rattle.jsonpath_parser.specs.words.inner.ReadingStrings.{string_at}
 use Rattle.jsonpath_parser.specs.tree.Syntax.{number, string, Filter, or, and, Filters, no_filters, filter_then, group, test, compare, relative, absolute, call, Call, custom_call, length_call, value_call, count_call, search_call, match_call, Argument, literal_argument, test_argument, filter_argument, Arguments, no_arguments, argument}

@@ -11,7 +11,6 @@ use Rattle.std.specs.Str.Parse.{digits_value}
 use Rattle.jsonpath_parser.specs.Grammar.{Between, Behind, Then, is_conjunction, is_basic, IsNothing, IsSeveral, IsPlural, IsNoBareTest, IsCustomName, IsInRange, SpellsInt, SpellsIndex, SpellsBound, SpellsStep, SpellsSlice, SpellsOperator, SpellsNot, SpellsLiteral, SpellsSelector, SpellsSelectors, SpellsMoreSelectors, SpellsSegment, SpellsSegments, SpellsLogical, SpellsOr, SpellsMoreOr, SpellsAnd, SpellsMoreAnd, SpellsTest, SpellsCall, SpellsArgument, SpellsArguments, SpellsMoreArguments, Spells}
 use Rattle.jsonpath_parser.specs.words.Lexical.{IsRun, IsFunctionName, is_function_first, is_function_byte}
 use Rattle.jsonpath_parser.specs.words.Numbers.{SpellsSign, IsWholePart, raised, signed, IsLong, SpellsNumber}
-use Rattle.jsonpath_parser.specs.words.Strings.{SpellsString}
 use Rattle.jsonpath_parser.specs.Normal.{index_digits}
 use Rattle.jsonpath_parser.specs.tree.Shown.{not_shown, operator_shown}
 use Rattle.jsonpath_parser.specs.tree.Typing.{is_table_name, is_comparable}
@@ -19,7 +18,7 @@ use Rattle.jsonpath_parser.specs.tree.Syntax.{Literal, number, string, bool, nul
 use Rattle.jsonpath_parser.specs.Parts.{SpellsConjunction, SpellsBasic}
 use Rattle.jsonpath_parser.specs.Values.{IsValued}
 use Rattle.jsonpath_parser.specs.inner.Spellable.{is_in_range, is_long, is_bound, is_function_name, is_custom_name, is_spelled_literal, are_several_selectors, are_several_filters, is_no_bare_test, is_spelled, is_spelled_segment, is_spelled_selector, are_spelled_selectors, is_spelled_filter, are_spelled_conjunctions, are_spelled_operands, is_spelled_test, is_spelled_call, is_spelled_argument, are_spelled_arguments}
-use Rattle.jsonpath_parser.specs.inner.QueryTexts.{string_text, bound_text, slice_step_text, slice_text, literal_text, segments_text, segment_text, selector_text, selectors_text, filter_text, filters_text, test_text, call_text, argument_text, arguments_text, query_text}
+use Rattle.jsonpath_parser.specs.inner.QueryTexts.{bound_text, slice_step_text, slice_text, literal_text, segments_text, segment_text, selector_text, selectors_text, filter_text, filters_text, test_text, call_text, argument_text, arguments_text, query_text}
 use Rattle.jsonpath_parser.proofs.NormalQueries.{name_spelled, index_spelled}
 use Rattle.jsonpath_parser.proofs.laws.words.Quoting.{decimal_index}
 

@@ -3,7 +3,7 @@ use Rattle.std.proofs.Common.{◌≡◌, ℕ, true, false, ℤ, List, [], ◌++�
 use Rattle.jsonpath_parser.specs.Grammar.{Spells, SpellsSegments, SpellsSegment, SpellsSelector, SpellsLogical, SpellsLiteral, SpellsTest, SpellsCall}
 use Rattle.jsonpath_parser.specs.words.Numbers.{SpellsNumber}
 use Rattle.jsonpath_parser.specs.Parts.{Spelling, SpellsRelative, SpellsChild, SpellsSliceParts, SpellsSteps, SpellsSingular, SpellsConjunction, SpellsBasic, SpellsComparison, SpellsComparable}
-use Rattle.jsonpath_parser.specs.tree.Syntax.{equal, slice, filter, one, descendant, no_segments, segment, Filter, or, and, test, compare, relative, call, literal_argument, test_argument, Test, absolute}
+use Rattle.jsonpath_parser.specs.tree.Syntax.{equal, slice, filter, one, descendant, no_segments, segment, or, and, test, compare, relative, call, literal_argument, test_argument, Test, absolute}
 use Rattle.jsonpath_parser.specs.Unambiguous.{NoTextDerivesTwoTrees, SpellsOneTree, IsUnambiguous}
 use Rattle.jsonpath_parser.specs.Values.{IsValued}
 use Rattle.jsonpath_parser.specs.words.inner.Reading.{Read, first}

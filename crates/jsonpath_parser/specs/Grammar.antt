@@ -1,7 +1,7 @@
 -- The grammar: which texts spell a tree, one case for each production (RFC 9535, 2.1 to 2.5).
 --
 -- `Number v text` is how a number literal of the value v is written; all else stands here.
-use Rattle.std.specs.Prelude.{◌≡◌, ◌⊎◌, ℕ, zero, suc, ◌≤◌, ◌≤ℤ◌, ℤ, pos, negsuc, Bool, true, false, IsTrue, Option, Some, None, List, [], ◌∷◌, ◌++◌, slice_index, codes}
+use Rattle.std.specs.Prelude.{◌≡◌, ◌⊎◌, ℕ, zero, suc, ◌≤◌, ◌≤ℤ◌, ℤ, pos, negsuc, Bool, true, false, IsTrue, Option, Some, None, List, [], ◌++◌, slice_index, codes}
 use Rattle.std.specs.Str.{byte}
 use Rattle.std.specs.Str.Parse.{digits_value}
 use Rattle.std.specs.Char.{is_ascii_digit}

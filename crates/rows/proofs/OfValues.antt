@@ -10,7 +10,7 @@ use Rattle.serde_json.specs.View.{items_view, members_view}
 use Rattle.serde_json.specs.declared.value.Value as value
 use Rattle.serde_json.specs.declared.value.Value.{Value}
 use Rattle.serde_json.proofs.Views as json
-use Rattle.serde_json.proofs.Views.{view-Array, view-Object}
+use Rattle.serde_json.proofs.Views.{view-Object}
 use Rattle.jsonpath_base.specs.Tree.{Tree, tree, object}
 use Rattle.jsonpath_base.specs.Values.{tree_of, value_tree, trees_of, members_of}
 use Rattle.rows.specs.declared.doc.Doc as doc

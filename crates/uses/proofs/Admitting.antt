@@ -1,5 +1,5 @@
 -- What a gateway's test says of the query of a text.
-use Rattle.std.proofs.Common.{◌≡◌, ◌↔◌, ◌&&◌, ◌∙◌, ℕ, List, Bool, true, false, IsTrue, IsFalse, sym, subst}
+use Rattle.std.proofs.Common.{◌≡◌, ◌↔◌, ◌&&◌, ◌∙◌, ℕ, List, Bool, true, false, IsTrue, sym, subst}
 use Rattle.std.proofs.lemmas.Bool.{and_parts, and_from, false≢true}
 use Rattle.std.specs.Borrow.{Bor}
 use Rattle.jsonpath_rust.specs.Confining.{IsConfinedTo, LocalIsConfined}

@@ -1,5 +1,5 @@
 //! Where the patterns of `match` and `search` are built (RFC 9535, 2.4.6 and 2.4.7).
-ghost use Rattle.std.specs.Prelude.{◌≡◌, IfOk, vec_len};
+ghost use Rattle.std.specs.Prelude.{◌≡◌, IfOk};
 
 use crate::pattern::Pattern;
 use std::alloc::{AllocError, Global};
@@ -63,7 +63,7 @@ impl LentCells {
         }
     }
 
-    /// They themselves.
+    /// The cells. The first call makes them.
     pub(crate) fn made(&self, alloc: Global) -> Result<Option<&Cells>, AllocError> {
         if self.cells.get().is_none() {
             let cells = Cells::new(alloc, MOST_LENT)?;

@@ -1,5 +1,5 @@
 -- How deep brackets nest in the text that the code writes for a tree. The laws of proofs/ join it to the depth of any text that spells the tree.
-use Rattle.std.specs.Prelude.{ℕ, suc, max, List, [], ◌∷◌}
+use Rattle.std.specs.Prelude.{ℕ, suc, max}
 use Rattle.jsonpath_parser.specs.tree.Syntax.{Selector, filter, Selectors, no_selectors, selector, Segment, one, several, descendant, no_segments, segment, Filter, or, and, Filters, no_filters, filter_then, group, test, compare, Test, relative, absolute, call, Call, custom_call, length_call, value_call, count_call, search_call, match_call, Argument, literal_argument, test_argument, filter_argument, Arguments, no_arguments, argument, Query}
 
 abbrev mutual

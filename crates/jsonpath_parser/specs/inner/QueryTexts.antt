@@ -1,5 +1,5 @@
 -- The text that the code writes for a tree that some text spells (RFC 9535, 2.1 to 2.5). The laws of proofs/ join it to the grammar.
-use Rattle.std.specs.Prelude.{ℕ, ℤ, Bool, List, [], ◌∷◌, ◌++◌, codes, Option, Some, None, if◌then◌else◌}
+use Rattle.std.specs.Prelude.{ℕ, ℤ, Bool, List, [], ◌++◌, codes, Option, Some, None, if◌then◌else◌}
 use Rattle.std.specs.Fmt.{signed_decimal}
 use Rattle.jsonpath_parser.specs.Normal.{name_chars}
 use Rattle.jsonpath_parser.specs.tree.Shown.{not_shown, operator_shown}

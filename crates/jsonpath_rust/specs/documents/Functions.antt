@@ -43,7 +43,7 @@ pub data Evaluated : Type 0 where
   of_value : Option Tree → Evaluated
   of_nodes : List Node → Evaluated
 
--- as a value: of nodes, that of the only one (2.4.2)
+-- as a value: of nodes, that of the only one (2.4.3)
 abbrev pub as_value : Evaluated → Option Tree
 as_value (of_value o) = o
 as_value (of_nodes ns) = only_value ns

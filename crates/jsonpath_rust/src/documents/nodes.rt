@@ -32,7 +32,7 @@ impl<'a, T: Queryable> WholeNode<'a, T> {
     }
 }
 
-/// The only value of a list, if it has one alone.
+/// What a walk found where the only node is wanted: none, one with this value, or several.
 #[derive(Clone, Copy)]
 pub enum WholeOnly<'a, T: Queryable> {
     Nothing,

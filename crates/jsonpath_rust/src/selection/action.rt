@@ -1,4 +1,4 @@
-//! What a walk does at the children of a value.
+//! What a walk does at a value.
 ghost use Rattle.std.specs.Prelude.{◌≡◌, [], IsTrue, IfSome};
 ghost use Rattle.jsonpath_parser.specs.Location.{Location};
 ghost use Rattle.jsonpath_rust.specs.documents.Document.{Document};
@@ -11,7 +11,7 @@ use crate::documents::queryable::Queryable;
 use crate::documents::whole::WholeRef;
 use crate::selection::plan::{Filter, Segment, Selector};
 
-/// What is done at a child.
+/// What is done at a value: at a child, and of `Below` also where the descent begins.
 #[derive(Clone, Copy)]
 pub enum Action<'s> {
     /// The rest.

@@ -47,7 +47,8 @@ impl Budget {
         self.left
     }
 
-    /// Takes so many units from what is left. Where it is less, and limited, the walk halts.
+    /// Takes so many units from what is left. Where less is left, a limited walk halts, and nothing
+    /// is left then; one without a limit begins to count anew.
     #[inline(always)]
     pub fn spend(&mut self, limit: Limit, units: usize) -> Walked<()>
         ensures paid { OnOk result (limit ≡ Limited → self.new.left + units ≡ self.old.left) }

@@ -154,6 +154,7 @@ impl<'a: 's, 's, T: Queryable> Task<'a, 's, T> {
         match onward.next {
             Action::All => self.walk(rest, at, trail, sink),
             Action::If(filter) => {
+                // The walks of a filter settle no step, and this shows the prover that none is.
                 let settled = trail.way.settled;
                 let holds = self.is_met(filter, at, trail)?;
                 trail.way.unsettle(settled);

@@ -262,8 +262,8 @@ fn size_of_arguments<T: Queryable>(alloc: Global, args: &Args<'_, T>, most: usiz
 }
 
 /// The size of a value, or `most` where that is less: one for each value in it, and for each few
-/// bytes of its texts and names. It is not counted further than that, and of a value of which one
-/// is wanted nothing is looked at.
+/// bytes of its texts and names. It is not counted further than that, and where `most` is 0 or 1
+/// the value is not looked at.
 #[cycle(size)]
 fn size_within<T: Queryable>(alloc: Global, value: WholeRef<'_, T>, most: usize) -> Walked<usize>
     ensures size { IfOk result (λ n. n ≡ min (cost (tree_of value.entry)) most) }

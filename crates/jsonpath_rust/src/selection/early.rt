@@ -57,8 +57,8 @@ impl<'a: 's, 's, T: Queryable> Task<'a, 's, T> {
     }
 
     /// Whether queries from the root that are asked in one another's walks could stand on more than
-    /// `MOST_LEVELS` levels of the document, all together. Only where so many stand in one another
-    /// is the document looked at, for a unit a value.
+    /// `MOST_LEVELS` levels of the document, all together. The document is looked at only where at
+    /// least `MOST_AT_ONCE` stand in one another, for a unit a value.
     fn stands_deep(&self, budget: &mut Budget) -> Walked<bool>
         ensures { IfErr result (IsHalt self.now.limit [] (document self.now)) }
     {

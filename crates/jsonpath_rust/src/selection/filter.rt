@@ -46,7 +46,8 @@ impl<'a: 's, 's, T: Queryable> Task<'a, 's, T> {
         self.filter_holds(filter, at, trail)
     }
 
-    /// The same; a comparison takes one call more.
+    /// Whether a filter holds at a value, to which the way leads; `is_met` is the faster way to ask
+    /// a comparison.
     #[cycle(walk)]
     pub fn filter_holds(
         &self,

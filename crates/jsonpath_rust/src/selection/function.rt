@@ -133,8 +133,8 @@ impl<'a: 's, 's, T: Queryable> Task<'a, 's, T> {
         Ok(Operand::Made(Whole { value }))
     }
 
-    /// Adds an argument to those of a custom function (RFC 9535, 2.4.1): the values of the nodes of
-    /// a query, or the value, if it is not absent.
+    /// Adds an argument to those of a custom function: each value of a node of a query is one, as in
+    /// the Rust crate; else the value is one, if it is not absent.
     #[cycle(walk)]
     fn push_argument(
         &self,
@@ -159,7 +159,7 @@ impl<'a: 's, 's, T: Queryable> Task<'a, 's, T> {
         }
     }
 
-    /// An argument as a value (RFC 9535, 2.4.2).
+    /// An argument as a value (RFC 9535, 2.4.3).
     #[cycle(walk)]
     fn value(
         &self,
@@ -206,7 +206,8 @@ fn nodes_in(arg: &Argument) -> Option<&Nodes>
     }
 }
 
-/// Where the pattern that this argument gives comes from.
+/// The number of the pattern that this argument is, where it has one; else it counts as one of the
+/// document.
 #[inline(always)]
 fn origin_of(arg: &Argument) -> Origin {
     match arg {

@@ -26,7 +26,8 @@ pub struct Plan {
     /// The constants of the query, by number. One that stands in the filters of another has the
     /// smaller number.
     pub constants: Vec<Constant>,
-    /// How many queries from the root stand in one another.
+    /// How many queries from the root stand in one another inside filters, at most; the query itself
+    /// does not count.
     pub nesting: usize,
     /// How many patterns have a number. Each is smaller than this.
     pub pattern_count: usize,
@@ -34,7 +35,8 @@ pub struct Plan {
     ghost rooted: { IsRooted constants.items } by { IsRooted-prop constants.items },
 }
 
-/// A part of the query without `@`, which is worked out once in a call.
+/// A part of a filter that does not depend on the value under test: each `@` in it belongs to a
+/// filter of a query from the root inside it. It is worked out once in a call.
 #[derive(Drop, PartialEq)]
 pub enum Constant {
     /// What is wanted of the nodes of a query from the root.
@@ -180,7 +182,8 @@ pub enum Call {
 pub enum Argument {
     /// A literal.
     Literal(Literal),
-    /// A text that is asked as a pattern. Equal ones have one number.
+    /// A text that is asked as a pattern. Equal texts have one number for `match`, and another for
+    /// `search`.
     Pattern(String, usize),
     /// What is wanted of nodes.
     Nodes(Nodes),

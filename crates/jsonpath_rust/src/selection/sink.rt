@@ -68,8 +68,8 @@ pub enum Sink<'a, T: Queryable> {
     Values(WholeValues<'a, T>),
     /// Keeps each node's location, with names of its own.
     Locations(Vec<Vec<Step>>),
-    /// Marks each node's location to be removed. It stands in a box, so that the other sinks stay
-    /// small.
+    /// Marks each node's location to be removed or replaced. It stands in a box, so that the other
+    /// sinks stay small.
     Removal(Box<Removal>),
     /// Whether a node came. It stops at the first.
     Any(bool),

@@ -59,8 +59,8 @@ impl<'a: 's, 's, T: Queryable> Task<'a, 's, T> {
         }
     }
 
-    /// Adds the values of the nodes of a query to the arguments of a custom function (RFC 9535,
-    /// 2.4.1).
+    /// Adds the values of the nodes of a query to the arguments of a custom function, each as one,
+    /// as in the Rust crate.
     #[cycle(walk)]
     pub fn push_nodes(
         &self,
@@ -119,8 +119,8 @@ impl<'a: 's, 's, T: Queryable> Task<'a, 's, T> {
 
     /// Keeps what is wanted of the nodes of the query from the root that has this number. They are
     /// found when that is first asked; where a pattern in it is too large, that is kept, and the
-    /// walk halts. The result is false where the plan has no such query, which then is `$`: nothing
-    /// is kept of it.
+    /// walk halts. The result is false where the plan has no query of this number: a missing one
+    /// counts as `$`, and nothing is kept of it.
     #[cycle(walk)]
     pub fn keep_nodes(
         &self,

@@ -21,7 +21,7 @@ abbrev pub Means : Content → Evaluated → Type 0
 Means c (of_value o) = IsPlain c × (plain c ≡ o)
 Means c (of_nodes ns) = IsNodes c × AllZip (Shows false) ns (targets c)
 
--- ---- as a value (2.4.2)
+-- ---- as a value (2.4.3)
 
 only-shown : (c : Content) (ns : List Node) → IsPlain c → IsNodes c → AllZip (Shows false) ns (targets c) → plain c ≡ only_value ns
 only-shown (ref p) [] h k z = absurd z

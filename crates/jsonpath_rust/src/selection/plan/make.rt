@@ -23,8 +23,8 @@ use jsonpath_parser::model as tree;
 use jsonpath_parser::model::{JpQuery, Operator, SingularQuery};
 use std::alloc::Global;
 
-/// The plan of a query. Linear in the query: each part without `@` is compared with a few others,
-/// each by itself, without what has a number in it.
+/// The plan of a query. Linear in the query: a new constant is compared with the last few alone,
+/// and a constant inside it by its number.
 pub fn plan_of(alloc: Global, query: &JpQuery) -> Parsed<Plan>
     ensures same { IfOk result (λ p. plan_view p ≡ tree.query_view query.now) }
     ensures memory { MemoryAlone result }

@@ -1,5 +1,5 @@
-//! The numbers of constants. Equal ones have one, and what stands in them has its number already,
-//! so each is compared by itself.
+//! The numbers of constants. A constant that equals one of the last few gets the number of that.
+//! The constants inside it have their numbers already, so they are compared by number.
 ghost use Rattle.std.specs.Prelude.{◌≡◌, ◌&&◌, false, IfOk, IfSome};
 ghost use Rattle.jsonpath_rust.specs.documents.inner.Refusing.{MemoryAlone};
 ghost use Rattle.jsonpath_rust.specs.selection.inner.PlanMaking.{IsBeside, IsCompared, IsNumbered, IsNumberOf};
@@ -11,24 +11,25 @@ use jsonpath_parser::errors::Parsed;
 use jsonpath_parser::model::Operator;
 use std::mem;
 
-/// How many queries from the root may be on their way at once when a constant is first asked: it,
-/// where it is one, and those that stand in it, one in the other. 0 where it is a value.
+/// How many queries from the root may be walked at once when a constant is first asked: the
+/// constant, where it is one, and those that stand in it, one in the other. 0 where it is a value.
 #[derive(Clone, Copy, PartialEq)]
 pub struct Nesting {
-    /// Where those are worked out before the walk that are early. 0 where it is one of them.
+    /// Where the early ones are worked out before the walk. 0 where the constant is early itself.
     pub run: usize,
-    /// Where none is.
+    /// Where none is worked out before the walk.
     pub whole: usize,
 }
 
-/// No run is as long as this. A query that had this run is worked out early.
+/// The most walks at once: that of the query itself and, one inside the other, fewer than this many
+/// of queries from the root. A query from the root that would be one more is early.
 pub const MOST_AT_ONCE: usize = 3;
 
 impl Nesting {
     /// Of no query.
     pub const NONE: Nesting = Nesting { run: 0, whole: 0 };
 
-    /// The greater one of both.
+    /// The greater of each of the two numbers.
     fn max(self, other: Nesting) -> Nesting {
         Nesting {
             run: self.run.max(other.run),
@@ -56,7 +57,8 @@ impl Nesting {
 pub struct Met {
     /// The greatest nesting of the constants.
     pub nesting: Nesting,
-    /// Whether no `@` was.
+    /// Whether no `@` of the filter around was met; that of a filter inside a query from the root
+    /// does not count.
     pub rooted: bool,
 }
 

@@ -59,7 +59,7 @@ fn is_wildcard(segment: &tree::Segment) -> bool
     }
 }
 
-/// The same of an argument, where it is a query from the current node.
+/// As [`steps_to_children`], of an argument that is a query from the current node.
 pub fn steps_to_counted(
     alloc: Global,
     argument: &tree::FnArg,
