@@ -1,4 +1,7 @@
 //! Documents and their texts: bookstores, and small messages. Each run makes the same ones.
+ghost use Rattle.std.specs.Prelude.{◌≡◌, Some, IfOk, string_bytes};
+ghost use Rattle.serde_json.specs.Read.{read as read_text};
+ghost use Rattle.serde_json.specs.View.{view};
 
 use jsonpath_rust::{ReadError, Whole};
 use serde_json::Value;
@@ -158,7 +161,9 @@ pub fn inbox(alloc: Global, count: usize) -> io::Result<Vec<Whole<Value>>> {
 }
 
 /// The document of a text, whose numbers have to be whole.
-pub fn read(alloc: Global, text: String) -> io::Result<Whole<Value>> {
+pub fn read(alloc: Global, text: String) -> io::Result<Whole<Value>>
+    ensures { IfOk result (λ w. read_text (string_bytes text) ≡ Some (view w.value)) }
+{
     Whole::read(alloc, text.as_str()).map_err(unread)
 }
 

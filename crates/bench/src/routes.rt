@@ -1,4 +1,5 @@
 //! A router's table, asked of each message: by runners that stay, by runners made for it, and by `js_path_process`.
+ghost use Rattle.std.specs.Prelude.{◌≡◌};
 
 use crate::timing::refused;
 use jsonpath_rust::Whole;
@@ -20,7 +21,9 @@ pub struct Journeys {
 
 impl Journeys {
     /// The lesser time of two rounds, each way.
-    pub fn least(self, other: Journeys) -> Journeys {
+    pub fn least(self, other: Journeys) -> Journeys
+        ensures { result.selected ≡ self.selected }
+    {
         Journeys {
             selected: self.selected,
             runners: self.runners.min(other.runners),

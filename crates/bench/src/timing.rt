@@ -1,4 +1,5 @@
 //! How long queries of one document take, the least of several rounds. What is given back to memory is not counted.
+ghost use Rattle.std.specs.Prelude.{◌≡◌};
 
 use jsonpath_rust::Whole;
 use jsonpath_rust::parser::errors::JsonPathError;
@@ -20,7 +21,9 @@ pub struct Round {
 
 impl Round {
     /// The lesser time of two rounds, each way.
-    pub fn least(self, other: Round) -> Round {
+    pub fn least(self, other: Round) -> Round
+        ensures { result.selected ≡ self.selected }
+    {
         Round {
             selected: self.selected,
             lean: self.lean.min(other.lean),
