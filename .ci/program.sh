@@ -20,9 +20,13 @@ needed() {
         }' <"$here/crates.txt"
 }
 
+# Their lines of crates.txt.
+lines_of_crates() {
+    needed | awk -F: 'NR == FNR { wanted[$1] = 1; next } !/^#/ { split($1, word, " ") } !/^#/ && word[1] in wanted' - "$here/crates.txt"
+}
+
 # Where their sources lie, as paths from the top of the repository.
 sources() {
-    echo crates.txt
     for crate in $(needed); do
         for part in src specs proofs; do
             [ ! -d "$here/crates/$crate/$part" ] || echo "crates/$crate/$part"
@@ -30,9 +34,9 @@ sources() {
     done
 }
 
-# The checksum of all sources.
+# The checksum of all sources, and of their crates' lines.
 sum_of_sources() {
-    (cd "$here" && find $(sources) -type f -exec sha256sum {} + | LC_ALL=C sort | sha256sum | cut -c 1-64)
+    (cd "$here" && { find $(sources) -type f -exec sha256sum {} + | LC_ALL=C sort && lines_of_crates; } | sha256sum | cut -c 1-64)
 }
 
 # What the record of the program and the sources that stand there has to hold.
@@ -48,7 +52,7 @@ is_proved() {
     if [ -f "$record" ]; then
         [ "$(cat <"$record")" = "$(record_now)" ]
     else
-        changed=$(cd "$here" && find $(sources) -cnewer "$program" -print 2>/dev/null) && [ -z "$changed" ]
+        changed=$(cd "$here" && find crates.txt $(sources) -cnewer "$program" -print 2>/dev/null) && [ -z "$changed" ]
     fi
 }
 
