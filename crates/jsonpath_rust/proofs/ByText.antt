@@ -1,16 +1,9 @@
 -- What a call says of a query, said of the query's text.
 use Rattle.std.proofs.Common.{◌≡◌, ℕ, List, Result, Ok, Err, IfOk, IfErr, MatchResult, ap, sym, ◌∙◌, subst}
-use Rattle.jsonpath_parser.specs.Derives.{Derives, IsRefusal}
-use Rattle.jsonpath_parser.specs.Location.{Location}
-use Rattle.jsonpath_parser.specs.tree.Steps.{steps_query}
-use Rattle.jsonpath_parser.specs.tree.Syntax.{Query}
-use Rattle.jsonpath_parser.specs.declared.errors.JsonPathError.{JsonPathError}
-use Rattle.jsonpath_parser.specs.declared.errors.JsonPathError.TheVariants.{OutOfMemory}
-use Rattle.jsonpath_rust.specs.ByText.{ByText}
-use Rattle.jsonpath_rust.specs.documents.Document.{Document}
-use Rattle.jsonpath_rust.specs.documents.Patterns.{segments_patterns, IsStop}
+use Rattle.jsonpath_rust.specs.Prelude.Documents.{Derives, Document, IsRefusal, IsStop, JsonPathError, Location, OutOfMemory, Query, segments_patterns, steps_query}
+use Rattle.jsonpath_rust.specs.Prelude.Calls.{ByText}
+use Rattle.jsonpath_rust.proofs.laws.selection.{stop_is_memory}
 use Rattle.jsonpath_rust.proofs.NormalPaths.{steps_patterns}
-use Rattle.jsonpath_rust.proofs.laws.selection.HaltingLaws.{stop_is_memory}
 
 pub by_text : {X : Type 0} (IsSo : Query → X → Type 0) (limit : ℕ) (text : List ℕ) (q : Query) (r : Result X JsonPathError) → Derives limit text q → IfOk r (λ x. IsSo q x) → IfOk r (λ x. ByText limit text (λ t. IsSo t x))
 by_text IsSo limit text q (Ok x) derived h = record { query = q; derived = derived; so = h }

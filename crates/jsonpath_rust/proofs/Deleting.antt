@@ -1,8 +1,8 @@
 -- The law of a deletion by a query that selects nothing.
 use Rattle.std.proofs.Common.{◌∙◌, ap}
-use Rattle.jsonpath_base.specs.Without.{without, is_among, distinct_count}
+use Rattle.jsonpath_rust.specs.Prelude.Documents.{distinct_count, is_among, without}
+use Rattle.jsonpath_rust.specs.Prelude.Calls.{NothingSelectedDeletesNothing}
 use Rattle.jsonpath_base.proofs.WithoutLaws.{without_none}
-use Rattle.jsonpath_rust.specs.Deleting.{NothingSelectedDeletesNothing}
 
 -- it answers 0, and leaves the document's tree
 pub nothing_selected_deletes_nothing : NothingSelectedDeletesNothing

@@ -1,14 +1,8 @@
 -- What a call that asks for the first node answers.
 use Rattle.std.proofs.Common.{◌≡◌, ℕ, List, [], Option, Some, None, Result, Ok, Err, IfOk, IfErr, IfSome, IfNone, MatchResult, option_map, subst}
-use Rattle.jsonpath_parser.specs.Derives.{Derives}
-use Rattle.jsonpath_parser.specs.tree.Syntax.{Query}
-use Rattle.jsonpath_parser.specs.declared.errors.JsonPathError.{JsonPathError}
-use Rattle.jsonpath_base.specs.Tree.{Tree}
-use Rattle.jsonpath_rust.specs.First.{IsFirst, LeadsTo}
-use Rattle.jsonpath_rust.specs.documents.Document.{Document}
-use Rattle.jsonpath_rust.specs.documents.Meaning.{selected}
-use Rattle.jsonpath_rust.specs.documents.Patterns.{IsStop}
-use Rattle.jsonpath_rust.specs.selection.Prepared.{IsFirstNode}
+use Rattle.jsonpath_rust.specs.Prelude.Documents.{Derives, Document, IsStop, JsonPathError, Query, selected, Tree}
+use Rattle.jsonpath_rust.specs.Prelude.Selection.{IsFirstNode}
+use Rattle.jsonpath_rust.specs.Prelude.Calls.{IsFirst, LeadsTo}
 
 is_first : {X : Type 0} (f : X → List ℕ × Tree) (q : Query) (doc : Document) (o : Option X) → IfSome o (λ x. IsFirstNode q doc (f x)) → IfNone o (selected q doc ≡ []) → IsFirst q doc (option_map f o)
 is_first f q doc None some none = record { some = tt; none = none }

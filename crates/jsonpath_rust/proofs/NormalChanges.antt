@@ -1,27 +1,14 @@
 -- What the Normalized Path of a location deletes, and what it puts another tree in the place of.
 use Rattle.std.proofs.Common.{◌≡◌, ℕ, [], ◌∷◌, map, Option, Some, None, is_some, option_to_list, if◌then◌else◌, IsTrue, Result, Ok, Err, IfOk, IfErr, OnOk, MatchResult, true≢false, refl, sym, ap, ◌∙◌}
-use Rattle.jsonpath_parser.specs.Location.{Location}
-use Rattle.jsonpath_parser.specs.tree.Steps.{steps_query}
-use Rattle.jsonpath_parser.specs.tree.Syntax.{Query}
-use Rattle.jsonpath_parser.specs.declared.errors.JsonPathError.{JsonPathError}
-use Rattle.jsonpath_parser.specs.declared.errors.JsonPathError.TheVariants.{OutOfMemory}
+use Rattle.jsonpath_rust.specs.Prelude.Documents.{at, distinct_count, Document, has_distinct_names, is_among, IsStop, JsonPathError, Location, OutOfMemory, overwritten, put, Query, segments_patterns, selected, steps_query, Tree, without}
+use Rattle.jsonpath_rust.specs.Prelude.Calls.{count_at, IsDeletionAt, IsReplacementAt}
+use Rattle.jsonpath_rust.proofs.laws.documents.{selected-steps}
+use Rattle.jsonpath_rust.proofs.laws.selection.{stop_is_memory}
 use Rattle.jsonpath_base.proofs.Nowhere.{without_nowhere}
 use Rattle.jsonpath_base.proofs.OverwrittenLaws.{at_one_is_put, leaves_the_rest}
 use Rattle.jsonpath_base.proofs.PutLaws.{put_nowhere}
 use Rattle.jsonpath_base.proofs.WithoutLaws.{without_none}
-use Rattle.jsonpath_base.specs.Overwritten.{overwritten}
-use Rattle.jsonpath_base.specs.Places.{at}
-use Rattle.jsonpath_base.specs.Put.{put}
-use Rattle.jsonpath_base.specs.Tree.{Tree, has_distinct_names}
-use Rattle.jsonpath_base.specs.Without.{without, is_among, distinct_count}
-use Rattle.jsonpath_rust.specs.Deleting.{count_at, IsDeletionAt}
-use Rattle.jsonpath_rust.specs.Replacing.{IsReplacementAt}
-use Rattle.jsonpath_rust.specs.documents.Document.{Document}
-use Rattle.jsonpath_rust.specs.documents.Meaning.{selected}
-use Rattle.jsonpath_rust.specs.documents.Patterns.{segments_patterns, IsStop}
 use Rattle.jsonpath_rust.proofs.NormalPaths.{steps_patterns}
-use Rattle.jsonpath_rust.proofs.laws.documents.NormalSteps.{selected-steps}
-use Rattle.jsonpath_rust.proofs.laws.selection.HaltingLaws.{stop_is_memory}
 
 -- the query of a location's steps selects it where something is there
 selected_there : (l : Location) (q : Query) (doc : Document) (o : Option Tree) → q ≡ steps_query l → at l doc.root ≡ o → selected q doc ≡ map (λ t. l) (option_to_list o)

@@ -1,21 +1,9 @@
 -- A Normalized Path selects the node at its location.
 use Rattle.std.proofs.Common.{◌≡◌, ℕ, List, [], ◌∷◌, map, Option, Some, None, option_to_list, Result, Ok, Err, IfOk, IfErr, MatchResult, option_map, refl, sym, ap, ◌∙◌, subst}
-use Rattle.std.specs.List.{AllZip}
-use Rattle.jsonpath_parser.specs.Location.{name, index, Location}
-use Rattle.jsonpath_parser.specs.Normal.{IsNormal, normal}
-use Rattle.jsonpath_parser.specs.tree.Steps.{steps_query}
-use Rattle.jsonpath_parser.specs.tree.Syntax.{Query}
-use Rattle.jsonpath_parser.specs.declared.errors.JsonPathError.{JsonPathError}
-use Rattle.jsonpath_parser.specs.declared.errors.JsonPathError.TheVariants.{OutOfMemory}
-use Rattle.jsonpath_base.specs.Places.{at}
-use Rattle.jsonpath_base.specs.Tree.{Tree}
-use Rattle.jsonpath_rust.specs.First.{IsFirst}
-use Rattle.jsonpath_rust.specs.documents.Answer.{IsNodeAt, node_there}
-use Rattle.jsonpath_rust.specs.documents.Document.{Document}
-use Rattle.jsonpath_rust.specs.documents.Meaning.{selected}
-use Rattle.jsonpath_rust.specs.documents.Patterns.{segments_patterns, IsStop}
-use Rattle.jsonpath_rust.proofs.laws.documents.NormalSteps.{selected-steps}
-use Rattle.jsonpath_rust.proofs.laws.selection.HaltingLaws.{stop_is_memory}
+use Rattle.jsonpath_rust.specs.Prelude.Documents.{AllZip, at, Document, index, IsNodeAt, IsNormal, IsStop, JsonPathError, Location, name, node_there, normal, OutOfMemory, Query, segments_patterns, selected, steps_query, Tree}
+use Rattle.jsonpath_rust.specs.Prelude.Calls.{IsFirst}
+use Rattle.jsonpath_rust.proofs.laws.documents.{selected-steps}
+use Rattle.jsonpath_rust.proofs.laws.selection.{stop_is_memory}
 
 -- what is shown of the nodes of a location's query is the node there
 pub only_node : (l : Location) (doc : Document) (q : Query) (path : List ℕ) (answer : List (List ℕ × Tree)) → IsNormal l path → q ≡ steps_query l → AllZip (IsNodeAt doc) (selected q doc) answer → answer ≡ node_there doc l path

@@ -1,30 +1,14 @@
 -- What a call under a limit of work answers.
 use Rattle.std.proofs.Common.{◌≡◌, ℕ, List, [], Result, Ok, Err, IfOk, IfErr, OnOk, IsTrue, MatchResult, inr, refl, sym, ap, ◌∙◌, subst, arith}
-use Rattle.std.specs.List.{AllZip, Contains}
-use Rattle.jsonpath_parser.specs.Derives.{Derives}
-use Rattle.jsonpath_parser.specs.Location.{Location}
-use Rattle.jsonpath_parser.specs.Normal.{IsNormal}
-use Rattle.jsonpath_parser.specs.tree.Steps.{steps_query}
-use Rattle.jsonpath_parser.specs.tree.Syntax.{Query, no_segments, segment, one, several, descendant, name, wildcard, index, slice, filter}
-use Rattle.jsonpath_parser.specs.tree.Typing.{is_singular}
-use Rattle.jsonpath_parser.specs.declared.errors.JsonPathError.{JsonPathError}
-use Rattle.jsonpath_parser.specs.declared.errors.JsonPathError.TheVariants.{OutOfMemory}
-use Rattle.jsonpath_base.specs.Pattern.{IsInvalid}
-use Rattle.jsonpath_base.specs.Tree.{Tree}
-use Rattle.jsonpath_rust.specs.documents.Answer.{IsNodeAt, Lists, node_there}
-use Rattle.jsonpath_rust.specs.documents.Document.{Document}
-use Rattle.jsonpath_rust.specs.documents.Meaning.{selected}
-use Rattle.jsonpath_rust.specs.documents.Patterns.{segments_patterns, AsksPattern, IsStop, IsQueryRefusal}
-use Rattle.jsonpath_rust.specs.selection.Within.{IfDone, IfSpent}
-use Rattle.jsonpath_rust.specs.selection.inner.Halting.{IsHalt}
-use Rattle.jsonpath_rust.specs.declared.documents.halt.Halt.{Halt}
+use Rattle.jsonpath_rust.specs.Prelude.Documents.{AllZip, AsksPattern, Contains, Derives, descendant, Document, filter, Halt, is_singular, IsInvalid, IsNodeAt, IsNormal, IsQueryRefusal, IsStop, JsonPathError, Lists, Location, no_segments, node_there, one, OutOfMemory, Query, segment, segments_patterns, selected, several, slice, steps_query, Tree, wildcard}
+use Rattle.jsonpath_rust.specs.Prelude.Selection.{IfDone, IfSpent, IsHalt, Limit}
+use Rattle.jsonpath_rust.proofs.laws.selection.{stop_is_memory}
+use Rattle.jsonpath_parser.specs.tree.Syntax.{name, index}
 use Rattle.jsonpath_rust.specs.declared.documents.halt.Halt.TheVariants as halt
-use Rattle.jsonpath_rust.specs.declared.selection.budget.Limit.{Limit}
 use Rattle.jsonpath_rust.specs.declared.selection.budget.Limit.TheVariants as limits
 use Rattle.jsonpath_rust.specs.declared.selection.within.Within.{Within}
 use Rattle.jsonpath_rust.specs.declared.selection.within.Within.TheVariants.{Done, Spent}
 use Rattle.jsonpath_rust.proofs.NormalPaths.{only_node, steps_patterns}
-use Rattle.jsonpath_rust.proofs.laws.selection.HaltingLaws.{stop_is_memory}
 
 pub of_done : {X : Type 0} (P : X → Type 0) (w : Within X) (x : X) → w ≡ Done x → IfDone w P → P x
 of_done P w x e h = subst (λ q. IfDone q P) e h

@@ -8,6 +8,7 @@ pub mod Replacing
 pub mod First
 pub mod Reading
 pub mod Defaults
+pub mod Prelude
 pub use Rattle.jsonpath_rust.specs.documents.Document
 pub use Rattle.jsonpath_rust.specs.documents.Node
 pub use Rattle.jsonpath_rust.specs.documents.Comparing

@@ -1,16 +1,6 @@
 //! Queries as methods of a document.
-ghost use Rattle.std.specs.Prelude.{◌≡◌, map, All, IsTrue, IfOk, IfErr, MatchResult};
-ghost use Rattle.std.specs.List.{AllZip};
-ghost use Rattle.jsonpath_parser.specs.Derives.{Derives};
-ghost use Rattle.jsonpath_parser.specs.Location.{Location};
-ghost use Rattle.jsonpath_parser.specs.Normal.{IsNormal};
-ghost use Rattle.jsonpath_parser.specs.tree.Steps.{HasIndexesInRange};
-ghost use Rattle.jsonpath_parser.specs.tree.Syntax.{Query};
-ghost use Rattle.jsonpath_parser.specs.declared.errors.JsonPathError.TheVariants.{OutOfMemory};
-ghost use Rattle.jsonpath_rust.specs.documents.Document.{document_of};
-ghost use Rattle.jsonpath_rust.specs.documents.Meaning.{selected};
-ghost use Rattle.jsonpath_rust.specs.documents.Patterns.{IsStop, IsQueryRefusal};
-ghost use Rattle.jsonpath_rust.specs.documents.Answer.{IsNodeAt, IsPathAt, IsValueAt, Lists, shown, paths_of, node_there};
+ghost use Rattle.std.specs.Prelude.{◌≡◌, All, IfErr, IfOk, IsTrue, map, MatchResult};
+ghost use Rattle.jsonpath_rust.specs.Prelude.Documents.{AllZip, Derives, document_of, HasIndexesInRange, IsNodeAt, IsNormal, IsPathAt, IsQueryRefusal, IsStop, IsValueAt, Lists, Location, node_there, OutOfMemory, paths_of, Query, selected, shown};
 
 use crate::documents::queryable::Queryable;
 use crate::documents::{Queried, QueryPath, QueryRef};

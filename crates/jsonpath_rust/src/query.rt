@@ -1,22 +1,9 @@
 //! Queries on a document.
-ghost use Rattle.std.specs.Prelude.{◌≡◌, ◌≤◌, map, All, IsTrue, IsFalse, IfOk, IfErr, MatchResult};
-ghost use Rattle.std.specs.List.{AllZip};
-ghost use Rattle.jsonpath_parser.specs.Derives.{Derives};
-ghost use Rattle.jsonpath_parser.specs.Location.{Location};
-ghost use Rattle.jsonpath_parser.specs.Normal.{IsNormal};
-ghost use Rattle.jsonpath_parser.specs.tree.Steps.{HasIndexesInRange};
-ghost use Rattle.jsonpath_parser.specs.tree.Syntax.{Query};
+ghost use Rattle.std.specs.Prelude.{◌≡◌, ◌≤◌, All, IfErr, IfOk, IsFalse, IsTrue, map, MatchResult};
+ghost use Rattle.jsonpath_rust.specs.Prelude.Documents.{AllZip, Derives, document_of, HasIndexesInRange, IsNodeAt, IsNormal, IsPathAt, IsQueryRefusal, IsStop, IsValueAt, Lists, Location, node_there, OutOfMemory, paths_of, Query, query_view, segments_patterns, selected, shown};
+ghost use Rattle.jsonpath_rust.specs.Prelude.Selection.{IfDone, IfSpent};
+ghost use Rattle.jsonpath_rust.specs.Prelude.States.{IsProcessStop, processed, root_content};
 ghost use Rattle.jsonpath_parser.specs.tree.Typing as typing;
-ghost use Rattle.jsonpath_parser.specs.tree.View.{query_view};
-ghost use Rattle.jsonpath_parser.specs.declared.errors.JsonPathError.TheVariants.{OutOfMemory};
-ghost use Rattle.jsonpath_rust.specs.documents.Document.{document_of};
-ghost use Rattle.jsonpath_rust.specs.documents.Meaning.{selected};
-ghost use Rattle.jsonpath_rust.specs.states.Asking.{IsProcessStop};
-ghost use Rattle.jsonpath_rust.specs.documents.Patterns.{segments_patterns, IsStop, IsQueryRefusal};
-ghost use Rattle.jsonpath_rust.specs.states.State.{root_content};
-ghost use Rattle.jsonpath_rust.specs.documents.Answer.{IsNodeAt, IsPathAt, IsValueAt, Lists, shown, paths_of, node_there};
-ghost use Rattle.jsonpath_rust.specs.selection.Within.{IfDone, IfSpent};
-ghost use Rattle.jsonpath_rust.specs.states.Processed.{processed};
 
 mod count;
 mod deletion;

@@ -1,6 +1,6 @@
 //! Documents that were checked once. A [`Whole`] or a [`WholeRef`] is made by the check, and from
 //! then on nothing about it has to be checked or proved: its queries require nothing.
-ghost use Rattle.std.specs.Prelude.{◌≡◌, IsTrue, IsFalse, IfOk, IfErr};
+ghost use Rattle.std.specs.Prelude.{◌≡◌, IfErr, IfOk, IsFalse, IsTrue};
 
 use crate::documents::queryable::Queryable;
 use crate::documents::whole::{Whole, WholeRef};

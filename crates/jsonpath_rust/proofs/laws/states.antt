@@ -3,7 +3,7 @@ pub mod Basic
 pub mod Found
 pub mod Lies
 pub mod Maps
-pub mod PartWeight
+pub mod PartEffort
 pub mod ProcessedLaws
 pub mod Steps
 pub mod Finders
@@ -11,3 +11,10 @@ pub mod Contents
 pub mod Parents
 pub mod Meant
 pub mod Agreeing
+-- what other rooms and proofs of functions cite
+pub use Rattle.jsonpath_rust.proofs.laws.states.Agreeing.{process_gives_the_nodelist, typed-nodes, typed-values}
+pub use Rattle.jsonpath_rust.proofs.laws.states.Found.{are_trees-list, kept-parts, parents-some, part_size, targets-trees}
+pub use Rattle.jsonpath_rust.proofs.laws.states.Lies.{Stays, stays-itself}
+pub use Rattle.jsonpath_rust.proofs.laws.states.Maps.{completes_end, completes_step, made_whole}
+pub use Rattle.jsonpath_rust.proofs.laws.states.ProcessedLaws.{moved_all, moved_one, shown-targets, values-targets}
+pub use Rattle.jsonpath_rust.proofs.laws.states.Steps.{steps_as}

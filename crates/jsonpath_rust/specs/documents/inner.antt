@@ -6,5 +6,5 @@ pub mod Refusing
 pub mod Singular
 pub mod Size
 pub mod Sought
-pub mod Weight
+pub mod Effort
 pub mod Whole

@@ -1,10 +1,6 @@
 //! How values compare (RFC 9535, 2.3.5.2.2).
 ghost use Rattle.std.specs.Prelude.{◌≡◌};
-ghost use Rattle.jsonpath_parser.specs.tree.View.{operator_view};
-ghost use Rattle.jsonpath_base.specs.Same.{same};
-ghost use Rattle.jsonpath_rust.specs.documents.Comparing.{are_equal, is_below, compares};
-ghost use Rattle.jsonpath_rust.specs.documents.inner.Operands.{scalar_tree, side_tree};
-ghost use Rattle.jsonpath_rust.specs.documents.inner.Whole.{tree_of};
+ghost use Rattle.jsonpath_rust.specs.Prelude.Documents.{are_equal, compares, is_below, operator_view, same, scalar_tree, side_tree, tree_of};
 
 use crate::documents::queryable::Queryable;
 use crate::documents::value::{Scalar, Side};

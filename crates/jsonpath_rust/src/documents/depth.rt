@@ -1,6 +1,6 @@
 //! How deep lists and objects stand in one another.
 ghost use Rattle.std.specs.Prelude.{◌≡◌, IfErr};
-ghost use Rattle.jsonpath_rust.specs.declared.documents.halt.Halt.TheVariants.{Memory};
+ghost use Rattle.jsonpath_rust.specs.Prelude.Documents.{Memory};
 
 use crate::documents::halt::Walked;
 use crate::documents::queryable::Queryable;

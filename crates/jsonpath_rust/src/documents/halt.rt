@@ -1,9 +1,8 @@
 //! Why a walk halts. It becomes an error once, where the walk began, so that no step of it carries
 //! a text.
 ghost use Rattle.std.specs.Prelude.{◌≡◌};
+ghost use Rattle.jsonpath_rust.specs.Prelude.Documents.{IsInvalid, Memory, Pattern};
 ghost use Rattle.jsonpath_parser.specs.declared.errors.JsonPathError.TheVariants as error;
-ghost use Rattle.jsonpath_base.specs.Pattern.{IsInvalid};
-ghost use Rattle.jsonpath_rust.specs.declared.documents.halt.Halt.TheVariants.{Memory, Pattern};
 
 use jsonpath_base::engine::Unbuilt;
 use jsonpath_parser::errors::JsonPathError;

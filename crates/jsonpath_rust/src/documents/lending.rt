@@ -1,14 +1,7 @@
 //! The value that a reference means, lent for writing. The text is read first, and what it was
 //! found to mean is kept, a refusal too; then lending cannot fail.
-ghost use Rattle.std.specs.Prelude.{◌≡◌, Some, IsTrue, IfOk, IfErr, IfSome, is_some, option_map};
-ghost use Rattle.std.specs.Borrow.{sem};
-ghost use Rattle.jsonpath_parser.specs.declared.errors.JsonPathError.TheVariants.{OutOfMemory};
-ghost use Rattle.jsonpath_base.specs.Steps.{location_view};
-ghost use Rattle.jsonpath_base.specs.Values.{value_tree, value_is_whole};
-ghost use Rattle.jsonpath_rust.specs.documents.Document.{value_document};
-ghost use Rattle.jsonpath_rust.specs.documents.Lending.{LendsReferred, lent_in};
-ghost use Rattle.jsonpath_rust.specs.documents.Referring.{IsReference, IsReferred, tree_there};
-ghost use Rattle.jsonpath_rust.specs.documents.inner.Sought.{LendsThere, answer_of, place_in};
+ghost use Rattle.std.specs.Prelude.{◌≡◌, IfErr, IfOk, IfSome, is_some, IsTrue, option_map, Some};
+ghost use Rattle.jsonpath_rust.specs.Prelude.Documents.{answer_of, IsReference, IsReferred, LendsReferred, LendsThere, lent_in, location_view, OutOfMemory, place_in, sem, tree_there, value_document, value_is_whole, value_tree};
 
 use crate::documents::Queried;
 use crate::documents::reference::referred_location;

@@ -1,7 +1,6 @@
 //! The nodes that a query selects.
-ghost use Rattle.std.specs.Prelude.{◌≡◌, ◌&&◌, IsTrue, IfOk, IfErr, bytes_eq, string_bytes};
-ghost use Rattle.jsonpath_base.specs.Same.{same};
-ghost use Rattle.jsonpath_parser.specs.declared.errors.JsonPathError.TheVariants.{OutOfMemory};
+ghost use Rattle.std.specs.Prelude.{◌&&◌, ◌≡◌, bytes_eq, IfErr, IfOk, IsTrue, string_bytes};
+ghost use Rattle.jsonpath_rust.specs.Prelude.Documents.{OutOfMemory, same};
 
 use crate::documents::Queried;
 use crate::documents::queryable::Queryable;

@@ -1,21 +1,11 @@
 //! Reading and writing at the one location that a singular query means (RFC 9535, 2.3.5.1): each of
 //! its segments is one name or one index. The steps are followed down from the root; the value is
 //! not walked.
-ghost use Rattle.std.specs.Prelude.{◌≡◌, [], Some, IsTrue, IfOk, IfErr, IfSome, IsSome, OnErr, option_map};
+ghost use Rattle.std.specs.Prelude.{◌≡◌, [], IfErr, IfOk, IfSome, IsSome, IsTrue, OnErr, option_map, Some};
+ghost use Rattle.jsonpath_rust.specs.Prelude.Documents.{child_view, followed, HasIndexesInRange, IsNormal, IsPut, IsReference, IsReferred, IsReplaced, Location, location_view, OutOfMemory, referent_view, segment_view, segments_in, selector_view, step_to, value_document, value_is_whole, value_tree};
 ghost use Rattle.jsonpath_parser.specs.Location as location;
-ghost use Rattle.jsonpath_parser.specs.Location.{Location};
-ghost use Rattle.jsonpath_parser.specs.Normal.{IsNormal};
-ghost use Rattle.jsonpath_parser.specs.tree.Steps.{HasIndexesInRange};
-ghost use Rattle.jsonpath_parser.specs.tree.View.{segment_view, selector_view};
-ghost use Rattle.jsonpath_parser.specs.declared.errors.JsonPathError.TheVariants.{OutOfMemory};
 ghost use Rattle.jsonpath_base.specs.Places as places;
-ghost use Rattle.jsonpath_base.specs.Steps.{location_view};
-ghost use Rattle.jsonpath_base.specs.Values.{value_tree, value_is_whole};
-ghost use Rattle.jsonpath_rust.specs.documents.Document.{value_document};
-ghost use Rattle.jsonpath_rust.specs.documents.Referring.{IsReference, IsReferred, IsReplaced, IsPut};
 ghost use Rattle.jsonpath_rust.specs.documents.inner.Following as following;
-ghost use Rattle.jsonpath_rust.specs.documents.inner.Following.{followed, step_to, child_view, referent_view};
-ghost use Rattle.jsonpath_rust.specs.documents.inner.Parts.{segments_in};
 
 use crate::documents::Queried;
 use crate::documents::queryable::children::element_of;

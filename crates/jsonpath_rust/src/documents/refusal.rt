@@ -1,7 +1,6 @@
 //! The refusal of a value that is no reference.
-ghost use Rattle.std.specs.Prelude.{◌≡◌, IfOk, IfErr};
-ghost use Rattle.jsonpath_parser.specs.declared.errors.JsonPathError.TheVariants.{OutOfMemory};
-ghost use Rattle.jsonpath_base.specs.Pattern.{IsInvalid};
+ghost use Rattle.std.specs.Prelude.{◌≡◌, IfErr, IfOk};
+ghost use Rattle.jsonpath_rust.specs.Prelude.Documents.{IsInvalid, OutOfMemory};
 
 use crate::documents::Queried;
 use crate::documents::queryable::Queryable;

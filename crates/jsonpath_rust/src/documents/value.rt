@@ -1,12 +1,6 @@
 //! Values inside the evaluator: the sides of a comparison, and what functions take and return.
-ghost use Rattle.std.specs.Prelude.{◌≡◌, ◌++◌, Some, IfOk, IfErr, OnOk, option_map, option_and_then, option_to_list};
-ghost use Rattle.jsonpath_parser.specs.tree.View.{literal_view};
-ghost use Rattle.jsonpath_rust.specs.declared.documents.halt.Halt.TheVariants.{Memory};
-ghost use Rattle.jsonpath_base.specs.Tree.{as_int, as_text};
-ghost use Rattle.jsonpath_rust.specs.documents.Functions.{length_of, count_value, is_true};
-ghost use Rattle.jsonpath_rust.specs.documents.Meaning.{literal_tree};
-ghost use Rattle.jsonpath_rust.specs.documents.inner.Operands.{scalar_tree, operand_tree, side_tree, arg_trees};
-ghost use Rattle.jsonpath_rust.specs.documents.inner.Whole.{tree_of, own_tree};
+ghost use Rattle.std.specs.Prelude.{◌++◌, ◌≡◌, IfErr, IfOk, OnOk, option_and_then, option_map, option_to_list, Some};
+ghost use Rattle.jsonpath_rust.specs.Prelude.Documents.{arg_trees, as_int, as_text, count_value, is_true, length_of, literal_tree, literal_view, Memory, operand_tree, own_tree, scalar_tree, side_tree, tree_of};
 
 use crate::documents::args::Args;
 use crate::documents::halt::Walked;

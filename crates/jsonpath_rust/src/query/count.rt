@@ -1,15 +1,8 @@
 //! How many nodes a query text selects.
-ghost use Rattle.std.specs.Prelude.{◌≡◌, IsTrue, IfOk, IfErr, MatchResult};
-ghost use Rattle.jsonpath_parser.specs.Derives.{Derives};
-ghost use Rattle.jsonpath_parser.specs.Location.{Location};
-ghost use Rattle.jsonpath_parser.specs.Normal.{IsNormal};
-ghost use Rattle.jsonpath_parser.specs.tree.Steps.{HasIndexesInRange, steps_query};
-ghost use Rattle.jsonpath_parser.specs.tree.Syntax.{Query};
-ghost use Rattle.jsonpath_parser.specs.declared.errors.JsonPathError.TheVariants.{OutOfMemory};
-ghost use Rattle.jsonpath_rust.specs.ByText.{ByText};
-ghost use Rattle.jsonpath_rust.specs.documents.Document.{document_of};
-ghost use Rattle.jsonpath_rust.specs.documents.Patterns.{IsStop, IsQueryRefusal};
-ghost use Rattle.jsonpath_rust.specs.selection.Only.{node_count};
+ghost use Rattle.std.specs.Prelude.{◌≡◌, IfErr, IfOk, IsTrue, MatchResult};
+ghost use Rattle.jsonpath_rust.specs.Prelude.Documents.{Derives, document_of, HasIndexesInRange, IsNormal, IsQueryRefusal, IsStop, Location, OutOfMemory, Query, steps_query};
+ghost use Rattle.jsonpath_rust.specs.Prelude.Selection.{node_count};
+ghost use Rattle.jsonpath_rust.specs.Prelude.Calls.{ByText};
 
 use crate::documents::Queried;
 use crate::documents::queryable::Queryable;

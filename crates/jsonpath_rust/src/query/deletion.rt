@@ -1,23 +1,10 @@
 //! Deletion of what a query selects.
-ghost use Rattle.std.specs.Prelude.{◌≡◌, ◌≤◌, Bool, true, false, IsTrue, IfOk, IfErr, OnOk, OnErr, MatchResult};
-ghost use Rattle.std.specs.Result.{IsErrAnd};
-ghost use Rattle.jsonpath_parser.specs.Derives.{Derives};
-ghost use Rattle.jsonpath_parser.specs.Location.{Location};
-ghost use Rattle.jsonpath_parser.specs.Normal.{IsNormal};
-ghost use Rattle.jsonpath_parser.specs.tree.Steps.{HasIndexesInRange};
-ghost use Rattle.jsonpath_parser.specs.tree.Syntax.{Query};
+ghost use Rattle.std.specs.Prelude.{◌≡◌, ◌≤◌, Bool, false, IfErr, IfOk, IsTrue, MatchResult, OnErr, OnOk, true};
+ghost use Rattle.jsonpath_rust.specs.Prelude.Documents.{Derives, distinct_count, HasIndexesInRange, is_among, IsErrAnd, IsNormal, IsQueryRefusal, IsStop, Location, OutOfMemory, Query, query_view, selected, value_document, value_is_whole, value_tree, without};
+ghost use Rattle.jsonpath_rust.specs.Prelude.Selection.{IfDone, IfSpent, limited_view, runner_view};
 ghost use Rattle.jsonpath_parser.specs.tree.Typing as typing;
-ghost use Rattle.jsonpath_parser.specs.tree.View.{query_view};
-ghost use Rattle.jsonpath_parser.specs.declared.errors.JsonPathError.TheVariants.{OutOfMemory};
-ghost use Rattle.jsonpath_base.specs.Values.{value_tree, value_is_whole};
-ghost use Rattle.jsonpath_base.specs.Without.{without, is_among, distinct_count};
 ghost use Rattle.jsonpath_rust.specs.Defaults.{IsUnsupported};
 ghost use Rattle.jsonpath_rust.specs.Deleting.{IsDeletion, IsDeletionAt, Deletes};
-ghost use Rattle.jsonpath_rust.specs.documents.Document.{value_document};
-ghost use Rattle.jsonpath_rust.specs.documents.Meaning.{selected};
-ghost use Rattle.jsonpath_rust.specs.documents.Patterns.{IsStop, IsQueryRefusal};
-ghost use Rattle.jsonpath_rust.specs.selection.Prepared.{runner_view, limited_view};
-ghost use Rattle.jsonpath_rust.specs.selection.Within.{IfDone, IfSpent};
 
 use crate::documents::Queried;
 use crate::documents::queryable::Queryable;

@@ -1,15 +1,8 @@
 //! The first node of a query text.
-ghost use Rattle.std.specs.Prelude.{◌≡◌, IsTrue, IfOk, IfErr, IfSome, MatchResult, option_map};
-ghost use Rattle.jsonpath_parser.specs.Derives.{Derives};
-ghost use Rattle.jsonpath_parser.specs.Location.{Location};
-ghost use Rattle.jsonpath_parser.specs.Normal.{IsNormal};
-ghost use Rattle.jsonpath_parser.specs.tree.Steps.{HasIndexesInRange};
-ghost use Rattle.jsonpath_parser.specs.tree.Syntax.{Query};
-ghost use Rattle.jsonpath_parser.specs.declared.errors.JsonPathError.TheVariants.{OutOfMemory};
+ghost use Rattle.std.specs.Prelude.{◌≡◌, IfErr, IfOk, IfSome, IsTrue, MatchResult, option_map};
+ghost use Rattle.jsonpath_rust.specs.Prelude.Documents.{Derives, document_of, HasIndexesInRange, IsNormal, IsQueryRefusal, IsStop, Location, OutOfMemory, Query};
+ghost use Rattle.jsonpath_rust.specs.Prelude.Calls.{first_shown, IsFirst, LeadsTo};
 ghost use Rattle.jsonpath_base.specs.Places as places;
-ghost use Rattle.jsonpath_rust.specs.First.{IsFirst, LeadsTo, first_shown};
-ghost use Rattle.jsonpath_rust.specs.documents.Document.{document_of};
-ghost use Rattle.jsonpath_rust.specs.documents.Patterns.{IsStop, IsQueryRefusal};
 
 use crate::documents::queryable::Queryable;
 use crate::documents::{Queried, QueryRef};

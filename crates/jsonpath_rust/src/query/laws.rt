@@ -1,11 +1,9 @@
 //! Laws that proofs of callers cite: of query texts and trees, of locations, of what a query can
 //! reach, of both evaluators, of deletion and masking, and of what is written. Each function states
 //! laws and does nothing.
-ghost use Rattle.jsonpath_rust.specs.Deleting.{NothingSelectedDeletesNothing};
-ghost use Rattle.jsonpath_rust.specs.documents.Answer.{AsManyAreListed};
-ghost use Rattle.jsonpath_rust.specs.documents.Confining.{LocalIsConfined, SelectedBeginsWithFixedPart, SingularSelectsOneAtMost};
-ghost use Rattle.jsonpath_rust.specs.documents.Locating.{NormalizedPathDerivesItsSteps, SelectedIsThere, StepsSelectTheirLocation};
-ghost use Rattle.jsonpath_rust.specs.states.Processed.{ProcessGivesTheNodelist};
+ghost use Rattle.jsonpath_rust.specs.Prelude.Documents.{AsManyAreListed, LocalIsConfined, NormalizedPathDerivesItsSteps, SelectedBeginsWithFixedPart, SelectedIsThere, SingularSelectsOneAtMost, StepsSelectTheirLocation};
+ghost use Rattle.jsonpath_rust.specs.Prelude.States.{ProcessGivesTheNodelist};
+ghost use Rattle.jsonpath_rust.specs.Prelude.Calls.{NothingSelectedDeletesNothing};
 
 use crate::documents::queryable::Queryable;
 pub use jsonpath_base::laws::{

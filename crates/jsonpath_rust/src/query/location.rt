@@ -1,15 +1,7 @@
 //! Locations, and the queries that are theirs: each segment is one name, or one index from 0 on
 //! (RFC 9535, 2.7).
-ghost use Rattle.std.specs.Prelude.{◌≡◌, Some, IfOk, IfErr, MatchResult, option_map};
-ghost use Rattle.jsonpath_parser.specs.Derives.{Derives, IsRefusal};
-ghost use Rattle.jsonpath_parser.specs.Location.{Location};
-ghost use Rattle.jsonpath_parser.specs.Normal.{IsNormal};
-ghost use Rattle.jsonpath_parser.specs.tree.Steps.{HasIndexesInRange};
-ghost use Rattle.jsonpath_parser.specs.tree.Syntax.{Query};
-ghost use Rattle.jsonpath_parser.specs.tree.View.{query_view};
-ghost use Rattle.jsonpath_parser.specs.declared.errors.JsonPathError.TheVariants.{OutOfMemory};
-ghost use Rattle.jsonpath_base.specs.Steps.{location_view};
-ghost use Rattle.jsonpath_rust.specs.documents.Locating.{IsLocationOf, IsLocationByPath};
+ghost use Rattle.std.specs.Prelude.{◌≡◌, IfErr, IfOk, MatchResult, option_map, Some};
+ghost use Rattle.jsonpath_rust.specs.Prelude.Documents.{Derives, HasIndexesInRange, IsLocationByPath, IsLocationOf, IsNormal, IsRefusal, Location, location_view, OutOfMemory, Query, query_view};
 
 use crate::documents::Queried;
 use jsonpath_base::{Step, fixed_steps};

@@ -1,22 +1,9 @@
 //! Masking: a value in the place of all that a query selects.
-ghost use Rattle.std.specs.Prelude.{◌≡◌, ◌≤◌, IsTrue, IfOk, IfErr, OnOk, OnErr, MatchResult};
-ghost use Rattle.jsonpath_parser.specs.Derives.{Derives};
-ghost use Rattle.jsonpath_parser.specs.Location.{Location};
-ghost use Rattle.jsonpath_parser.specs.Normal.{IsNormal};
-ghost use Rattle.jsonpath_parser.specs.tree.Steps.{HasIndexesInRange};
-ghost use Rattle.jsonpath_parser.specs.tree.Syntax.{Query};
+ghost use Rattle.std.specs.Prelude.{◌≡◌, ◌≤◌, IfErr, IfOk, IsTrue, MatchResult, OnErr, OnOk};
+ghost use Rattle.jsonpath_rust.specs.Prelude.Documents.{Derives, distinct_count, HasIndexesInRange, is_among, IsNormal, IsQueryRefusal, IsStop, Location, OutOfMemory, overwritten, Query, query_view, selected, value_document, value_is_whole, value_tree};
+ghost use Rattle.jsonpath_rust.specs.Prelude.Selection.{IfDone, IfSpent, limited_view, runner_view};
+ghost use Rattle.jsonpath_rust.specs.Prelude.Calls.{IsReplacement, IsReplacementAt, Replaces};
 ghost use Rattle.jsonpath_parser.specs.tree.Typing as typing;
-ghost use Rattle.jsonpath_parser.specs.tree.View.{query_view};
-ghost use Rattle.jsonpath_parser.specs.declared.errors.JsonPathError.TheVariants.{OutOfMemory};
-ghost use Rattle.jsonpath_base.specs.Overwritten.{overwritten};
-ghost use Rattle.jsonpath_base.specs.Values.{value_tree, value_is_whole};
-ghost use Rattle.jsonpath_base.specs.Without.{is_among, distinct_count};
-ghost use Rattle.jsonpath_rust.specs.Replacing.{IsReplacement, IsReplacementAt, Replaces};
-ghost use Rattle.jsonpath_rust.specs.documents.Document.{value_document};
-ghost use Rattle.jsonpath_rust.specs.documents.Meaning.{selected};
-ghost use Rattle.jsonpath_rust.specs.documents.Patterns.{IsStop, IsQueryRefusal};
-ghost use Rattle.jsonpath_rust.specs.selection.Prepared.{runner_view, limited_view};
-ghost use Rattle.jsonpath_rust.specs.selection.Within.{IfDone, IfSpent};
 
 use crate::documents::Queried;
 use crate::selection::{Limited, Runner, Within, selected_removal};

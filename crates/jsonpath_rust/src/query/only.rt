@@ -1,15 +1,8 @@
 //! The only node of a query text.
-ghost use Rattle.std.specs.Prelude.{◌≡◌, IsTrue, IfOk, IfErr, IfSome, MatchResult};
-ghost use Rattle.jsonpath_parser.specs.Derives.{Derives};
-ghost use Rattle.jsonpath_parser.specs.Location.{Location};
-ghost use Rattle.jsonpath_parser.specs.Normal.{IsNormal};
-ghost use Rattle.jsonpath_parser.specs.tree.Steps.{HasIndexesInRange, steps_query};
-ghost use Rattle.jsonpath_parser.specs.tree.Syntax.{Query};
-ghost use Rattle.jsonpath_parser.specs.declared.errors.JsonPathError.TheVariants.{OutOfMemory};
-ghost use Rattle.jsonpath_rust.specs.ByText.{ByText};
-ghost use Rattle.jsonpath_rust.specs.documents.Document.{document_of};
-ghost use Rattle.jsonpath_rust.specs.documents.Patterns.{IsStop, IsQueryRefusal};
-ghost use Rattle.jsonpath_rust.specs.selection.Only.{IsOnly, sole_value};
+ghost use Rattle.std.specs.Prelude.{◌≡◌, IfErr, IfOk, IfSome, IsTrue, MatchResult};
+ghost use Rattle.jsonpath_rust.specs.Prelude.Documents.{Derives, document_of, HasIndexesInRange, IsNormal, IsQueryRefusal, IsStop, Location, OutOfMemory, Query, steps_query};
+ghost use Rattle.jsonpath_rust.specs.Prelude.Selection.{IsOnly, sole_value};
+ghost use Rattle.jsonpath_rust.specs.Prelude.Calls.{ByText};
 
 use crate::documents::Queried;
 use crate::documents::queryable::Queryable;

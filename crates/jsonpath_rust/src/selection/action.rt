@@ -1,11 +1,7 @@
 //! What a walk does at a value.
-ghost use Rattle.std.specs.Prelude.{◌≡◌, [], IsTrue, IfSome};
-ghost use Rattle.jsonpath_parser.specs.Location.{Location};
-ghost use Rattle.jsonpath_rust.specs.documents.Document.{Document};
-ghost use Rattle.jsonpath_rust.specs.documents.inner.Whole.{tree_of};
-ghost use Rattle.jsonpath_rust.specs.selection.inner.PlanViews.{Constants, segment_view};
-ghost use Rattle.jsonpath_rust.specs.selection.inner.Walking.{acted};
-ghost use Rattle.jsonpath_rust.specs.selection.inner.Passing.{GoesToEachChild};
+ghost use Rattle.std.specs.Prelude.{◌≡◌, [], IfSome, IsTrue};
+ghost use Rattle.jsonpath_rust.specs.Prelude.Documents.{Document, Location, tree_of};
+ghost use Rattle.jsonpath_rust.specs.Prelude.Selection.{acted, Constants, GoesToEachChild, segment_view};
 
 use crate::documents::queryable::Queryable;
 use crate::documents::whole::WholeRef;

@@ -1,8 +1,7 @@
 //! How much work a walk may take. Who lets strangers ask limits it: their queries can be dear by
 //! what they mean.
-ghost use Rattle.std.specs.Prelude.{◌≡◌, ◌+◌, ◌<◌, IfErr, OnOk, OnErr};
-ghost use Rattle.jsonpath_rust.specs.selection.inner.Halting.{IsSpent};
-ghost use Rattle.jsonpath_rust.specs.declared.selection.budget.Limit.TheVariants.{Limited, Unlimited};
+ghost use Rattle.std.specs.Prelude.{◌+◌, ◌<◌, ◌≡◌, IfErr, OnErr, OnOk};
+ghost use Rattle.jsonpath_rust.specs.Prelude.Selection.{IsSpent, Limited, Unlimited};
 
 use crate::documents::halt::{Halt, Walked};
 

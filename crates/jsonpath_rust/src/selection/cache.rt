@@ -1,13 +1,7 @@
 //! What one call of the evaluator keeps: what was worked out once, by the number of its constant.
-ghost use Rattle.std.specs.Prelude.{◌≡◌, ◌<◌, ◌++◌, length, None, Some, option_map, IsTrue, IfOk, IfErr, OnOk};
-ghost use Rattle.jsonpath_rust.specs.documents.Document.{Document};
-ghost use Rattle.jsonpath_rust.specs.declared.documents.halt.Halt.TheVariants.{Memory};
-ghost use Rattle.jsonpath_rust.specs.documents.inner.Operands.{operand_tree, arg_trees};
-ghost use Rattle.jsonpath_rust.specs.declared.selection.budget.Limit.{Limit};
-ghost use Rattle.jsonpath_rust.specs.selection.inner.Halting.{IsHalt};
-ghost use Rattle.jsonpath_rust.specs.selection.inner.Keeping.{AreEmpty, Keeps, IsGiven, given_by, part_patterns, slots_of, slot_at};
-ghost use Rattle.jsonpath_rust.specs.selection.inner.PlanViews.{Constants, part_at};
-ghost use Rattle.jsonpath_rust.specs.selection.inner.Wanting.{gave, given_value, given_values};
+ghost use Rattle.std.specs.Prelude.{◌++◌, ◌<◌, ◌≡◌, IfErr, IfOk, IsTrue, length, None, OnOk, option_map, Some};
+ghost use Rattle.jsonpath_rust.specs.Prelude.Documents.{arg_trees, Document, Memory, operand_tree};
+ghost use Rattle.jsonpath_rust.specs.Prelude.Selection.{AreEmpty, Constants, gave, given_by, given_value, given_values, IsGiven, IsHalt, Keeps, Limit, part_at, part_patterns, slot_at, slots_of};
 
 use crate::documents::args::Args;
 use crate::documents::halt::{Halt, Walked};

@@ -1,17 +1,7 @@
 //! The children of a value, one after the other, and what is done at each of them.
-ghost use Rattle.std.specs.Prelude.{[], ◌∷◌, ◌++◌};
-ghost use Rattle.std.specs.List.{flat_map};
-ghost use Rattle.jsonpath_rust.specs.documents.Node.{below, children, subtree};
-ghost use Rattle.jsonpath_rust.specs.documents.Meaning.{replaced};
-ghost use Rattle.jsonpath_rust.specs.documents.Patterns.{segment_patterns};
-ghost use Rattle.jsonpath_rust.specs.documents.inner.Whole.{tree_of};
-ghost use Rattle.jsonpath_rust.specs.selection.inner.PlanViews.{segment_view};
-ghost use Rattle.jsonpath_rust.specs.selection.inner.Sinks.{TakesAlong};
-ghost use Rattle.jsonpath_rust.specs.selection.inner.Keeping.{document, kept_of};
-ghost use Rattle.jsonpath_rust.specs.selection.inner.Standing.{Stands, Comes, AreMembers};
-ghost use Rattle.jsonpath_base.specs.Steps.{lent_step, lent_location};
-ghost use Rattle.jsonpath_rust.specs.selection.inner.Walking.{acted, action_patterns};
-ghost use Rattle.jsonpath_rust.specs.selection.inner.AtHand.{StandsAt, node_at, here, onward_from, rest_patterns};
+ghost use Rattle.std.specs.Prelude.{◌++◌, ◌∷◌, []};
+ghost use Rattle.jsonpath_rust.specs.Prelude.Documents.{below, children, flat_map, lent_location, lent_step, replaced, segment_patterns, subtree, tree_of};
+ghost use Rattle.jsonpath_rust.specs.Prelude.Selection.{acted, action_patterns, AreMembers, Comes, document, here, kept_of, node_at, onward_from, rest_patterns, segment_view, Stands, StandsAt, TakesAlong};
 
 use crate::documents::halt::Walked;
 use crate::documents::queryable::Queryable;

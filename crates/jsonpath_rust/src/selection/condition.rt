@@ -1,20 +1,8 @@
 //! Conditions on a document itself.
-ghost use Rattle.std.specs.Prelude.{◌≡◌, ℕ, ◌++◌, Some, IsTrue, IfOk, IfErr, MatchResult, is_some, codes, string_bytes};
-ghost use Rattle.std.specs.Str.{IsCharBoundary};
-ghost use Rattle.jsonpath_parser.specs.Derives.{Derives, IsRefusal};
-ghost use Rattle.jsonpath_parser.specs.tree.Shown.{query_shown};
+ghost use Rattle.std.specs.Prelude.{◌++◌, ◌≡◌, codes, IfErr, IfOk, is_some, IsTrue, MatchResult, Some, string_bytes, ℕ};
+ghost use Rattle.jsonpath_rust.specs.Prelude.Documents.{Derives, document_at, document_of, filter_view, holds, IsCharBoundary, IsRefusal, IsStop, OutOfMemory, query_shown, query_view, root_node, segment_view, segments_patterns, tree_of};
+ghost use Rattle.jsonpath_rust.specs.Prelude.Selection.{condition_runner_view, condition_view, filter_of, filter_query, in_filter, IsConditionRefusal, IsHalt, limited_condition_view, prepared_view, segment_filter};
 ghost use Rattle.jsonpath_parser.specs.tree.Syntax as syntax;
-ghost use Rattle.jsonpath_parser.specs.tree.View.{filter_view, query_view, segment_view};
-ghost use Rattle.jsonpath_parser.specs.declared.errors.JsonPathError.TheVariants.{OutOfMemory};
-ghost use Rattle.jsonpath_rust.specs.documents.Document.{document_of};
-ghost use Rattle.jsonpath_rust.specs.documents.Meaning.{holds};
-ghost use Rattle.jsonpath_rust.specs.documents.Node.{root_node};
-ghost use Rattle.jsonpath_rust.specs.documents.Patterns.{segments_patterns, IsStop};
-ghost use Rattle.jsonpath_rust.specs.documents.inner.Whole.{document_at, tree_of};
-ghost use Rattle.jsonpath_rust.specs.selection.Condition.{filter_query, in_filter, filter_of, segment_filter, condition_view};
-ghost use Rattle.jsonpath_rust.specs.selection.Condition.{condition_runner_view, limited_condition_view, IsConditionRefusal};
-ghost use Rattle.jsonpath_rust.specs.selection.Prepared.{prepared_view};
-ghost use Rattle.jsonpath_rust.specs.selection.inner.Halting.{IsHalt};
 
 use crate::documents::Queried;
 use crate::documents::halt::Walked;

@@ -1,17 +1,8 @@
 //! Constants that are one value, an answer or a comparison: each is worked out when it is first
 //! asked, and then kept.
-ghost use Rattle.std.specs.Prelude.{◌≡◌, IfOk, IfErr, IfSome};
-ghost use Rattle.jsonpath_rust.specs.documents.Meaning.{answer, holds};
-ghost use Rattle.jsonpath_rust.specs.documents.Node.{Node};
-ghost use Rattle.jsonpath_rust.specs.documents.Patterns.{call_patterns, filter_patterns};
-ghost use Rattle.jsonpath_rust.specs.declared.documents.halt.Halt.TheVariants.{Memory};
-ghost use Rattle.jsonpath_rust.specs.documents.inner.Operands.{operand_tree};
-ghost use Rattle.jsonpath_rust.specs.documents.inner.Singular.{value_at};
-ghost use Rattle.jsonpath_rust.specs.documents.inner.Whole.{tree_of};
-ghost use Rattle.jsonpath_rust.specs.selection.inner.Keeping.{IsReady, document, kept_of, value_by};
-ghost use Rattle.jsonpath_rust.specs.selection.inner.PlanViews.{call_at, called_view, comparison_at, part_at, steps_at};
-ghost use Rattle.jsonpath_rust.specs.selection.inner.Standing.{Comes};
-ghost use Rattle.jsonpath_rust.specs.selection.inner.AtHand.{StandsAt, here};
+ghost use Rattle.std.specs.Prelude.{◌≡◌, IfErr, IfOk, IfSome};
+ghost use Rattle.jsonpath_rust.specs.Prelude.Documents.{answer, call_patterns, filter_patterns, holds, Memory, Node, operand_tree, tree_of, value_at};
+ghost use Rattle.jsonpath_rust.specs.Prelude.Selection.{call_at, called_view, Comes, comparison_at, document, here, IsReady, kept_of, part_at, StandsAt, steps_at, value_by};
 
 use crate::documents::halt::Walked;
 use crate::documents::queryable::Queryable;
@@ -68,6 +59,7 @@ impl<'a: 's, 's, T: Queryable> Task<'a, 's, T> {
     /// What a call returns at a value, to which the way leads, or what is kept of it, where it is a
     /// constant.
     #[cycle(walk)]
+    #[tactic(auto, using(crate::proofs::laws::selection::PlanEquations::plan_equations))]
     pub fn called(
         &self,
         call: &'s Called,

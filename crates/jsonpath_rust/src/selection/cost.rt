@@ -1,13 +1,8 @@
 //! What work is spent for values: where a walk is limited, comparisons, functions and patterns cost
 //! what they look at.
-ghost use Rattle.std.specs.Prelude.{◌≡◌, ◌≤◌, ◌-◌, min, None, map, length, option_map, IfOk, IfErr};
-ghost use Rattle.jsonpath_base.specs.Tree.{as_list, as_text};
-ghost use Rattle.jsonpath_rust.specs.documents.inner.Operands.{arg_trees};
-ghost use Rattle.jsonpath_rust.specs.documents.inner.Whole.{tree_of};
-ghost use Rattle.jsonpath_rust.specs.selection.inner.Halting.{IsSpent};
-ghost use Rattle.jsonpath_rust.specs.selection.inner.Costs.{cost, elements_cost, pairs_cost, smaller_cost, valued, compared_cost};
-ghost use Rattle.jsonpath_rust.specs.declared.documents.halt.Halt.TheVariants.{Memory};
-ghost use Rattle.jsonpath_rust.specs.declared.selection.budget.Limit.TheVariants.{Limited};
+ghost use Rattle.std.specs.Prelude.{◌-◌, ◌≡◌, ◌≤◌, IfErr, IfOk, length, map, min, None, option_map};
+ghost use Rattle.jsonpath_rust.specs.Prelude.Documents.{arg_trees, as_list, as_text, Memory, tree_of};
+ghost use Rattle.jsonpath_rust.specs.Prelude.Selection.{compared_cost, cost, elements_cost, IsSpent, Limited, pairs_cost, smaller_cost, valued};
 
 use crate::documents::args::Args;
 use crate::documents::halt::Walked;

@@ -1,13 +1,7 @@
 //! Children that are counted, and not walked.
-ghost use Rattle.std.specs.Prelude.{◌≡◌, [], length, map, IfOk, IfErr};
-ghost use Rattle.jsonpath_parser.specs.tree.View.{step_view};
-ghost use Rattle.jsonpath_rust.specs.documents.Document.{Document};
-ghost use Rattle.jsonpath_rust.specs.documents.Node.{Node, children, root_node};
-ghost use Rattle.jsonpath_rust.specs.documents.inner.Whole.{tree_of};
-ghost use Rattle.jsonpath_rust.specs.selection.inner.Halting.{IsHalt};
-ghost use Rattle.jsonpath_rust.specs.selection.inner.Keeping.{document};
-ghost use Rattle.jsonpath_rust.specs.selection.inner.PlanViews.{children_query};
-ghost use Rattle.jsonpath_rust.specs.selection.inner.Walking.{through};
+ghost use Rattle.std.specs.Prelude.{◌≡◌, [], IfErr, IfOk, length, map};
+ghost use Rattle.jsonpath_rust.specs.Prelude.Documents.{children, Document, Node, root_node, step_view, tree_of};
+ghost use Rattle.jsonpath_rust.specs.Prelude.Selection.{children_query, document, IsHalt, through};
 
 use crate::documents::halt::Walked;
 use crate::documents::queryable::Queryable;

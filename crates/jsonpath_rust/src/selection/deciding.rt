@@ -1,13 +1,7 @@
 //! Whether the one filter that a plan is of holds at the root of a document.
-ghost use Rattle.std.specs.Prelude.{◌≡◌, option_map, IfOk, IfErr};
-ghost use Rattle.jsonpath_rust.specs.documents.Meaning.{holds};
-ghost use Rattle.jsonpath_rust.specs.documents.Node.{root_node};
-ghost use Rattle.jsonpath_rust.specs.documents.Patterns.{segments_patterns};
-ghost use Rattle.jsonpath_rust.specs.documents.inner.Whole.{document_at, tree_of};
-ghost use Rattle.jsonpath_rust.specs.selection.Condition.{expression_of, filter_of, filter_query, segment_filter};
-ghost use Rattle.jsonpath_rust.specs.selection.inner.Halting.{IsHalt};
-ghost use Rattle.jsonpath_rust.specs.selection.inner.PlanViews.{Constants, filter_view, segment_view, segments_meant};
-ghost use Rattle.jsonpath_rust.specs.selection.inner.Planned.{plan_view};
+ghost use Rattle.std.specs.Prelude.{◌≡◌, IfErr, IfOk, option_map};
+ghost use Rattle.jsonpath_rust.specs.Prelude.Documents.{document_at, holds, root_node, segments_patterns, tree_of};
+ghost use Rattle.jsonpath_rust.specs.Prelude.Selection.{Constants, expression_of, filter_of, filter_query, filter_view, IsHalt, plan_view, segment_filter, segment_view, segments_meant};
 
 use crate::documents::halt::Walked;
 use crate::documents::queryable::Queryable;

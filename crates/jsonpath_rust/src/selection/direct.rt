@@ -1,21 +1,10 @@
 //! What is found without a walk, and makes no value: `length` and `value` of a node that is looked
 //! up, `count` of its children (RFC 9535, 2.4), and whether it is there.
-ghost use Rattle.std.specs.Prelude.{◌≡◌, [], map, IfOk, IfErr, IfSome};
-ghost use Rattle.jsonpath_parser.specs.tree.Syntax.{relative, test_argument};
-ghost use Rattle.jsonpath_parser.specs.tree.View.{step_view};
-ghost use Rattle.jsonpath_rust.specs.documents.Document.{Document};
+ghost use Rattle.std.specs.Prelude.{◌≡◌, [], IfErr, IfOk, IfSome, map};
+ghost use Rattle.jsonpath_rust.specs.Prelude.Documents.{answer, as_truth, Document, Node, relative, side_tree, step_view, test_argument, tested, tree_of};
+ghost use Rattle.jsonpath_rust.specs.Prelude.Selection.{Any, argument_view, call_view, Constants, document, IsHalt, nodes_view, steps_query, Wanted};
 ghost use Rattle.jsonpath_rust.specs.documents.Functions as functions;
-ghost use Rattle.jsonpath_rust.specs.documents.Functions.{as_truth};
-ghost use Rattle.jsonpath_rust.specs.documents.Meaning.{answer, tested};
-ghost use Rattle.jsonpath_rust.specs.documents.Node.{Node};
-ghost use Rattle.jsonpath_rust.specs.documents.inner.Operands.{side_tree};
 ghost use Rattle.jsonpath_rust.specs.documents.inner.Singular as singular;
-ghost use Rattle.jsonpath_rust.specs.documents.inner.Whole.{tree_of};
-ghost use Rattle.jsonpath_rust.specs.selection.inner.Halting.{IsHalt};
-ghost use Rattle.jsonpath_rust.specs.selection.inner.Keeping.{document};
-ghost use Rattle.jsonpath_rust.specs.selection.inner.PlanViews.{Constants, argument_view, call_view, nodes_view, steps_query};
-ghost use Rattle.jsonpath_rust.specs.declared.selection.sink.Wanted.{Wanted};
-ghost use Rattle.jsonpath_rust.specs.declared.selection.sink.Wanted.TheVariants.{Any};
 
 use crate::documents::halt::Walked;
 use crate::documents::queryable::Queryable;

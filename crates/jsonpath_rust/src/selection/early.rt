@@ -1,8 +1,7 @@
 //! How a walk begins. Where queries from the root could stand too deep in the document, some of
 //! them are worked out before it, so that never more than a few are on their way at once.
 ghost use Rattle.std.specs.Prelude.{◌≡◌, [], IfErr, OnOk};
-ghost use Rattle.jsonpath_rust.specs.selection.inner.Halting.{IsHalt};
-ghost use Rattle.jsonpath_rust.specs.selection.inner.Keeping.{IsReady, document};
+ghost use Rattle.jsonpath_rust.specs.Prelude.Selection.{document, IsHalt, IsReady};
 
 use crate::documents::depth::is_deeper;
 use crate::documents::halt::{Halt, Walked};

@@ -1,17 +1,7 @@
 //! Whether filters hold (RFC 9535, 2.3.5).
-ghost use Rattle.std.specs.Prelude.{◌≡◌, ◌++◌, IfOk};
-ghost use Rattle.jsonpath_parser.specs.tree.View.{operator_view};
-ghost use Rattle.jsonpath_rust.specs.documents.Comparing.{compares};
-ghost use Rattle.jsonpath_rust.specs.documents.Functions.{as_truth};
-ghost use Rattle.jsonpath_rust.specs.documents.Meaning.{holds, some_holds, each_holds, tested};
-ghost use Rattle.jsonpath_rust.specs.documents.Patterns.{argument_patterns, filter_patterns, filters_patterns, test_patterns};
-ghost use Rattle.jsonpath_rust.specs.documents.inner.Operands.{operand_tree};
-ghost use Rattle.jsonpath_rust.specs.documents.inner.Singular.{value_of};
-ghost use Rattle.jsonpath_rust.specs.selection.inner.Keeping.{kept_of};
-ghost use Rattle.jsonpath_rust.specs.selection.inner.PlanViews.{filter_view, filters_meant, nodes_view, side_view};
-ghost use Rattle.jsonpath_rust.specs.selection.inner.Standing.{Comes};
-ghost use Rattle.jsonpath_rust.specs.declared.selection.sink.Wanted.TheVariants.{Any};
-ghost use Rattle.jsonpath_rust.specs.selection.inner.AtHand.{StandsAt, here};
+ghost use Rattle.std.specs.Prelude.{◌++◌, ◌≡◌, IfOk};
+ghost use Rattle.jsonpath_rust.specs.Prelude.Documents.{argument_patterns, as_truth, compares, each_holds, filter_patterns, filters_patterns, holds, operand_tree, operator_view, some_holds, test_patterns, tested, value_of};
+ghost use Rattle.jsonpath_rust.specs.Prelude.Selection.{Any, Comes, filter_view, filters_meant, here, kept_of, nodes_view, side_view, StandsAt};
 
 use crate::documents::halt::Walked;
 use crate::documents::queryable::Queryable;
@@ -29,6 +19,7 @@ impl<'a: 's, 's, T: Queryable> Task<'a, 's, T> {
     /// Whether a filter holds at a value, to which the way leads. A comparison is asked at once,
     /// without `filter_holds` between.
     #[cycle(walk)]
+    #[tactic(auto, using(crate::proofs::laws::selection::PlanEquations::plan_equations))]
     #[inline(always)]
     pub fn is_met(
         &self,
@@ -49,6 +40,7 @@ impl<'a: 's, 's, T: Queryable> Task<'a, 's, T> {
     /// Whether a filter holds at a value, to which the way leads; `is_met` is the faster way to ask
     /// a comparison.
     #[cycle(walk)]
+    #[tactic(auto, using(crate::proofs::laws::selection::PlanEquations::plan_equations))]
     pub fn filter_holds(
         &self,
         filter: &'s Filter,
@@ -193,6 +185,7 @@ impl<'a: 's, 's, T: Queryable> Task<'a, 's, T> {
 
     /// The value of a side of a comparison.
     #[cycle(walk)]
+    #[tactic(auto, using(crate::proofs::laws::selection::PlanEquations::plan_equations))]
     fn side(
         &self,
         side: &'s plan::Side,

@@ -1,20 +1,7 @@
 //! Functions and their arguments (RFC 9535, 2.4).
-ghost use Rattle.std.specs.Prelude.{◌≡◌, ◌∷◌, ◌++◌, Some, string_bytes, IfOk, IfErr, IfSome, IfNone, OnOk};
-ghost use Rattle.jsonpath_parser.specs.tree.Syntax.{test_argument};
-ghost use Rattle.jsonpath_base.specs.Tree.{truth};
-ghost use Rattle.jsonpath_rust.specs.documents.Functions.{is_matched, as_trees, as_value};
-ghost use Rattle.jsonpath_rust.specs.documents.Meaning.{answer, argued, all_trees};
-ghost use Rattle.jsonpath_rust.specs.documents.Patterns.{IsPattern, call_patterns, argument_patterns, arguments_patterns};
-ghost use Rattle.jsonpath_base.specs.Pattern.{is_entire};
-ghost use Rattle.jsonpath_rust.specs.documents.inner.Operands.{operand_tree, arg_trees};
-ghost use Rattle.jsonpath_rust.specs.selection.inner.AtHand.{StandsAt, here};
-ghost use Rattle.jsonpath_rust.specs.selection.inner.Keeping.{document, kept_of};
-ghost use Rattle.jsonpath_rust.specs.selection.inner.PlanViews.{Constants, argument_view, arguments_meant, call_view, nodes_view};
-ghost use Rattle.jsonpath_rust.specs.selection.inner.Standing.{Comes};
-ghost use Rattle.jsonpath_rust.specs.selection.inner.Wanting.{IsValue};
-ghost use Rattle.jsonpath_rust.specs.declared.documents.halt.Halt.TheVariants.{Memory};
-ghost use Rattle.jsonpath_rust.specs.declared.selection.sink.Wanted.{Wanted};
-ghost use Rattle.jsonpath_rust.specs.declared.selection.sink.Wanted.TheVariants.{Only, Values};
+ghost use Rattle.std.specs.Prelude.{◌++◌, ◌∷◌, ◌≡◌, IfErr, IfNone, IfOk, IfSome, OnOk, Some, string_bytes};
+ghost use Rattle.jsonpath_rust.specs.Prelude.Documents.{all_trees, answer, arg_trees, argued, argument_patterns, arguments_patterns, as_trees, as_value, call_patterns, is_entire, is_matched, IsPattern, Memory, operand_tree, test_argument, truth};
+ghost use Rattle.jsonpath_rust.specs.Prelude.Selection.{argument_view, arguments_meant, call_view, Comes, Constants, document, here, IsValue, kept_of, nodes_view, Only, StandsAt, Values, Wanted};
 
 use crate::documents::args::Args;
 use crate::documents::halt::Walked;
@@ -34,6 +21,7 @@ use std::alloc::Global;
 impl<'a: 's, 's, T: Queryable> Task<'a, 's, T> {
     /// What a call returns at a value, to which the way leads.
     #[cycle(walk)]
+    #[tactic(auto, using(crate::proofs::laws::selection::PlanEquations::plan_equations))]
     pub fn answer(
         &self,
         call: &'s Call,
@@ -161,6 +149,7 @@ impl<'a: 's, 's, T: Queryable> Task<'a, 's, T> {
 
     /// An argument as a value (RFC 9535, 2.4.3).
     #[cycle(walk)]
+    #[tactic(auto, using(crate::proofs::laws::selection::PlanEquations::plan_equations))]
     fn value(
         &self,
         arg: &'s Argument,

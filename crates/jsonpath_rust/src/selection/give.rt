@@ -1,12 +1,7 @@
 //! A walk from its beginning to its end: the nodes of a query, given to a sink.
-ghost use Rattle.std.specs.Prelude.{◌≡◌, IfOk, IfErr};
-ghost use Rattle.jsonpath_parser.specs.tree.View.{query_view};
-ghost use Rattle.jsonpath_rust.specs.documents.Meaning.{nodelist};
-ghost use Rattle.jsonpath_rust.specs.documents.Patterns.{segments_patterns, IsStop};
-ghost use Rattle.jsonpath_rust.specs.documents.inner.Whole.{document_at};
-ghost use Rattle.jsonpath_rust.specs.selection.inner.Halting.{IsHalt};
-ghost use Rattle.jsonpath_rust.specs.selection.inner.Planned.{plan_view};
-ghost use Rattle.jsonpath_rust.specs.selection.inner.Sinks.{Takes, give, seen};
+ghost use Rattle.std.specs.Prelude.{◌≡◌, IfErr, IfOk};
+ghost use Rattle.jsonpath_rust.specs.Prelude.Documents.{document_at, IsStop, nodelist, query_view, segments_patterns};
+ghost use Rattle.jsonpath_rust.specs.Prelude.Selection.{give, IsHalt, plan_view, seen, Takes};
 
 use crate::documents::Queried;
 use crate::documents::halt::Walked;

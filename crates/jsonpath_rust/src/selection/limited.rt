@@ -1,20 +1,9 @@
 //! A prepared query that is asked of one document after another, and may take only so much work for
 //! each.
-ghost use Rattle.std.specs.Prelude.{◌≡◌, ◌↔◌, [], ◌++◌, map, All, Some, IsTrue, IsFalse, IfOk, IfErr, IfSome, IfNone, codes, string_bytes};
-ghost use Rattle.std.specs.List.{AllZip};
-ghost use Rattle.jsonpath_parser.specs.tree.Shown.{query_shown};
+ghost use Rattle.std.specs.Prelude.{◌++◌, ◌↔◌, ◌≡◌, [], All, codes, IfErr, IfNone, IfOk, IfSome, IsFalse, IsTrue, map, Some, string_bytes};
+ghost use Rattle.jsonpath_rust.specs.Prelude.Documents.{AllZip, document_at, document_of, IsNodeAt, IsPathAt, IsStop, IsValueAt, location_view, nodelist, paths_of, query_shown, selected, shown};
+ghost use Rattle.jsonpath_rust.specs.Prelude.Selection.{give, IfDone, IfSpent, IsFirstNode, IsOnly, IsRemovalOf, limited_view, node_count, runner_view, seen, sole_value, Unlimited};
 ghost use Rattle.jsonpath_parser.specs.tree.Typing as typing;
-ghost use Rattle.jsonpath_base.specs.Steps.{location_view};
-ghost use Rattle.jsonpath_rust.specs.documents.Answer.{IsNodeAt, IsPathAt, IsValueAt, shown, paths_of};
-ghost use Rattle.jsonpath_rust.specs.documents.Document.{document_of};
-ghost use Rattle.jsonpath_rust.specs.documents.Meaning.{selected, nodelist};
-ghost use Rattle.jsonpath_rust.specs.documents.Patterns.{IsStop};
-ghost use Rattle.jsonpath_rust.specs.documents.inner.Whole.{document_at};
-ghost use Rattle.jsonpath_rust.specs.selection.Only.{IsOnly, sole_value, node_count};
-ghost use Rattle.jsonpath_rust.specs.selection.Prepared.{runner_view, limited_view, IsFirstNode};
-ghost use Rattle.jsonpath_rust.specs.selection.Within.{IfDone, IfSpent};
-ghost use Rattle.jsonpath_rust.specs.selection.inner.Sinks.{IsRemovalOf, give, seen};
-ghost use Rattle.jsonpath_rust.specs.declared.selection.budget.Limit.TheVariants.{Unlimited};
 
 use crate::documents::nodes::{WholeNode, WholeNodes, WholeOnly, WholeValues};
 use crate::documents::queryable::Queryable;

@@ -1,14 +1,8 @@
 //! A condition that is asked of one document after another, and may take only so much work for
 //! each.
-ghost use Rattle.std.specs.Prelude.{◌≡◌, ◌++◌, Some, IsTrue, IfOk, IfErr, codes};
-ghost use Rattle.jsonpath_parser.specs.tree.Shown.{query_shown};
-ghost use Rattle.jsonpath_rust.specs.documents.Document.{document_of};
-ghost use Rattle.jsonpath_rust.specs.documents.Meaning.{holds};
-ghost use Rattle.jsonpath_rust.specs.documents.Node.{root_node};
-ghost use Rattle.jsonpath_rust.specs.documents.Patterns.{IsStop};
-ghost use Rattle.jsonpath_rust.specs.selection.Condition.{filter_query, condition_runner_view, limited_condition_view};
-ghost use Rattle.jsonpath_rust.specs.selection.Prepared.{prepared_view};
-ghost use Rattle.jsonpath_rust.specs.selection.Within.{IfDone};
+ghost use Rattle.std.specs.Prelude.{◌++◌, ◌≡◌, codes, IfErr, IfOk, IsTrue, Some};
+ghost use Rattle.jsonpath_rust.specs.Prelude.Documents.{document_of, holds, IsStop, query_shown, root_node};
+ghost use Rattle.jsonpath_rust.specs.Prelude.Selection.{condition_runner_view, filter_query, IfDone, limited_condition_view, prepared_view};
 
 use crate::documents::Queried;
 use crate::documents::queryable::Queryable;

@@ -1,15 +1,7 @@
 //! The nodelist of a query (RFC 9535, 2.1.2): its nodes, or what of them is wanted.
-ghost use Rattle.std.specs.Prelude.{◌≡◌, [], map, All, IsTrue, IfOk, IfErr, IfSome, IfNone, string_bytes};
-ghost use Rattle.std.specs.List.{AllZip};
-ghost use Rattle.jsonpath_parser.specs.tree.View.{query_view};
-ghost use Rattle.jsonpath_base.specs.Steps.{location_view};
-ghost use Rattle.jsonpath_rust.specs.documents.Answer.{IsNodeAt, IsPathAt, IsValueAt, shown, paths_of};
-ghost use Rattle.jsonpath_rust.specs.documents.Document.{document_of};
-ghost use Rattle.jsonpath_rust.specs.documents.Meaning.{selected};
-ghost use Rattle.jsonpath_rust.specs.documents.Patterns.{IsStop};
-ghost use Rattle.jsonpath_rust.specs.selection.Only.{IsOnly, sole_value, node_count};
-ghost use Rattle.jsonpath_rust.specs.selection.Prepared.{IsFirstNode};
-ghost use Rattle.jsonpath_rust.specs.selection.inner.Sinks.{IsRemovalOf};
+ghost use Rattle.std.specs.Prelude.{◌≡◌, [], All, IfErr, IfNone, IfOk, IfSome, IsTrue, map, string_bytes};
+ghost use Rattle.jsonpath_rust.specs.Prelude.Documents.{AllZip, document_of, IsNodeAt, IsPathAt, IsStop, IsValueAt, location_view, paths_of, query_view, selected, shown};
+ghost use Rattle.jsonpath_rust.specs.Prelude.Selection.{IsFirstNode, IsOnly, IsRemovalOf, node_count, sole_value};
 
 use crate::documents::nodes::{WholeNode, WholeNodes, WholeOnly, WholeValues};
 use crate::documents::queryable::Queryable;

@@ -1,8 +1,6 @@
 //! The only node of a query.
-ghost use Rattle.std.specs.Prelude.{◌≡◌, IsTrue, IfSome};
-ghost use Rattle.jsonpath_rust.specs.selection.Only.{sole_value};
-ghost use Rattle.jsonpath_rust.specs.selection.inner.Only.{only_seen, only_told};
-ghost use Rattle.jsonpath_rust.specs.selection.inner.Sinks.{seen_only};
+ghost use Rattle.std.specs.Prelude.{◌≡◌, IfSome, IsTrue};
+ghost use Rattle.jsonpath_rust.specs.Prelude.Selection.{only_seen, only_told, seen_only, sole_value};
 
 use crate::documents::nodes::WholeOnly;
 use crate::documents::queryable::Queryable;

@@ -37,7 +37,7 @@ pub struct Plan {
 
 /// A part of a filter that does not depend on the value under test: each `@` in it belongs to a
 /// filter of a query from the root inside it. It is worked out once in a call.
-#[derive(Drop, PartialEq)]
+#[derive(Drop)]
 pub enum Constant {
     /// What is wanted of the nodes of a query from the root.
     Nodes {
@@ -57,7 +57,7 @@ pub enum Constant {
 pub type Comparison<'s> = (Operator, &'s Side, &'s Side);
 
 /// A segment, which replaces each node by nodes below it (RFC 9535, 2.5).
-#[derive(Drop, PartialEq)]
+#[derive(Drop)]
 #[cycle(plan)]
 pub enum Segment {
     /// `..`: the segment at each node and at all nodes below it.
@@ -69,7 +69,7 @@ pub enum Segment {
 }
 
 /// Where a segment goes from a node (2.3).
-#[derive(Drop, PartialEq)]
+#[derive(Drop)]
 #[cycle(plan)]
 pub enum Selector {
     /// To the member of this name.
@@ -85,7 +85,7 @@ pub enum Selector {
 }
 
 /// A logical expression (2.3.5).
-#[derive(Drop, PartialEq)]
+#[derive(Drop)]
 #[cycle(plan)]
 pub enum Filter {
     /// Some part holds.
@@ -121,7 +121,7 @@ pub enum Filter {
 
 /// The nodes of a query inside a filter, by how they are found. The place where they stand tells
 /// what is wanted of them.
-#[derive(Drop, PartialEq)]
+#[derive(Drop)]
 #[cycle(plan)]
 pub enum Nodes {
     /// By these steps from the current node.
@@ -133,7 +133,7 @@ pub enum Nodes {
 }
 
 /// A side of a comparison (2.3.5.1).
-#[derive(Drop, PartialEq)]
+#[derive(Drop)]
 #[cycle(plan)]
 pub enum Side {
     /// A literal.
@@ -147,7 +147,7 @@ pub enum Side {
 }
 
 /// A call, by where it is worked out.
-#[derive(Drop, PartialEq)]
+#[derive(Drop)]
 #[cycle(plan)]
 pub enum Called {
     /// A call that is made at each node.
@@ -157,7 +157,7 @@ pub enum Called {
 }
 
 /// A call of a function (2.4).
-#[derive(Drop, PartialEq)]
+#[derive(Drop)]
 #[cycle(plan)]
 pub enum Call {
     /// A function of any name. All values of its arguments are wanted.
@@ -177,7 +177,7 @@ pub enum Call {
 }
 
 /// An argument of a call.
-#[derive(Drop, PartialEq)]
+#[derive(Drop)]
 #[cycle(plan)]
 pub enum Argument {
     /// A literal.

@@ -1,7 +1,6 @@
 //! A query beside its plan.
-ghost use Rattle.std.specs.Prelude.{◌≡◌, IfOk, IfErr};
-ghost use Rattle.jsonpath_parser.specs.declared.errors.JsonPathError.TheVariants.{OutOfMemory};
-ghost use Rattle.jsonpath_parser.specs.tree.View.{query_view};
+ghost use Rattle.std.specs.Prelude.{◌≡◌, IfErr, IfOk};
+ghost use Rattle.jsonpath_rust.specs.Prelude.Documents.{OutOfMemory, query_view};
 ghost use Rattle.jsonpath_rust.specs.selection.inner.Planned.{IsPlanOf, IsPlanOf-prop};
 
 use crate::selection::plan::{Plan, plan_of, release};

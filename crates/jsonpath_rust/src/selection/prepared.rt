@@ -1,16 +1,8 @@
 //! A query that is prepared once, to be asked of many documents.
-ghost use Rattle.std.specs.Prelude.{◌≡◌, ◌≤◌, ◌++◌, Some, IfOk, IfErr, MatchResult, codes};
-ghost use Rattle.jsonpath_parser.specs.Derives.{Derives, IsRefusal};
-ghost use Rattle.jsonpath_parser.specs.Location.{Location};
-ghost use Rattle.jsonpath_parser.specs.Normal.{IsNormal};
-ghost use Rattle.jsonpath_parser.specs.tree.Shown.{query_shown};
-ghost use Rattle.jsonpath_parser.specs.tree.Steps.{HasIndexesInRange, steps_query};
-ghost use Rattle.jsonpath_parser.specs.tree.Syntax.{Query};
-ghost use Rattle.jsonpath_parser.specs.tree.View.{query_view};
-ghost use Rattle.jsonpath_parser.specs.declared.errors.JsonPathError.TheVariants.{OutOfMemory};
+ghost use Rattle.std.specs.Prelude.{◌++◌, ◌≡◌, ◌≤◌, codes, IfErr, IfOk, MatchResult, Some};
+ghost use Rattle.jsonpath_rust.specs.Prelude.Documents.{Derives, HasIndexesInRange, IsNormal, IsRefusal, Location, OutOfMemory, Query, query_shown, query_view, steps_query};
+ghost use Rattle.jsonpath_rust.specs.Prelude.Selection.{plan_view, prepared_view, runner_view};
 ghost use Rattle.jsonpath_base.specs.Engine.{finder_count};
-ghost use Rattle.jsonpath_rust.specs.selection.Prepared.{prepared_view, runner_view};
-ghost use Rattle.jsonpath_rust.specs.selection.inner.Planned.{plan_view};
 
 use crate::documents::Queried;
 use crate::selection::budget::Budget;

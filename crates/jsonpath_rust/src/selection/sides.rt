@@ -1,15 +1,7 @@
 //! The sides of a comparison, where both are at hand: they are lent, and nothing is made for them.
-ghost use Rattle.std.specs.Prelude.{◌≡◌, [], IfOk, IfErr, IfSome};
-ghost use Rattle.jsonpath_parser.specs.tree.View.{operator_view};
-ghost use Rattle.jsonpath_rust.specs.documents.Comparing.{compares};
-ghost use Rattle.jsonpath_rust.specs.documents.Meaning.{answer};
-ghost use Rattle.jsonpath_rust.specs.documents.Node.{Node};
-ghost use Rattle.jsonpath_rust.specs.documents.inner.Operands.{side_tree};
-ghost use Rattle.jsonpath_rust.specs.documents.inner.Singular.{value_of};
-ghost use Rattle.jsonpath_rust.specs.documents.inner.Whole.{tree_of};
-ghost use Rattle.jsonpath_rust.specs.selection.inner.Halting.{IsHalt};
-ghost use Rattle.jsonpath_rust.specs.selection.inner.Keeping.{IsReady, document, kept_of, value_by};
-ghost use Rattle.jsonpath_rust.specs.selection.inner.PlanViews.{called_view, part_at, side_view};
+ghost use Rattle.std.specs.Prelude.{◌≡◌, [], IfErr, IfOk, IfSome};
+ghost use Rattle.jsonpath_rust.specs.Prelude.Documents.{answer, compares, Node, operator_view, side_tree, tree_of, value_of};
+ghost use Rattle.jsonpath_rust.specs.Prelude.Selection.{called_view, document, IsHalt, IsReady, kept_of, part_at, side_view, value_by};
 
 use crate::documents::comparison::compares;
 use crate::documents::halt::Walked;

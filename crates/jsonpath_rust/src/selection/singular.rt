@@ -1,8 +1,6 @@
 //! Names and indexes that are looked up, and not walked (RFC 9535, 2.3.5.1).
 ghost use Rattle.std.specs.Prelude.{◌≡◌, map, option_map};
-ghost use Rattle.jsonpath_parser.specs.tree.View.{step_view};
-ghost use Rattle.jsonpath_rust.specs.documents.inner.Singular.{stepped, value_at};
-ghost use Rattle.jsonpath_rust.specs.documents.inner.Whole.{tree_of};
+ghost use Rattle.jsonpath_rust.specs.Prelude.Documents.{step_view, stepped, tree_of, value_at};
 
 use crate::documents::queryable::Queryable;
 use crate::documents::whole::WholeRef;

@@ -1,18 +1,7 @@
 //! What is done with the nodes that a walk meets.
-ghost use Rattle.std.specs.Prelude.{◌≡◌, suc, min, ◌∷◌, [], map, option_map, option_to_list, IfErr, IfOk, string_bytes};
-ghost use Rattle.jsonpath_base.specs.Steps.{location_view};
-ghost use Rattle.jsonpath_base.specs.RemovalViews.{removal_set, removal_count};
-ghost use Rattle.jsonpath_rust.specs.declared.documents.halt.Halt.TheVariants.{Memory};
-ghost use Rattle.jsonpath_rust.specs.documents.Answer.{shown, paths_of};
-ghost use Rattle.jsonpath_rust.specs.documents.Functions.{greatest_count, of_nodes};
-ghost use Rattle.jsonpath_rust.specs.documents.Node.{Node, root_node};
-ghost use Rattle.jsonpath_rust.specs.documents.inner.Operands.{operand_tree};
-ghost use Rattle.jsonpath_rust.specs.documents.inner.Whole.{tree_of};
-ghost use Rattle.jsonpath_rust.specs.selection.inner.Only.{only_told};
-ghost use Rattle.jsonpath_rust.specs.selection.inner.Sinks.{Took, TakesAlong, seen, seen_only, seen_first, start, any_in, count_in};
-ghost use Rattle.jsonpath_rust.specs.selection.inner.Sinks.{first_in, nodes_in, values_in, paths_in, locations_in, removal_in};
-ghost use Rattle.jsonpath_rust.specs.selection.inner.Walking.{node_of};
-ghost use Rattle.jsonpath_rust.specs.selection.inner.Wanting.{gave, finished, wanted_of};
+ghost use Rattle.std.specs.Prelude.{◌∷◌, ◌≡◌, [], IfErr, IfOk, map, min, option_map, option_to_list, string_bytes, suc};
+ghost use Rattle.jsonpath_rust.specs.Prelude.Documents.{greatest_count, location_view, Memory, Node, of_nodes, operand_tree, paths_of, removal_count, removal_set, root_node, shown, tree_of};
+ghost use Rattle.jsonpath_rust.specs.Prelude.Selection.{any_in, count_in, finished, first_in, gave, locations_in, node_of, nodes_in, only_told, paths_in, removal_in, seen, seen_first, seen_only, start, TakesAlong, Took, values_in, wanted_of};
 
 use crate::documents::halt::Walked;
 use crate::documents::nodes::{WholeNode, WholeNodes, WholeOnly, WholeValues};

@@ -1,17 +1,7 @@
 //! Queries inside filters, from a value on and from the root.
-ghost use Rattle.std.specs.Prelude.{◌≡◌, ◌++◌, Some, IsFalse, IsTrue, IfOk, OnOk};
-ghost use Rattle.jsonpath_parser.specs.tree.Syntax.{no_segments};
-ghost use Rattle.jsonpath_rust.specs.documents.Functions.{as_trees, of_nodes};
-ghost use Rattle.jsonpath_rust.specs.documents.Meaning.{nodelist, tested};
-ghost use Rattle.jsonpath_rust.specs.documents.Patterns.{segments_patterns, test_patterns};
-ghost use Rattle.jsonpath_rust.specs.documents.inner.Operands.{operand_tree, arg_trees};
-ghost use Rattle.jsonpath_rust.specs.selection.inner.AtHand.{StandsAt, here};
-ghost use Rattle.jsonpath_rust.specs.selection.inner.Keeping.{IsReady, document, kept_of, slot_at, slots_of};
-ghost use Rattle.jsonpath_rust.specs.selection.inner.PlanViews.{nodes_view, query_at, segments_meant};
-ghost use Rattle.jsonpath_rust.specs.selection.inner.Standing.{Comes};
-ghost use Rattle.jsonpath_rust.specs.selection.inner.Walking.{through};
-ghost use Rattle.jsonpath_rust.specs.selection.inner.Wanting.{gave, given_of, wanted_of};
-ghost use Rattle.jsonpath_rust.specs.declared.selection.sink.Wanted.TheVariants.{Values};
+ghost use Rattle.std.specs.Prelude.{◌++◌, ◌≡◌, IfOk, IsFalse, IsTrue, OnOk, Some};
+ghost use Rattle.jsonpath_rust.specs.Prelude.Documents.{arg_trees, as_trees, no_segments, nodelist, of_nodes, operand_tree, segments_patterns, test_patterns, tested};
+ghost use Rattle.jsonpath_rust.specs.Prelude.Selection.{Comes, document, gave, given_of, here, IsReady, kept_of, nodes_view, query_at, segments_meant, slot_at, slots_of, StandsAt, through, Values, wanted_of};
 
 use crate::documents::args::Args;
 use crate::documents::halt::Walked;
@@ -30,6 +20,7 @@ use std::mem;
 impl<'a: 's, 's, T: Queryable> Task<'a, 's, T> {
     /// What is wanted of the nodes of a query inside a filter, as a value.
     #[cycle(walk)]
+    #[tactic(auto, using(crate::proofs::laws::selection::PlanEquations::plan_equations))]
     pub fn nodes(
         &self,
         nodes: &'s Nodes,
@@ -62,6 +53,7 @@ impl<'a: 's, 's, T: Queryable> Task<'a, 's, T> {
     /// Adds the values of the nodes of a query to the arguments of a custom function, each as one,
     /// as in the Rust crate.
     #[cycle(walk)]
+    #[tactic(auto, using(crate::proofs::laws::selection::PlanEquations::plan_equations))]
     pub fn push_nodes(
         &self,
         nodes: &'s Nodes,

@@ -7,14 +7,8 @@
 //! and what is kept still right (`Comes`). Where it halts, what is kept is right too, and it says
 //! why; the way may then be another.
 ghost use Rattle.std.specs.Prelude.{◌++◌};
-ghost use Rattle.jsonpath_rust.specs.documents.Meaning.{picks, all_pick, replaced, sliced};
-ghost use Rattle.jsonpath_rust.specs.documents.Patterns.{segments_patterns, segment_patterns, selectors_patterns, selector_patterns};
-ghost use Rattle.jsonpath_rust.specs.selection.inner.PlanViews.{segments_meant, segment_view, selectors_meant, selector_view};
-ghost use Rattle.jsonpath_rust.specs.selection.inner.Sinks.{TakesAlong};
-ghost use Rattle.jsonpath_rust.specs.selection.inner.Keeping.{kept_of};
-ghost use Rattle.jsonpath_rust.specs.selection.inner.Standing.{Comes};
-ghost use Rattle.jsonpath_rust.specs.selection.inner.Walking.{through};
-ghost use Rattle.jsonpath_rust.specs.selection.inner.AtHand.{StandsAt, node_at, here, onward_from, rest_patterns};
+ghost use Rattle.jsonpath_rust.specs.Prelude.Documents.{all_pick, picks, replaced, segment_patterns, segments_patterns, selector_patterns, selectors_patterns, sliced};
+ghost use Rattle.jsonpath_rust.specs.Prelude.Selection.{Comes, here, kept_of, node_at, onward_from, rest_patterns, segment_view, segments_meant, selector_view, selectors_meant, StandsAt, TakesAlong, through};
 
 use crate::documents::halt::Walked;
 use crate::documents::queryable::Queryable;
@@ -70,6 +64,7 @@ impl<'a: 's, 's, T: Queryable> Task<'a, 's, T> {
 
     /// The first segment here, and the rest from each node that it makes of this one.
     #[cycle(walk)]
+    #[tactic(auto, using(crate::proofs::laws::selection::PlanEquations::plan_equations))]
     pub fn pass(
         &self,
         onward: Onward<'s, &'s Segment>,
@@ -131,6 +126,7 @@ impl<'a: 's, 's, T: Queryable> Task<'a, 's, T> {
 
     /// The rest from each child that the selector picks here.
     #[cycle(walk)]
+    #[tactic(auto, using(crate::proofs::laws::selection::PlanEquations::plan_equations))]
     #[inline(always)]
     fn pick(
         &self,

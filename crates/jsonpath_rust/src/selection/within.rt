@@ -1,8 +1,7 @@
 //! What a call under a limit of work returns.
-ghost use Rattle.std.specs.Prelude.{◌≡◌, IfOk, IfErr, OnOk};
-ghost use Rattle.jsonpath_parser.specs.declared.errors.JsonPathError.TheVariants.{OutOfMemory};
-ghost use Rattle.jsonpath_base.specs.Pattern.{IsInvalid};
-ghost use Rattle.jsonpath_rust.specs.selection.Within.{IfDone};
+ghost use Rattle.std.specs.Prelude.{◌≡◌, IfErr, IfOk, OnOk};
+ghost use Rattle.jsonpath_rust.specs.Prelude.Documents.{IsInvalid, OutOfMemory};
+ghost use Rattle.jsonpath_rust.specs.Prelude.Selection.{IfDone};
 ghost use Rattle.jsonpath_rust.specs.declared.documents.halt.Halt.TheVariants as halt;
 
 use crate::documents::Queried;

@@ -1,21 +1,13 @@
 //! What can be asked of a state: each part of a query.
-ghost use Rattle.std.specs.Prelude.{◌≡◌, [], List, Bool, IsTrue, IfOk, IfErr};
-ghost use Rattle.jsonpath_parser.specs.tree.Syntax.{Argument};
-ghost use Rattle.jsonpath_parser.specs.tree.View.{segment_view, selector_view, filter_view, atom_view, comparison_view};
-ghost use Rattle.jsonpath_parser.specs.tree.View.{comparable_view, test_view, call_view, argument_view, query_view};
-ghost use Rattle.jsonpath_parser.specs.tree.View.{singular_view, step_view, steps_view, literal_view, segments_view};
-ghost use Rattle.jsonpath_base.specs.Tree.{truth};
+ghost use Rattle.std.specs.Prelude.{◌≡◌, [], Bool, IfErr, IfOk, IsTrue, List};
+ghost use Rattle.jsonpath_rust.specs.Prelude.Documents.{Argument, argument_patterns, argument_view, atom_view, call_patterns, call_view, comparable_view, comparison_view, Document, document_of, filter_patterns, filter_view, literal_tree, literal_view, Memory, query_view, segment_patterns, segment_view, segments_patterns, selector_patterns, selector_view, singular_view, step_view, test_patterns, test_view, truth};
+ghost use Rattle.jsonpath_parser.specs.tree.View.{steps_view, segments_view};
 ghost use Rattle.jsonpath_rust.specs.states.Asking.{IsProcessStop};
-ghost use Rattle.jsonpath_rust.specs.documents.Document.{Document, document_of};
-ghost use Rattle.jsonpath_rust.specs.documents.Meaning.{literal_tree};
 ghost use Rattle.jsonpath_rust.specs.states.Process.{segments_content, segment_content, selector_content, filter_content};
 ghost use Rattle.jsonpath_rust.specs.states.Process.{basic_content, holds_at, test_content};
 ghost use Rattle.jsonpath_rust.specs.states.Process.{call_content, argument_content};
-ghost use Rattle.jsonpath_rust.specs.documents.Patterns.{segments_patterns, segment_patterns, selector_patterns};
-ghost use Rattle.jsonpath_rust.specs.documents.Patterns.{filter_patterns, test_patterns, call_patterns, argument_patterns};
 ghost use Rattle.jsonpath_rust.specs.states.State.{Content, value, content_of, DataIsWhole};
-ghost use Rattle.jsonpath_rust.specs.declared.documents.halt.Halt.TheVariants.{Memory};
-ghost use Rattle.jsonpath_rust.specs.states.inner.Evaluating.{content_at, HaltsAt, HaltsBelow};
+ghost use Rattle.jsonpath_rust.specs.states.inner.Evaluating.{content_at, document, HaltsAt, HaltsBelow};
 
 use crate::documents::Queried;
 use crate::documents::halt::Walked;
@@ -23,7 +15,6 @@ use crate::documents::queryable::Queryable;
 use crate::documents::whole::WholeRef;
 use crate::states::evaluate::Evaluation;
 use crate::states::evaluate::segments::Part;
-use crate::states::evaluate::singular::{singular_data, step_data, steps_data};
 use crate::states::evaluate::value::literal_data;
 use crate::states::state::State;
 use crate::states::whole::WholeData;
@@ -66,6 +57,22 @@ pub trait Query {
 /// The state of the result, or a refusal.
 type Answered<'a, T> = Queried<State<'a, T>>;
 
+/// What evaluates at the root of a state, and its data.
+fn begun<'a, T: Queryable>(
+    alloc: Global,
+    state: State<'a, T>,
+) -> (Evaluation<'a, T>, WholeData<'a, T>)
+    requires root { IsTrue (T.is_whole state.root.now) }
+    requires whole { DataIsWhole T.is_whole state.content }
+    ensures root { result.0.root.value.now ≡ state.entry.root.now }
+    ensures document { document result.0 ≡ document_of T.tree T.custom state.entry.root.now }
+    ensures content { content_at result.1 ≡ content_of T.tree state.entry.content }
+{
+    let State { content, root } = state;
+    let root = WholeRef { value: root };
+    (Evaluation { alloc, root }, WholeData { content })
+}
+
 impl<'a, T: Queryable> Evaluation<'a, T> {
     /// The state of what was returned, or what a caller is told.
     fn answered(&self, answer: Walked<WholeData<'a, T>>) -> Answered<'a, T>
@@ -96,10 +103,8 @@ impl Query for JpQuery {
     ghost patterns = { λ q. segments_patterns (query_view q) };
 
     fn process<'a, T: Queryable>(&self, alloc: Global, state: State<'a, T>) -> Answered<'a, T> {
-        let State { content, root } = state;
-        let root = WholeRef { value: root };
-        let at = Evaluation { alloc, root };
-        at.answered(at.segments_data(&self.segments, WholeData { content }))
+        let (at, given) = begun(alloc, state);
+        at.answered(at.segments_data(&self.segments, given))
     }
 }
 
@@ -110,10 +115,8 @@ impl Query for Vec<Segment> {
     ghost patterns = { λ q. segments_patterns (segments_view q) };
 
     fn process<'a, T: Queryable>(&self, alloc: Global, state: State<'a, T>) -> Answered<'a, T> {
-        let State { content, root } = state;
-        let root = WholeRef { value: root };
-        let at = Evaluation { alloc, root };
-        at.answered(at.segments_data(self, WholeData { content }))
+        let (at, given) = begun(alloc, state);
+        at.answered(at.segments_data(self, given))
     }
 }
 
@@ -125,10 +128,8 @@ impl Query for Segment {
     ghost patterns = { λ q. segment_patterns (segment_view q) };
 
     fn process<'a, T: Queryable>(&self, alloc: Global, state: State<'a, T>) -> Answered<'a, T> {
-        let State { content, root } = state;
-        let root = WholeRef { value: root };
-        let at = Evaluation { alloc, root };
-        at.answered(at.segment_data(self, WholeData { content }))
+        let (at, given) = begun(alloc, state);
+        at.answered(at.segment_data(self, given))
     }
 }
 
@@ -139,10 +140,8 @@ impl Query for Selector {
     ghost patterns = { λ q. selector_patterns (selector_view q) };
 
     fn process<'a, T: Queryable>(&self, alloc: Global, state: State<'a, T>) -> Answered<'a, T> {
-        let State { content, root } = state;
-        let root = WholeRef { value: root };
-        let at = Evaluation { alloc, root };
-        at.answered(at.selector_data(self, WholeData { content }))
+        let (at, given) = begun(alloc, state);
+        at.answered(at.selector_data(self, given))
     }
 }
 
@@ -153,10 +152,8 @@ impl Query for Filter {
     ghost patterns = { λ q. filter_patterns (filter_view q) };
 
     fn process<'a, T: Queryable>(&self, alloc: Global, state: State<'a, T>) -> Answered<'a, T> {
-        let State { content, root } = state;
-        let root = WholeRef { value: root };
-        let at = Evaluation { alloc, root };
-        at.answered(at.each_target(Part::Kept(self), WholeData { content }))
+        let (at, given) = begun(alloc, state);
+        at.answered(at.each_target(Part::Kept(self), given))
     }
 }
 
@@ -167,10 +164,7 @@ impl Query for FilterAtom {
     ghost patterns = { λ q. filter_patterns (atom_view q) };
 
     fn process<'a, T: Queryable>(&self, alloc: Global, state: State<'a, T>) -> Answered<'a, T> {
-        let State { content, root } = state;
-        let root = WholeRef { value: root };
-        let at = Evaluation { alloc, root };
-        let given = WholeData { content };
+        let (at, given) = begun(alloc, state);
         at.answered(at.atom_data(self, &given))
     }
 }
@@ -182,10 +176,7 @@ impl Query for Comparison {
     ghost patterns = { λ q. filter_patterns (comparison_view q) };
 
     fn process<'a, T: Queryable>(&self, alloc: Global, state: State<'a, T>) -> Answered<'a, T> {
-        let State { content, root } = state;
-        let root = WholeRef { value: root };
-        let at = Evaluation { alloc, root };
-        let given = WholeData { content };
+        let (at, given) = begun(alloc, state);
         at.answered(at.comparison_data(self, &given))
     }
 }
@@ -197,10 +188,7 @@ impl Query for Comparable {
     ghost patterns = { λ q. argument_patterns (comparable_view q) };
 
     fn process<'a, T: Queryable>(&self, alloc: Global, state: State<'a, T>) -> Answered<'a, T> {
-        let State { content, root } = state;
-        let root = WholeRef { value: root };
-        let at = Evaluation { alloc, root };
-        let given = WholeData { content };
+        let (at, given) = begun(alloc, state);
         at.answered(at.comparable_data(self, &given))
     }
 }
@@ -212,13 +200,8 @@ impl Query for SingularQuery {
     ghost patterns = { λ q. [] };
 
     fn process<'a, T: Queryable>(&self, alloc: Global, state: State<'a, T>) -> Answered<'a, T> {
-        let State { content, root } = state;
-        let given = WholeData { content };
-        let answer = singular_data(alloc, self, &given, WholeRef { value: root })?;
-        Ok(State {
-            content: answer.content,
-            root,
-        })
+        let (at, given) = begun(alloc, state);
+        at.answered(at.singular_data(self, &given))
     }
 }
 
@@ -229,12 +212,8 @@ impl Query for SingularQuerySegment {
     ghost patterns = { λ q. [] };
 
     fn process<'a, T: Queryable>(&self, alloc: Global, state: State<'a, T>) -> Answered<'a, T> {
-        let State { content, root } = state;
-        let answer = step_data(alloc, self, WholeData { content })?;
-        Ok(State {
-            content: answer.content,
-            root,
-        })
+        let (at, given) = begun(alloc, state);
+        at.answered(at.step_data(self, given))
     }
 }
 
@@ -245,12 +224,8 @@ impl Query for Vec<SingularQuerySegment> {
     ghost patterns = { λ q. [] };
 
     fn process<'a, T: Queryable>(&self, alloc: Global, state: State<'a, T>) -> Answered<'a, T> {
-        let State { content, root } = state;
-        let answer = steps_data(alloc, self, WholeData { content })?;
-        Ok(State {
-            content: answer.content,
-            root,
-        })
+        let (at, given) = begun(alloc, state);
+        at.answered(at.steps_data(self, given))
     }
 }
 
@@ -261,12 +236,7 @@ impl Query for Literal {
     ghost patterns = { λ q. [] };
 
     fn process<'a, T: Queryable>(&self, alloc: Global, state: State<'a, T>) -> Answered<'a, T> {
-        let State {
-            content: _content,
-            root,
-        } = state;
-        let root = WholeRef { value: root };
-        let at = Evaluation { alloc, root };
+        let (at, _given) = begun(alloc, state);
         at.answered(literal_data(alloc, self))
     }
 }
@@ -278,10 +248,7 @@ impl Query for Test {
     ghost patterns = { λ q. test_patterns (test_view q) };
 
     fn process<'a, T: Queryable>(&self, alloc: Global, state: State<'a, T>) -> Answered<'a, T> {
-        let State { content, root } = state;
-        let root = WholeRef { value: root };
-        let at = Evaluation { alloc, root };
-        let given = WholeData { content };
+        let (at, given) = begun(alloc, state);
         at.answered(at.test_data(self, &given))
     }
 }
@@ -293,10 +260,7 @@ impl Query for TestFunction {
     ghost patterns = { λ q. call_patterns (call_view q) };
 
     fn process<'a, T: Queryable>(&self, alloc: Global, state: State<'a, T>) -> Answered<'a, T> {
-        let State { content, root } = state;
-        let root = WholeRef { value: root };
-        let at = Evaluation { alloc, root };
-        let given = WholeData { content };
+        let (at, given) = begun(alloc, state);
         at.answered(at.call_data(self, &given))
     }
 }
@@ -308,10 +272,7 @@ impl Query for FnArg {
     ghost patterns = { λ q. argument_patterns (argument_view q) };
 
     fn process<'a, T: Queryable>(&self, alloc: Global, state: State<'a, T>) -> Answered<'a, T> {
-        let State { content, root } = state;
-        let root = WholeRef { value: root };
-        let at = Evaluation { alloc, root };
-        let given = WholeData { content };
+        let (at, given) = begun(alloc, state);
         at.answered(at.argument_data(self, &given))
     }
 }

@@ -1,14 +1,8 @@
 //! The nodes that [`Query::process`] returns from the root, as a caller of `js_path_process` wants
 //! them.
-ghost use Rattle.std.specs.Prelude.{◌≡◌, map, All, IsTrue, IfOk, IfErr};
-ghost use Rattle.jsonpath_parser.specs.tree.View.{query_view};
-ghost use Rattle.jsonpath_rust.specs.documents.Answer.{shown};
-ghost use Rattle.jsonpath_rust.specs.states.Processed.{processed};
-ghost use Rattle.jsonpath_rust.specs.documents.Document.{document_of};
-ghost use Rattle.jsonpath_rust.specs.states.Asking.{IsProcessStop};
-ghost use Rattle.jsonpath_rust.specs.documents.Patterns.{segments_patterns};
-ghost use Rattle.jsonpath_rust.specs.states.Process.{segments_content};
-ghost use Rattle.jsonpath_rust.specs.states.State.{targets, targets_of, root_content, PointersAreWhole};
+ghost use Rattle.std.specs.Prelude.{◌≡◌, All, IfErr, IfOk, IsTrue, map};
+ghost use Rattle.jsonpath_rust.specs.Prelude.Documents.{document_of, query_view, segments_patterns, shown};
+ghost use Rattle.jsonpath_rust.specs.Prelude.States.{IsProcessStop, PointersAreWhole, processed, root_content, segments_content, targets, targets_of};
 
 use crate::documents::queryable::Queryable;
 use crate::documents::{Queried, QueryRef};

@@ -1,7 +1,7 @@
 //! What one name or one index finds from a pointer (RFC 9535, 2.3.1 and 2.3.3).
-ghost use Rattle.std.specs.Prelude.{◌≡◌, IsTrue, IfOk, IfErr};
-ghost use Rattle.jsonpath_parser.specs.declared.errors.JsonPathError.TheVariants.{OutOfMemory};
-ghost use Rattle.jsonpath_rust.specs.states.State.{named_from, indexed_from, target_of, content_of, DataIsWhole};
+ghost use Rattle.std.specs.Prelude.{◌≡◌, IfErr, IfOk, IsTrue};
+ghost use Rattle.jsonpath_rust.specs.Prelude.Documents.{OutOfMemory};
+ghost use Rattle.jsonpath_rust.specs.Prelude.States.{content_of, DataIsWhole, indexed_from, named_from, target_of};
 
 use crate::documents::Queried;
 use crate::documents::queryable::Queryable;

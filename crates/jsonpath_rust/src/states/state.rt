@@ -1,11 +1,7 @@
 //! States: what a part of a query is asked of, and what it returns.
-ghost use Rattle.std.specs.Prelude.{◌≡◌, ◌↔◌, ◌⊎◌, ◌&&◌, codes, Ok, Err, IsTrue, IfOk, IfErr, option_map};
-ghost use Rattle.std.specs.List.{AllByRecursion};
-ghost use Rattle.jsonpath_parser.specs.declared.errors.JsonPathError.TheVariants.{OutOfMemory};
-ghost use Rattle.jsonpath_base.specs.Same.{same};
-ghost use Rattle.jsonpath_base.specs.Tree.{truth, number, text};
-ghost use Rattle.jsonpath_rust.specs.states.State.{ref, value, nothing, content_of, pointers, DataIsWhole, ok_refs};
-ghost use Rattle.jsonpath_rust.specs.states.State.{ok_value, contents_same, reduced, Made, GivesWhole, SomeHas};
+ghost use Rattle.std.specs.Prelude.{◌&&◌, ◌↔◌, ◌≡◌, ◌⊎◌, codes, Err, IfErr, IfOk, IsTrue, Ok, option_map};
+ghost use Rattle.jsonpath_rust.specs.Prelude.Documents.{AllByRecursion, number, OutOfMemory, same, text, truth};
+ghost use Rattle.jsonpath_rust.specs.Prelude.States.{content_of, contents_same, DataIsWhole, GivesWhole, Made, nothing, ok_refs, ok_value, pointers, reduced, ref, SomeHas, value};
 
 mod data;
 mod pointer;

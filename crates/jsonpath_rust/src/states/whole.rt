@@ -1,7 +1,7 @@
 //! Data, and pointers, whose values are whole. A type says so, so that no part of the evaluator
 //! asks for it.
-ghost use Rattle.std.proofs.Props.{props};
 ghost use Rattle.std.specs.Prelude.{IsTrue};
+ghost use Rattle.std.proofs.Props.{props};
 ghost use Rattle.jsonpath_rust.specs.states.State.{PointersAreWhole, DataIsWhole};
 ghost use Rattle.jsonpath_rust.specs.states.inner.Whole.{DataIsWhole-prop};
 

@@ -1,5 +1,5 @@
 //! Documents that were checked once, borrowed.
-ghost use Rattle.std.specs.Prelude.{◌≡◌, IsTrue, IsFalse, IfSome, IfNone};
+ghost use Rattle.std.specs.Prelude.{◌≡◌, IfNone, IfSome, IsFalse, IsTrue};
 
 use crate::documents::queryable::Queryable;
 use crate::documents::whole::WholeRef;

@@ -1,7 +1,7 @@
 //! Reading a document from a text.
-ghost use Rattle.std.specs.Prelude.{◌≡◌, Some, IfOk, IfErr};
+ghost use Rattle.std.specs.Prelude.{◌≡◌, IfErr, IfOk, Some};
+ghost use Rattle.jsonpath_rust.specs.Prelude.Documents.{view};
 ghost use Rattle.serde_json.specs.Read.{read as read_text};
-ghost use Rattle.serde_json.specs.View.{view};
 ghost use Rattle.jsonpath_rust.specs.Reading.{IsReadRefusal};
 
 use crate::documents::queryable::Queryable;

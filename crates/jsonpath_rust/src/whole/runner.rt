@@ -1,16 +1,9 @@
 //! What a runner, or one under a limit, changes in a whole `Value`.
-ghost use Rattle.std.specs.Prelude.{◌≡◌, IsTrue, IfOk, IfErr, OnOk, OnErr};
+ghost use Rattle.std.specs.Prelude.{◌≡◌, IfErr, IfOk, IsTrue, OnErr, OnOk};
+ghost use Rattle.jsonpath_rust.specs.Prelude.Documents.{distinct_count, is_among, IsStop, overwritten, selected, value_document, value_tree, without};
+ghost use Rattle.jsonpath_rust.specs.Prelude.Selection.{IfDone, IfSpent, limited_view, runner_view};
+ghost use Rattle.jsonpath_rust.specs.Prelude.Calls.{IsDeletion, IsReplacement};
 ghost use Rattle.jsonpath_parser.specs.tree.Typing as typing;
-ghost use Rattle.jsonpath_base.specs.Overwritten.{overwritten};
-ghost use Rattle.jsonpath_base.specs.Values.{value_tree};
-ghost use Rattle.jsonpath_base.specs.Without.{without, is_among, distinct_count};
-ghost use Rattle.jsonpath_rust.specs.Deleting.{IsDeletion};
-ghost use Rattle.jsonpath_rust.specs.Replacing.{IsReplacement};
-ghost use Rattle.jsonpath_rust.specs.documents.Document.{value_document};
-ghost use Rattle.jsonpath_rust.specs.documents.Meaning.{selected};
-ghost use Rattle.jsonpath_rust.specs.documents.Patterns.{IsStop};
-ghost use Rattle.jsonpath_rust.specs.selection.Prepared.{runner_view, limited_view};
-ghost use Rattle.jsonpath_rust.specs.selection.Within.{IfDone, IfSpent};
 
 use crate::documents::Queried;
 use crate::documents::whole::Whole;

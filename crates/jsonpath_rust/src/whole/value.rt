@@ -1,27 +1,9 @@
 //! What is asked of a whole `Value` alone, and changed in it.
-ghost use Rattle.std.specs.Prelude.{◌≡◌, ◌≤◌, map, IsTrue, IfOk, IfErr, IfSome, OnOk, OnErr, MatchResult, option_map, is_some, false};
-ghost use Rattle.serde_json.specs.View.{view};
-ghost use Rattle.jsonpath_parser.specs.Derives.{Derives};
-ghost use Rattle.jsonpath_parser.specs.Location.{Location};
-ghost use Rattle.jsonpath_parser.specs.Normal.{IsNormal};
-ghost use Rattle.jsonpath_parser.specs.tree.Steps.{HasIndexesInRange};
-ghost use Rattle.jsonpath_parser.specs.tree.Syntax.{Query};
-ghost use Rattle.jsonpath_parser.specs.tree.View.{query_view};
-ghost use Rattle.jsonpath_parser.specs.declared.errors.JsonPathError.TheVariants.{OutOfMemory};
+ghost use Rattle.std.specs.Prelude.{◌≡◌, ◌≤◌, false, IfErr, IfOk, IfSome, is_some, IsTrue, map, MatchResult, OnErr, OnOk, option_map};
+ghost use Rattle.jsonpath_rust.specs.Prelude.Documents.{Derives, distinct_count, HasIndexesInRange, is_among, IsNormal, IsPut, IsQueryRefusal, IsReferred, IsReplaced, IsStop, Location, location_view, null, OutOfMemory, overwritten, owned_step, put, Query, query_view, selected, value_document, value_is_whole, value_tree, view, without};
+ghost use Rattle.jsonpath_rust.specs.Prelude.Calls.{Deletes, IsDeletion, IsDeletionAt, IsReplacement, IsReplacementAt, Replaces};
 ghost use Rattle.jsonpath_base.specs.Added.{added, takes_at};
-ghost use Rattle.jsonpath_base.specs.Overwritten.{overwritten};
 ghost use Rattle.jsonpath_base.specs.Places as places;
-ghost use Rattle.jsonpath_base.specs.Put.{put};
-ghost use Rattle.jsonpath_base.specs.Steps.{location_view, owned_step};
-ghost use Rattle.jsonpath_base.specs.Tree.{null};
-ghost use Rattle.jsonpath_base.specs.Values.{value_tree, value_is_whole};
-ghost use Rattle.jsonpath_base.specs.Without.{without, is_among, distinct_count};
-ghost use Rattle.jsonpath_rust.specs.Deleting.{IsDeletion, IsDeletionAt, Deletes};
-ghost use Rattle.jsonpath_rust.specs.Replacing.{IsReplacement, IsReplacementAt, Replaces};
-ghost use Rattle.jsonpath_rust.specs.documents.Document.{value_document};
-ghost use Rattle.jsonpath_rust.specs.documents.Meaning.{selected};
-ghost use Rattle.jsonpath_rust.specs.documents.Patterns.{IsStop, IsQueryRefusal};
-ghost use Rattle.jsonpath_rust.specs.documents.Referring.{IsReferred, IsReplaced, IsPut};
 
 use crate::documents::Queried;
 use crate::documents::queryable::Queryable;

@@ -1,6 +1,6 @@
 -- The arguments of a custom function, one after another.
 use Rattle.std.proofs.Common.{◌≡◌, ℕ, suc, ◌+◌, ◌<◌, List, [], ◌∷◌, ◌++◌, map, length, get_or, drop, drop-cons, add-one, append_assoc, sym, ◌∙◌, ap, Bor}
-use Rattle.jsonpath_base.specs.Tree.{Tree}
+use Rattle.jsonpath_rust.specs.Prelude.Documents.{Tree}
 
 -- one value more
 pub values_next : {A : Type 0} (tree : A → Tree) (args more : List Tree) (x : Bor A) (xs : List (Bor A)) (i : ℕ) (all : List Tree) → more ≡ args ++ tree x.now ∷ [] → i < length xs → x ≡ get_or xs i x → args ++ map (λ v. tree v.now) (drop i xs) ≡ all → more ++ map (λ v. tree v.now) (drop (i + 1) xs) ≡ all

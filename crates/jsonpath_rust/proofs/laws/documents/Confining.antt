@@ -2,24 +2,10 @@
 use Rattle.std.proofs.Common.{◌≡◌, ℕ, suc, ℤ, List, [], ◌∷◌, ◌++◌, length, map, true, false, ◌&&◌, ◌||◌, ◌⊎◌, inl, inr, Option, Some, None, option_and_then, option_to_list, IsTrue, All, append-nil, append_assoc, refl, sym, ap, ◌∙◌, subst}
 use Rattle.std.proofs.lemmas.Bool.{and_parts, false≢true}
 use Rattle.std.proofs.lemmas.List.Elements.{All-from_recursion, All-map, All-weaker, filter_agree}
-use Rattle.std.specs.List.{flat_map, AllByRecursion}
-use Rattle.std.specs.Option.{option_map_or}
-use Rattle.jsonpath_parser.specs.Location.{Step, name, index, Location, Begins}
+use Rattle.jsonpath_rust.specs.Prelude.Documents.{absolute, AgreeAt, all_applied, all_pick, all_trees, AllByRecursion, and, answer, argued, Argument, argument, Arguments, as_list, as_nodes, as_trees, as_truth, as_value, at, Begins, below, Call, call, child, children, children_at, compare, compares, count_call, count_of, custom_call, descendant, Document, each_holds, element, element_nodes, element_of, elements, Filter, filter_argument, filter_then, Filters, fixed_part, fixed_step, flat_map, followed, group, holds, index, is_matched, length_call, length_of, list, literal_argument, LocalIsConfined, Location, match_call, member_nodes, member_subtrees, Members, name, negated, no_arguments, no_filters, no_members, no_segments, no_selectors, no_trees, Node, nodelist, null, number, object, of_nodes, of_value, one, only_value, option_map_or, or, pairs, picks, Query, relative, replaced, root_node, search_call, Segment, segment, Segments, selected, SelectedBeginsWithFixedPart, Selector, selector, Selectors, several, SingularSelectsOneAtMost, slice, slice_of, some_holds, Step, subtree, subtree_at, subtrees_at, Test, test, test_argument, tested, text, Tree, Trees, truth, value_call, wildcard}
 use Rattle.jsonpath_parser.specs.tree.Reach.{is_local, is_local_segment, are_local_selectors, is_local_selector, is_local_filter, are_local_filters, is_local_test, is_local_call, is_local_argument, are_local_arguments}
 use Rattle.jsonpath_parser.specs.tree.Syntax as syntax
-use Rattle.jsonpath_parser.specs.tree.Syntax.{Selector, wildcard, slice, Selectors, no_selectors, selector, Segment, one, several, descendant, Segments, no_segments, segment, Filter, or, and, Filters, no_filters, filter_then, group, test, compare, Test, relative, absolute, call, Call, custom_call, length_call, value_call, count_call, search_call, match_call, Argument, literal_argument, test_argument, filter_argument, Arguments, no_arguments, argument, Query}
-use Rattle.jsonpath_base.specs.FixedPart.{fixed_step, fixed_part}
-use Rattle.jsonpath_base.specs.Places.{child, at}
-use Rattle.jsonpath_base.specs.Slice.{slice_of}
 use Rattle.jsonpath_base.specs.Tree as base
-use Rattle.jsonpath_base.specs.Tree.{Tree, null, truth, number, text, list, object, Trees, no_trees, Members, no_members, elements, pairs, as_list}
-use Rattle.jsonpath_rust.specs.documents.Comparing.{compares}
-use Rattle.jsonpath_rust.specs.documents.Confining.{SingularSelectsOneAtMost, SelectedBeginsWithFixedPart, AgreeAt, LocalIsConfined}
-use Rattle.jsonpath_rust.specs.documents.Document.{Document}
-use Rattle.jsonpath_rust.specs.documents.Functions.{length_of, count_of, only_value, is_matched, of_value, of_nodes, as_value, as_nodes, as_trees, as_truth}
-use Rattle.jsonpath_rust.specs.documents.Meaning.{element, element_of, picks, all_pick, replaced, all_applied, holds, some_holds, each_holds, answer, argued, tested, all_trees, negated, nodelist, selected}
-use Rattle.jsonpath_rust.specs.documents.Node.{Node, root_node, below, element_nodes, member_nodes, children_at, children, subtree, subtree_at, subtrees_at, member_subtrees}
-use Rattle.jsonpath_rust.specs.documents.inner.Following.{followed}
 use Rattle.jsonpath_rust.proofs.laws.documents.Following.{node_at, nodes_of, applied_to_none, selected_followed}
 use Rattle.jsonpath_rust.proofs.laws.documents.Locating.{step_is}
 use Rattle.jsonpath_rust.proofs.laws.documents.NodesAt.{each-append, each-flat_map, each-filter, at-append}

@@ -1,22 +1,8 @@
 -- A singular query selects what following its segments gives.
 use Rattle.std.proofs.Common.{◌≡◌, ℕ, ◌<◌, ℤ, List, [], ◌∷◌, ◌++◌, length, get_or, map, true, Option, Some, None, option_map, option_and_then, option_to_list, IsTrue, IfSome, IfOk, Result, Ok, Err, append-nil, refl, sym, ap, ◌∙◌, subst}
 use Rattle.std.proofs.lemmas.Bool.{and_parts, and_from, false≢true}
-use Rattle.std.specs.List.{flat_map}
-use Rattle.jsonpath_parser.specs.Derives.{Derives}
-use Rattle.jsonpath_parser.specs.Location.{Step, name, index, Location}
+use Rattle.jsonpath_rust.specs.Prelude.Documents.{all_applied, as_list, at, below, child, Derives, descendant, Document, element, element_of, element_step, flat_map, followed, get, index, is_singular, is_step, IsReference, Location, location_view, name, no_segments, Node, one, Query, referent_view, replaced, Segment, segment, segment_child, Segments, selected, several, Step, step_to, Tree, Value, value_tree}
 use Rattle.jsonpath_parser.specs.tree.Syntax as syntax
-use Rattle.jsonpath_parser.specs.tree.Syntax.{Segment, one, several, descendant, Segments, no_segments, segment, Query}
-use Rattle.jsonpath_parser.specs.tree.Typing.{is_step, is_singular}
-use Rattle.jsonpath_base.specs.Places.{child, at}
-use Rattle.jsonpath_base.specs.Steps.{location_view}
-use Rattle.jsonpath_base.specs.Tree.{Tree, as_list, get}
-use Rattle.jsonpath_base.specs.Values.{value_tree}
-use Rattle.serde_json.specs.declared.value.Value.{Value}
-use Rattle.jsonpath_rust.specs.documents.Document.{Document}
-use Rattle.jsonpath_rust.specs.documents.Meaning.{element_of, element, replaced, all_applied, selected}
-use Rattle.jsonpath_rust.specs.documents.Node.{Node, below}
-use Rattle.jsonpath_rust.specs.documents.Referring.{IsReference}
-use Rattle.jsonpath_rust.specs.documents.inner.Following.{step_to, element_step, segment_child, followed, referent_view}
 use Rattle.jsonpath_rust.specs.declared.documents.reference.Referent.{Referent}
 use Rattle.jsonpath_rust.proofs.laws.documents.NodesAt.{at-below}
 use Rattle.jsonpath_rust.proofs.laws.documents.Trees.{child_there}

@@ -6,20 +6,10 @@ use Rattle.std.proofs.option.Option.TheLaws as option_laws
 use Rattle.std.proofs.result.Result.TheLaws as result_laws
 use Rattle.serde_json.specs.contracts.value.Value.{the_row as R}
 use Rattle.serde_json.proofs.value.Value.TheLaws.{the_row_laws as R-laws}
-use Rattle.serde_json.specs.declared.value.Value.{Value}
-use Rattle.jsonpath_parser.specs.Location.{Location}
+use Rattle.jsonpath_rust.specs.Prelude.Documents.{answer_of, IsReference, IsReferred, IsReplaced, JsonPathError, LendsReferred, LendsThere, lent_in, Location, location_view, OutOfMemory, place_in, put_there, Tree, tree_there, Value, value_document, value_tree}
 use Rattle.jsonpath_parser.specs.contracts.errors.JsonPathError.{the_row as E}
 use Rattle.jsonpath_parser.proofs.errors.JsonPathError.TheLaws.{the_row_laws as E-laws}
-use Rattle.jsonpath_parser.specs.declared.errors.JsonPathError.{JsonPathError}
-use Rattle.jsonpath_parser.specs.declared.errors.JsonPathError.TheVariants.{OutOfMemory}
-use Rattle.jsonpath_base.specs.Steps.{location_view}
-use Rattle.jsonpath_base.specs.Tree.{Tree}
-use Rattle.jsonpath_base.specs.Values.{value_tree}
 use Rattle.jsonpath_base.specs.declared.step.Step.{Step}
-use Rattle.jsonpath_rust.specs.documents.Document.{value_document}
-use Rattle.jsonpath_rust.specs.documents.Lending.{LendsReferred, lent_in}
-use Rattle.jsonpath_rust.specs.documents.Referring.{IsReference, IsReferred, IsReplaced, tree_there, put_there}
-use Rattle.jsonpath_rust.specs.documents.inner.Sought.{LendsThere, answer_of, place_in}
 use mathlib.Core.List.{[], ◌∷◌}
 use mathlib.Core.Option as maybe
 use seplogic.Ra.Ura.{Ura}

@@ -2,29 +2,13 @@
 use Rattle.std.proofs.Common.{◌≡◌, ℕ, suc, pos, negsuc, arith, length, List, [], ◌∷◌, map, Option, Some, None, Result, Ok, Err, IsSome, IfOk, IfErr, MatchResult, refl, sym, ap, ◌∙◌, subst}
 use Rattle.std.proofs.lemmas.List.{length-map}
 use Rattle.std.proofs.lemmas.List.Elements.{All-from_recursion}
-use Rattle.std.specs.List.{AllByRecursion}
-use Rattle.std.specs.Option.{option_map_or}
+use Rattle.jsonpath_rust.specs.Prelude.Documents.{AllByRecursion, at, descendant, Document, fixed_part, fixed_step, index, IsLocationOf, JsonPathError, Location, location_view, name, no_segments, Node, nodelist, NormalizedPathDerivesItsSteps, one, option_map_or, OutOfMemory, owned_step, Query, query_view, Segment, segment, Segments, segments_in, selected, SelectedIsThere, Selector, several, Step, step_segment, steps_query, StepsSelectTheirLocation, Tree}
 use Rattle.jsonpath_parser.proofs.NormalQueries.{normal_derives}
 use Rattle.jsonpath_parser.proofs.laws.tree.ViewEquations.{query_view-segments}
-use Rattle.jsonpath_parser.specs.Location.{Step, name, index, Location}
-use Rattle.jsonpath_parser.specs.tree.Steps.{step_segment, steps_query}
 use Rattle.jsonpath_parser.specs.tree.Syntax as syntax
-use Rattle.jsonpath_parser.specs.tree.Syntax.{Selector, Segment, one, several, descendant, Segments, no_segments, segment, Query}
-use Rattle.jsonpath_parser.specs.tree.View.{query_view}
 use Rattle.jsonpath_parser.specs.declared.tree.model.JpQuery.{JpQuery}
 use Rattle.jsonpath_parser.specs.declared.tree.model.Segment as model
-use Rattle.jsonpath_parser.specs.declared.errors.JsonPathError.{JsonPathError}
-use Rattle.jsonpath_parser.specs.declared.errors.JsonPathError.TheVariants.{OutOfMemory}
-use Rattle.jsonpath_base.specs.FixedPart.{fixed_step, fixed_part}
-use Rattle.jsonpath_base.specs.Places.{at}
-use Rattle.jsonpath_base.specs.Steps.{owned_step, location_view}
-use Rattle.jsonpath_base.specs.Tree.{Tree}
 use Rattle.jsonpath_base.specs.declared.step.Step as owned
-use Rattle.jsonpath_rust.specs.documents.Document.{Document}
-use Rattle.jsonpath_rust.specs.documents.Locating.{IsLocationOf, NormalizedPathDerivesItsSteps, StepsSelectTheirLocation, SelectedIsThere}
-use Rattle.jsonpath_rust.specs.documents.Meaning.{nodelist, selected}
-use Rattle.jsonpath_rust.specs.documents.Node.{Node}
-use Rattle.jsonpath_rust.specs.documents.inner.Parts.{segments_in}
 use Rattle.jsonpath_rust.proofs.laws.documents.NodesAt.{nodes_at}
 use Rattle.jsonpath_rust.proofs.laws.documents.NormalSteps.{selected-steps}
 

@@ -2,11 +2,9 @@
 use Rattle.std.proofs.Common.{◌≡◌, List, [], ◌∷◌, map, Some, All, IsTrue, Vec, Global, true, ◌&&◌, refl, ap, ◌∙◌}
 use Rattle.std.proofs.lemmas.Bool.{and_parts, and_from}
 use Rattle.std.proofs.lemmas.List.Elements.{All-head, All-tail}
-use Rattle.serde_json.specs.View.{view, items_view}
-use Rattle.serde_json.specs.declared.value.Value.{Value, Array}
+use Rattle.jsonpath_rust.specs.Prelude.Documents.{Array, as_list, has_distinct_names, has_whole_numbers, items_view, items_whole, trees_distinct, trees_of, Value, value_is_whole, value_tree, view}
 use Rattle.serde_json.proofs.Views.{view-Array}
-use Rattle.jsonpath_base.specs.Tree.{as_list, has_distinct_names, trees_distinct}
-use Rattle.jsonpath_base.specs.Values.{tree_of, trees_of, value_tree, value_is_whole, has_whole_numbers, items_whole}
+use Rattle.jsonpath_base.specs.Values.{tree_of}
 use Rattle.jsonpath_base.proofs.Views.{elements-items_view, data_whole, items_are_whole}
 
 -- the elements of a list that was made

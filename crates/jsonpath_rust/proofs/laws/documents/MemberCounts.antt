@@ -3,11 +3,9 @@ use Rattle.std.proofs.Common.{◌≡◌, suc, ℤ, List, [], ◌∷◌, length, 
 use Rattle.serde_json.specs.Data as json
 use Rattle.serde_json.specs.Data.{Data}
 use Rattle.serde_json.specs.Find as json_find
-use Rattle.serde_json.specs.View.{view, members_view}
-use Rattle.serde_json.specs.declared.value.Value.{Value}
+use Rattle.jsonpath_rust.specs.Prelude.Documents.{as_members, members_of, members_view, pairs, tree_of_number, Value, value_tree, view}
 use Rattle.serde_json.proofs.Views.{Entry}
-use Rattle.jsonpath_base.specs.Tree.{pairs, as_members}
-use Rattle.jsonpath_base.specs.Values.{tree_of, tree_of_number, members_of, value_tree}
+use Rattle.jsonpath_base.specs.Values.{tree_of}
 
 members-length : (es : List Entry) → length (pairs (members_of (members_view es))) ≡ length es
 members-length [] = refl

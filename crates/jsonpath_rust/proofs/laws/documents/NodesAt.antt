@@ -2,19 +2,9 @@
 use Rattle.std.proofs.Common.{◌≡◌, ℕ, zero, suc, ◌+◌, ◌<◌, ℤ, List, [], ◌∷◌, ◌++◌, map, cond, length, get_or, refl, sym, ◌∙◌, ap, arith, Bool, true, false, not, ◌||◌, ◌≤◌, filter, subst, Option, Some, None, option_and_then, option_to_list, IsTrue}
 use Rattle.std.proofs.lemmas.Bool.{false≢true, and_parts}
 use Rattle.std.proofs.lemmas.Slice.Eq.{bytes_eq-Decides}
-use Rattle.std.specs.List.{flat_map, list_any, AllByRecursion}
-use Rattle.std.specs.Str.{bytes_eq}
-use Rattle.jsonpath_parser.specs.Location.{Step, name, index, Location}
+use Rattle.jsonpath_rust.specs.Prelude.Documents.{all_applied, all_pick, AllByRecursion, are_distinct, as_list, as_members, at, below, bytes_eq, child, children, children_at, descendant, Document, element, element_nodes, element_of, elements, find, flat_map, get, has_distinct_names, holds, index, indexed, item_at, list, list_any, Location, member_nodes, Members, members_distinct, members_size, name, no_members, no_segments, no_selectors, no_trees, Node, nodelist, null, number, object, one, pairs, picks, Query, replaced, root_node, Segment, segment, Segments, Selector, selector, Selectors, several, size, slice, slice_of, sliced, Step, subtree, subtree_at, text, Tree, Trees, trees_distinct, trees_size, truth, wildcard}
 use Rattle.jsonpath_parser.specs.tree.Syntax as syntax
-use Rattle.jsonpath_parser.specs.tree.Syntax.{Selector, wildcard, slice, Selectors, no_selectors, selector, Segment, one, several, descendant, Segments, no_segments, segment, Query}
 use Rattle.jsonpath_base.specs.Tree as base
-use Rattle.jsonpath_base.specs.Tree.{Tree, null, truth, number, text, list, object, Trees, no_trees, Members, no_members, elements, pairs, as_list, as_members, find, get, has_distinct_names, trees_distinct, members_distinct, are_distinct}
-use Rattle.jsonpath_base.specs.Places.{child, item_at, at}
-use Rattle.jsonpath_base.specs.Slice.{slice_of}
-use Rattle.jsonpath_rust.specs.documents.Document.{Document}
-use Rattle.jsonpath_rust.specs.documents.inner.Size.{size, trees_size, members_size}
-use Rattle.jsonpath_rust.specs.documents.Node.{Node, root_node, below, element_nodes, member_nodes, children_at, children, subtree, subtree_at}
-use Rattle.jsonpath_rust.specs.documents.Meaning.{element, indexed, sliced, element_of, picks, all_pick, holds, replaced, all_applied, nodelist}
 use Rattle.jsonpath_rust.proofs.laws.documents.Trees.{subtree-children}
 
 -- ---- what holds of each element

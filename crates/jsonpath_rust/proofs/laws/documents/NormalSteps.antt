@@ -4,21 +4,11 @@ use Rattle.std.proofs.lemmas.Bool.{cases_lt}
 use Rattle.std.proofs.lemmas.Bool.Decides.{nat_tests}
 use Rattle.std.proofs.lemmas.Option.{slice_get_past}
 use Rattle.std.specs.Prelude.{nat_lt}
+use Rattle.jsonpath_rust.specs.Prelude.Documents.{all_applied, at, below, child, Derives, Document, element, elements, HasIndexesInRange, index, indexed, is_singular, IsNormal, IsPut, IsReference, IsReferred, list, Location, name, Node, null, number, object, put_there, Refers, replaced, root_node, selected, Step, step_segment, steps_query, text, Tree, tree_there, truth}
 use Rattle.jsonpath_parser.proofs.NormalQueries.{normal_derives}
 use Rattle.jsonpath_parser.proofs.Unambiguous.{no_text_derives_two_trees}
-use Rattle.jsonpath_parser.specs.Derives.{Derives}
-use Rattle.jsonpath_parser.specs.Location.{Step, name, index, Location}
-use Rattle.jsonpath_parser.specs.Normal.{IsNormal}
-use Rattle.jsonpath_parser.specs.tree.Steps.{HasIndexesInRange, step_segment, steps_query}
-use Rattle.jsonpath_parser.specs.tree.Typing.{is_singular}
 use Rattle.jsonpath_base.proofs.PutLaws.{put_nowhere}
-use Rattle.jsonpath_base.specs.Places.{child, at}
-use Rattle.jsonpath_base.specs.Tree.{Tree, null, truth, number, text, list, object, elements}
 use Rattle.jsonpath_rust.proofs.laws.documents.Trees.{item_at-elements}
-use Rattle.jsonpath_rust.specs.documents.Document.{Document}
-use Rattle.jsonpath_rust.specs.documents.Meaning.{element, indexed, replaced, all_applied, selected}
-use Rattle.jsonpath_rust.specs.documents.Node.{Node, root_node, below}
-use Rattle.jsonpath_rust.specs.documents.Referring.{Refers, IsReference, IsReferred, IsPut, put_there, tree_there}
 
 -- an index from 0 on is that of an element, where there is one
 indexed-element : (i : ℕ) (l : Location) (t : Tree) → indexed (pos i) (record { location = l; tree = t }) ≡ element i (record { location = l; tree = t })

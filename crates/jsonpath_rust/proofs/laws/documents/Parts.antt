@@ -1,10 +1,6 @@
 -- Lists of parts of a query: each part is no more than all, and what a loop over them finds.
 use Rattle.std.proofs.Common.{◌≡◌, ℕ, zero, suc, ◌+◌, ◌<◌, ◌≤◌, List, [], ◌∷◌, ◌++◌, length, get_or, drop, drop-cons, add-one, append_assoc, append-nil, refl, sym, ◌∙◌, ap, subst, arith, Bool, true, false, not, cond, filter, ◌||◌, ◌&&◌, Result, Ok, Err, IfOk, IfErr, All}
-use Rattle.std.specs.Bool.{beq}
-use Rattle.std.specs.List.{flat_map, Contains}
-use Rattle.std.specs.Result.{IsErrAnd}
-use Rattle.jsonpath_rust.specs.documents.Node.{Node}
-use Rattle.jsonpath_rust.specs.documents.Meaning.{negated}
+use Rattle.jsonpath_rust.specs.Prelude.Documents.{beq, Contains, flat_map, IsErrAnd, negated, Node}
 use Rattle.std.proofs.lemmas.List.{at_drop_all}
 use Rattle.std.proofs.lemmas.List.Elements.{All-append, All-cons, All-nil, Contains-append_left, Contains-append_right}
 
@@ -85,10 +81,6 @@ pairs_apart F f more left right (x ∷ xs) (y ∷ ys) h = of_both (f x y) (F xs 
     of_both false b e = refl
 
 -- ---- answers in other words
-
-pub ok_as : {A E : Type 0} (r : Result A E) (x y : A) → x ≡ y → IfOk r (λ a. a ≡ x) → IfOk r (λ a. a ≡ y)
-ok_as (Ok a) x y e h = h ∙ e
-ok_as (Err k) x y e h = tt
 
 pub ok_through : {A B E : Type 0} (r : Result A E) (f : A → B) (x y : B) → x ≡ y → IfOk r (λ a. f a ≡ x) → IfOk r (λ a. f a ≡ y)
 ok_through (Ok a) f x y e h = h ∙ e

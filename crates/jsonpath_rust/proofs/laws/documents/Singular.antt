@@ -1,18 +1,7 @@
 -- A singular query gives the value to which its names and indexes lead.
 use Rattle.std.proofs.Common.{◌≡◌, ℕ, List, [], ◌∷◌, ◌++◌, length, map, Option, Some, None, option_map, option_and_then, option_to_list, IsTrue, refl, sym, ap, ◌∙◌}
-use Rattle.jsonpath_parser.specs.Location.{Step, name, index, Location}
+use Rattle.jsonpath_rust.specs.Prelude.Documents.{absolute, all_applied, as_list, as_value, child, descendant, Document, element_of, followed, index, is_singular, Location, name, Node, one, only_value, relative, root_node, Segment, segment_child, segments_of, several, Step, step_to, stepped, tested, Tree, value_at}
 use Rattle.jsonpath_parser.specs.tree.Syntax as syntax
-use Rattle.jsonpath_parser.specs.tree.Syntax.{Segment, one, several, descendant, relative, absolute}
-use Rattle.jsonpath_parser.specs.tree.Typing.{is_singular}
-use Rattle.jsonpath_parser.specs.tree.View.{segments_of}
-use Rattle.jsonpath_base.specs.Places.{child}
-use Rattle.jsonpath_base.specs.Tree.{Tree, as_list}
-use Rattle.jsonpath_rust.specs.documents.Document.{Document}
-use Rattle.jsonpath_rust.specs.documents.Functions.{as_value, only_value}
-use Rattle.jsonpath_rust.specs.documents.Meaning.{element_of, all_applied, tested}
-use Rattle.jsonpath_rust.specs.documents.Node.{Node, root_node}
-use Rattle.jsonpath_rust.specs.documents.inner.Following.{step_to, segment_child, followed}
-use Rattle.jsonpath_rust.specs.documents.inner.Singular.{stepped, value_at}
 use Rattle.jsonpath_rust.proofs.laws.documents.Following.{nodes_of, applied_followed}
 
 -- what is behind a step, and what is at a location

@@ -2,18 +2,9 @@
 use Rattle.std.proofs.Common.{◌≡◌, ℕ, zero, suc, ◌+◌, ◌<◌, ◌≤◌, ℤ, List, [], ◌∷◌, ◌++◌, map, cond, length, get_or, refl, sym, ◌∙◌, ap, arith, Bool, true, false, Option, Some, None, option_map, option_and_then, option_to_list, All, subst}
 use Rattle.std.proofs.lemmas.Option.{slice_get-map, slice_get_read}
 use Rattle.std.proofs.lemmas.List.Elements.{All-get_or}
-use Rattle.std.specs.List.{flat_map, slice_get}
-use Rattle.std.specs.Str.{bytes_eq}
-use Rattle.jsonpath_parser.specs.Location.{Location, name, index}
-use Rattle.jsonpath_base.specs.Tree.{Tree, null, truth, number, text, list, object, Trees, no_trees, tree, Members, no_members, member, elements, pairs, as_list, as_members, find, get}
-use Rattle.jsonpath_base.specs.Places.{child, item_at}
-use Rattle.jsonpath_rust.specs.documents.Node.{Node, below, element_nodes, member_nodes, children_at, subtree, subtree_at, subtrees_at, member_subtrees}
-use Rattle.jsonpath_rust.specs.documents.Meaning.{indexed, element_of, element, sliced, named}
-use Rattle.jsonpath_base.specs.Slice.{slice_of}
+use Rattle.jsonpath_rust.specs.Prelude.Documents.{as_list, as_members, below, bytes_eq, child, children_at, element, element_nodes, element_of, elements, find, flat_map, get, index, indexed, item_at, list, Location, member, member_nodes, member_subtrees, Members, members_size, name, named, no_members, no_trees, Node, null, number, object, pairs, size, slice_get, slice_of, sliced, stepped, subtree, subtree_at, subtrees_at, text, Tree, tree, Trees, trees_size, truth}
 use Rattle.std.proofs.lemmas.List.{length-map, append-nil}
 use Rattle.jsonpath_parser.specs.tree.Syntax as syntax
-use Rattle.jsonpath_rust.specs.documents.inner.Singular.{stepped}
-use Rattle.jsonpath_rust.specs.documents.inner.Size.{size, trees_size, members_size}
 
 -- what all elements have, this one has
 pub all_at : {X : Type 0} (P : X → Type 0) (xs : List X) (i : ℕ) (x : X) → All P xs → i < length xs → x ≡ get_or xs i x → P x
@@ -180,9 +171,6 @@ pub sliced-list : {A : Type 0} (tree_of : A → Tree) (n : Node) (xs : List A) (
 sliced-list tree_of n xs start end step h =
     ap (λ len. flat_map (λ k. element k n) (slice_of start end step len)) (sym (length-map xs tree_of)) ∙ sym (append-nil (flat_map (λ k. element k n) (slice_of start end step (length (map tree_of xs))))) ∙ ap (λ o. flat_map (λ ts. flat_map (λ k. element k n) (slice_of start end step (length ts))) (option_to_list o)) h
 
--- the member of a name
-pub named_some : (l : Location) (k : List ℕ) (t c : Tree) → Some c ≡ get k t → below l (name k) c ∷ [] ≡ named k (record { location = l; tree = t })
-named_some l k t c h = ap (λ o. map (below l (name k)) (option_to_list o)) h
-
+-- no member of a name
 pub named_none : (l : Location) (k : List ℕ) (t : Tree) → None ≡ get k t → named k (record { location = l; tree = t }) ≡ []
 named_none l k t h = sym (ap (λ o. map (below l (name k)) (option_to_list o)) h)

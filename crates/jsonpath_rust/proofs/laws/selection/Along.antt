@@ -2,22 +2,13 @@
 use Rattle.std.proofs.Common.{◌≡◌, ℕ, ◌+◌, ◌<◌, ◌≤◌, List, [], ◌∷◌, ◌++◌, drop, take, length, map, get_or, append-nil, sym, ◌∙◌, ap, arith, subst, Bool, true, false, Some, Result, rules}
 use Rattle.std.proofs.lemmas.Result.{IfOk-weaker}
 use Rattle.std.proofs.lemmas.List.{take-append-le, take-take, take-append-drop, length-map, map-append}
-use Rattle.std.specs.List.{flat_map}
+use Rattle.jsonpath_rust.specs.Prelude.Documents.{as_list, as_members, children_at, element_nodes, elements, flat_map, Ghosts, LastBegins, lent_location, lent_step, list, Location, member_nodes, Node, null, number, object, pairs, Removal, StepRef, text, Tree, truth}
+use Rattle.jsonpath_rust.specs.Prelude.Selection.{give, IsTied, seen, start, Takes, TakesAlong, Took, TookAlong, Wanted}
 use Rattle.std.specs.declared.fmt.Debug as debug
-use Rattle.jsonpath_parser.specs.Location.{Location}
-use Rattle.jsonpath_base.specs.Tree.{Tree, null, truth, number, text, list, object, elements, pairs, as_list, as_members}
-use Rattle.jsonpath_base.specs.Steps.{lent_step, lent_location}
-use Rattle.jsonpath_base.specs.RemovalViews.{LastBegins}
-use Rattle.jsonpath_base.specs.declared.removal.Removal.{Removal}
-use Rattle.jsonpath_base.specs.declared.step.StepRef.{StepRef}
 use Rattle.jsonpath_base.specs.declared.way.Way.{Way}
 use Rattle.jsonpath_base.proofs.LastMarks.{ends_less}
-use Rattle.jsonpath_rust.specs.documents.Node.{Node, element_nodes, member_nodes, children_at}
-use Rattle.jsonpath_rust.specs.selection.inner.Sinks.{seen, start, give, Took, Takes, IsTied, TookAlong, TakesAlong}
-use Rattle.jsonpath_rust.specs.declared.documents.queryable.Queryable.{Ghosts}
 use Rattle.jsonpath_rust.specs.declared.selection.sink.Sink.{Sink}
 use Rattle.jsonpath_rust.specs.declared.selection.sink.Sink.TheVariants as sink
-use Rattle.jsonpath_rust.specs.declared.selection.sink.Wanted.{Wanted}
 use Rattle.jsonpath_rust.specs.declared.selection.sink.Wanted.TheVariants as wanted
 use Rattle.jsonpath_rust.proofs.laws.selection.Sinks.{took_none, took_as, took_then, took_stop, true_false}
 use Rattle.jsonpath_rust.proofs.laws.selection.Walks.{Turns, turn_next, turn_stop, turn_end, place_next, place_stop}

@@ -2,24 +2,12 @@
 use Rattle.std.proofs.Common.{◌≡◌, ◌↔◌, ◌+◌, ℕ, min, List, [], ◌∷◌, map, length, arith, Bool, true, false, Option, None, Some, option_map, IfSome, IfNone, IsTrue, IsFalse, sym, ◌∙◌, ap, subst, refl}
 use Rattle.std.proofs.lemmas.Bool.{false≢true}
 use Rattle.std.proofs.lemmas.List.{length-map}
-use Rattle.std.specs.List.{AllByRecursion, AllZip}
+use Rattle.jsonpath_rust.specs.Prelude.Documents.{AllByRecursion, AllZip, at, Document, greatest_count, has_distinct_names, IsNodeAt, IsPathAt, IsValueAt, Node, nodelist, normal, Query, selected, Tree}
+use Rattle.jsonpath_rust.specs.Prelude.Selection.{any, any_in, count, count_in, first, first_in, give, IsFirstNode, IsOnly, node_count, nothing, only_seen, only_told, path_and_tree, several}
+use Rattle.jsonpath_rust.proofs.laws.documents.{nodes_at}
 use Rattle.jsonpath_parser.proofs.NormalLemmas.{only_path}
-use Rattle.jsonpath_parser.specs.tree.Syntax.{Query}
-use Rattle.jsonpath_parser.specs.Normal.{normal}
-use Rattle.jsonpath_base.specs.Tree.{Tree, has_distinct_names}
-use Rattle.jsonpath_base.specs.Places.{at}
-use Rattle.jsonpath_rust.specs.documents.Document.{Document}
-use Rattle.jsonpath_rust.specs.documents.Functions.{greatest_count}
-use Rattle.jsonpath_rust.specs.documents.Node.{Node}
-use Rattle.jsonpath_rust.specs.documents.Meaning.{nodelist, selected}
-use Rattle.jsonpath_rust.specs.documents.Answer.{IsNodeAt, IsPathAt, IsValueAt}
-use Rattle.jsonpath_rust.specs.selection.Only.{IsOnly, node_count}
-use Rattle.jsonpath_rust.specs.selection.Prepared.{IsFirstNode}
-use Rattle.jsonpath_rust.specs.selection.inner.Only.{only_seen, only_told}
-use Rattle.jsonpath_rust.specs.selection.inner.Sinks.{any, count, first, nothing, several, any_in, count_in, first_in, give, path_and_tree}
 use Rattle.jsonpath_rust.specs.declared.selection.only.Only.{Only}
 use Rattle.jsonpath_rust.specs.declared.selection.only.Only.TheVariants.{Nothing, One, Several}
-use Rattle.jsonpath_rust.proofs.laws.documents.NodesAt.{nodes_at}
 use Rattle.jsonpath_rust.proofs.laws.selection.Sinks.{any_given, only_first, give-count, give-full}
 
 nodes_zipped : (doc : Document) (ns : List Node) → AllByRecursion (λ n. at n.location doc.root ≡ Some n.tree) ns → AllZip (IsNodeAt doc) (map (λ n. n.location) ns) (map path_and_tree ns)

@@ -1,15 +1,7 @@
 -- The query of an expression, and the expression of a query.
 use Rattle.std.proofs.Common.{◌≡◌, nat_eq, List, [], ◌∷◌, map, length, Bool, true, false, Some, None, Result, Ok, Err, IfOk, IfErr, is_some, unwrap_or, sym, ap, ◌∙◌, subst}
-use Rattle.jsonpath_parser.specs.tree.Syntax.{Segment, Filter, or, no_filters, Query}
-use Rattle.jsonpath_parser.specs.tree.View.{segments_of}
-use Rattle.jsonpath_rust.specs.documents.Document.{Document}
-use Rattle.jsonpath_rust.specs.documents.Meaning.{holds}
-use Rattle.jsonpath_rust.specs.documents.Node.{Node}
-use Rattle.jsonpath_rust.specs.documents.Patterns.{AsksPattern, filter_patterns, segments_patterns}
-use Rattle.jsonpath_rust.specs.selection.Condition.{filter_query, filter_of, expression_of}
-use Rattle.jsonpath_rust.specs.selection.inner.Halting.{IsHalt}
-use Rattle.jsonpath_rust.specs.declared.documents.halt.Halt.{Halt}
-use Rattle.jsonpath_rust.specs.declared.selection.budget.Limit.{Limit}
+use Rattle.jsonpath_rust.specs.Prelude.Documents.{AsksPattern, Document, Filter, filter_patterns, Halt, holds, no_filters, Node, or, Query, Segment, segments_of, segments_patterns}
+use Rattle.jsonpath_rust.specs.Prelude.Selection.{expression_of, filter_of, filter_query, IsHalt, Limit}
 use Rattle.jsonpath_rust.proofs.laws.selection.HaltingLaws.{asked_left, halts_as}
 
 -- the expression of its query is itself

@@ -1,17 +1,7 @@
 -- Children that are counted are those that the walk would select.
 use Rattle.std.proofs.Common.{◌≡◌, ℕ, suc, List, [], ◌∷◌, length, map, append-nil, refl, sym, ◌∙◌, ap, Option, None, Some, option_map, option_to_list}
-use Rattle.std.specs.List.{flat_map}
-use Rattle.jsonpath_parser.specs.Location.{Location}
-use Rattle.jsonpath_parser.specs.tree.Syntax.{Segment}
-use Rattle.jsonpath_parser.specs.tree.View.{step_view}
-use Rattle.jsonpath_parser.specs.declared.tree.model.SingularQuerySegment.{SingularQuerySegment}
-use Rattle.jsonpath_base.specs.Tree.{Tree, null, truth, number, text, list, object, elements, pairs, as_list, as_members}
-use Rattle.jsonpath_rust.specs.documents.Document.{Document}
-use Rattle.jsonpath_rust.specs.documents.Meaning.{all_applied, replaced}
-use Rattle.jsonpath_rust.specs.documents.Node.{Node, root_node, children, children_at, element_nodes, member_nodes}
-use Rattle.jsonpath_rust.specs.documents.inner.Singular.{value_at}
-use Rattle.jsonpath_rust.specs.selection.inner.PlanViews.{children_query, steps_query}
-use Rattle.jsonpath_rust.specs.selection.inner.Walking.{through}
+use Rattle.jsonpath_rust.specs.Prelude.Documents.{all_applied, as_list, as_members, children, children_at, Document, element_nodes, elements, flat_map, list, Location, member_nodes, Node, null, number, object, pairs, replaced, root_node, Segment, SingularQuerySegment, step_view, text, Tree, truth, value_at}
+use Rattle.jsonpath_rust.specs.Prelude.Selection.{children_query, steps_query, through}
 use Rattle.jsonpath_rust.proofs.laws.selection.NodelistLaws.{through-applied}
 use Rattle.jsonpath_rust.proofs.laws.selection.StepLaws.{steps_there, trees_of}
 

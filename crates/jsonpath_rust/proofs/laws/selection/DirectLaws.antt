@@ -1,21 +1,10 @@
 -- What is worked out of a look-up is what the meaning makes of its nodes.
 use Rattle.std.proofs.Common.{◌≡◌, ℕ, zero, suc, List, [], ◌∷◌, map, length, nat_lt, refl, ◌∙◌, ap, subst, arith, IsTrue, Option, Some, None, Result, Ok, Err, IfOk, IfSome}
-use Rattle.jsonpath_parser.specs.tree.Syntax.{absolute, relative, Query}
-use Rattle.jsonpath_parser.specs.tree.Typing.{is_singular}
-use Rattle.jsonpath_parser.specs.tree.View.{step_view}
-use Rattle.jsonpath_parser.specs.declared.tree.model.SingularQuerySegment.{SingularQuerySegment}
+use Rattle.jsonpath_rust.specs.Prelude.Documents.{absolute, as_nodes, as_truth, as_value, count_of, count_value, Document, has_node, is_singular, Node, Query, relative, SingularQuerySegment, step_view, tested, Tree, value_at}
+use Rattle.jsonpath_rust.specs.Prelude.Selection.{Constant, constant_view, Constants, IsSettled, kept_view, part_at, steps_at, steps_in, steps_query, through}
+use Rattle.jsonpath_rust.proofs.laws.documents.{absolute_value, relative_value}
 use Rattle.jsonpath_parser.proofs.laws.tree.Steps.{steps_singular}
-use Rattle.jsonpath_base.specs.Tree.{Tree}
-use Rattle.jsonpath_rust.specs.documents.Document.{Document}
-use Rattle.jsonpath_rust.specs.documents.Functions.{as_nodes, as_truth, as_value, count_of, count_value}
-use Rattle.jsonpath_rust.specs.documents.Meaning.{tested}
-use Rattle.jsonpath_rust.specs.documents.Node.{Node, has_node}
-use Rattle.jsonpath_rust.specs.documents.inner.Singular.{value_at}
-use Rattle.jsonpath_rust.specs.selection.inner.PlanViews.{Constants, IsSettled, constant_view, kept_view, part_at, steps_at, steps_in, steps_query}
-use Rattle.jsonpath_rust.specs.selection.inner.Walking.{through}
-use Rattle.jsonpath_rust.specs.declared.selection.plan.Constant.{Constant}
 use Rattle.jsonpath_rust.specs.declared.selection.plan.Constant.TheVariants as constant
-use Rattle.jsonpath_rust.proofs.laws.documents.Singular.{absolute_value, relative_value}
 use Rattle.jsonpath_rust.proofs.laws.selection.NodelistLaws.{through-applied}
 
 -- ---- the value of the only node

@@ -1,22 +1,9 @@
 -- A pattern of a part of a query is one of the query, and a halt for it one of the query.
-use Rattle.std.proofs.Common.{◌≡◌, ℕ, ◌<◌, List, [], ◌∷◌, ◌++◌, length, get_or, arith, refl, sym, ◌∙◌, subst, Bool, Option, Result, IfErr, inl, inr, ◌⊎◌}
+use Rattle.std.proofs.Common.{◌≡◌, ℕ, ◌<◌, List, [], ◌∷◌, ◌++◌, length, get_or, arith, refl, sym, subst, Bool, Option, Result, IfErr, inl, inr, ◌⊎◌}
 use Rattle.std.proofs.lemmas.List.Elements.{Contains-append_left, Contains-append_right, Contains-append_cases}
-use Rattle.std.specs.List.{Contains}
-use Rattle.std.specs.Result.{IsErrAnd}
-use Rattle.jsonpath_parser.specs.tree.Syntax.{Argument, Query}
-use Rattle.jsonpath_parser.specs.declared.errors.JsonPathError.{JsonPathError}
-use Rattle.jsonpath_parser.specs.declared.errors.JsonPathError.TheVariants.{OutOfMemory}
-use Rattle.jsonpath_base.specs.Tree.{Tree}
-use Rattle.jsonpath_rust.specs.documents.Answer.{IsValueAt}
-use Rattle.jsonpath_rust.specs.documents.Document.{Document}
-use Rattle.jsonpath_rust.specs.documents.Functions.{as_value}
-use Rattle.jsonpath_rust.specs.documents.Meaning.{argued}
-use Rattle.jsonpath_rust.specs.documents.Node.{Node}
-use Rattle.jsonpath_rust.specs.documents.Patterns.{segments_patterns, IsPattern, AsksPattern, IsStop}
-use Rattle.jsonpath_rust.specs.declared.documents.halt.Halt.{Halt}
-use Rattle.jsonpath_rust.specs.declared.selection.budget.Limit.{Limit}
-use Rattle.jsonpath_rust.specs.selection.inner.Halting.{IsHalt}
-use Rattle.jsonpath_rust.proofs.laws.documents.Parts.{contains_part, err_so, passed_on}
+use Rattle.jsonpath_rust.specs.Prelude.Documents.{argued, Argument, as_value, AsksPattern, Contains, Document, Halt, IsPattern, IsStop, IsValueAt, JsonPathError, Node, OutOfMemory, Query, segments_patterns, Tree}
+use Rattle.jsonpath_rust.specs.Prelude.Selection.{IsHalt, Limit}
+use Rattle.jsonpath_rust.proofs.laws.documents.{contains_part, err_so}
 
 -- ---- more patterns
 
@@ -59,10 +46,6 @@ asked_at_or f all more others xs i x lt e h = asked_by (f x ++ others) (all xs +
 -- a halt of a part is one of the whole
 pub halts_as : {A : Type 0} {xs ys : List (Bool × Argument)} {d : Document} (limit : Limit) (r : Result A Halt) → IfErr r (IsHalt limit xs d) → (AsksPattern xs d → AsksPattern ys d) → IfErr r (IsHalt limit ys d)
 halts_as limit r h f = err_so r _ _ (λ e k memory spent. f (k memory spent)) h
-
--- a halt of no pattern, passed on, is one of the whole
-pub halts_none : {A : Type 0} {d : Document} {limit : Limit} (ys : List (Bool × Argument)) (r : Result A Halt) (h : Halt) → IsErrAnd r (λ y. y ≡ h) → IsHalt limit [] d h → IfErr r (IsHalt limit ys d)
-halts_none ys r h is k = passed_on r _ _ is (λ y same memory spent. asked_none ys (k (λ e. memory (same ∙ e)) (λ s. spent (same ∙ s.0, s.1))))
 
 -- ---- patterns
 

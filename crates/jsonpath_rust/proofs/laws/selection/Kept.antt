@@ -4,18 +4,10 @@ use Rattle.std.proofs.lemmas.List.{get_or-set_same, map-set, length-set}
 use Rattle.std.proofs.lemmas.List.Elements.{All-head, All-tail}
 use Rattle.std.proofs.Math.ListN.{length-map}
 use Rattle.std.specs.declared.fmt.Debug as debug
-use Rattle.jsonpath_parser.specs.tree.Syntax.{Query}
-use Rattle.jsonpath_base.specs.Tree.{Tree}
-use Rattle.jsonpath_rust.specs.documents.Document.{Document}
-use Rattle.jsonpath_rust.specs.documents.Functions.{Evaluated}
-use Rattle.jsonpath_rust.specs.selection.inner.PlanViews.{Constants, ConstantPart, nodes, value, answered, compared, query_in, part_at, query_at}
-use Rattle.jsonpath_rust.specs.selection.inner.Keeping.{Keeps, AreEmpty, IsGiven, given_by, slots_of, slot_at, value_by}
-use Rattle.jsonpath_rust.specs.selection.inner.Wanting.{Gave, gave, given_of, given_value, wanted_of}
+use Rattle.jsonpath_rust.specs.Prelude.Documents.{Document, Evaluated, Ghosts, Query, Tree}
+use Rattle.jsonpath_rust.specs.Prelude.Selection.{answered, AreEmpty, Cache, compared, ConstantPart, Constants, Gave, gave, given_by, given_of, given_value, IsGiven, Keeps, nodes, part_at, query_at, query_in, slot_at, slots_of, value, value_by, Wanted, wanted_of}
 use Rattle.jsonpath_rust.specs.selection.inner.Wanting as wanting
-use Rattle.jsonpath_rust.specs.declared.documents.queryable.Queryable.{Ghosts}
-use Rattle.jsonpath_rust.specs.declared.selection.cache.Cache.{Cache}
 use Rattle.jsonpath_rust.specs.declared.selection.cache.Given.{Given}
-use Rattle.jsonpath_rust.specs.declared.selection.sink.Wanted.{Wanted}
 use Rattle.jsonpath_rust.specs.declared.selection.sink.Wanted.TheVariants as wanted
 use Rattle.jsonpath_rust.proofs.laws.selection.PlanLaws.{query_in-nodes}
 

@@ -1,16 +1,8 @@
 -- Steps on the way of a walk lead to the value at hand.
 use Rattle.std.proofs.Common.{◌≡◌, ℕ, ℤ, List, [], ◌∷◌, ◌++◌, sym, ◌∙◌, ap, subst, Some, IsTrue}
 use Rattle.std.proofs.lemmas.List.{map-append}
-use Rattle.std.specs.List.{AllByRecursion}
-use Rattle.jsonpath_parser.specs.Location.{index}
-use Rattle.jsonpath_base.specs.Tree.{Tree, has_distinct_names}
-use Rattle.jsonpath_base.specs.Places.{child, at}
-use Rattle.jsonpath_rust.specs.documents.Node.{Node, below}
-use Rattle.jsonpath_rust.specs.documents.Meaning.{indexed}
-use Rattle.jsonpath_base.specs.Steps.{lent_step, lent_location}
-use Rattle.jsonpath_base.specs.declared.step.StepRef.{StepRef}
-use Rattle.jsonpath_base.specs.declared.step.StepRef.TheVariants.{Index}
-use Rattle.jsonpath_rust.proofs.laws.documents.NodesAt.{Stands, stands-indexed, at-below}
+use Rattle.jsonpath_rust.specs.Prelude.Documents.{AllByRecursion, at, below, child, has_distinct_names, Index, index, indexed, lent_location, lent_step, Node, StepRef, Tree}
+use Rattle.jsonpath_rust.proofs.laws.documents.{at-below, Stands, stands-indexed}
 
 -- the same steps lead to the same value
 pub leads_as : (p q : List StepRef) (root t : Tree) → p ≡ q → at (lent_location q) root ≡ Some t → at (lent_location p) root ≡ Some t

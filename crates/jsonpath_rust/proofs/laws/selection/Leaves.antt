@@ -1,15 +1,8 @@
 -- A value that is no list and no object: nothing is selected below it.
 use Rattle.std.proofs.Common.{◌≡◌, ℕ, List, [], ◌∷◌, ◌++◌, filter, length, refl, sym, ◌∙◌, ap, None, option_and_then, option_to_list}
-use Rattle.std.specs.List.{flat_map}
-use Rattle.jsonpath_parser.specs.Location.{Location}
+use Rattle.jsonpath_rust.specs.Prelude.Documents.{all_pick, as_list, as_members, descendant, Document, element, element_of, flat_map, get, holds, list, Location, no_selectors, Node, null, number, object, one, picks, replaced, Segment, Selector, selector, Selectors, several, slice, slice_of, subtree, subtree_at, text, Tree, truth, wildcard}
+use Rattle.jsonpath_rust.proofs.laws.documents.{children_at-none, named_none, subtree-children}
 use Rattle.jsonpath_parser.specs.tree.Syntax as syntax
-use Rattle.jsonpath_parser.specs.tree.Syntax.{Selector, wildcard, slice, Selectors, no_selectors, selector, Segment, one, several, descendant}
-use Rattle.jsonpath_base.specs.Tree.{Tree, null, truth, number, text, list, object, as_list, as_members, get}
-use Rattle.jsonpath_base.specs.Slice.{slice_of}
-use Rattle.jsonpath_rust.specs.documents.Node.{Node, subtree, subtree_at}
-use Rattle.jsonpath_rust.specs.documents.Document.{Document}
-use Rattle.jsonpath_rust.specs.documents.Meaning.{picks, all_pick, replaced, element, element_of, holds}
-use Rattle.jsonpath_rust.proofs.laws.documents.Trees.{children_at-none, subtree-children, named_none}
 
 get-none : (k : List ℕ) (t : Tree) → None ≡ as_members t → None ≡ get k t
 get-none k null m = refl

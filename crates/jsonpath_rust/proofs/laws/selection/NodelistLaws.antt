@@ -1,11 +1,7 @@
 -- The nodelist of a query, reached node by node.
 use Rattle.std.proofs.Common.{◌≡◌, List, [], ◌∷◌, append-nil, sym, ◌∙◌}
-use Rattle.std.specs.List.{flat_map}
-use Rattle.jsonpath_parser.specs.tree.Syntax.{Segments, no_segments, segment, Query}
-use Rattle.jsonpath_rust.specs.documents.Document.{Document}
-use Rattle.jsonpath_rust.specs.documents.Node.{Node, root_node}
-use Rattle.jsonpath_rust.specs.documents.Meaning.{replaced, all_applied, nodelist}
-use Rattle.jsonpath_rust.specs.selection.inner.Walking.{through}
+use Rattle.jsonpath_rust.specs.Prelude.Documents.{all_applied, Document, flat_map, no_segments, Node, nodelist, Query, replaced, root_node, segment, Segments}
+use Rattle.jsonpath_rust.specs.Prelude.Selection.{through}
 use Rattle.jsonpath_rust.proofs.laws.selection.Walks.{flat_map-flat_map, flat_map-alone}
 
 -- whole lists segment by segment are the same as one node after another

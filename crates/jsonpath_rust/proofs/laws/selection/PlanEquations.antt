@@ -2,29 +2,17 @@
 use Rattle.std.proofs.lemmas.Simd.{map-map}
 use Rattle.std.proofs.Common.{◌≡◌, ◌∙◌, ap, ℕ, ℤ, map, Option, Bool, Box, Vec, String, Global, string_bytes, rules}
 use Rattle.jsonpath_parser.specs.tree.Syntax as tree
-use Rattle.jsonpath_parser.specs.tree.View.{literal_view, step_view, operator_view, selectors_of, filters_of, arguments_of}
+use Rattle.jsonpath_rust.specs.Prelude.Documents.{arguments_of, filters_of, literal_view, Operator, operator_view, selectors_of, SingularQuerySegment, step_view}
+use Rattle.jsonpath_rust.specs.Prelude.Selection.{Any, Argument, argument_view, arguments_meant, Call, call_at, call_view, Called, called_view, children_query, comparison_at, Constants, Count, Filter, filter_view, Nodes, nodes_view, Only, query_at, Segment, segment_view, segments_meant, Selector, selector_view, Side, side_view, steps_at, steps_query, the_lemmas, Values, Wanted}
 use Rattle.jsonpath_parser.specs.declared.tree.model.Literal.{Literal}
-use Rattle.jsonpath_parser.specs.declared.tree.model.SingularQuerySegment.{SingularQuerySegment}
-use Rattle.jsonpath_parser.specs.declared.tree.model.operator.Operator.{Operator}
-use Rattle.jsonpath_rust.specs.selection.inner.PlanViews.{Constants, query_at, steps_query, children_query, steps_at, call_at, comparison_at, segments_meant, arguments_meant, argument_view, call_view, called_view, filter_view, nodes_view, segment_view, selector_view, side_view}
 use Rattle.jsonpath_rust.specs.declared.selection.plan.Argument
-use Rattle.jsonpath_rust.specs.declared.selection.plan.Argument.{Argument}
 use Rattle.jsonpath_rust.specs.declared.selection.plan.Call
-use Rattle.jsonpath_rust.specs.declared.selection.plan.Call.{Call}
 use Rattle.jsonpath_rust.specs.declared.selection.plan.Called
-use Rattle.jsonpath_rust.specs.declared.selection.plan.Called.{Called}
 use Rattle.jsonpath_rust.specs.declared.selection.plan.Filter
-use Rattle.jsonpath_rust.specs.declared.selection.plan.Filter.{Filter, the_lemmas}
 use Rattle.jsonpath_rust.specs.declared.selection.plan.Nodes
-use Rattle.jsonpath_rust.specs.declared.selection.plan.Nodes.{Nodes}
 use Rattle.jsonpath_rust.specs.declared.selection.plan.Segment
-use Rattle.jsonpath_rust.specs.declared.selection.plan.Segment.{Segment}
 use Rattle.jsonpath_rust.specs.declared.selection.plan.Selector
-use Rattle.jsonpath_rust.specs.declared.selection.plan.Selector.{Selector}
 use Rattle.jsonpath_rust.specs.declared.selection.plan.Side
-use Rattle.jsonpath_rust.specs.declared.selection.plan.Side.{Side}
-use Rattle.jsonpath_rust.specs.declared.selection.sink.Wanted.{Wanted}
-use Rattle.jsonpath_rust.specs.declared.selection.sink.Wanted.TheVariants.{Any, Count, Only, Values}
 
 pub argument_view-Literal : (kept : Constants) (l : Literal) (w : Wanted) → argument_view kept (Argument.Literal l) w ≡ tree.literal_argument (literal_view l)
 argument_view-Literal kept l w = search (rules, the_lemmas)
@@ -139,3 +127,6 @@ side_view-Constant kept n = search (rules, the_lemmas)
 
 pub side_view-Call : (kept : Constants) (c : Called) → side_view kept (Side.Call c) ≡ tree.test_argument (tree.call (called_view kept c))
 side_view-Call kept c = search (rules, the_lemmas)
+
+-- all of them
+pub ruleset plan_equations = (argument_view-Literal, argument_view-Pattern, argument_view-Nodes, argument_view-Call, argument_view-Filter, call_view-Custom, call_view-Length, call_view-Value, call_view-Count, call_view-CountChildren, call_view-Search, call_view-Match, called_view-Here, called_view-Constant, filter_view-Or, filter_view-And, filter_view-Group, filter_view-Exists, filter_view-HasChild, filter_view-Call, filter_view-Comparison, filter_view-Constant, nodes_view-Lookup, nodes_view-Walk, nodes_view-Constant, segment_view-Descendant, segment_view-Selector, segment_view-Selectors, selector_view-Name, selector_view-Wildcard, selector_view-Index, selector_view-Slice, selector_view-Filter, side_view-Literal, side_view-Lookup, side_view-Constant, side_view-Call, called)

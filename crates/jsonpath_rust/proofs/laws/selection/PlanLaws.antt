@@ -1,21 +1,14 @@
 -- How the steps of the making of a plan follow one another.
 use Rattle.std.proofs.Common.{◌≡◌, ℕ, ◌+◌, ◌<◌, ◌≤◌, List, [], ◌∷◌, ◌++◌, map, length, get_or, take, true, false, Bool, ◌&&◌, refl, sym, ◌∙◌, ap, subst, append_assoc, append-nil, if◌then◌else◌, IsTrue}
 use Rattle.std.proofs.Math.Seq.{get_or-append_seam}
-use Rattle.std.proofs.lemmas.List.{map-append, map_more, get_or_append_left, take_all}
+use Rattle.std.proofs.lemmas.List.{map-append, map_more, take_all}
 use Rattle.std.proofs.Math.ListN.{length-map}
 use Rattle.std.proofs.lemmas.Bool.{and_from, and_parts, both_ways}
 use Rattle.std.proofs.lemmas.List.Folds.{list_all-append}
-use Rattle.std.specs.List.{list_all}
+use Rattle.jsonpath_rust.specs.Prelude.Documents.{arguments_of, filters_of, list_all, segments_of}
+use Rattle.jsonpath_rust.specs.Prelude.Selection.{Any, argument_is_rooted, arguments_are_rooted, Constant, constant_view, ConstantPart, Constants, Count, Extends, filter_is_rooted, filters_are_rooted, is_same_wanted, IsBeside, IsKept, IsNumbered, IsRight, IsRooted, IsSettled, kept_from, kept_in, kept_view, Made, nodes, Only, part_at, part_is_rooted, parts_where, query_in, Segment, segment_view, segments_meant, value, Values, Wanted}
 use Rattle.jsonpath_parser.specs.tree.Syntax as tree
-use Rattle.jsonpath_parser.specs.tree.View.{segments_of, filters_of, arguments_of}
-use Rattle.jsonpath_rust.specs.selection.inner.PlanViews.{Constants, ConstantPart, nodes, value, kept_view, kept_from, constant_view, segments_meant, segment_view, is_same_wanted, query_in, part_at, part_is_rooted, IsSettled, IsRooted}
-use Rattle.jsonpath_rust.specs.selection.inner.Rooted.{filter_is_rooted, filters_are_rooted, argument_is_rooted, arguments_are_rooted}
-use Rattle.jsonpath_rust.specs.selection.inner.PlanMaking.{Extends, IsRight, Made, IsBeside, IsKept, IsNumbered, IsNumberOf, kept_in, parts_where}
-use Rattle.jsonpath_rust.specs.declared.selection.plan.Constant.{Constant}
-use Rattle.jsonpath_rust.specs.declared.selection.plan.Segment.{Segment}
 use Rattle.jsonpath_rust.specs.declared.selection.plan.make.Maker.{Maker}
-use Rattle.jsonpath_rust.specs.declared.selection.sink.Wanted.{Wanted}
-use Rattle.jsonpath_rust.specs.declared.selection.sink.Wanted.TheVariants.{Any, Count, Only, Values}
 
 extends_none : (a : Constants) → Extends a a
 extends_none a = record { more = []; is = sym (append-nil a) }
@@ -115,20 +108,7 @@ kept_push kept (x ∷ es) e = kept_push (kept ++ constant_view kept x ∷ []) es
 kept_count : (m : Maker) → IsRight m → length (kept_in m) ≡ length m.constants.items
 kept_count m r = sym (ap (λ l. length l) (r.settled (kept_in m) (extends_none (kept_in m)))) ∙ length-map m.constants.items (constant_view (kept_in m))
 
--- the constant of this number stands for what the part stands for
-numbered_found : (m : Maker) (part : Constant) (n : ℕ) → IsNumberOf m.constants.items part n → IsNumbered m m part n
-numbered_found m part n h = record {
-  made = λ {first} {p} d root. record {
-    grows = d.grows;
-    says = λ r kept x.
-        let right : IsRight m = d.right r in
-        ap (λ l. part_at l n) x.is ∙ get_or_append_left (kept_in m) x.more (value []) n (subst (λ k. n < k) (sym (kept_count m right)) h.within) ∙ ap (λ l. part_at l n) (sym (right.settled kept x)) ∙ h.is kept ∙ d.says r kept x;
-    right = d.right;
-    rooted = d.rooted;
-  };
-}
-
--- so does the one that was added
+-- the constant that was added stands for what the part stands for
 pub numbered_kept : (old new : Maker) (part : Constant) (n : ℕ) → IsKept old new part n → IsNumbered old new part n
 numbered_kept old new part n k = record {
   made = λ {first} {p} m root.
@@ -150,9 +130,6 @@ numbered_kept old new part n k = record {
         rooted = λ h. m.rooted (sym k.met ∙ h);
       };
 }
-
-pub numbered_by : {old new : Maker} {part : Constant} {n : ℕ} → IsNumberOf old.constants.items part n → IsBeside old new old.met.rooted → IsNumbered old new part n
-numbered_by {old = old} {new = new} {part = part} {n = n} h b = record { made = λ m root. made_around same_maker b m.rooted ((numbered_found old part n h).made m root) }
 
 -- ---- the plan
 

@@ -1,18 +1,9 @@
 -- What has no `@` is the same at all nodes.
 use Rattle.std.proofs.Common.{◌≡◌, ℕ, suc, zero, [], ◌∷◌, ◌++◌, refl, sym, ◌∙◌, ap, Bool, true, false, ◌&&◌, ◌||◌, Option, Some, IsTrue}
 use Rattle.std.proofs.lemmas.Bool.{and_parts}
-use Rattle.std.specs.List.{list_all}
-use Rattle.jsonpath_parser.specs.tree.Syntax.{Filter, or, and, Filters, no_filters, filter_then, group, test, compare, Test, relative, absolute, call, Call, custom_call, length_call, value_call, count_call, search_call, match_call, Argument, literal_argument, test_argument, filter_argument, Arguments, no_arguments, argument}
-use Rattle.jsonpath_base.specs.Tree.{Tree, truth}
-use Rattle.jsonpath_rust.specs.documents.Comparing.{compares}
-use Rattle.jsonpath_rust.specs.documents.Document.{Document}
-use Rattle.jsonpath_rust.specs.documents.Functions.{length_of, count_of, only_value, is_matched, of_value, as_value, as_nodes, as_trees, as_truth}
-use Rattle.jsonpath_rust.specs.documents.Meaning.{holds, some_holds, each_holds, answer, argued, tested, all_trees, negated}
-use Rattle.jsonpath_rust.specs.documents.Node.{Node, root_node}
-use Rattle.jsonpath_rust.specs.selection.inner.Keeping.{given_by}
+use Rattle.jsonpath_rust.specs.Prelude.Documents.{absolute, all_trees, and, answer, argued, Argument, argument, Arguments, as_nodes, as_trees, as_truth, as_value, Call, call, compare, compares, count_call, count_of, custom_call, Document, each_holds, Filter, filter_argument, filter_then, Filters, group, holds, is_matched, length_call, length_of, list_all, literal_argument, match_call, negated, no_arguments, no_filters, Node, of_value, only_value, or, relative, root_node, search_call, some_holds, Test, test, test_argument, tested, Tree, truth, value_call}
+use Rattle.jsonpath_rust.specs.Prelude.Selection.{answered, AreRooted, argument_is_rooted, arguments_are_rooted, call_at, call_in, call_is_rooted, compared, comparison_at, comparison_in, ConstantPart, Constants, filter_is_rooted, filters_are_rooted, given_by, nodes, part_at, part_is_rooted, test_is_rooted, value}
 use Rattle.jsonpath_rust.specs.selection.inner.Wanting as wanting
-use Rattle.jsonpath_rust.specs.selection.inner.PlanViews.{Constants, ConstantPart, nodes, value, answered, compared, part_at, part_is_rooted, call_in, comparison_in, call_at, comparison_at, AreRooted}
-use Rattle.jsonpath_rust.specs.selection.inner.Rooted.{filter_is_rooted, filters_are_rooted, test_is_rooted, call_is_rooted, argument_is_rooted, arguments_are_rooted}
 
 mutual
   filter_same : (f : Filter) (d : Document) (n m : Node) → IsTrue (filter_is_rooted f) → holds f d n ≡ holds f d m

@@ -2,20 +2,12 @@
 use Rattle.std.proofs.Common.{◌≡◌, ℕ, suc, pos, min, ◌+◌, ◌≤◌, List, [], ◌∷◌, ◌++◌, map, length, append-nil, append_assoc, refl, sym, ◌∙◌, ap, arith, Bool, true, false, Result, IfOk, Some, None, unwrap_or}
 use Rattle.std.proofs.lemmas.Result.{IfOk-weaker}
 use Rattle.std.proofs.lemmas.Bool.{false≢true}
-use Rattle.jsonpath_parser.specs.Location.{Location}
-use Rattle.jsonpath_parser.specs.Normal.{normal}
-use Rattle.jsonpath_base.specs.Tree.{Tree, number}
-use Rattle.jsonpath_base.specs.RemovalViews.{removal_set, removal_count}
-use Rattle.jsonpath_base.specs.Without.{is_among, distinct_count, also, counted_with}
+use Rattle.jsonpath_rust.specs.Prelude.Documents.{also, counted_with, distinct_count, greatest_count, has_node, is_among, Location, Node, normal, number, of_nodes, Removal, removal_count, removal_set, Tree}
+use Rattle.jsonpath_rust.specs.Prelude.Selection.{add, any, any_in, count, finished, first, first_in, full, give, given_of, IsRemovalOf, locations, locations_in, nodes_in, nothing, one, path_and_tree, paths, paths_in, removal, removal_in, Seen, several, start, Took, values, values_in, Wanted}
 use Rattle.jsonpath_base.specs.inner.Marks.{set_with}
-use Rattle.jsonpath_base.specs.declared.removal.Removal.{Removal}
 use Rattle.jsonpath_base.proofs.Removed.{set_begun}
-use Rattle.jsonpath_rust.specs.documents.Node.{Node, has_node}
-use Rattle.jsonpath_rust.specs.documents.Functions.{greatest_count, of_nodes}
-use Rattle.jsonpath_rust.specs.selection.inner.Sinks.{Seen, nodes, paths, values, locations, removal, any, count, nothing, one, several, first, start, add, give, full, any_in, first_in, nodes_in, paths_in, locations_in, removal_in, values_in, path_and_tree, IsRemovalOf, Took}
-use Rattle.jsonpath_rust.specs.selection.inner.Wanting.{finished, given_of}
+use Rattle.jsonpath_rust.specs.selection.inner.Sinks.{nodes}
 use Rattle.jsonpath_rust.specs.selection.inner.Wanting as wanting
-use Rattle.jsonpath_rust.specs.declared.selection.sink.Wanted.{Wanted}
 use Rattle.jsonpath_rust.specs.declared.selection.sink.Wanted.TheVariants as wanted
 
 pub give-append : (s : Seen) (xs ys : List Node) → give s (xs ++ ys) ≡ give (give s xs) ys

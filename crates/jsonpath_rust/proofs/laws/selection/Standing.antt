@@ -1,29 +1,18 @@
 -- Where a walk stands, and how it comes back, one call after another.
-use Rattle.std.proofs.Common.{◌≡◌, List, [], arith, refl, ◌∙◌, Bool, Result, Ok, Err, OnOk}
-use Rattle.std.specs.Result.{IsErrAnd}
+use Rattle.std.proofs.Common.{◌≡◌, List, [], refl, ◌∙◌, Bool, Result, Ok, Err, OnOk}
+use Rattle.jsonpath_rust.specs.Prelude.Documents.{Argument, AsksPattern, Ghosts, Halt, IsErrAnd, StepRef, WholeRef}
+use Rattle.jsonpath_rust.specs.Prelude.Selection.{Cache, Comes, document, IsHalt, IsReady, Returns, Stands, Task, Trail}
 use Rattle.std.specs.declared.fmt.Debug as debug
-use Rattle.jsonpath_parser.specs.tree.Syntax.{Argument}
-use Rattle.jsonpath_rust.specs.documents.Patterns.{AsksPattern}
-use Rattle.jsonpath_rust.specs.selection.inner.Halting.{IsHalt}
-use Rattle.jsonpath_rust.specs.selection.inner.Keeping.{IsReady, document}
-use Rattle.jsonpath_rust.specs.selection.inner.Standing.{Stands, Returns, Comes}
-use Rattle.jsonpath_rust.specs.declared.documents.halt.Halt.{Halt}
-use Rattle.jsonpath_rust.specs.declared.documents.queryable.Queryable.{Ghosts}
-use Rattle.jsonpath_rust.specs.declared.documents.whole.WholeRef.{WholeRef}
-use Rattle.jsonpath_rust.specs.declared.selection.cache.Cache.{Cache}
-use Rattle.jsonpath_rust.specs.declared.selection.trail.Trail.{Trail}
-use Rattle.jsonpath_rust.specs.declared.selection.walk.Task.{Task}
-use Rattle.jsonpath_base.specs.declared.step.StepRef.{StepRef}
 use Rattle.jsonpath_rust.proofs.laws.selection.HaltingLaws.{halts_as}
 use Rattle.jsonpath_rust.proofs.laws.selection.Leading.{leads_as}
 
 -- with the same steps in other words
 pub stands_as : {A : Type 0} {R : Ghosts A} {D : debug.Ghosts A} {task : Task A R D} {x : WholeRef A R D} {p q : List StepRef} {cache : Cache A R D} → q ≡ p → Stands task x p cache → Stands task x q cache
-stands_as {p = p} {q = q} e s = record { within = s.within; here = leads_as q p _ _ e s.here; ready = s.ready }
+stands_as {p = p} {q = q} e s = record { here = leads_as q p _ _ e s.here; ready = s.ready }
 
 -- where it stood before a call that came back
 pub still : {A : Type 0} {R : Ghosts A} {D : debug.Ghosts A} {task : Task A R D} {x : WholeRef A R D} {old new : Trail A R D} → Stands task x old.way.steps.items old.cache → Returns task old new → Stands task x new.way.steps.items new.cache
-still s r = record { within = s.within; here = leads_as _ _ _ _ r.same s.here; ready = r.ready }
+still s r = record { here = leads_as _ _ _ _ r.same s.here; ready = r.ready }
 
 -- nothing was done
 pub stays : {A : Type 0} {R : Ghosts A} {D : debug.Ghosts A} {task : Task A R D} {trail : Trail A R D} → IsReady task trail.cache → Returns task trail trail
@@ -31,7 +20,7 @@ stays h = record { same = refl; ready = h }
 
 -- at the root
 pub at_root : {A : Type 0} {R : Ghosts A} {D : debug.Ghosts A} {task : Task A R D} {steps : List StepRef} {cache : Cache A R D} → steps ≡ [] → IsReady task cache → Stands task task.root steps cache
-at_root e h = record { within = omega arith; here = leads_as _ [] _ _ e refl; ready = h }
+at_root e h = record { here = leads_as _ [] _ _ e refl; ready = h }
 
 -- one call, then another
 pub on : {A : Type 0} {R : Ghosts A} {D : debug.Ghosts A} {task : Task A R D} {old mid new : Trail A R D} → Returns task old mid → Returns task mid new → Returns task old new

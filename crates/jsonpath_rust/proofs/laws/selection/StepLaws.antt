@@ -1,20 +1,10 @@
 -- Names and indexes that are looked up lead where the walk would.
 use Rattle.std.proofs.Common.{◌≡◌, List, [], ◌∷◌, map, refl, sym, ◌∙◌, ap, Option, None, Some, is_some, option_map, option_to_list}
-use Rattle.jsonpath_parser.specs.tree.Syntax.{relative}
-use Rattle.jsonpath_parser.specs.tree.View.{step_view}
-use Rattle.jsonpath_parser.specs.declared.tree.model.SingularQuerySegment.{SingularQuerySegment}
+use Rattle.jsonpath_rust.specs.Prelude.Documents.{all_applied, as_trees, as_truth, Document, has_node, Node, of_nodes, relative, root_node, SingularQuerySegment, step_view, tested, Tree, value_at}
+use Rattle.jsonpath_rust.specs.Prelude.Selection.{steps_query, Wanted, wanted_of}
+use Rattle.jsonpath_rust.proofs.laws.documents.{singular_trees}
 use Rattle.jsonpath_parser.proofs.laws.tree.Steps.{steps_singular}
-use Rattle.jsonpath_base.specs.Tree.{Tree}
-use Rattle.jsonpath_rust.specs.documents.Document.{Document}
-use Rattle.jsonpath_rust.specs.documents.Functions.{of_nodes, as_trees, as_truth}
-use Rattle.jsonpath_rust.specs.documents.Meaning.{all_applied, tested}
-use Rattle.jsonpath_rust.specs.documents.Node.{Node, root_node, has_node}
-use Rattle.jsonpath_rust.specs.documents.inner.Singular.{value_at}
-use Rattle.jsonpath_rust.specs.selection.inner.PlanViews.{steps_query}
-use Rattle.jsonpath_rust.specs.selection.inner.Wanting.{wanted_of}
-use Rattle.jsonpath_rust.specs.declared.selection.sink.Wanted.{Wanted}
 use Rattle.jsonpath_rust.specs.declared.selection.sink.Wanted.TheVariants as wanted
-use Rattle.jsonpath_rust.proofs.laws.documents.Singular.{singular_trees}
 
 abbrev pub trees_of : List Node → List Tree
 trees_of ns = map (λ n. n.tree) ns

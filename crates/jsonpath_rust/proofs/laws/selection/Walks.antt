@@ -1,19 +1,12 @@
--- The loops and the measures of the walk.
-use Rattle.std.proofs.Common.{◌≡◌, ℕ, suc, ◌+◌, ◌*◌, ◌<◌, ◌≤◌, List, [], ◌∷◌, ◌++◌, map, filter, cond, length, get_or, drop, drop-cons, add-one, refl, sym, ◌∙◌, ap, arith, Bool, true, false}
-use Rattle.std.proofs.Math.Nat.{mul-le-mul_left}
+-- The loops of the walk.
+use Rattle.std.proofs.Common.{◌≡◌, ℕ, suc, ◌+◌, ◌<◌, ◌≤◌, List, [], ◌∷◌, ◌++◌, map, filter, cond, length, get_or, drop, drop-cons, add-one, refl, sym, ◌∙◌, ap, subst, All, Bool, true, false}
 use Rattle.std.proofs.lemmas.Grind.{flat_map-append}
 use Rattle.std.proofs.lemmas.List.{at_drop_all}
-use Rattle.std.specs.List.{flat_map}
-use Rattle.jsonpath_parser.specs.Location.{Location, name, index}
-use Rattle.jsonpath_base.specs.Tree.{Tree}
-use Rattle.jsonpath_rust.specs.documents.Document.{Document}
-use Rattle.jsonpath_rust.specs.documents.Node.{Node, below, element_nodes, member_nodes, children_at, subtree, subtree_at}
-use Rattle.jsonpath_rust.specs.documents.Meaning.{picks, all_pick}
-use Rattle.jsonpath_rust.specs.selection.inner.PlanViews.{Constants, selector_view, selectors_meant}
-use Rattle.jsonpath_rust.specs.selection.inner.Sinks.{Seen, give, Took}
-use Rattle.jsonpath_rust.proofs.laws.selection.Work.{work}
+use Rattle.std.proofs.lemmas.List.Elements.{All-head, All-tail}
+use Rattle.jsonpath_rust.specs.Prelude.Documents.{all_pick, below, children_at, Document, element_nodes, flat_map, index, Location, member_nodes, name, Node, picks, subtree, subtree_at, Tree}
+use Rattle.jsonpath_rust.specs.Prelude.Selection.{Constants, give, Seen, selector_view, selectors_meant, Took}
+use Rattle.jsonpath_rust.proofs.laws.documents.{subtree-children}
 use Rattle.jsonpath_rust.proofs.laws.selection.Sinks.{give-append, give-full}
-use Rattle.jsonpath_rust.proofs.laws.documents.Trees.{subtree-children}
 
 -- ---- a loop: G k gives what is left of the list from its k-th element on, g k gives that element
 
@@ -76,19 +69,9 @@ place_stop rest at old new i s m w b e k f v = sym (give-full m (flat_map rest (
 pub below_more : (rest act : Node → List Node) (l : Location) (t : Tree) → flat_map rest (act (record { location = l; tree = t })) ++ flat_map rest (flat_map (λ m. flat_map act (subtree m)) (children_at l t)) ≡ flat_map rest (flat_map act (subtree_at l t))
 below_more rest act l t = sym (ap (λ ns. flat_map rest (flat_map act ns)) (subtree-children l t) ∙ flat_map-append rest (act (record { location = l; tree = t })) (flat_map act (flat_map subtree (children_at l t))) ∙ ap (λ ns. flat_map rest (act (record { location = l; tree = t })) ++ flat_map rest ns) (flat_map-flat_map subtree act (children_at l t)))
 
--- ---- measures
+-- the first of places that are all below m, and the later ones
+pub first_below : {m k : ℕ} {is js : List ℕ} → is ≡ k ∷ js → All (λ i. i < m) is → k < m
+first_below {m = m} {k = k} e h = All-head (λ i. i < m) k _ (subst (All (λ i. i < m)) e h)
 
-work_less : (v w r x y : ℕ) → v < w → x < 5 * r + 5 → work v r x < work w r y
-work_less v w r x y h k = omega (arith, k, mul-le-mul_left (5 * r + 5) h)
-
--- a smaller part of the query, wherever in the document
-pub down : (v w r x y t : ℕ) → work w r y ≡ t → v < w → x < 5 * r + 5 → work v r x < t
-down v w r x y t e h k = omega (arith, e, work_less v w r x y h k)
-
--- the same part, at a smaller place
-pub down_tree : (w r x y t : ℕ) → work w r y ≡ t → x < y → work w r x < t
-down_tree w r x y t e h = omega (arith, e, h)
-
--- the same part in other words
-pub down_same : (v w r x y t : ℕ) → work w r y ≡ t → v ≡ w → x < y → work v r x < t
-down_same v w r x y t e f h = rw f (down_tree w r x y t e h)
+pub later_below : {m k : ℕ} {is js : List ℕ} → is ≡ k ∷ js → All (λ i. i < m) is → All (λ i. i < m) js
+later_below {m = m} {k = k} e h = All-tail (λ i. i < m) k _ (subst (All (λ i. i < m)) e h)

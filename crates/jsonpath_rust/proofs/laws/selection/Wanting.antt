@@ -1,19 +1,10 @@
 -- What is wanted of a query inside a filter, and what an argument is that is no query.
 use Rattle.std.proofs.Common.{◌≡◌, map, refl, sym, ◌∙◌, subst, rules}
 use Rattle.jsonpath_parser.specs.tree.Syntax as tree
-use Rattle.jsonpath_parser.specs.tree.View.{segments_of}
-use Rattle.jsonpath_rust.specs.documents.Document.{Document}
-use Rattle.jsonpath_rust.specs.documents.Functions.{of_value, as_nodes, as_value, only_value}
-use Rattle.jsonpath_rust.specs.documents.Meaning.{argued, tested}
-use Rattle.jsonpath_rust.specs.documents.Node.{Node}
-use Rattle.jsonpath_rust.specs.selection.inner.PlanViews.{Constants, argument_view, nodes_view, segment_view}
-use Rattle.jsonpath_rust.specs.selection.inner.Wanting.{IsValue}
-use Rattle.jsonpath_rust.specs.declared.selection.plan.Argument.{Argument}
-use Rattle.jsonpath_rust.specs.declared.selection.plan.Filter.{the_lemmas}
+use Rattle.jsonpath_rust.specs.Prelude.Documents.{argued, as_nodes, as_value, Document, Node, of_value, only_value, segments_of, tested}
+use Rattle.jsonpath_rust.specs.Prelude.Selection.{Argument, argument_view, Constants, IsValue, items-the_row-Segment, items_shown-the_row-Segment-2, Nodes, nodes_view, segment_view, the_lemmas, Wanted}
 use Rattle.jsonpath_rust.specs.declared.selection.plan.Nodes
-use Rattle.jsonpath_rust.specs.declared.selection.plan.Nodes.{Nodes, items-the_row-Segment, items_shown-the_row-Segment-2}
 use Rattle.jsonpath_rust.specs.declared.selection.plan.Nodes.TheVariants as nodes_variants
-use Rattle.jsonpath_rust.specs.declared.selection.sink.Wanted.{Wanted}
 use Rattle.jsonpath_rust.proofs.laws.selection.PlanEquations.{nodes_view-Lookup, nodes_view-Constant}
 
 ruleset layers = (rules, the_lemmas, nodes_variants.outs-Walk', items_shown-the_row-Segment-2)

@@ -1,24 +1,11 @@
 -- The two evaluators agree: on every well-typed query, what `process` makes from the root is what the query selects.
 use Rattle.std.proofs.Common.{◌≡◌, ℕ, List, [], ◌∷◌, ◌++◌, map, append_assoc, append-nil, refl, sym, ◌∙◌, ap, Bool, true, false, ◌||◌, ◌&&◌, Option, Some, Result, Ok, Err, IfOk, IsTrue}
 use Rattle.std.proofs.lemmas.Bool.{and_parts}
-use Rattle.std.specs.List.{AllByRecursion, AllZip, flat_map}
 use Rattle.std.specs.Prelude.{codes}
-use Rattle.jsonpath_parser.specs.Normal.{normal}
+use Rattle.jsonpath_rust.specs.Prelude.Documents.{absolute, all_applied, all_pick, all_trees, AllByRecursion, AllZip, and, answer, are_typed_arguments, are_typed_filters, are_typed_selectors, argued, Argument, argument, Arguments, as_nodes, as_trees, as_value, at, Call, call, children, compare, compares, count_call, custom_call, descendant, Document, each_holds, Filter, filter_argument, filter_then, Filters, flat_map, group, has_distinct_names, holds, indexed, is_matched, is_truth_test, is_typed, is_typed_argument, is_typed_call, is_typed_filter, is_typed_segment, is_typed_selector, is_typed_side, is_typed_test, is_value_argument, IsNodeAt, IsValueAt, length_call, length_of, literal_argument, match_call, named, negated, no_arguments, no_filters, no_segments, no_selectors, Node, nodelist, normal, one, or, picks, Query, relative, replaced, root_node, search_call, Segment, segment, Segments, selected, Selector, selector, Selectors, several, slice, sliced, some_holds, takes, Test, test, test_argument, tested, Tree, truth, value_call, wildcard}
+use Rattle.jsonpath_rust.specs.Prelude.States.{argument_content, arguments_trees, call_content, Content, each_holds_at, found_from, holds_at, inside, joined_from, mapped, nothing, parents_from, plain, processed, ProcessGivesTheNodelist, reduced, ref, root_content, segment_content, segments_content, selector_content, some_holds_at, Target, targets, test_content, unless_none}
+use Rattle.jsonpath_rust.proofs.laws.documents.{nodes_at}
 use Rattle.jsonpath_parser.specs.tree.Syntax as syntax
-use Rattle.jsonpath_parser.specs.tree.Syntax.{Selector, wildcard, slice, Selectors, no_selectors, selector, Segment, one, several, descendant, Segments, no_segments, segment, Filter, or, and, Filters, no_filters, filter_then, group, test, compare, Test, relative, absolute, call, Call, custom_call, length_call, value_call, count_call, search_call, match_call, Argument, literal_argument, test_argument, filter_argument, Arguments, no_arguments, argument, Query}
-use Rattle.jsonpath_parser.specs.tree.Typing.{takes, is_truth_test, is_value_argument, is_typed, is_typed_segment, is_typed_selector, are_typed_selectors, is_typed_filter, are_typed_filters, is_typed_side, is_typed_test, is_typed_call, is_typed_argument, are_typed_arguments}
-use Rattle.jsonpath_base.specs.Places.{at}
-use Rattle.jsonpath_base.specs.Tree.{Tree, truth, has_distinct_names}
-use Rattle.jsonpath_rust.specs.documents.Answer.{IsNodeAt, IsValueAt}
-use Rattle.jsonpath_rust.specs.documents.Comparing.{compares}
-use Rattle.jsonpath_rust.specs.documents.Document.{Document}
-use Rattle.jsonpath_rust.specs.documents.Functions.{as_value, as_nodes, as_trees, length_of, is_matched}
-use Rattle.jsonpath_rust.specs.documents.Meaning.{named, indexed, sliced, negated, picks, all_pick, replaced, all_applied, holds, some_holds, each_holds, answer, argued, tested, all_trees, nodelist, selected}
-use Rattle.jsonpath_rust.specs.documents.Node.{Node, root_node, children}
-use Rattle.jsonpath_rust.specs.states.Process.{plain, unless_none, selector_content, joined_from, segment_content, segments_content, holds_at, some_holds_at, each_holds_at, test_content, call_content, argument_content, arguments_trees}
-use Rattle.jsonpath_rust.specs.states.Processed.{processed, ProcessGivesTheNodelist}
-use Rattle.jsonpath_rust.specs.states.State.{Target, Content, ref, nothing, targets, mapped, reduced, found_from, inside, parents_from, root_content}
-use Rattle.jsonpath_rust.proofs.laws.documents.NodesAt.{nodes_at}
 use Rattle.jsonpath_rust.proofs.laws.states.Contents.{IsNodes, IsPlain, targets-mapped, reduced-nodes, targets-reduced, targets-named, targets-some, targets-indexed, targets-sliced, targets-kept, targets-selector, selector-nodes, segments-nodes, length-value, call-plain, value_argument-plain, compare-plain}
 use Rattle.jsonpath_rust.proofs.laws.states.Finders.{Shows, alone, finds, named-by_tree, indexed-by_tree, sliced-by_tree, children-by_tree, shows-append, shows-each, shows-kept, shows-as, shows-same}
 use Rattle.jsonpath_rust.proofs.laws.states.Meant.{Means, meant-value, meant-nodes, meant-trees, meant-truth, value-shown, count-shown}

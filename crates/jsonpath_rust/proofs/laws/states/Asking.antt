@@ -3,26 +3,10 @@
 use Rattle.std.proofs.Common.{◌≡◌, ℕ, zero, suc, ◌<◌, List, [], ◌∷◌, ◌++◌, length, get_or, map, cond, refl, sym, ◌∙◌, ap, subst, arith, Bool, true, false, Option, Some, None, option_and_then, Result, IfErr, IsTrue, inl, inr}
 use Rattle.std.proofs.lemmas.List.{length-map}
 use Rattle.std.proofs.lemmas.List.Elements.{Contains-append_left, Contains-append_right, All-head, All-tail}
-use Rattle.std.specs.List.{AllByRecursion, Contains}
-use Rattle.std.specs.Result.{IsErrAnd}
-use Rattle.jsonpath_parser.specs.tree.Syntax.{Argument, Segment}
-use Rattle.jsonpath_base.specs.Tree.{Tree, has_distinct_names}
-use Rattle.jsonpath_base.specs.Places.{at}
-use Rattle.jsonpath_rust.specs.states.Asking.{tops, IsBelow, IsAsked, AsksPatternAt}
-use Rattle.jsonpath_rust.specs.documents.Document.{Document}
-use Rattle.jsonpath_rust.specs.documents.Node.{children}
-use Rattle.jsonpath_rust.specs.documents.Patterns.{IsPattern}
-use Rattle.jsonpath_rust.specs.states.Process.{plain, argument_content, segment_content}
-use Rattle.jsonpath_rust.specs.states.State.{Target, Content, ref, targets, inside, found_from, has_parts, mapped, parents_from, root_content, target_of, content_of, PointersAreWhole, DataIsWhole}
-use Rattle.jsonpath_rust.specs.states.inner.Evaluating.{parts_from}
-use Rattle.jsonpath_rust.specs.declared.documents.halt.Halt.{Halt}
-use Rattle.jsonpath_rust.specs.declared.documents.halt.Halt.TheVariants.{Memory}
-use Rattle.jsonpath_rust.specs.declared.states.state.data.Data.{Data}
-use Rattle.jsonpath_rust.specs.declared.states.state.data.Data.TheVariants.{Ref, Refs, Value, Nothing}
-use Rattle.jsonpath_rust.specs.declared.states.state.pointer.Pointer.{Pointer}
+use Rattle.jsonpath_rust.specs.Prelude.Documents.{AllByRecursion, Argument, at, children, Contains, Document, Halt, has_distinct_names, IsErrAnd, IsPattern, Memory, Pattern, Segment, Spent, Tree}
+use Rattle.jsonpath_rust.specs.Prelude.States.{argument_content, AsksPatternAt, Content, content_of, Data, DataIsWhole, found_from, HaltsBelow, has_parts, inside, IsAsked, IsBelow, mapped, Nothing, parents_from, parts_from, plain, Pointer, PointersAreWhole, Ref, ref, Refs, root_content, segment_content, Target, target_of, targets, tops, Value}
+use Rattle.jsonpath_rust.proofs.laws.documents.{at-append, contains_part, each_at, err_so, passed_on}
 use Rattle.jsonpath_rust.proofs.laws.states.Lies.{LiesIn, Stays, IsDistinct, segment-stays, mapped-parents-stays, stays-children, stays-itself, lies-target}
-use Rattle.jsonpath_rust.proofs.laws.documents.NodesAt.{at-append, each_at}
-use Rattle.jsonpath_rust.proofs.laws.documents.Parts.{contains_part, err_so, passed_on}
 
 -- ---- fewer patterns, or fewer states
 
@@ -62,6 +46,15 @@ asks_none d S h = omega (arith, h.stands.1)
 
 pub asks_nothing : {d : Document} {S R : Content → Type 0} (ps : List (Bool × Argument)) → AsksPatternAt [] d S → AsksPatternAt ps d R
 asks_nothing {d} {S} ps h = absurd (asks_none d S h)
+
+-- so memory alone ran out
+alone_here : (d : Document) (c : Content) (h : Halt) → HaltsBelow [] d c h → h ≡ Memory
+alone_here d c Memory k = refl
+alone_here d c Pattern k = absurd (asks_none d (IsBelow d c) (k (λ e. let both : Pattern ≡ Memory = e in cc)))
+alone_here d c Spent k = absurd (asks_none d (IsBelow d c) (k (λ e. let both : Spent ≡ Memory = e in cc)))
+
+pub memory_alone : {A : Type 0} (d : Document) (c : Content) (r : Result A Halt) → IfErr r (HaltsBelow [] d c) → IfErr r (λ h. h ≡ Memory)
+memory_alone d c r h = err_so r (HaltsBelow [] d c) (λ y. y ≡ Memory) (alone_here d c) h
 
 -- ---- where: what is below targets that lie in a state is below the state
 

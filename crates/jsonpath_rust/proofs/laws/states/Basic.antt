@@ -2,11 +2,8 @@
 use Rattle.std.proofs.Common.{◌≡◌, refl, IsTrue}
 use Rattle.std.proofs.lemmas.Bool.{false≢true}
 use Rattle.jsonpath_parser.specs.Parts.{is_comparison}
-use Rattle.jsonpath_parser.specs.tree.Syntax.{Filter, test}
-use Rattle.jsonpath_base.specs.Tree.{truth}
-use Rattle.jsonpath_rust.specs.documents.Document.{Document}
-use Rattle.jsonpath_rust.specs.states.Process.{is_truth, holds_at, basic_content}
-use Rattle.jsonpath_rust.specs.states.State.{Content, value}
+use Rattle.jsonpath_rust.specs.Prelude.Documents.{Document, Filter, test, truth}
+use Rattle.jsonpath_rust.specs.Prelude.States.{basic_content, Content, holds_at, is_truth, value}
 
 -- it is true where the filter holds
 pub basic-truth : (f : Filter) (d : Document) (c : Content) → is_truth (basic_content f d c) ≡ holds_at f d c

@@ -1,20 +1,10 @@
 -- The contents that the parts of a query make: which are nodes, which are no list of nodes, and what their targets and values are.
 use Rattle.std.proofs.Common.{◌≡◌, ℕ, ℤ, List, [], ◌∷◌, ◌++◌, map, filter, length, append-nil, refl, sym, ap, Bool, true, false, not, ◌||◌, Option, Some, None, option_and_then, option_to_list, IsTrue}
 use Rattle.std.proofs.lemmas.Bool.{false≢true, and_parts}
-use Rattle.std.specs.List.{flat_map}
-use Rattle.jsonpath_parser.specs.Location.{Step, name, index}
+use Rattle.jsonpath_rust.specs.Prelude.Documents.{absolute, are_equal, Argument, as_list, below, Call, call, child, children, children_at, compares, count_call, custom_call, descendant, Document, element, element_of, equal, filter_argument, flat_map, greater, greater_or_equal, index, indexed, is_below, is_singular, is_step, is_value_argument, is_value_test, length_call, length_of, less, less_or_equal, list, literal_argument, match_call, name, named, no_segments, no_selectors, not_equal, null, number, object, relative, root_node, search_call, Segment, segment, Segments, Selector, selector, Selectors, several, slice, sliced, Step, subtree_at, Test, test_argument, text, Tree, truth, value_call, wildcard}
+use Rattle.jsonpath_rust.specs.Prelude.States.{argument_content, call_content, children_from, Content, contents_compare, contents_equal, count_content, found_from, has_parts, holds_at, in_list, in_parts, indexed_from, inside, joined_from, kept_from, length_content, mapped, named_from, nothing, only, optional, parents_from, parents_in, plain, reduced, ref, refs, root_content, segment_content, segments_content, selector_content, sliced_from, some, Target, targets, test_content, under, unless_none, value, value_content}
 use Rattle.jsonpath_parser.specs.tree.Syntax as syntax
-use Rattle.jsonpath_parser.specs.tree.Syntax.{Operator, equal, not_equal, greater, greater_or_equal, less, less_or_equal, Selector, wildcard, slice, Selectors, no_selectors, selector, Segment, several, descendant, Segments, no_segments, segment, Test, relative, absolute, call, Call, custom_call, length_call, value_call, count_call, search_call, match_call, Argument, literal_argument, test_argument, filter_argument}
-use Rattle.jsonpath_parser.specs.tree.Typing.{is_step, is_singular, is_value_test, is_value_argument}
-use Rattle.jsonpath_base.specs.Places.{child}
-use Rattle.jsonpath_base.specs.Tree.{Tree, null, truth, number, text, list, object, as_list}
-use Rattle.jsonpath_rust.specs.documents.Comparing.{is_below, are_equal, compares}
-use Rattle.jsonpath_rust.specs.documents.Document.{Document}
-use Rattle.jsonpath_rust.specs.documents.Functions.{length_of}
-use Rattle.jsonpath_rust.specs.documents.Meaning.{named, element, element_of, indexed, sliced}
-use Rattle.jsonpath_rust.specs.documents.Node.{root_node, below, children, children_at, subtree_at}
-use Rattle.jsonpath_rust.specs.states.Process.{plain, contents_equal, contents_compare, optional, length_content, count_content, value_content, unless_none, selector_content, joined_from, segment_content, segments_content, holds_at, call_content, argument_content, test_content}
-use Rattle.jsonpath_rust.specs.states.State.{Target, Content, ref, refs, value, nothing, targets, mapped, reduced, under, found_from, only, some, in_list, in_parts, has_parts, inside, named_from, indexed_from, children_from, sliced_from, kept_from, parents_from, parents_in, root_content}
+use Rattle.jsonpath_parser.specs.tree.Syntax.{Operator}
 
 -- nodes, or nothing
 abbrev pub IsNodes : Content → Type 0

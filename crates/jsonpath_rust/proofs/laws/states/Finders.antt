@@ -3,16 +3,9 @@
 use Rattle.std.proofs.Common.{◌≡◌, ℕ, suc, ℤ, List, [], ◌∷◌, ◌++◌, map, filter, cond, length, append_assoc, append-nil, refl, sym, ◌∙◌, ap, subst, Bool, true, false, Option, Some, None, option_and_then, option_to_list, IsTrue}
 use Rattle.std.proofs.lemmas.Bool.{false≢true}
 use Rattle.std.proofs.lemmas.List.{map-append}
-use Rattle.std.specs.List.{AllZip, flat_map}
 use Rattle.std.specs.Prelude.{codes}
-use Rattle.jsonpath_parser.specs.Location.{Step, name, index, Location}
-use Rattle.jsonpath_parser.specs.Normal.{IsNormal, steps_text}
-use Rattle.jsonpath_base.specs.Places.{child}
-use Rattle.jsonpath_base.specs.Slice.{slice_of}
-use Rattle.jsonpath_base.specs.Tree.{Tree, null, truth, number, text, list, object, elements, pairs, as_list}
-use Rattle.jsonpath_rust.specs.documents.Meaning.{named, element, element_of, indexed, sliced}
-use Rattle.jsonpath_rust.specs.documents.Node.{Node, root_node, below, element_nodes, member_nodes, children, subtree, subtree_at}
-use Rattle.jsonpath_rust.specs.states.State.{Target, under, found_from}
+use Rattle.jsonpath_rust.specs.Prelude.Documents.{AllZip, as_list, below, child, children, element, element_nodes, element_of, elements, flat_map, index, indexed, IsNormal, list, Location, member_nodes, name, named, Node, null, number, object, pairs, root_node, slice_of, sliced, Step, steps_text, subtree, subtree_at, text, Tree, truth}
+use Rattle.jsonpath_rust.specs.Prelude.States.{found_from, Target, under}
 use Rattle.jsonpath_rust.proofs.laws.states.Found.{shift, subtree-shift, steps_text-append}
 
 -- ---- each goes by the tree alone: from another location it finds the same, behind that location

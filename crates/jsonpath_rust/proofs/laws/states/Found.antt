@@ -1,19 +1,10 @@
 -- What is found below a pointer: the children of its value, and the lists and objects there and below.
 use Rattle.std.proofs.Common.{◌≡◌, ℕ, suc, ◌+◌, ◌<◌, List, [], ◌∷◌, ◌++◌, map, filter, cond, length, get_or, append_assoc, append-nil, refl, sym, ◌∙◌, ap, arith, Bool, true, false, Option, Some, None}
 use Rattle.std.proofs.lemmas.List.{map-append}
-use Rattle.std.specs.List.{flat_map}
-use Rattle.jsonpath_parser.specs.Location.{Location, name, index}
-use Rattle.jsonpath_parser.specs.Normal.{step_text, steps_text}
+use Rattle.jsonpath_rust.specs.Prelude.Documents.{as_list, children, children_at, element_nodes, elements, flat_map, index, list, Location, member_nodes, member_subtrees, Members, members_size, name, no_members, no_trees, Node, null, number, object, pairs, root_node, size, step_text, steps_text, subtree, subtree_at, subtrees_at, text, Tree, Trees, trees_size, truth}
+use Rattle.jsonpath_rust.specs.Prelude.States.{found_from, has_parts, in_parts, lists_same, lists_targets, parents_in, parts_from, Pointer, refs, Target, target_of, under}
+use Rattle.jsonpath_rust.proofs.laws.documents.{filter_more, sizes_at, subtree-children, total}
 use Rattle.jsonpath_base.specs.Tree as base
-use Rattle.jsonpath_base.specs.Tree.{Tree, null, truth, number, text, list, object, Trees, no_trees, Members, no_members, elements, pairs, as_list}
-use Rattle.jsonpath_rust.specs.documents.Node.{Node, root_node, element_nodes, member_nodes, children, children_at, subtree, subtree_at, subtrees_at, member_subtrees}
-use Rattle.jsonpath_rust.specs.states.Process.{lists_same, lists_targets}
-use Rattle.jsonpath_rust.specs.states.State.{Target, refs, under, found_from, has_parts, parents_in, in_parts, target_of}
-use Rattle.jsonpath_rust.specs.states.inner.Evaluating.{parts_from}
-use Rattle.jsonpath_rust.specs.declared.states.state.pointer.Pointer.{Pointer}
-use Rattle.jsonpath_rust.proofs.laws.documents.Parts.{filter_more}
-use Rattle.jsonpath_rust.proofs.laws.documents.Trees.{subtree-children, total, sizes_at}
-use Rattle.jsonpath_rust.specs.documents.inner.Size.{size, trees_size, members_size}
 
 -- ---- the nodes of a subtree, from another path
 

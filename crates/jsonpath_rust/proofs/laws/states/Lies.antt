@@ -1,19 +1,9 @@
 -- Every node that a query answers on a state lies in the document or in a node of the state.
 use Rattle.std.proofs.Common.{◌≡◌, ℕ, zero, suc, ◌<◌, List, [], ◌∷◌, ◌++◌, length, get_or, map, refl, ◌∙◌, ap, subst, arith, Bool, true, false, Some, option_and_then, IsTrue}
-use Rattle.std.specs.List.{AllByRecursion, Contains}
-use Rattle.jsonpath_parser.specs.Location.{Location}
+use Rattle.jsonpath_rust.specs.Prelude.Documents.{AllByRecursion, at, children, Contains, descendant, Document, has_distinct_names, list, Location, no_selectors, Node, null, number, object, picks, root_node, Segment, Selector, selector, Selectors, several, size, slice, subtree, text, Tree, truth, wildcard}
+use Rattle.jsonpath_rust.specs.Prelude.States.{children_from, Content, found_from, has_parts, holds_at, in_list, in_parts, indexed_from, inside, joined_from, kept_from, mapped, named_from, nothing, only, parents_from, parents_in, reduced, ref, refs, segment_content, selector_content, sliced_from, some, Target, targets, tops, under, unless_none, value}
+use Rattle.jsonpath_rust.proofs.laws.documents.{at-append, each-append, each-filter, each-flat_map, Stands, stands-picks, stands-subtree}
 use Rattle.jsonpath_parser.specs.tree.Syntax as syntax
-use Rattle.jsonpath_parser.specs.tree.Syntax.{Selector, wildcard, slice, Selectors, no_selectors, selector, Segment, several, descendant}
-use Rattle.jsonpath_base.specs.Tree.{Tree, null, truth, number, text, list, object, has_distinct_names}
-use Rattle.jsonpath_base.specs.Places.{at}
-use Rattle.jsonpath_rust.specs.states.Asking.{tops}
-use Rattle.jsonpath_rust.specs.documents.Document.{Document}
-use Rattle.jsonpath_rust.specs.documents.inner.Size.{size}
-use Rattle.jsonpath_rust.specs.documents.Node.{Node, root_node, children, subtree}
-use Rattle.jsonpath_rust.specs.documents.Meaning.{picks}
-use Rattle.jsonpath_rust.specs.states.Process.{unless_none, holds_at, selector_content, joined_from, segment_content}
-use Rattle.jsonpath_rust.specs.states.State.{Target, Content, ref, refs, value, nothing, targets, mapped, reduced, under, found_from, only, some, in_list, in_parts, has_parts, inside, named_from, indexed_from, children_from, sliced_from, kept_from, parents_from, parents_in}
-use Rattle.jsonpath_rust.proofs.laws.documents.NodesAt.{Stands, each-append, each-flat_map, each-filter, at-append, stands-picks, stands-subtree}
 
 -- the tree is at some location in one of these
 pub record LiesIn (tops : List Tree) (t : Tree) : Type 0 where

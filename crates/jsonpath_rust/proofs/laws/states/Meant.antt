@@ -2,17 +2,8 @@
 use Rattle.std.proofs.Common.{◌≡◌, List, [], ◌∷◌, map, length, refl, sym, ◌∙◌, ap, Bool, true, false, not, Option, Some, option_to_list, IsTrue}
 use Rattle.std.proofs.lemmas.Bool.{false≢true}
 use Rattle.std.proofs.lemmas.Slice.Zip.{AllZip-long}
-use Rattle.std.specs.List.{AllZip}
-use Rattle.jsonpath_parser.specs.tree.Making.{is_truth_call}
-use Rattle.jsonpath_parser.specs.tree.Syntax.{Test, relative, absolute, call, Call, custom_call, length_call, value_call, count_call, search_call, match_call, Argument, literal_argument, test_argument, filter_argument}
-use Rattle.jsonpath_parser.specs.tree.Typing.{gives_value, is_truth_test, is_query_argument}
-use Rattle.jsonpath_base.specs.Tree.{Tree}
-use Rattle.jsonpath_rust.specs.documents.Document.{Document}
-use Rattle.jsonpath_rust.specs.documents.Functions.{Evaluated, of_value, of_nodes, as_value, as_nodes, as_trees, as_truth, count_of, count_value, is_true, only_value}
-use Rattle.jsonpath_rust.specs.documents.Meaning.{negated, answer, argued, tested}
-use Rattle.jsonpath_rust.specs.documents.Node.{Node, has_node}
-use Rattle.jsonpath_rust.specs.states.Process.{plain, count_content, value_content, content_trees, is_truth, has_target, test_truth, call_content, test_content}
-use Rattle.jsonpath_rust.specs.states.State.{Target, Content, ref, refs, value, nothing, targets}
+use Rattle.jsonpath_rust.specs.Prelude.Documents.{absolute, AllZip, answer, argued, Argument, as_nodes, as_trees, as_truth, as_value, Call, call, count_call, count_of, count_value, custom_call, Document, Evaluated, filter_argument, gives_value, has_node, is_query_argument, is_true, is_truth_call, is_truth_test, length_call, literal_argument, match_call, negated, Node, of_nodes, of_value, only_value, relative, search_call, Test, test_argument, tested, Tree, value_call}
+use Rattle.jsonpath_rust.specs.Prelude.States.{call_content, Content, content_trees, count_content, has_target, is_truth, nothing, plain, ref, refs, Target, targets, test_content, test_truth, value, value_content}
 use Rattle.jsonpath_rust.proofs.laws.states.Contents.{IsNodes, IsPlain}
 use Rattle.jsonpath_rust.proofs.laws.states.Finders.{Shows}
 

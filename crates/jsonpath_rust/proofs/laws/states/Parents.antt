@@ -1,17 +1,10 @@
 -- A segment selects nothing at a value that is no list and no object, so a descendant segment may pass over it.
 use Rattle.std.proofs.Common.{◌≡◌, ℕ, List, [], ◌∷◌, ◌++◌, map, filter, cond, length, refl, sym, ◌∙◌, ap, Bool, true, false, None, option_and_then, option_to_list}
 use Rattle.std.proofs.lemmas.Bool.{true≢false}
-use Rattle.std.specs.List.{AllZip, flat_map}
-use Rattle.jsonpath_parser.specs.Location.{Location, name}
+use Rattle.jsonpath_rust.specs.Prelude.Documents.{all_pick, AllZip, as_list, below, children_at, descendant, Document, element, element_of, flat_map, get, holds, list, Location, name, no_selectors, Node, null, number, object, one, picks, replaced, Segment, Selector, selector, Selectors, several, slice, slice_of, subtree, subtree_at, text, Tree, truth, wildcard}
+use Rattle.jsonpath_rust.specs.Prelude.States.{has_parts, parents_from, Target, targets}
+use Rattle.jsonpath_rust.proofs.laws.selection.{flat_map-flat_map}
 use Rattle.jsonpath_parser.specs.tree.Syntax as syntax
-use Rattle.jsonpath_parser.specs.tree.Syntax.{Selector, wildcard, slice, Selectors, no_selectors, selector, Segment, one, several, descendant}
-use Rattle.jsonpath_base.specs.Slice.{slice_of}
-use Rattle.jsonpath_base.specs.Tree.{Tree, null, truth, number, text, list, object, as_list, get}
-use Rattle.jsonpath_rust.specs.documents.Document.{Document}
-use Rattle.jsonpath_rust.specs.documents.Meaning.{element, element_of, picks, all_pick, holds, replaced}
-use Rattle.jsonpath_rust.specs.documents.Node.{Node, below, children_at, subtree, subtree_at}
-use Rattle.jsonpath_rust.specs.states.State.{Target, targets, has_parts, parents_from}
-use Rattle.jsonpath_rust.proofs.laws.selection.Walks.{flat_map-flat_map}
 use Rattle.jsonpath_rust.proofs.laws.states.Contents.{targets-parents}
 use Rattle.jsonpath_rust.proofs.laws.states.Finders.{Shows, finds, subtree-by_tree, shows-as, shows-kept}
 

@@ -1,9 +1,8 @@
 -- What is shown of pointers: a loop over them, and what it made in the end.
 use Rattle.std.proofs.Common.{◌≡◌, ℕ, length, List, [], ◌∷◌, ◌++◌, append_assoc, append-nil, arith, map, ap, refl, sym, ◌∙◌, string_bytes}
 use Rattle.std.proofs.lemmas.List.{map-append}
-use Rattle.jsonpath_base.specs.Tree.{Tree}
-use Rattle.jsonpath_rust.specs.states.State.{Target, targets_of}
-use Rattle.jsonpath_rust.specs.declared.states.state.pointer.Pointer.{Pointer}
+use Rattle.jsonpath_rust.specs.Prelude.Documents.{Tree}
+use Rattle.jsonpath_rust.specs.Prelude.States.{Pointer, Target, targets_of}
 
 -- one element was moved from the front of what is left behind what there is
 pub moved_one : {X Y Z : Type 0} (f : X → Z) (g : Y → Z) (got more : List X) (left rest : List Y) (x : X) (y : Y) (all : List Z) → more ≡ got ++ x ∷ [] → left ≡ y ∷ rest → f x ≡ g y → map f got ++ map g left ≡ all → map f more ++ map g rest ≡ all

@@ -1,8 +1,6 @@
 use Rattle.std.proofs.Common.{◌∙◌}
-use Rattle.jsonpath_parser.specs.tree.View.{query_view}
-use Rattle.jsonpath_rust.specs.documents.Answer.{shown}
-use Rattle.jsonpath_rust.specs.documents.Document.{document_of}
-use Rattle.jsonpath_rust.specs.selection.Prepared.{limited_view}
+use Rattle.jsonpath_rust.specs.Prelude.Documents.{document_of, query_view, shown}
+use Rattle.jsonpath_rust.specs.Prelude.Selection.{limited_view}
 use Rattle.jsonpath_rust.proofs.Withins.{lists_within, nodes_within, normal_within, stopped_within, enough_of_text}
 use Rattle.jsonpath_rust.proofs.query.js_path_limited.Goals as goal
 

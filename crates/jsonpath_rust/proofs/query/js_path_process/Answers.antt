@@ -1,8 +1,6 @@
 use Rattle.std.proofs.Common.{sym, ◌∙◌}
-use Rattle.jsonpath_parser.specs.tree.View.{query_view}
-use Rattle.jsonpath_rust.specs.documents.Answer.{shown}
-use Rattle.jsonpath_rust.specs.documents.Document.{document_of}
-use Rattle.jsonpath_rust.proofs.laws.states.Agreeing.{typed-nodes}
+use Rattle.jsonpath_rust.specs.Prelude.Documents.{document_of, query_view, shown}
+use Rattle.jsonpath_rust.proofs.laws.states.{typed-nodes}
 use Rattle.jsonpath_rust.proofs.query.js_path_process.Goals as goal
 
 pub returns-then-is_typed-clause-processed : goal.returns-then-is_typed-clause-processed

@@ -1,6 +1,4 @@
-use Rattle.jsonpath_parser.specs.tree.View.{query_view}
-use Rattle.jsonpath_rust.specs.documents.Answer.{shown}
-use Rattle.jsonpath_rust.specs.documents.Document.{document_of}
+use Rattle.jsonpath_rust.specs.Prelude.Documents.{document_of, query_view, shown}
 use Rattle.jsonpath_rust.proofs.NormalPaths.{normal_answered}
 use Rattle.jsonpath_rust.proofs.query.js_path_within.Goals as goal
 

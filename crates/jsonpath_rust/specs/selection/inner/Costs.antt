@@ -1,7 +1,7 @@
 -- What a value costs where the work of a walk is limited, for the contracts of the walk alone: the definitions here are no part of what a query means.
 use Rattle.std.specs.Prelude.{ℕ, ◌+◌, ◌-◌, ◌/◌, ◌^◌, min, List, [], ◌∷◌, length, Option, Some, None}
 use Rattle.std.specs.declared.fmt.Debug as debug
-use Rattle.jsonpath_base.specs.Tree.{Tree, number, text, list, object, Trees, no_trees, tree, Members, no_members, member}
+use Rattle.jsonpath_base.specs.Tree.{Tree, text, list, object, Trees, no_trees, tree, Members, no_members, member}
 use Rattle.jsonpath_rust.specs.documents.inner.Whole.{tree_of}
 use Rattle.jsonpath_rust.specs.declared.documents.queryable.Queryable.{Ghosts}
 use Rattle.jsonpath_rust.specs.declared.documents.value.Side.{Side}

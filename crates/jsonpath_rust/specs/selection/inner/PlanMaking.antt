@@ -1,5 +1,5 @@
 -- How a plan is made, for the contracts of its maker alone: the definitions here are no part of what a query means.
-use Rattle.std.specs.Prelude.{◌≡◌, ℕ, ◌<◌, Bool, true, List, [], ◌∷◌, ◌++◌, map, length, IsTrue}
+use Rattle.std.specs.Prelude.{◌≡◌, ℕ, Bool, true, List, [], ◌∷◌, ◌++◌, map, length, IsTrue}
 use Rattle.jsonpath_parser.specs.tree.Syntax as tree
 use Rattle.jsonpath_rust.specs.selection.inner.PlanViews.{Constants, ConstantPart, compared, kept_view, part_at, part_is_rooted, constant_view, AreRooted, filter_view}
 use Rattle.jsonpath_rust.specs.selection.inner.Rooted.{filter_is_rooted}
@@ -48,11 +48,6 @@ pub record IsKept (old new : Maker) (part : Constant) (n : ℕ) : Type 0 where
   pub number : n ≡ length old.constants.items
   pub constants : new.constants.items ≡ old.constants.items ++ part ∷ []
   pub met : new.met.rooted ≡ old.met.rooted
-
--- the number of a constant that stands for what this one stands for, whatever is kept
-pub record IsNumberOf (es : List Constant) (part : Constant) (n : ℕ) : Type 0 where
-  pub within : n < length es
-  pub is : (kept : Constants) → part_at (parts_where kept es) n ≡ constant_view kept part
 
 -- What the part that was made stands for, its number stands for too, where it has no `@`.
 pub record IsNumbered (old new : Maker) (part : Constant) (n : ℕ) : Type 0 where

@@ -1,11 +1,10 @@
 -- Where a walk stands and how it comes back, for the contracts of the walk alone: the definitions here are no part of what a query means.
-use Rattle.std.specs.Prelude.{◌≡◌, ◌≤◌, List, map, Bool, Some, IsTrue, All, Result, IfErr, OnOk, OnErr}
+use Rattle.std.specs.Prelude.{◌≡◌, List, map, Bool, Some, IsTrue, All, Result, IfErr, OnOk, OnErr}
 use Rattle.std.specs.declared.fmt.Debug as debug
 use Rattle.jsonpath_parser.specs.tree.Syntax.{Argument}
 use Rattle.jsonpath_base.specs.Tree.{as_members}
 use Rattle.jsonpath_rust.specs.selection.inner.Halting.{IsHalt}
 use Rattle.jsonpath_rust.specs.selection.inner.Keeping.{IsReady, document}
-use Rattle.jsonpath_rust.specs.documents.inner.Size.{size}
 use Rattle.jsonpath_rust.specs.documents.inner.Whole.{tree_of}
 use Rattle.jsonpath_rust.specs.selection.inner.Walking.{LeadTo}
 use Rattle.jsonpath_rust.specs.declared.documents.halt.Halt.{Halt}
@@ -17,9 +16,8 @@ use Rattle.jsonpath_rust.specs.declared.selection.trail.Trail.{Trail}
 use Rattle.jsonpath_rust.specs.declared.selection.walk.Task.{Task}
 use Rattle.jsonpath_base.specs.declared.step.StepRef.{StepRef}
 
--- At a value no larger than the root, to which these steps lead; and what is kept is right.
+-- At a value to which these steps lead; and what is kept is right.
 pub record Stands {A : Type 0} {R : Ghosts A} {D : debug.Ghosts A} (task : Task A R D) (x : WholeRef A R D) (steps : List StepRef) (cache : Cache A R D) : Type 0 where
-  pub within : size (tree_of x) ≤ size (tree_of task.root)
   pub here : LeadTo steps task.root x
   pub ready : IsReady task cache
 

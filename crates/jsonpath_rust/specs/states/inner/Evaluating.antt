@@ -1,8 +1,7 @@
 -- The parts of the plain evaluator, for its contracts alone: the definitions here are no part of what a query means.
-use Rattle.std.specs.Prelude.{◌≡◌, List, [], ◌∷◌, ◌++◌, Bool, Option, Some, None, if◌then◌else◌, string_bytes}
+use Rattle.std.specs.Prelude.{◌≡◌, List, [], ◌++◌, Bool, Option, Some, None, if◌then◌else◌, string_bytes}
 use Rattle.std.specs.List.{flat_map, AllZip}
 use Rattle.std.specs.declared.fmt.Debug as debug
-use Rattle.jsonpath_parser.specs.tree.Syntax as syntax
 use Rattle.jsonpath_parser.specs.tree.Syntax.{Argument}
 use Rattle.jsonpath_parser.specs.tree.View.{filter_view}
 use Rattle.jsonpath_rust.specs.states.Asking.{IsBelow, IsAsked, AsksPatternAt}
@@ -10,7 +9,7 @@ use Rattle.jsonpath_rust.specs.documents.Document.{Document}
 use Rattle.jsonpath_rust.specs.documents.Node.{children}
 use Rattle.jsonpath_rust.specs.documents.Patterns.{filter_patterns, selectors_patterns}
 use Rattle.jsonpath_rust.specs.states.Process.{holds_at, joined_from}
-use Rattle.jsonpath_rust.specs.states.State.{Target, Content, nothing, mapped, named_from, children_from, indexed_from, sliced_from, parents_from, kept_from, found_from, has_parts, pointers, target_of, targets_of, content_of}
+use Rattle.jsonpath_rust.specs.states.State.{Target, Content, nothing, named_from, children_from, indexed_from, sliced_from, parents_from, kept_from, found_from, has_parts, pointers, target_of, targets_of, content_of}
 use Rattle.jsonpath_rust.specs.documents.inner.Parts.{selectors_in}
 use Rattle.jsonpath_rust.specs.documents.inner.Whole.{document_at}
 use Rattle.jsonpath_rust.specs.declared.documents.queryable.Queryable.{Ghosts}
@@ -42,16 +41,6 @@ own_target {R = R} p = target_of R.tree p.pointer
 
 abbrev pub targets_at : {A : Type 0} {R : Ghosts A} {D : debug.Ghosts A} → WholePointers A R D → List Target
 targets_at {R = R} ps = targets_of R.tree ps.list.items
-
--- what a name or an index makes of each node
-abbrev pub step_content : syntax.Segment → Content → Content
-step_content (syntax.one (syntax.Selector.name k)) c = mapped (named_from k) c
-step_content (syntax.one (syntax.Selector.index i)) c = mapped (indexed_from i) c
-step_content _ c = nothing
-
-abbrev pub steps_content : List syntax.Segment → Content → Content
-steps_content [] c = c
-steps_content (s ∷ ss) c = steps_content ss (step_content s c)
 
 -- the children of a list or an object
 abbrev pub parts_from : Target → Option (List Target)

@@ -1,12 +1,8 @@
 //! What a walk asks of the children of a value.
-ghost use Rattle.std.specs.Prelude.{◌≡◌, ◌<◌, map, None, option_to_list, IsTrue, IfSome};
-ghost use Rattle.jsonpath_parser.specs.Location.{Location};
+ghost use Rattle.std.specs.Prelude.{◌<◌, ◌≡◌, IfSome, IsTrue, map, None, option_to_list};
+ghost use Rattle.jsonpath_rust.specs.Prelude.Documents.{as_list, as_members, below, indexed, Location, size};
 ghost use Rattle.jsonpath_parser.specs.Location as location;
-ghost use Rattle.jsonpath_base.specs.Tree.{as_list, as_members};
-ghost use Rattle.jsonpath_rust.specs.documents.Node.{below};
 ghost use Rattle.jsonpath_rust.specs.documents.Meaning as meaning;
-ghost use Rattle.jsonpath_rust.specs.documents.Meaning.{indexed};
-ghost use Rattle.jsonpath_rust.specs.documents.inner.Size.{size};
 
 use crate::documents::queryable::Queryable;
 

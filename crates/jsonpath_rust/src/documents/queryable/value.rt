@@ -1,23 +1,10 @@
 //! Values of `serde_json` as documents.
-ghost use Rattle.std.specs.Prelude.{◌≡◌, All, IfOk, IfErr, IfSome, IsTrue, Some, map, option_map, true};
-ghost use Rattle.std.specs.Borrow.{sem};
-ghost use Rattle.std.specs.Cmp.Lexicographic.{slice_cmp};
-ghost use Rattle.std.specs.List.{AllByRecursion};
+ghost use Rattle.std.specs.Prelude.{◌≡◌, All, IfErr, IfOk, IfSome, IsTrue, map, option_map, Some, true};
+ghost use Rattle.jsonpath_rust.specs.Prelude.Documents.{AllByRecursion, as_list, as_members, at, find, has_whole_numbers, HasIndexesInRange, IsNormal, IsReferred, LendsReferred, lent_in, Location, members_of, members_view, OutOfMemory, pairs, sem, slice_cmp, value_document, value_is_whole, value_tree, view};
 ghost use Rattle.std.specs.List.Sorted.{IsStrictlySortedBy};
 ghost use Rattle.std.specs.Ordering.{nat_cmp};
-ghost use Rattle.serde_json.specs.View.{view, members_view};
-ghost use Rattle.jsonpath_base.specs.Places.{at};
-ghost use Rattle.jsonpath_base.specs.Tree.{as_list, as_members, find, pairs};
 ghost use Rattle.jsonpath_base.specs.SetFunctions.{set_function};
-ghost use Rattle.jsonpath_base.specs.Values.{value_tree, value_is_whole, has_whole_numbers, members_of};
 ghost use Rattle.jsonpath_base.proofs.Views.{whole_distinct};
-ghost use Rattle.jsonpath_parser.specs.Location.{Location};
-ghost use Rattle.jsonpath_parser.specs.Normal.{IsNormal};
-ghost use Rattle.jsonpath_parser.specs.tree.Steps.{HasIndexesInRange};
-ghost use Rattle.jsonpath_parser.specs.declared.errors.JsonPathError.TheVariants.{OutOfMemory};
-ghost use Rattle.jsonpath_rust.specs.documents.Document.{value_document};
-ghost use Rattle.jsonpath_rust.specs.documents.Lending.{LendsReferred, lent_in};
-ghost use Rattle.jsonpath_rust.specs.documents.Referring.{IsReferred};
 
 use crate::documents::Queried;
 use crate::documents::lending::referred_mut;

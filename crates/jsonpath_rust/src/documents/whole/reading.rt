@@ -1,15 +1,7 @@
 //! What is read of a whole value: each call of [`Queryable`] agrees with its tree.
-ghost use Rattle.std.specs.Prelude.{◌≡◌, ◌<◌, map, length, None, option_map, option_to_list, All, IsTrue, IfOk, IfErr, IfSome};
-ghost use Rattle.jsonpath_parser.specs.Location.{Location};
+ghost use Rattle.std.specs.Prelude.{◌<◌, ◌≡◌, All, IfErr, IfOk, IfSome, IsTrue, length, map, None, option_map, option_to_list};
+ghost use Rattle.jsonpath_rust.specs.Prelude.Documents.{as_bool, as_int, as_list, as_members, as_text, below, get, indexed, Location, MemoryAlone, OutOfMemory, own_tree, same, size, tree_of};
 ghost use Rattle.jsonpath_parser.specs.Location as location;
-ghost use Rattle.jsonpath_parser.specs.declared.errors.JsonPathError.TheVariants.{OutOfMemory};
-ghost use Rattle.jsonpath_base.specs.Tree.{get, as_list, as_members, as_text, as_int, as_bool};
-ghost use Rattle.jsonpath_base.specs.Same.{same};
-ghost use Rattle.jsonpath_rust.specs.documents.Node.{below};
-ghost use Rattle.jsonpath_rust.specs.documents.Meaning.{indexed};
-ghost use Rattle.jsonpath_rust.specs.documents.inner.Refusing.{MemoryAlone};
-ghost use Rattle.jsonpath_rust.specs.documents.inner.Size.{size};
-ghost use Rattle.jsonpath_rust.specs.documents.inner.Whole.{tree_of, own_tree};
 
 use crate::documents::Queried;
 use crate::documents::queryable::Queryable;

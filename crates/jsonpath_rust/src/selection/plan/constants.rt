@@ -1,10 +1,8 @@
 //! The constant of a number.
-ghost use Rattle.std.specs.Prelude.{◌≡◌, ◌<◌, length, map, IfSome, IfNone, IsTrue, []};
+ghost use Rattle.std.specs.Prelude.{◌<◌, ◌≡◌, [], IfNone, IfSome, IsTrue, length, map};
+ghost use Rattle.jsonpath_rust.specs.Prelude.Documents.{operator_view, step_view};
+ghost use Rattle.jsonpath_rust.specs.Prelude.Selection.{answered, call_at, call_view, compared, comparison_at, constant_view, is_same_wanted, kept_view, nodes, part_at, query_at, segments_meant, side_view, steps_at, value};
 ghost use Rattle.jsonpath_parser.specs.tree.Syntax as tree;
-ghost use Rattle.jsonpath_parser.specs.tree.View.{operator_view, step_view};
-ghost use Rattle.jsonpath_rust.specs.selection.inner.PlanViews.{is_same_wanted, kept_view, part_at, nodes, value, answered};
-ghost use Rattle.jsonpath_rust.specs.selection.inner.PlanViews.{compared, constant_view, query_at, segments_meant, steps_at};
-ghost use Rattle.jsonpath_rust.specs.selection.inner.PlanViews.{call_at, call_view, comparison_at, side_view};
 
 use super::{Call, Comparison, Constant, Plan, Segment};
 use crate::selection::sink::Wanted;

@@ -1,16 +1,10 @@
 //! How a plan is made: by one pass over the query.
 ghost use Rattle.std.specs.Prelude.{◌≡◌, IfOk, map};
-ghost use Rattle.std.specs.List.{list_all};
+ghost use Rattle.jsonpath_rust.specs.Prelude.Documents.{list_all, MemoryAlone};
+ghost use Rattle.jsonpath_rust.specs.Prelude.Selection.{argument_is_rooted, call_is_rooted, every, filter_is_rooted, Made, Only, plan_view, test_is_rooted, Values, Wanted};
 ghost use Rattle.jsonpath_parser.specs.tree.Syntax as syntax;
 ghost use Rattle.jsonpath_parser.specs.tree.View as tree;
-ghost use Rattle.jsonpath_rust.specs.documents.inner.Refusing.{MemoryAlone};
 ghost use Rattle.jsonpath_rust.specs.selection.inner.PlanViews as plan;
-ghost use Rattle.jsonpath_rust.specs.selection.inner.PlanMaking.{Made, every};
-ghost use Rattle.jsonpath_rust.specs.selection.inner.Planned.{plan_view};
-ghost use Rattle.jsonpath_rust.specs.selection.inner.Rooted.{argument_is_rooted, call_is_rooted};
-ghost use Rattle.jsonpath_rust.specs.selection.inner.Rooted.{filter_is_rooted, test_is_rooted};
-ghost use Rattle.jsonpath_rust.specs.declared.selection.sink.Wanted.{Wanted};
-ghost use Rattle.jsonpath_rust.specs.declared.selection.sink.Wanted.TheVariants.{Only, Values};
 
 use super::numbering::Met;
 use super::patterns::Numbers;
@@ -23,8 +17,7 @@ use jsonpath_parser::model as tree;
 use jsonpath_parser::model::{JpQuery, Operator, SingularQuery};
 use std::alloc::Global;
 
-/// The plan of a query. Linear in the query: a new constant is compared with the last few alone,
-/// and a constant inside it by its number.
+/// The plan of a query. Linear in the query.
 pub fn plan_of(alloc: Global, query: &JpQuery) -> Parsed<Plan>
     ensures same { IfOk result (λ p. plan_view p ≡ tree.query_view query.now) }
     ensures memory { MemoryAlone result }

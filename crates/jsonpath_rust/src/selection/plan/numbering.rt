@@ -1,8 +1,7 @@
-//! The numbers of constants. A constant that equals one of the last few gets the number of that.
-//! The constants inside it have their numbers already, so they are compared by number.
-ghost use Rattle.std.specs.Prelude.{◌≡◌, ◌&&◌, false, IfOk, IfSome};
-ghost use Rattle.jsonpath_rust.specs.documents.inner.Refusing.{MemoryAlone};
-ghost use Rattle.jsonpath_rust.specs.selection.inner.PlanMaking.{IsBeside, IsCompared, IsNumbered, IsNumberOf};
+//! The numbers of constants, one after the other, and how deep they stand in one another.
+ghost use Rattle.std.specs.Prelude.{◌&&◌, ◌≡◌, false, IfOk};
+ghost use Rattle.jsonpath_rust.specs.Prelude.Documents.{MemoryAlone};
+ghost use Rattle.jsonpath_rust.specs.Prelude.Selection.{IsBeside, IsCompared, IsNumbered};
 ghost use Rattle.jsonpath_rust.specs.declared.selection.plan.Constant.TheVariants.{Comparison};
 
 use super::make::Maker;
@@ -13,7 +12,7 @@ use std::mem;
 
 /// How many queries from the root may be walked at once when a constant is first asked: the
 /// constant, where it is one, and those that stand in it, one in the other. 0 where it is a value.
-#[derive(Clone, Copy, PartialEq)]
+#[derive(Clone, Copy)]
 pub struct Nesting {
     /// Where the early ones are worked out before the walk. 0 where the constant is early itself.
     pub run: usize,
@@ -111,15 +110,11 @@ impl<'q> Maker<'q> {
         nesting
     }
 
-    /// The number of a constant: that of an equal one, or of one more.
+    /// The number of one more constant.
     pub fn number(&mut self, constant: Constant) -> Parsed<usize>
         ensures numbered { IfOk result (IsNumbered self.old self.new constant) }
         ensures memory { MemoryAlone result }
     {
-        if let Some(number) = near_constant(&self.constants, &constant) {
-            drop(constant);
-            return Ok(number);
-        }
         let number = self.constants.len();
         self.constants.push(constant)?;
         Ok(number)
@@ -142,22 +137,4 @@ impl<'q> Maker<'q> {
         }
         Ok(Filter::Comparison(operator, left, right))
     }
-}
-
-/// How many constants are near.
-const NEAR: usize = 8;
-
-/// The number of an equal constant among the last ones. They alone are looked at, so a query costs
-/// a few comparisons, however many there are.
-#[tactic(auto, using(crate::proofs::laws::selection::PlanEquality::constant_same))]
-fn near_constant(constants: &Vec<Constant>, constant: &Constant) -> Option<usize>
-    ensures { IfSome result (IsNumberOf constants.now.items constant.now) }
-{
-    let count = constants.len();
-    for number in count.saturating_sub(NEAR)..count {
-        if constants[number] == *constant {
-            return Some(number);
-        }
-    }
-    None
 }

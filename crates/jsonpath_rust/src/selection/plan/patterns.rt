@@ -1,13 +1,11 @@
 //! Numbers of the patterns that stand in a query. Each is where its finder is kept, and no more:
 //! whether a finder is one of the pattern is looked at where it is asked.
 ghost use Rattle.std.specs.Prelude.{IfOk, OnOk};
+ghost use Rattle.jsonpath_rust.specs.Prelude.Documents.{MemoryAlone};
+ghost use Rattle.jsonpath_rust.specs.Prelude.Selection.{argument_is_rooted, IsBeside, Made, Only};
 ghost use Rattle.jsonpath_parser.specs.tree.Syntax as syntax;
 ghost use Rattle.jsonpath_parser.specs.tree.View as tree;
-ghost use Rattle.jsonpath_rust.specs.documents.inner.Refusing.{MemoryAlone};
 ghost use Rattle.jsonpath_rust.specs.selection.inner.PlanViews as plan;
-ghost use Rattle.jsonpath_rust.specs.selection.inner.PlanMaking.{Made, IsBeside};
-ghost use Rattle.jsonpath_rust.specs.selection.inner.Rooted.{argument_is_rooted};
-ghost use Rattle.jsonpath_rust.specs.declared.selection.sink.Wanted.TheVariants.{Only};
 
 use super::Argument;
 use super::make::Maker;

@@ -1,8 +1,6 @@
 //! Segments of one name or one index each, and steps.
 ghost use Rattle.std.specs.Prelude.{◌≡◌, IfOk, IfSome, IsTrue, map};
-ghost use Rattle.jsonpath_parser.specs.tree.Syntax.{one, relative, test_argument, wildcard};
-ghost use Rattle.jsonpath_parser.specs.tree.View.{argument_view, segment_view, segments_of, step_view};
-ghost use Rattle.jsonpath_rust.specs.documents.inner.Refusing.{MemoryAlone};
+ghost use Rattle.jsonpath_rust.specs.Prelude.Documents.{argument_view, MemoryAlone, one, relative, segment_view, segments_of, step_view, test_argument, wildcard};
 ghost use Rattle.jsonpath_rust.specs.selection.inner.PlanViews as plan;
 
 use jsonpath_parser::errors::Parsed;

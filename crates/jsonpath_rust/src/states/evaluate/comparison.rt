@@ -1,11 +1,7 @@
 //! How the data of two states compares.
-ghost use Rattle.std.specs.Prelude.{◌≡◌, Some, All, map, IsTrue};
-ghost use Rattle.jsonpath_parser.specs.tree.View.{operator_view};
-ghost use Rattle.jsonpath_rust.specs.states.Process.{plain, lists_same, lists_targets, values_same};
-ghost use Rattle.jsonpath_rust.specs.states.Process.{contents_equal, is_content_below, contents_compare};
-ghost use Rattle.jsonpath_rust.specs.states.State.{targets_of, PointersAreWhole};
-ghost use Rattle.jsonpath_rust.specs.states.inner.Evaluating.{content_at};
-ghost use Rattle.jsonpath_rust.specs.documents.inner.Whole.{tree_of};
+ghost use Rattle.std.specs.Prelude.{◌≡◌, All, IsTrue, map, Some};
+ghost use Rattle.jsonpath_rust.specs.Prelude.Documents.{operator_view, tree_of};
+ghost use Rattle.jsonpath_rust.specs.Prelude.States.{content_at, contents_compare, contents_equal, is_content_below, lists_same, lists_targets, plain, PointersAreWhole, targets_of, values_same};
 
 use crate::documents::comparison::is_below;
 use crate::documents::queryable::Queryable;

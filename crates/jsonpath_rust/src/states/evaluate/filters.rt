@@ -1,16 +1,7 @@
 //! Filters, comparisons, functions and their arguments, at any state.
-ghost use Rattle.std.specs.Prelude.{◌≡◌, IfOk, IfErr};
-ghost use Rattle.jsonpath_parser.specs.tree.View.{filter_view, atom_view, comparison_view, comparable_view};
-ghost use Rattle.jsonpath_parser.specs.tree.View.{test_view, call_view, argument_view};
-ghost use Rattle.jsonpath_rust.specs.documents.Patterns.{filter_patterns, filters_patterns, test_patterns, call_patterns};
-ghost use Rattle.jsonpath_rust.specs.documents.Patterns.{argument_patterns, arguments_patterns};
-ghost use Rattle.jsonpath_rust.specs.states.Process.{holds_at, some_holds_at, each_holds_at, basic_content};
-ghost use Rattle.jsonpath_rust.specs.states.Process.{test_content, call_content, argument_content, arguments_trees};
-ghost use Rattle.jsonpath_base.specs.Tree.{truth};
-ghost use Rattle.jsonpath_rust.specs.states.State.{value};
-ghost use Rattle.jsonpath_rust.specs.states.inner.Evaluating.{document, content_at, HaltsAt};
-ghost use Rattle.jsonpath_rust.specs.documents.inner.Operands.{arg_trees};
-ghost use Rattle.jsonpath_rust.specs.documents.inner.Parts.{filters_in, arguments_in};
+ghost use Rattle.std.specs.Prelude.{◌≡◌, IfErr, IfOk};
+ghost use Rattle.jsonpath_rust.specs.Prelude.Documents.{arg_trees, argument_patterns, argument_view, arguments_in, arguments_patterns, atom_view, call_patterns, call_view, comparable_view, comparison_view, filter_patterns, filter_view, filters_in, filters_patterns, test_patterns, test_view, truth};
+ghost use Rattle.jsonpath_rust.specs.Prelude.States.{argument_content, arguments_trees, basic_content, call_content, content_at, document, each_holds_at, HaltsAt, holds_at, some_holds_at, test_content, value};
 
 use crate::documents::args::Args;
 use crate::documents::halt::Walked;
@@ -19,7 +10,6 @@ use crate::states::evaluate::comparison::compares;
 use crate::states::evaluate::function::{
     custom_data, found_data, length_data, node_count, only_value, push_values,
 };
-use crate::states::evaluate::singular::singular_data;
 use crate::states::evaluate::test::{is_true, test_answer};
 use crate::states::evaluate::value::{literal_data, truth_data};
 use crate::states::evaluate::{Evaluation, Returned};
@@ -144,9 +134,7 @@ impl<'a, T: Queryable> Evaluation<'a, T> {
         match comparable {
             Comparable::Literal(literal) => literal_data(self.alloc, literal),
             Comparable::Function(function) => self.call_data(function, given),
-            Comparable::SingularQuery(query) => Ok(singular_data(
-                self.alloc, query, given, self.root,
-            )?),
+            Comparable::SingularQuery(query) => self.singular_data(query, given),
         }
     }
 

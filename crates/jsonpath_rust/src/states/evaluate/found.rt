@@ -1,12 +1,9 @@
 //! What is found from a pointer: nodes below its value, each under the pointer's path and the steps
 //! to it.
-ghost use Rattle.std.specs.Prelude.{◌≡◌, ◌++◌, [], All, map, option_map, IsTrue, IfOk, OnOk};
+ghost use Rattle.std.specs.Prelude.{◌++◌, ◌≡◌, [], All, IfOk, IsTrue, map, OnOk, option_map};
+ghost use Rattle.jsonpath_rust.specs.Prelude.Documents.{below, element_nodes, member_nodes, MemoryAlone, tree_of};
+ghost use Rattle.jsonpath_rust.specs.Prelude.States.{children_from, content_at, indexed_from, named_from, own_target, parents_from, parents_in, parts_from, sliced_from, target_at, targets_at, under};
 ghost use Rattle.jsonpath_parser.specs.Location as location;
-ghost use Rattle.jsonpath_rust.specs.documents.Node.{below, element_nodes, member_nodes};
-ghost use Rattle.jsonpath_rust.specs.documents.inner.Refusing.{MemoryAlone};
-ghost use Rattle.jsonpath_rust.specs.documents.inner.Whole.{tree_of};
-ghost use Rattle.jsonpath_rust.specs.states.State.{under, named_from, indexed_from, children_from, sliced_from, parents_in, parents_from};
-ghost use Rattle.jsonpath_rust.specs.states.inner.Evaluating.{content_at, target_at, own_target, targets_at, parts_from};
 
 use crate::documents::Queried;
 use crate::documents::queryable::Queryable;

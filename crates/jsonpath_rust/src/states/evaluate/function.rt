@@ -1,15 +1,8 @@
 //! What functions make of the data of their arguments (RFC 9535, 2.4.4 to 2.4.8).
-ghost use Rattle.std.specs.Prelude.{◌≡◌, ◌++◌, Some, option_map, string_bytes, IfOk, IfErr, OnOk};
-ghost use Rattle.jsonpath_base.specs.Tree.{truth};
+ghost use Rattle.std.specs.Prelude.{◌++◌, ◌≡◌, IfErr, IfOk, OnOk, option_map, Some, string_bytes};
+ghost use Rattle.jsonpath_rust.specs.Prelude.Documents.{arg_trees, is_entire, IsPattern, Memory, tree_of, truth};
+ghost use Rattle.jsonpath_rust.specs.Prelude.States.{content_at, content_trees, count_content, length_content, optional, plain, value, value_content};
 ghost use Rattle.jsonpath_rust.specs.documents.Functions as functions;
-ghost use Rattle.jsonpath_rust.specs.documents.Patterns.{IsPattern};
-ghost use Rattle.jsonpath_rust.specs.states.Process.{plain, optional, length_content, count_content, value_content, content_trees};
-ghost use Rattle.jsonpath_rust.specs.states.State.{value};
-ghost use Rattle.jsonpath_rust.specs.states.inner.Evaluating.{content_at};
-ghost use Rattle.jsonpath_base.specs.Pattern.{is_entire};
-ghost use Rattle.jsonpath_rust.specs.documents.inner.Operands.{arg_trees};
-ghost use Rattle.jsonpath_rust.specs.documents.inner.Whole.{tree_of};
-ghost use Rattle.jsonpath_rust.specs.declared.documents.halt.Halt.TheVariants.{Memory};
 
 use crate::documents::args::Args;
 use crate::documents::halt::Walked;

@@ -1,13 +1,7 @@
 //! Segments and selectors, on any state: each on the result before, node by node.
-ghost use Rattle.std.specs.Prelude.{◌≡◌, IfOk, IfErr};
-ghost use Rattle.jsonpath_parser.specs.tree.View.{segment_view, selector_view, filter_view};
-ghost use Rattle.jsonpath_rust.specs.documents.Patterns.{segments_patterns, segment_patterns, selectors_patterns};
-ghost use Rattle.jsonpath_rust.specs.documents.Patterns.{selector_patterns, filter_patterns};
-ghost use Rattle.jsonpath_rust.specs.states.Process.{several_content, segments_content, segment_content};
-ghost use Rattle.jsonpath_rust.specs.states.Process.{selector_content, joined_from, holds_at};
-ghost use Rattle.jsonpath_rust.specs.states.State.{nothing, ref, mapped, kept_from};
-ghost use Rattle.jsonpath_rust.specs.states.inner.Evaluating.{document, content_at, target_at, part_content, part_patterns, HaltsBelow};
-ghost use Rattle.jsonpath_rust.specs.documents.inner.Parts.{segments_in, selectors_in};
+ghost use Rattle.std.specs.Prelude.{◌≡◌, IfErr, IfOk};
+ghost use Rattle.jsonpath_rust.specs.Prelude.Documents.{filter_patterns, filter_view, segment_patterns, segment_view, segments_in, segments_patterns, selector_patterns, selector_view, selectors_in, selectors_patterns};
+ghost use Rattle.jsonpath_rust.specs.Prelude.States.{content_at, document, HaltsBelow, holds_at, joined_from, kept_from, mapped, nothing, part_content, part_patterns, ref, segment_content, segments_content, selector_content, several_content, target_at};
 
 use crate::documents::queryable::Queryable;
 use crate::states::evaluate::test::keep_if;

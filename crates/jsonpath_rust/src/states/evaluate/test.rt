@@ -1,13 +1,8 @@
 //! What tests make of data (RFC 9535, 2.3.5.2.1).
-ghost use Rattle.std.specs.Prelude.{◌≡◌, ◌∷◌, [], ◌++◌, cond, IfOk, IfErr, OnOk};
-ghost use Rattle.jsonpath_parser.specs.tree.Making.{is_truth_call};
-ghost use Rattle.jsonpath_parser.specs.tree.View.{test_view};
-ghost use Rattle.jsonpath_rust.specs.documents.inner.Refusing.{MemoryAlone};
+ghost use Rattle.std.specs.Prelude.{◌++◌, ◌∷◌, ◌≡◌, [], cond, IfErr, IfOk, OnOk};
+ghost use Rattle.jsonpath_rust.specs.Prelude.Documents.{is_truth_call, Memory, MemoryAlone, test_view};
+ghost use Rattle.jsonpath_rust.specs.Prelude.States.{content_at, is_truth, target_at, targets, targets_at, test_truth};
 ghost use Rattle.jsonpath_rust.specs.states.Process as process;
-ghost use Rattle.jsonpath_rust.specs.states.Process.{is_truth, test_truth};
-ghost use Rattle.jsonpath_rust.specs.states.State.{targets};
-ghost use Rattle.jsonpath_rust.specs.states.inner.Evaluating.{content_at, target_at, targets_at};
-ghost use Rattle.jsonpath_rust.specs.declared.documents.halt.Halt.TheVariants.{Memory};
 
 use crate::documents::Queried;
 use crate::documents::queryable::Queryable;

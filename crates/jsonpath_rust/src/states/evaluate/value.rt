@@ -1,14 +1,7 @@
 //! Data of one value: truths, counts, literals, and the value that data is or points to.
-ghost use Rattle.std.specs.Prelude.{◌≡◌, option_map, IsTrue, IfOk, IfErr, IfSome};
-ghost use Rattle.jsonpath_parser.specs.tree.View.{literal_view};
-ghost use Rattle.jsonpath_base.specs.Tree.{truth};
-ghost use Rattle.jsonpath_rust.specs.documents.Functions.{count_value};
-ghost use Rattle.jsonpath_rust.specs.documents.Meaning.{literal_tree};
-ghost use Rattle.jsonpath_rust.specs.documents.inner.Whole.{tree_of};
-ghost use Rattle.jsonpath_rust.specs.states.Process.{plain};
-ghost use Rattle.jsonpath_rust.specs.states.State.{value};
-ghost use Rattle.jsonpath_rust.specs.states.inner.Evaluating.{content_at};
-ghost use Rattle.jsonpath_rust.specs.declared.documents.halt.Halt.TheVariants.{Memory};
+ghost use Rattle.std.specs.Prelude.{◌≡◌, IfErr, IfOk, IfSome, IsTrue, option_map};
+ghost use Rattle.jsonpath_rust.specs.Prelude.Documents.{count_value, literal_tree, literal_view, Memory, tree_of, truth};
+ghost use Rattle.jsonpath_rust.specs.Prelude.States.{content_at, plain, value};
 
 use crate::documents::queryable::Queryable;
 use crate::documents::value::{count_scalar, made, scalar_of};

@@ -1,10 +1,7 @@
 //! What a state holds.
-ghost use Rattle.std.specs.Prelude.{◌≡◌, ◌⊎◌, [], ◌∷◌, ◌++◌, Ok, Err, IsTrue, IfOk, IfErr, OnOk, option_map};
-ghost use Rattle.std.specs.List.{AllByRecursion};
-ghost use Rattle.jsonpath_parser.specs.declared.errors.JsonPathError.TheVariants.{OutOfMemory};
-ghost use Rattle.jsonpath_rust.specs.states.State.{ref, refs, nothing, target_of, targets_of, content_of, pointers};
-ghost use Rattle.jsonpath_rust.specs.states.State.{PointersAreWhole, DataIsWhole, ok_refs, ok_value, contents_same};
-ghost use Rattle.jsonpath_rust.specs.states.State.{targets_same, reduced, Made, GivesWhole, SomeHas};
+ghost use Rattle.std.specs.Prelude.{◌++◌, ◌∷◌, ◌≡◌, ◌⊎◌, [], Err, IfErr, IfOk, IsTrue, Ok, OnOk, option_map};
+ghost use Rattle.jsonpath_rust.specs.Prelude.Documents.{AllByRecursion, OutOfMemory};
+ghost use Rattle.jsonpath_rust.specs.Prelude.States.{content_of, contents_same, DataIsWhole, GivesWhole, Made, nothing, ok_refs, ok_value, pointers, PointersAreWhole, reduced, ref, refs, SomeHas, target_of, targets_of, targets_same};
 
 use crate::documents::Queried;
 use crate::documents::queryable::Queryable;

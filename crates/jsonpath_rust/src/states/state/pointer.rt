@@ -1,9 +1,7 @@
 //! A value that is lent, with the text of a path.
-ghost use Rattle.std.specs.Prelude.{◌≡◌, ◌↔◌, ◌++◌, [], IsTrue, IfOk, IfErr, string_bytes};
-ghost use Rattle.jsonpath_parser.specs.Location.{name, index};
-ghost use Rattle.jsonpath_parser.specs.Normal.{step_text};
-ghost use Rattle.jsonpath_parser.specs.declared.errors.JsonPathError.TheVariants.{OutOfMemory};
-ghost use Rattle.jsonpath_rust.specs.states.State.{ref, target_of, contents_same};
+ghost use Rattle.std.specs.Prelude.{◌++◌, ◌↔◌, ◌≡◌, [], IfErr, IfOk, IsTrue, string_bytes};
+ghost use Rattle.jsonpath_rust.specs.Prelude.Documents.{index, name, OutOfMemory, step_text};
+ghost use Rattle.jsonpath_rust.specs.Prelude.States.{contents_same, ref, target_of};
 
 use crate::documents::queryable::Queryable;
 use crate::documents::{Queried, QueryPath, QueryRef};

@@ -1,9 +1,7 @@
 //! How whole data and pointers are made of one another.
-ghost use Rattle.std.specs.Prelude.{◌≡◌, ◌++◌, [], ◌∷◌, IfOk, OnOk};
-ghost use Rattle.jsonpath_rust.specs.documents.inner.Refusing.{MemoryAlone};
-ghost use Rattle.jsonpath_rust.specs.documents.inner.Whole.{tree_of, own_tree, document_at};
-ghost use Rattle.jsonpath_rust.specs.states.State.{ref, refs, value, nothing, reduced, targets, root_content};
-ghost use Rattle.jsonpath_rust.specs.states.inner.Evaluating.{content_at, target_at, own_target, targets_at};
+ghost use Rattle.std.specs.Prelude.{◌++◌, ◌∷◌, ◌≡◌, [], IfOk, OnOk};
+ghost use Rattle.jsonpath_rust.specs.Prelude.Documents.{document_at, MemoryAlone, own_tree, tree_of};
+ghost use Rattle.jsonpath_rust.specs.Prelude.States.{content_at, nothing, own_target, reduced, ref, refs, root_content, target_at, targets, targets_at, value};
 
 use crate::documents::Queried;
 use crate::documents::queryable::Queryable;

@@ -2,10 +2,11 @@
 use Rattle.jsonpath_base.proofs.LoanWords.{[], ◌∷◌, ◌≡◌, refl, lit<, proved, ftrue, flft, named, fact, tables, ‵, raw, ◌⊛◌, ◌$◌, ◌∵◌, !, qed, done, move, keep, drop, use0, use1, use2, split, join, fjoin, suffices, frame, enter, addr, stop, returns, alloc_all, pass_all, free_all, look_at, get, lit, through, sets, lands_as, heard, MutRef, MutBor, mut_vals, mut_Tells, plain, nothing, no, yes, Stays, walk_of, stay_dropped, Goes-spent_ref, Goes-dropped, mut_ref_to, ends_at, says, calls_at, triple_of, lasts, framed, peeks, shows, only, no_more, and_then, id⊢, ap, sym, ◌∙◌, fsplit3, first, branches, skips, exec, returns_within, env, bool, fres}
 use Rattle.jsonpath_base.proofs.LoanTies.{so_none}
 use Rattle.jsonpath_base.proofs.Loans.{is_true, is_false}
-use Rattle.jsonpath_rust.proofs.laws.documents.LendingLaws.{lent_laws, no_place}
+use Rattle.std.specs.Prelude.{⊤}
+use Rattle.jsonpath_rust.specs.Prelude.Documents.{at, LendsThere, Location, location_view, place_in, tree_there, value_is_whole, value_tree}
+use Rattle.jsonpath_rust.proofs.laws.documents.{lent_laws, no_place}
 use Rattle.std.proofs.VecSteps.Shapes.{after}
 use Rattle.std.proofs.Common.{Bool, List, IfSome, IsTrue, Some, None, Option, is_some, option_map}
-use Rattle.std.specs.Prelude.{⊤}
 use Rattle.std.specs.contracts.option.Option as OP
 use Rattle.std.proofs.VecSteps.Element.{none_of}
 use types.Kit.{at_ret, pick, some, later, await, rewrite}
@@ -20,15 +21,9 @@ use denote.Slice.{ShrSlice, shr_slice_vals}
 use denote.Triple.Clauses.{Lasts}
 use mir.Val.{Val, of_list}
 use Rattle.serde_json.specs.contracts.value.Value.{the_row as R}
-use Rattle.jsonpath_parser.specs.Location.{Location}
 use Rattle.jsonpath_base.specs.Lending.{LendsAt}
-use Rattle.jsonpath_base.specs.Places.{at}
-use Rattle.jsonpath_base.specs.Steps.{location_view}
-use Rattle.jsonpath_base.specs.Values.{value_tree, value_is_whole}
 use Rattle.jsonpath_base.specs.contracts.step.Step.{the_row as S}
 use Rattle.jsonpath_base.specs.declared.step.Step.{Step}
-use Rattle.jsonpath_rust.specs.documents.Referring.{tree_there}
-use Rattle.jsonpath_rust.specs.documents.inner.Sought.{LendsThere, place_in}
 use Rattle.jsonpath_rust.specs.contracts.documents.lending.Sought.{the_row as N}
 use Rattle.jsonpath_rust.proofs.documents.lending.Sought.TheLaws.{the_row_laws as N-laws}
 use Rattle.jsonpath_rust.specs.contracts.documents.lending.lend_sought as f

@@ -1,6 +1,7 @@
 -- `referred_mut` seeks through a `&` of its own, lends by what it found, and answers with both.
 use Rattle.jsonpath_base.proofs.LoanWords.{[], ◌∷◌, ◌≡◌, refl, proved, ftrue, fat, flft, fres, named, fact, tables, full_share, ‵, raw, ◌⊛◌, ◌$◌, ◌∵◌, !, qed, done, move, keep, drop, use0, use1, use2, use3, split, join, fjoin, fsplit3, feq_i, feq_l, suffices, frame, enter, addr, stop, returns, alloc_all, pass_all, free_all, look_at, get, through, sets, lands_as, heard, MutRef, MutBor, mut_vals, mut_Tells, plain, nothing, no, yes, Stays, walk_of, stay_dropped, Goes-spent_ref, Goes-dropped, mut_ref_to, ends_at, says, calls_at, triple_of, lasts, framed, peeks, shows, no_more, and_then, id⊢, sym, of_opd, lends_again, comes_back, LentAgain}
-use Rattle.jsonpath_rust.proofs.laws.documents.LendingLaws.{Answer, Lent, Means, answer_laws, lent_laws, lent_same, referred_there, refused_so, tie_told, whole_there}
+use Rattle.jsonpath_rust.specs.Prelude.Documents.{answer_of, IsReferred, LendsReferred, LendsThere, OutOfMemory, place_in, tree_there, value_document, value_is_whole, value_tree}
+use Rattle.jsonpath_rust.proofs.laws.documents.{Answer, answer_laws, Lent, lent_laws, lent_same, Means, referred_there, refused_so, tie_told, whole_there}
 use Rattle.std.proofs.Common.{List, Option, Result, IfOk, IfErr, IfSome, IsTrue, option_map}
 use Rattle.std.specs.contracts.alloc.Global.{the_row as A}
 use Rattle.std.proofs.alloc.Global.TheLaws.{the_row_laws as A-laws, the_told as A-told}
@@ -27,12 +28,6 @@ use mir.Val.{Val, vptr}
 use Rattle.serde_json.specs.contracts.value.Value.{the_row as R}
 use Rattle.serde_json.proofs.value.Value.TheLaws.{the_row_laws as R-laws}
 use Rattle.jsonpath_parser.specs.contracts.errors.JsonPathError.{the_row as E}
-use Rattle.jsonpath_parser.specs.declared.errors.JsonPathError.TheVariants.{OutOfMemory}
-use Rattle.jsonpath_base.specs.Values.{value_tree, value_is_whole}
-use Rattle.jsonpath_rust.specs.documents.Document.{value_document}
-use Rattle.jsonpath_rust.specs.documents.Lending.{LendsReferred}
-use Rattle.jsonpath_rust.specs.documents.Referring.{IsReferred, tree_there}
-use Rattle.jsonpath_rust.specs.documents.inner.Sought.{LendsThere, answer_of, place_in}
 use Rattle.jsonpath_rust.specs.contracts.documents.lending.Sought.{the_row as N}
 use Rattle.jsonpath_rust.proofs.documents.lending.Sought.TheLaws.{the_row_laws as N-laws}
 use Rattle.jsonpath_rust.specs.contracts.documents.lending.referred_mut as f

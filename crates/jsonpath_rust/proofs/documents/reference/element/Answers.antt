@@ -1,12 +1,9 @@
 use Rattle.std.proofs.Common.{◌≡◌, map, length, Some, option_map, All, IsTrue, sym, ◌∙◌, ap, subst, w64, rules, SFits, arith}
 use Rattle.std.proofs.lemmas.Int.{to_z-of_z}
 use Rattle.std.proofs.lemmas.List.{length-map}
-use Rattle.jsonpath_base.specs.Values.{value_tree, value_is_whole}
+use Rattle.jsonpath_rust.specs.Prelude.Documents.{child_view, element_of, value_is_whole, value_tree}
+use Rattle.jsonpath_rust.proofs.laws.documents.{all_at, element_none, element_some}
 use Rattle.jsonpath_base.proofs.Views.{as_list-value_tree, as_list_whole}
-use Rattle.jsonpath_rust.specs.documents.Meaning.{element_of}
-use Rattle.jsonpath_rust.specs.documents.inner.Following.{child_view}
-use Rattle.jsonpath_rust.proofs.laws.documents.Following.{element_some, element_none}
-use Rattle.jsonpath_rust.proofs.laws.documents.Trees.{all_at}
 use Rattle.jsonpath_rust.proofs.documents.reference.element.Goals as goal
 
 pub returns-in_err-position-clause-value : goal.returns-in_err-position-clause-value

@@ -1,8 +1,5 @@
 use Rattle.std.proofs.Common.{◌≡◌, [], drop, IsTrue}
-use Rattle.jsonpath_base.specs.Steps.{location_view}
-use Rattle.jsonpath_base.specs.Values.{value_tree, value_is_whole}
-use Rattle.jsonpath_rust.specs.documents.inner.Following.{followed}
-use Rattle.jsonpath_rust.specs.documents.inner.Parts.{segments_in}
+use Rattle.jsonpath_rust.specs.Prelude.Documents.{followed, location_view, segments_in, value_is_whole, value_tree}
 use Rattle.jsonpath_rust.proofs.documents.reference.follow.Given as goal
 
 -- the segments that are left lead from here to where all of them lead

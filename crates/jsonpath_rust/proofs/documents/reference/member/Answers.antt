@@ -1,7 +1,7 @@
 use Rattle.std.proofs.Common.{Some, None}
-use Rattle.jsonpath_base.specs.Values.{value_tree}
+use Rattle.jsonpath_rust.specs.Prelude.Documents.{value_tree}
+use Rattle.jsonpath_rust.proofs.laws.documents.{member_none, member_some}
 use Rattle.jsonpath_base.proofs.Views.{get-value_tree, get_whole}
-use Rattle.jsonpath_rust.proofs.laws.documents.Following.{member_some, member_none}
 use Rattle.jsonpath_rust.proofs.documents.reference.member.Goals as goal
 
 pub returns-in_ok-from_str-in-Some-clause-value : goal.returns-in_ok-from_str-in-Some-clause-value

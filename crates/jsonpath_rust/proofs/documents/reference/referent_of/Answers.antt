@@ -1,10 +1,7 @@
 use Rattle.std.proofs.Common.{ap, sym, ◌∙◌}
 use Rattle.jsonpath_parser.proofs.laws.tree.ViewEquations.{query_view-segments}
-use Rattle.jsonpath_parser.specs.tree.View.{query_view}
-use Rattle.jsonpath_base.specs.Values.{value_tree}
-use Rattle.jsonpath_rust.specs.documents.Document.{value_document}
-use Rattle.jsonpath_rust.specs.documents.inner.Parts.{segments_in}
-use Rattle.jsonpath_rust.proofs.laws.documents.Following.{means_referent, stands_there}
+use Rattle.jsonpath_rust.specs.Prelude.Documents.{query_view, segments_in, value_document, value_tree}
+use Rattle.jsonpath_rust.proofs.laws.documents.{means_referent, stands_there}
 use Rattle.jsonpath_rust.proofs.documents.reference.referent_of.Goals as goal
 
 pub returns-in-Ok-clause-means : goal.returns-in-Ok-clause-means

@@ -1,9 +1,7 @@
 use Rattle.std.proofs.Common.{None, option_map, refl, subst}
 use Rattle.jsonpath_base.specs.Places as places
-use Rattle.jsonpath_base.specs.Steps.{location_view}
-use Rattle.jsonpath_rust.specs.documents.Document.{value_document}
-use Rattle.jsonpath_rust.specs.documents.Referring.{IsReference}
-use Rattle.jsonpath_rust.proofs.laws.documents.NormalSteps.{normal_reference}
+use Rattle.jsonpath_rust.specs.Prelude.Documents.{IsReference, location_view, value_document}
+use Rattle.jsonpath_rust.proofs.laws.documents.{normal_reference}
 use Rattle.jsonpath_rust.proofs.documents.reference.referred_location.Goals as goal
 
 pub returns-in-Some-clause-normal : goal.returns-in-Some-clause-normal

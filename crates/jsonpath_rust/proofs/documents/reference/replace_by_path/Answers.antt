@@ -1,11 +1,7 @@
 use Rattle.std.proofs.Common.{◌≡◌, true, false, Some, None, is_some, IsSome, IfSome, option_map, refl, ap, ◌∙◌, subst}
 use Rattle.jsonpath_base.specs.Places as places
-use Rattle.jsonpath_base.specs.Put.{put}
-use Rattle.jsonpath_base.specs.Steps.{location_view}
-use Rattle.jsonpath_base.specs.Values.{value_tree}
-use Rattle.jsonpath_rust.specs.documents.Document.{value_document}
-use Rattle.jsonpath_rust.specs.documents.Referring.{IsReference}
-use Rattle.jsonpath_rust.proofs.laws.documents.NormalSteps.{normal_put}
+use Rattle.jsonpath_rust.specs.Prelude.Documents.{IsReference, location_view, put, value_document, value_tree}
+use Rattle.jsonpath_rust.proofs.laws.documents.{normal_put}
 use Rattle.jsonpath_rust.proofs.documents.reference.replace_by_path.Goals as goal
 
 pub returns-in-Some-clause-normal : goal.returns-in-Some-clause-normal

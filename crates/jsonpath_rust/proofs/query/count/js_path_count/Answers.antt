@@ -1,8 +1,6 @@
 use Rattle.std.proofs.Common.{◌≡◌, ℕ}
-use Rattle.jsonpath_parser.specs.tree.Syntax.{Query}
-use Rattle.jsonpath_parser.specs.tree.View.{query_view}
-use Rattle.jsonpath_rust.specs.documents.Document.{document_of}
-use Rattle.jsonpath_rust.specs.selection.Only.{node_count}
+use Rattle.jsonpath_rust.specs.Prelude.Documents.{document_of, Query, query_view}
+use Rattle.jsonpath_rust.specs.Prelude.Selection.{node_count}
 use Rattle.jsonpath_rust.proofs.ByText.{by_text, so_or_stop, so_or_memory}
 use Rattle.jsonpath_rust.proofs.query.count.js_path_count.Goals as goal
 

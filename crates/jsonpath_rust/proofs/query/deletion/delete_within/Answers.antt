@@ -1,7 +1,5 @@
-use Rattle.jsonpath_parser.specs.tree.View.{query_view}
+use Rattle.jsonpath_rust.specs.Prelude.Documents.{query_view, value_document, value_tree}
 use Rattle.jsonpath_base.proofs.Views.{whole_distinct}
-use Rattle.jsonpath_base.specs.Values.{value_tree}
-use Rattle.jsonpath_rust.specs.documents.Document.{value_document}
 use Rattle.jsonpath_rust.proofs.NormalChanges.{normal_deleted}
 use Rattle.jsonpath_rust.proofs.query.deletion.delete_within.Goals as goal
 

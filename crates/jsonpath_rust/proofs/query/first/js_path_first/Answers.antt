@@ -1,7 +1,6 @@
 use Rattle.std.proofs.Common.{◌∙◌, refl, string_bytes}
-use Rattle.jsonpath_parser.specs.tree.View.{query_view}
-use Rattle.jsonpath_rust.specs.documents.Document.{document_of}
-use Rattle.jsonpath_rust.specs.selection.Prepared.{runner_view}
+use Rattle.jsonpath_rust.specs.Prelude.Documents.{document_of, query_view}
+use Rattle.jsonpath_rust.specs.Prelude.Selection.{runner_view}
 use Rattle.jsonpath_rust.proofs.First.{first_made, first_leads, first_or_stop}
 use Rattle.jsonpath_rust.proofs.NormalPaths.{normal_first}
 use Rattle.jsonpath_rust.proofs.query.first.js_path_first.Goals as goal

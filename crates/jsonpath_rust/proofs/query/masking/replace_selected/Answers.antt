@@ -1,6 +1,5 @@
 use Rattle.std.proofs.Common.{ap, ◌∙◌}
-use Rattle.jsonpath_base.specs.Overwritten.{overwritten}
-use Rattle.jsonpath_base.specs.Values.{value_tree}
+use Rattle.jsonpath_rust.specs.Prelude.Documents.{overwritten, value_tree}
 use Rattle.jsonpath_rust.proofs.query.masking.replace_selected.Goals as goal
 
 pub returns-clause-replaced : goal.returns-clause-replaced

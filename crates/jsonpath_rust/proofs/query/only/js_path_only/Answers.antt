@@ -1,7 +1,5 @@
-use Rattle.jsonpath_parser.specs.tree.Syntax.{Query}
-use Rattle.jsonpath_parser.specs.tree.View.{query_view}
-use Rattle.jsonpath_rust.specs.documents.Document.{document_of}
-use Rattle.jsonpath_rust.specs.selection.Only.{IsOnly}
+use Rattle.jsonpath_rust.specs.Prelude.Documents.{document_of, Query, query_view}
+use Rattle.jsonpath_rust.specs.Prelude.Selection.{IsOnly}
 use Rattle.jsonpath_rust.proofs.ByText.{by_text, so_or_stop, so_or_memory}
 use Rattle.jsonpath_rust.proofs.query.only.js_path_only.Goals as goal
 

@@ -1,10 +1,7 @@
 use Rattle.std.proofs.Common.{ap, ◌∙◌}
-use Rattle.jsonpath_parser.specs.tree.Syntax.{descendant}
-use Rattle.jsonpath_rust.specs.selection.inner.PlanViews.{segment_view}
-use Rattle.jsonpath_rust.specs.documents.Node.{Node}
-use Rattle.jsonpath_rust.specs.selection.inner.Walking.{acted}
+use Rattle.jsonpath_rust.specs.Prelude.Documents.{descendant, Node, tree_of}
+use Rattle.jsonpath_rust.specs.Prelude.Selection.{acted, segment_view}
 use Rattle.jsonpath_rust.proofs.laws.selection.Leaves.{replaced-none}
-use Rattle.jsonpath_rust.specs.documents.inner.Whole.{tree_of}
 use Rattle.jsonpath_rust.proofs.selection.action.is_idle.Goals as goal
 
 pub returns-in-Below : goal.returns-in-Below

@@ -1,13 +1,8 @@
 use Rattle.std.proofs.Common.{arith, sym, ◌∙◌, ap}
-use Rattle.jsonpath_parser.specs.tree.Syntax.{one}
-use Rattle.jsonpath_rust.specs.selection.inner.PlanViews.{segment_view, selector_view, filter_view}
-use Rattle.jsonpath_rust.proofs.laws.selection.PlanEquations.{segment_view-Selector, selector_view-Wildcard, selector_view-Filter}
-use Rattle.jsonpath_rust.specs.documents.inner.Weight.{segment_weight}
-use Rattle.jsonpath_rust.specs.documents.Meaning.{replaced, holds}
-use Rattle.jsonpath_rust.specs.documents.Node.{children}
-use Rattle.jsonpath_rust.specs.documents.Patterns.{segment_patterns}
+use Rattle.jsonpath_rust.specs.Prelude.Documents.{children, holds, one, replaced, segment_effort, segment_patterns}
+use Rattle.jsonpath_rust.specs.Prelude.Selection.{filter_view, segment_view, selector_view}
+use Rattle.jsonpath_rust.proofs.laws.selection.{flat_map-filter, segment_view-Selector, selector_view-Filter, selector_view-Wildcard}
 use Rattle.jsonpath_rust.proofs.laws.selection.Passing.{wildcard_goes}
-use Rattle.jsonpath_rust.proofs.laws.selection.Walks.{flat_map-filter}
 use Rattle.jsonpath_rust.proofs.selection.action.of_each_child.Goals as goal
 
 pub returns-in-Wildcard : goal.returns-in-Wildcard
@@ -22,5 +17,5 @@ returns-in-Filter c = λ kept.
     record {
       makes = λ d n. flat_map-filter (holds (filter_view kept c.in-Filter.filter) d) (children n) ∙ sym (ap (λ g. replaced g d n) e);
       patterns = sym (ap segment_patterns e);
-      lighter = omega (arith, ap segment_weight e);
+      lighter = λ r. omega (arith, ap (segment_effort r) e);
     }

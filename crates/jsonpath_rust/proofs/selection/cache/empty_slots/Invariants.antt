@@ -1,5 +1,5 @@
 use Rattle.std.proofs.Common.{◌≤◌, ◌-◌, length}
-use Rattle.jsonpath_rust.specs.selection.inner.Keeping.{AreEmpty}
+use Rattle.jsonpath_rust.specs.Prelude.Selection.{AreEmpty}
 use Rattle.jsonpath_rust.proofs.selection.cache.empty_slots.Given as goal
 
 abbrev pub invariant-loop-slots : goal.invariant-loop-slots

@@ -1,9 +1,8 @@
 use Rattle.std.proofs.Common.{is_some, sym, ap, ◌∙◌}
 use Rattle.jsonpath_parser.proofs.laws.tree.ViewEquations.{query_view-segments}
-use Rattle.jsonpath_parser.specs.tree.View.{segment_view}
-use Rattle.jsonpath_rust.specs.documents.inner.Parts.{segments_in}
-use Rattle.jsonpath_rust.specs.selection.Condition.{filter_of}
-use Rattle.jsonpath_rust.proofs.laws.selection.Conditions.{none_of_more}
+use Rattle.jsonpath_rust.specs.Prelude.Documents.{segment_view, segments_in}
+use Rattle.jsonpath_rust.specs.Prelude.Selection.{filter_of}
+use Rattle.jsonpath_rust.proofs.laws.selection.{none_of_more}
 use Rattle.jsonpath_rust.proofs.selection.condition.is_one_filter.Goals as goal
 
 pub returns-else-is_empty : goal.returns-else-is_empty

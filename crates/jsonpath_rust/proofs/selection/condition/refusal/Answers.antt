@@ -1,6 +1,6 @@
 use Rattle.std.proofs.Common.{subst}
-use Rattle.jsonpath_parser.specs.Derives.{IsRefusal}
-use Rattle.jsonpath_rust.specs.selection.Condition.{filter_query, in_filter}
+use Rattle.jsonpath_rust.specs.Prelude.Documents.{IsRefusal}
+use Rattle.jsonpath_rust.specs.Prelude.Selection.{filter_query, in_filter}
 use Rattle.jsonpath_rust.proofs.selection.condition.refusal.Goals as goal
 
 pub returns-in-PestError-clause-refused : goal.returns-in-PestError-clause-refused

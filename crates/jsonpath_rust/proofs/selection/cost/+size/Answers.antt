@@ -1,7 +1,7 @@
 use Rattle.std.proofs.Common.{map, Some, ap, ◌∙◌, arith}
 use Rattle.std.proofs.lemmas.Result.{IfOk-weaker}
 use Rattle.jsonpath_rust.proofs.laws.selection.CostLaws.{some_cost, list_cost, object_cost, inside_many}
-use Rattle.jsonpath_rust.specs.documents.inner.Whole.{tree_of}
+use Rattle.jsonpath_rust.specs.Prelude.Documents.{tree_of}
 use Rattle.jsonpath_rust.proofs.selection.cost.+size.Goals as goal
 
 pub inside_size-returns-then-count-most-clause-size : goal.inside_size-returns-then-count-most-clause-size

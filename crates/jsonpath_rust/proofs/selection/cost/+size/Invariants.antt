@@ -1,5 +1,5 @@
 use Rattle.std.proofs.Common.{◌≡◌, ◌+◌, ◌*◌, ◌≤◌, min, map, drop}
-use Rattle.jsonpath_rust.specs.selection.inner.Costs.{elements_cost, pairs_cost}
+use Rattle.jsonpath_rust.specs.Prelude.Selection.{elements_cost, pairs_cost}
 use Rattle.jsonpath_rust.proofs.selection.cost.+size.Given as goal
 
 abbrev pub decreases-size_within : goal.decreases-size_within

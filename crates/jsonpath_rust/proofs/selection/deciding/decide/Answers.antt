@@ -1,10 +1,7 @@
 use Rattle.std.proofs.Common.{option_map, sym, ◌∙◌, ap}
-use Rattle.jsonpath_rust.specs.documents.inner.Whole.{document_at}
-use Rattle.jsonpath_rust.specs.selection.Condition.{filter_of}
-use Rattle.jsonpath_rust.specs.selection.inner.PlanViews.{kept_view, filter_view, segments_meant}
-use Rattle.jsonpath_rust.specs.selection.inner.Planned.{plan_view}
-use Rattle.jsonpath_rust.specs.selection.inner.Walking.{node_of}
-use Rattle.jsonpath_rust.proofs.laws.selection.Conditions.{none_holds, held_as, refused_as}
+use Rattle.jsonpath_rust.specs.Prelude.Documents.{document_at}
+use Rattle.jsonpath_rust.specs.Prelude.Selection.{filter_of, filter_view, kept_view, node_of, plan_view, segments_meant}
+use Rattle.jsonpath_rust.proofs.laws.selection.{held_as, none_holds, refused_as}
 use Rattle.jsonpath_rust.proofs.selection.deciding.decide.Goals as goal
 
 pub returns-in-None-clause-holds : goal.returns-in-None-clause-holds

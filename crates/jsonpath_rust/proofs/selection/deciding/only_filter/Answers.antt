@@ -1,6 +1,6 @@
 use Rattle.std.proofs.Common.{sym, ◌∙◌}
-use Rattle.jsonpath_rust.specs.selection.inner.PlanViews.{segment_view}
-use Rattle.jsonpath_rust.proofs.laws.selection.Conditions.{none_of_more}
+use Rattle.jsonpath_rust.specs.Prelude.Selection.{segment_view}
+use Rattle.jsonpath_rust.proofs.laws.selection.{none_of_more}
 use Rattle.jsonpath_rust.proofs.selection.deciding.only_filter.Goals as goal
 
 pub returns-else-is_empty : goal.returns-else-is_empty

@@ -1,14 +1,7 @@
 use Rattle.std.proofs.Common.{List, map, ap, sym, ◌∙◌}
-use Rattle.jsonpath_parser.specs.tree.View.{step_view}
-use Rattle.jsonpath_parser.specs.declared.tree.model.SingularQuerySegment.{SingularQuerySegment}
-use Rattle.jsonpath_rust.specs.documents.Functions.{as_truth}
-use Rattle.jsonpath_rust.specs.documents.Meaning.{tested}
-use Rattle.jsonpath_rust.specs.selection.inner.PlanViews.{nodes_view}
-use Rattle.jsonpath_rust.specs.declared.selection.sink.Wanted.TheVariants.{Any}
-use Rattle.jsonpath_rust.proofs.laws.selection.PlanEquations.{nodes_view-Lookup}
-use Rattle.jsonpath_rust.proofs.laws.selection.StepLaws.{is_there}
-use Rattle.jsonpath_rust.specs.documents.inner.Singular.{value_at}
-use Rattle.jsonpath_rust.specs.documents.inner.Whole.{tree_of}
+use Rattle.jsonpath_rust.specs.Prelude.Documents.{as_truth, SingularQuerySegment, step_view, tested, tree_of, value_at}
+use Rattle.jsonpath_rust.specs.Prelude.Selection.{Any, nodes_view}
+use Rattle.jsonpath_rust.proofs.laws.selection.{is_there, nodes_view-Lookup}
 use Rattle.jsonpath_rust.proofs.selection.direct.is_there.Goals as goal
 
 pub returns-in-Lookup : goal.returns-in-Lookup

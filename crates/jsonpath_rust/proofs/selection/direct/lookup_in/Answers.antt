@@ -1,9 +1,7 @@
 use Rattle.std.proofs.Common.{List, map, ap, sym, ◌∙◌}
-use Rattle.jsonpath_parser.specs.tree.Syntax.{relative, test_argument}
-use Rattle.jsonpath_parser.specs.tree.View.{step_view}
-use Rattle.jsonpath_parser.specs.declared.tree.model.SingularQuerySegment.{SingularQuerySegment}
-use Rattle.jsonpath_rust.specs.selection.inner.PlanViews.{argument_view, nodes_view, steps_query}
-use Rattle.jsonpath_rust.proofs.laws.selection.PlanEquations.{argument_view-Nodes, nodes_view-Lookup}
+use Rattle.jsonpath_rust.specs.Prelude.Documents.{relative, SingularQuerySegment, step_view, test_argument}
+use Rattle.jsonpath_rust.specs.Prelude.Selection.{argument_view, nodes_view, steps_query}
+use Rattle.jsonpath_rust.proofs.laws.selection.{argument_view-Nodes, nodes_view-Lookup}
 use Rattle.jsonpath_rust.proofs.selection.direct.lookup_in.Goals as goal
 
 pub returns-in-Lookup : goal.returns-in-Lookup

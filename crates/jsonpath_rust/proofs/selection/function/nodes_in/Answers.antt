@@ -1,7 +1,6 @@
 use Rattle.std.proofs.Common.{ap, refl, ◌∙◌}
-use Rattle.jsonpath_rust.specs.selection.inner.PlanViews.{argument_view}
-use Rattle.jsonpath_rust.proofs.laws.selection.PlanEquations.{argument_view-Literal, argument_view-Pattern, argument_view-Nodes, argument_view-Call, argument_view-Filter}
-use Rattle.jsonpath_rust.proofs.laws.selection.Wanting.{is_value}
+use Rattle.jsonpath_rust.specs.Prelude.Selection.{argument_view}
+use Rattle.jsonpath_rust.proofs.laws.selection.{argument_view-Call, argument_view-Filter, argument_view-Literal, argument_view-Nodes, argument_view-Pattern, is_value}
 use Rattle.jsonpath_rust.proofs.selection.function.nodes_in.Goals as goal
 
 pub returns-in-Literal-clause-value : goal.returns-in-Literal-clause-value

@@ -1,12 +1,7 @@
 use Rattle.std.proofs.Common.{ap, ◌∙◌, List, []}
-use Rattle.jsonpath_rust.specs.declared.selection.plan.Segment.{Segment}
-use Rattle.jsonpath_rust.specs.documents.inner.Whole.{document_at}
-use Rattle.jsonpath_rust.specs.selection.inner.PlanViews.{kept_view, segments_meant}
-use Rattle.jsonpath_rust.specs.selection.inner.Walking.{through, node_of}
-use Rattle.jsonpath_base.specs.declared.step.StepRef.{StepRef}
-use Rattle.jsonpath_rust.proofs.laws.selection.Along.{takes, tied_at_root}
-use Rattle.jsonpath_rust.proofs.laws.selection.Sinks.{result_as}
-use Rattle.jsonpath_rust.proofs.laws.selection.NodelistLaws.{nodelist-through}
+use Rattle.jsonpath_rust.specs.Prelude.Documents.{document_at, StepRef}
+use Rattle.jsonpath_rust.specs.Prelude.Selection.{kept_view, node_of, Segment, segments_meant, through}
+use Rattle.jsonpath_rust.proofs.laws.selection.{nodelist-through, result_as, takes, tied_at_root}
 use Rattle.jsonpath_rust.proofs.selection.give.give_requested.Goals as goal
 
 pub returns-in-Ok-clause-gave : goal.returns-in-Ok-clause-gave

@@ -1,9 +1,6 @@
 use Rattle.std.proofs.Common.{◌∙◌, string_bytes}
-use Rattle.jsonpath_parser.specs.tree.View.{query_view}
-use Rattle.jsonpath_rust.specs.documents.Document.{document_of}
-use Rattle.jsonpath_rust.specs.documents.Meaning.{nodelist}
-use Rattle.jsonpath_rust.proofs.laws.selection.Sinks.{given_nodes}
-use Rattle.jsonpath_rust.proofs.laws.selection.Answers.{nodes_answered}
+use Rattle.jsonpath_rust.specs.Prelude.Documents.{document_of, nodelist, query_view}
+use Rattle.jsonpath_rust.proofs.laws.selection.{given_nodes, nodes_answered}
 use Rattle.jsonpath_rust.proofs.selection.nodelist.selected_nodes.Goals as goal
 
 pub returns-clause-nodes : goal.returns-clause-nodes

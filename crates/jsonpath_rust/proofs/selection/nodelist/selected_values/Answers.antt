@@ -1,9 +1,6 @@
 use Rattle.std.proofs.Common.{◌∙◌}
-use Rattle.jsonpath_parser.specs.tree.View.{query_view}
-use Rattle.jsonpath_rust.specs.documents.Document.{document_of}
-use Rattle.jsonpath_rust.specs.documents.Meaning.{nodelist}
-use Rattle.jsonpath_rust.proofs.laws.selection.Sinks.{given_values}
-use Rattle.jsonpath_rust.proofs.laws.selection.Answers.{values_answered}
+use Rattle.jsonpath_rust.specs.Prelude.Documents.{document_of, nodelist, query_view}
+use Rattle.jsonpath_rust.proofs.laws.selection.{given_values, values_answered}
 use Rattle.jsonpath_rust.proofs.selection.nodelist.selected_values.Goals as goal
 
 pub returns-clause-values : goal.returns-clause-values

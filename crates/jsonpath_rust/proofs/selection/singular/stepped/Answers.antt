@@ -1,11 +1,7 @@
 use Rattle.std.proofs.Common.{ap, sym, ◌∙◌, [], Some, None, w64, SFits, rules}
 use Rattle.std.proofs.lemmas.Int.{to_z-of_z}
-use Rattle.jsonpath_parser.specs.tree.View.{step_view}
-use Rattle.jsonpath_rust.specs.documents.Node.{Node}
-use Rattle.jsonpath_rust.specs.documents.Meaning.{indexed}
-use Rattle.jsonpath_rust.proofs.laws.documents.Trees.{stepped-found}
-use Rattle.jsonpath_rust.specs.documents.inner.Singular.{stepped}
-use Rattle.jsonpath_rust.specs.documents.inner.Whole.{tree_of}
+use Rattle.jsonpath_rust.specs.Prelude.Documents.{indexed, Node, step_view, stepped, tree_of}
+use Rattle.jsonpath_rust.proofs.laws.documents.{stepped-found}
 use Rattle.jsonpath_rust.proofs.selection.singular.stepped.Goals as goal
 
 pub returns-in-Some : goal.returns-in-Some

@@ -1,7 +1,6 @@
 use Rattle.std.proofs.Common.{◌≡◌, ◌++◌, map, length, All, IsTrue, string_bytes}
-use Rattle.std.specs.Vec.Iter.{into_iter_items, into_iter_len}
-use Rattle.jsonpath_rust.specs.documents.Answer.{shown}
-use Rattle.jsonpath_rust.specs.states.State.{PointersAreWhole}
+use Rattle.jsonpath_rust.specs.Prelude.Documents.{into_iter_items, into_iter_len, shown}
+use Rattle.jsonpath_rust.specs.Prelude.States.{PointersAreWhole}
 use Rattle.jsonpath_rust.proofs.states.processed.processed_nodes.Given as goal
 
 -- the nodes so far, with the pointers that are left

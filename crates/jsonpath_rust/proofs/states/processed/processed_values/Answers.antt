@@ -1,8 +1,8 @@
 use Rattle.std.proofs.Common.{◌∙◌, ℕ, List, map, ap, refl}
-use Rattle.jsonpath_base.specs.Tree.{Tree}
-use Rattle.jsonpath_rust.specs.states.State.{Target}
-use Rattle.jsonpath_rust.proofs.laws.documents.Parts.{joined_end}
-use Rattle.jsonpath_rust.proofs.laws.states.ProcessedLaws.{values-targets}
+use Rattle.jsonpath_rust.specs.Prelude.Documents.{Tree}
+use Rattle.jsonpath_rust.specs.Prelude.States.{Target}
+use Rattle.jsonpath_rust.proofs.laws.documents.{joined_end}
+use Rattle.jsonpath_rust.proofs.laws.states.{values-targets}
 use Rattle.jsonpath_rust.proofs.states.processed.processed_values.Goals as goal
 
 pub returns-clause-values : goal.returns-clause-values

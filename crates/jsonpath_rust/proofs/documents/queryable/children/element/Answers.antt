@@ -1,8 +1,8 @@
 use Rattle.std.proofs.Common.{◌≡◌, map, length, Some, sym, ◌∙◌, ap, w64, rules, SFits}
 use Rattle.std.proofs.lemmas.Int.{to_z-of_z}
 use Rattle.std.proofs.lemmas.List.{length-map}
-use Rattle.jsonpath_rust.specs.documents.Meaning.{element_of}
-use Rattle.jsonpath_rust.proofs.laws.documents.Trees.{indexed_some, element_size}
+use Rattle.jsonpath_rust.specs.Prelude.Documents.{element_of}
+use Rattle.jsonpath_rust.proofs.laws.documents.{element_size, indexed_some}
 use Rattle.jsonpath_rust.proofs.documents.queryable.children.element.Goals as goal
 
 pub returns-clause-value : goal.returns-clause-value

@@ -1,8 +1,5 @@
 use Rattle.std.proofs.Common.{◌≡◌, false, cond, Some, string_bytes, bytes_eq, IsTrue, sym, ap, ◌∙◌, subst}
-use Rattle.std.specs.List.{AllByRecursion}
-use Rattle.serde_json.specs.View.{members_view}
-use Rattle.jsonpath_base.specs.Tree.{find, pairs}
-use Rattle.jsonpath_base.specs.Values.{value_tree, value_is_whole, members_of}
+use Rattle.jsonpath_rust.specs.Prelude.Documents.{AllByRecursion, find, members_of, members_view, pairs, value_is_whole, value_tree}
 use Rattle.jsonpath_rust.proofs.documents.queryable.value.found_among.Goals as goal
 
 pub loop-name-preserved : goal.loop-name-preserved

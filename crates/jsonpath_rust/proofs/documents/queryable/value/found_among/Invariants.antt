@@ -1,8 +1,5 @@
 use Rattle.std.proofs.Common.{◌≡◌, IsTrue}
-use Rattle.std.specs.List.{AllByRecursion}
-use Rattle.serde_json.specs.View.{members_view}
-use Rattle.jsonpath_base.specs.Tree.{find, pairs}
-use Rattle.jsonpath_base.specs.Values.{value_is_whole, members_of}
+use Rattle.jsonpath_rust.specs.Prelude.Documents.{AllByRecursion, find, members_of, members_view, pairs, value_is_whole}
 use Rattle.jsonpath_rust.proofs.documents.queryable.value.found_among.Given as goal
 
 -- what is sought stands in what is left, if anywhere

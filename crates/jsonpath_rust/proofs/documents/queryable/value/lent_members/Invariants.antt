@@ -1,7 +1,5 @@
 use Rattle.std.proofs.Common.{◌≡◌, ◌++◌, map, List, ℕ}
-use Rattle.serde_json.specs.View.{members_view}
-use Rattle.jsonpath_base.specs.Tree.{Tree, pairs}
-use Rattle.jsonpath_base.specs.Values.{value_tree, members_of}
+use Rattle.jsonpath_rust.specs.Prelude.Documents.{members_of, members_view, pairs, Tree, value_tree}
 use Rattle.jsonpath_rust.proofs.documents.queryable.value.lent_members.Given as goal
 
 -- what is lent, and what is left, are the members

@@ -1,5 +1,5 @@
 use Rattle.std.proofs.Common.{ap, sym, ◌∙◌, Some, option_map}
-use Rattle.jsonpath_rust.specs.selection.inner.Wanting.{gave}
+use Rattle.jsonpath_rust.specs.Prelude.Selection.{gave}
 use Rattle.jsonpath_rust.proofs.selection.cache.Cache.has.Goals as goal
 
 pub returns-in-Some-Value-clause-given : goal.returns-in-Some-Value-clause-given

@@ -1,6 +1,6 @@
 use Rattle.std.proofs.Common.{refl}
-use Rattle.jsonpath_rust.specs.selection.inner.Keeping.{slots_of}
-use Rattle.jsonpath_rust.proofs.laws.selection.Kept.{slot_set, keeps_set}
+use Rattle.jsonpath_rust.specs.Prelude.Selection.{slots_of}
+use Rattle.jsonpath_rust.proofs.laws.selection.{keeps_set, slot_set}
 use Rattle.jsonpath_rust.proofs.selection.cache.Cache.keep.Goals as goal
 
 pub returns-clause-value : goal.returns-clause-value

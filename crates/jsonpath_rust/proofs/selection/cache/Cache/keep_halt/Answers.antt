@@ -1,5 +1,5 @@
 use Rattle.std.proofs.Common.{◌≡◌, sym, ◌∙◌}
-use Rattle.jsonpath_rust.specs.declared.documents.halt.Halt.TheVariants.{Memory, Pattern, Spent}
+use Rattle.jsonpath_rust.specs.Prelude.Documents.{Memory, Pattern, Spent}
 use Rattle.jsonpath_rust.proofs.selection.cache.Cache.keep_halt.Goals as goal
 
 pub returns-in-Pattern-clause-right : goal.returns-in-Pattern-clause-right

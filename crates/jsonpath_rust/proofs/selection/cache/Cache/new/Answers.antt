@@ -1,5 +1,5 @@
 use Rattle.std.proofs.Common.{sym, ◌∙◌}
-use Rattle.jsonpath_rust.proofs.laws.selection.Kept.{keeps_none}
+use Rattle.jsonpath_rust.proofs.laws.selection.{keeps_none}
 use Rattle.jsonpath_rust.proofs.selection.cache.Cache.new.Goals as goal
 
 pub returns : goal.returns

@@ -1,4 +1,4 @@
-use Rattle.jsonpath_rust.specs.documents.inner.Operands.{arg_trees}
+use Rattle.jsonpath_rust.specs.Prelude.Documents.{arg_trees}
 use Rattle.jsonpath_rust.proofs.laws.documents.Arguments.{values_next}
 use Rattle.jsonpath_rust.proofs.selection.cache.Given.push_to.Goals as goal
 

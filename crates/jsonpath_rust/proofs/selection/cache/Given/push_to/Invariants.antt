@@ -1,5 +1,5 @@
 use Rattle.std.proofs.Common.{◌≡◌, ◌++◌, map, drop}
-use Rattle.jsonpath_rust.specs.documents.inner.Operands.{arg_trees}
+use Rattle.jsonpath_rust.specs.Prelude.Documents.{arg_trees}
 use Rattle.jsonpath_rust.proofs.selection.cache.Given.push_to.Given as goal
 
 -- the arguments so far, with the values that are left

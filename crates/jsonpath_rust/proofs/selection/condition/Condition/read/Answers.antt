@@ -1,11 +1,9 @@
 use Rattle.std.proofs.Common.{◌≡◌, sym, ◌∙◌, subst}
-use Rattle.jsonpath_parser.specs.Derives.{Derives, IsRefusal}
+use Rattle.jsonpath_rust.specs.Prelude.Documents.{Derives, IsRefusal, query_view}
+use Rattle.jsonpath_rust.specs.Prelude.Selection.{filter_query, in_filter, prepared_view}
+use Rattle.jsonpath_rust.proofs.laws.selection.{expression_back, never_none}
 use Rattle.jsonpath_parser.specs.Grammar.{Spells}
 use Rattle.jsonpath_parser.specs.words.Numbers.{SpellsNumber}
-use Rattle.jsonpath_parser.specs.tree.View.{query_view}
-use Rattle.jsonpath_rust.specs.selection.Condition.{filter_query, in_filter}
-use Rattle.jsonpath_rust.specs.selection.Prepared.{prepared_view}
-use Rattle.jsonpath_rust.proofs.laws.selection.Conditions.{expression_back, never_none}
 use Rattle.jsonpath_rust.proofs.selection.condition.Condition.read.Goals as goal
 
 pub returns-in-Err-clause-only : goal.returns-in-Err-clause-only

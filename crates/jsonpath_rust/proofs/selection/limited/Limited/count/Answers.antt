@@ -1,8 +1,7 @@
 use Rattle.std.proofs.Common.{◌∙◌, ap}
-use Rattle.jsonpath_rust.specs.documents.Document.{document_of}
-use Rattle.jsonpath_rust.specs.selection.Prepared.{limited_view}
-use Rattle.jsonpath_rust.specs.selection.inner.Sinks.{count_in}
-use Rattle.jsonpath_rust.proofs.laws.selection.Answers.{count_answered}
+use Rattle.jsonpath_rust.specs.Prelude.Documents.{document_of}
+use Rattle.jsonpath_rust.specs.Prelude.Selection.{count_in, limited_view}
+use Rattle.jsonpath_rust.proofs.laws.selection.{count_answered}
 use Rattle.jsonpath_rust.proofs.Withins.{of_done, of_spent}
 use Rattle.jsonpath_rust.proofs.selection.limited.Limited.count.Goals as goal
 

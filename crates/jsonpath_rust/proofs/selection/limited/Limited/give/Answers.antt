@@ -1,5 +1,5 @@
-use Rattle.jsonpath_rust.specs.documents.inner.Whole.{document_at}
-use Rattle.jsonpath_rust.specs.selection.Prepared.{limited_view}
+use Rattle.jsonpath_rust.specs.Prelude.Documents.{document_at}
+use Rattle.jsonpath_rust.specs.Prelude.Selection.{limited_view}
 use Rattle.jsonpath_rust.proofs.Withins.{never_done, halted_stop, never_spent}
 use Rattle.jsonpath_rust.proofs.selection.limited.Limited.give.Goals as goal
 

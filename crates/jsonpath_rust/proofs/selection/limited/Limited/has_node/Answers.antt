@@ -1,9 +1,7 @@
 use Rattle.std.proofs.Common.{◌∙◌, ap}
-use Rattle.jsonpath_rust.specs.documents.Document.{document_of}
-use Rattle.jsonpath_rust.specs.documents.Meaning.{nodelist}
-use Rattle.jsonpath_rust.specs.selection.Prepared.{limited_view}
-use Rattle.jsonpath_rust.specs.selection.inner.Sinks.{any_in}
-use Rattle.jsonpath_rust.proofs.laws.selection.Answers.{no_node}
+use Rattle.jsonpath_rust.specs.Prelude.Documents.{document_of, nodelist}
+use Rattle.jsonpath_rust.specs.Prelude.Selection.{any_in, limited_view}
+use Rattle.jsonpath_rust.proofs.laws.selection.{no_node}
 use Rattle.jsonpath_rust.proofs.Withins.{of_done, of_spent}
 use Rattle.jsonpath_rust.proofs.selection.limited.Limited.has_node.Goals as goal
 

@@ -1,8 +1,7 @@
 use Rattle.std.proofs.Common.{◌∙◌, ap}
-use Rattle.jsonpath_rust.specs.documents.Document.{document_of}
-use Rattle.jsonpath_rust.specs.selection.Prepared.{limited_view}
-use Rattle.jsonpath_rust.specs.selection.inner.Only.{only_told}
-use Rattle.jsonpath_rust.proofs.laws.selection.Answers.{only_answered}
+use Rattle.jsonpath_rust.specs.Prelude.Documents.{document_of}
+use Rattle.jsonpath_rust.specs.Prelude.Selection.{limited_view, only_told}
+use Rattle.jsonpath_rust.proofs.laws.selection.{only_answered}
 use Rattle.jsonpath_rust.proofs.Withins.{of_done, of_spent}
 use Rattle.jsonpath_rust.proofs.selection.limited.Limited.only.Goals as goal
 

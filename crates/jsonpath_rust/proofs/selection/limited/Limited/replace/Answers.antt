@@ -1,10 +1,6 @@
 use Rattle.std.proofs.Common.{ap, ◌∙◌}
-use Rattle.jsonpath_base.specs.Overwritten.{overwritten}
-use Rattle.jsonpath_base.specs.Values.{value_tree}
-use Rattle.jsonpath_rust.specs.documents.Document.{value_document}
-use Rattle.jsonpath_rust.specs.documents.Meaning.{selected}
-use Rattle.jsonpath_rust.specs.selection.Prepared.{limited_view}
-use Rattle.jsonpath_rust.specs.selection.inner.Sinks.{IsRemovalOf}
+use Rattle.jsonpath_rust.specs.Prelude.Documents.{overwritten, selected, value_document, value_tree}
+use Rattle.jsonpath_rust.specs.Prelude.Selection.{IsRemovalOf, limited_view}
 use Rattle.jsonpath_rust.proofs.Withins.{of_done, of_spent}
 use Rattle.jsonpath_rust.proofs.selection.limited.Limited.replace.Goals as goal
 

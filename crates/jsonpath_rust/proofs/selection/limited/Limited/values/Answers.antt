@@ -1,9 +1,7 @@
 use Rattle.std.proofs.Common.{◌∙◌}
-use Rattle.jsonpath_rust.specs.documents.Document.{document_of}
-use Rattle.jsonpath_rust.specs.documents.Meaning.{nodelist}
-use Rattle.jsonpath_rust.specs.selection.Prepared.{limited_view}
-use Rattle.jsonpath_rust.proofs.laws.selection.Sinks.{given_values}
-use Rattle.jsonpath_rust.proofs.laws.selection.Answers.{values_answered}
+use Rattle.jsonpath_rust.specs.Prelude.Documents.{document_of, nodelist}
+use Rattle.jsonpath_rust.specs.Prelude.Selection.{limited_view}
+use Rattle.jsonpath_rust.proofs.laws.selection.{given_values, values_answered}
 use Rattle.jsonpath_rust.proofs.Withins.{of_done, of_spent}
 use Rattle.jsonpath_rust.proofs.selection.limited.Limited.values.Goals as goal
 

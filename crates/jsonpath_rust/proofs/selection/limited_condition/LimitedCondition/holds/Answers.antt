@@ -1,5 +1,5 @@
-use Rattle.jsonpath_rust.specs.documents.Document.{document_of}
-use Rattle.jsonpath_rust.specs.selection.Condition.{filter_query, limited_condition_view}
+use Rattle.jsonpath_rust.specs.Prelude.Documents.{document_of}
+use Rattle.jsonpath_rust.specs.Prelude.Selection.{filter_query, limited_condition_view}
 use Rattle.jsonpath_rust.proofs.Withins.{never_done, halted_stop}
 use Rattle.jsonpath_rust.proofs.selection.limited_condition.LimitedCondition.holds.Goals as goal
 

@@ -1,7 +1,7 @@
 use Rattle.std.proofs.Common.{◌∙◌, ap, sym, map, rules}
 use Rattle.jsonpath_parser.specs.tree.View as tree
 use Rattle.jsonpath_parser.proofs.laws.tree.ViewEquations.{query_view-segments}
-use Rattle.jsonpath_rust.proofs.laws.selection.PlanLaws.{plan_made, plan_settled, plan_rooted}
+use Rattle.jsonpath_rust.proofs.laws.selection.{plan_made, plan_rooted, plan_settled}
 use Rattle.jsonpath_rust.proofs.selection.plan.make.plan_of.Goals as goal
 
 pub returns-clause-same : goal.returns-clause-same

@@ -1,6 +1,5 @@
-use Rattle.jsonpath_parser.specs.tree.View.{query_view}
-use Rattle.jsonpath_rust.specs.selection.Prepared.{prepared_view}
-use Rattle.jsonpath_parser.specs.tree.Steps.{steps_query}
+use Rattle.jsonpath_rust.specs.Prelude.Documents.{query_view, steps_query}
+use Rattle.jsonpath_rust.specs.Prelude.Selection.{prepared_view}
 use Rattle.jsonpath_rust.proofs.ByText.{read_derives, read_only, read_refused}
 use Rattle.jsonpath_rust.proofs.selection.prepared.Prepared.read_within.Goals as goal
 

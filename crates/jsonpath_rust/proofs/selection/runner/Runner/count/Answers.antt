@@ -1,8 +1,7 @@
 use Rattle.std.proofs.Common.{◌∙◌, ap}
-use Rattle.jsonpath_rust.specs.documents.Document.{document_of}
-use Rattle.jsonpath_rust.specs.selection.Prepared.{runner_view}
-use Rattle.jsonpath_rust.specs.selection.inner.Sinks.{count_in}
-use Rattle.jsonpath_rust.proofs.laws.selection.Answers.{count_answered}
+use Rattle.jsonpath_rust.specs.Prelude.Documents.{document_of}
+use Rattle.jsonpath_rust.specs.Prelude.Selection.{count_in, runner_view}
+use Rattle.jsonpath_rust.proofs.laws.selection.{count_answered}
 use Rattle.jsonpath_rust.proofs.selection.runner.Runner.count.Goals as goal
 
 pub returns-clause-count : goal.returns-clause-count

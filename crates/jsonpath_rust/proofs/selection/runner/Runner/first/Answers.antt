@@ -1,8 +1,7 @@
 use Rattle.std.proofs.Common.{◌∙◌, ap, string_bytes}
-use Rattle.jsonpath_rust.specs.documents.Document.{document_of}
-use Rattle.jsonpath_rust.specs.selection.Prepared.{runner_view}
-use Rattle.jsonpath_rust.specs.selection.inner.Sinks.{first_in}
-use Rattle.jsonpath_rust.proofs.laws.selection.Answers.{first_answered, none_answered}
+use Rattle.jsonpath_rust.specs.Prelude.Documents.{document_of}
+use Rattle.jsonpath_rust.specs.Prelude.Selection.{first_in, runner_view}
+use Rattle.jsonpath_rust.proofs.laws.selection.{first_answered, none_answered}
 use Rattle.jsonpath_rust.proofs.selection.runner.Runner.first.Goals as goal
 
 pub returns-clause-first : goal.returns-clause-first

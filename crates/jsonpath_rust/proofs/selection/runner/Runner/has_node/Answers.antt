@@ -1,9 +1,7 @@
 use Rattle.std.proofs.Common.{◌∙◌, ap}
-use Rattle.jsonpath_rust.specs.documents.Document.{document_of}
-use Rattle.jsonpath_rust.specs.documents.Meaning.{nodelist}
-use Rattle.jsonpath_rust.specs.selection.Prepared.{runner_view}
-use Rattle.jsonpath_rust.specs.selection.inner.Sinks.{any_in}
-use Rattle.jsonpath_rust.proofs.laws.selection.Answers.{no_node}
+use Rattle.jsonpath_rust.specs.Prelude.Documents.{document_of, nodelist}
+use Rattle.jsonpath_rust.specs.Prelude.Selection.{any_in, runner_view}
+use Rattle.jsonpath_rust.proofs.laws.selection.{no_node}
 use Rattle.jsonpath_rust.proofs.selection.runner.Runner.has_node.Goals as goal
 
 pub returns-clause-none : goal.returns-clause-none

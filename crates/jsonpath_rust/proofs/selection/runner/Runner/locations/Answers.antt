@@ -1,9 +1,7 @@
 use Rattle.std.proofs.Common.{◌∙◌}
-use Rattle.jsonpath_base.specs.Steps.{location_view}
-use Rattle.jsonpath_rust.specs.documents.Document.{document_of}
-use Rattle.jsonpath_rust.specs.documents.Meaning.{nodelist}
-use Rattle.jsonpath_rust.specs.selection.Prepared.{runner_view}
-use Rattle.jsonpath_rust.proofs.laws.selection.Sinks.{given_locations}
+use Rattle.jsonpath_rust.specs.Prelude.Documents.{document_of, location_view, nodelist}
+use Rattle.jsonpath_rust.specs.Prelude.Selection.{runner_view}
+use Rattle.jsonpath_rust.proofs.laws.selection.{given_locations}
 use Rattle.jsonpath_rust.proofs.selection.runner.Runner.locations.Goals as goal
 
 pub returns-clause-locations : goal.returns-clause-locations

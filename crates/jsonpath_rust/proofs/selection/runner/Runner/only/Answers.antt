@@ -1,8 +1,7 @@
 use Rattle.std.proofs.Common.{◌∙◌, ap}
-use Rattle.jsonpath_rust.specs.documents.Document.{document_of}
-use Rattle.jsonpath_rust.specs.selection.Prepared.{runner_view}
-use Rattle.jsonpath_rust.specs.selection.inner.Only.{only_told}
-use Rattle.jsonpath_rust.proofs.laws.selection.Answers.{only_answered}
+use Rattle.jsonpath_rust.specs.Prelude.Documents.{document_of}
+use Rattle.jsonpath_rust.specs.Prelude.Selection.{only_told, runner_view}
+use Rattle.jsonpath_rust.proofs.laws.selection.{only_answered}
 use Rattle.jsonpath_rust.proofs.selection.runner.Runner.only.Goals as goal
 
 pub returns-clause-only : goal.returns-clause-only

@@ -1,9 +1,7 @@
 use Rattle.std.proofs.Common.{◌∙◌, string_bytes}
-use Rattle.jsonpath_rust.specs.documents.Document.{document_of}
-use Rattle.jsonpath_rust.specs.documents.Meaning.{nodelist}
-use Rattle.jsonpath_rust.specs.selection.Prepared.{runner_view}
-use Rattle.jsonpath_rust.proofs.laws.selection.Sinks.{given_paths}
-use Rattle.jsonpath_rust.proofs.laws.selection.Answers.{paths_answered}
+use Rattle.jsonpath_rust.specs.Prelude.Documents.{document_of, nodelist}
+use Rattle.jsonpath_rust.specs.Prelude.Selection.{runner_view}
+use Rattle.jsonpath_rust.proofs.laws.selection.{given_paths, paths_answered}
 use Rattle.jsonpath_rust.proofs.selection.runner.Runner.paths.Goals as goal
 
 pub returns-clause-paths : goal.returns-clause-paths

@@ -1,10 +1,7 @@
 use Rattle.std.proofs.Common.{ap, ◌∙◌}
-use Rattle.jsonpath_base.specs.RemovalViews.{removal_set, removal_count}
-use Rattle.jsonpath_base.specs.declared.removal.Removal.{Removal}
-use Rattle.jsonpath_rust.specs.documents.Document.{document_of}
-use Rattle.jsonpath_rust.specs.documents.Meaning.{nodelist}
-use Rattle.jsonpath_rust.specs.selection.Prepared.{runner_view}
-use Rattle.jsonpath_rust.proofs.laws.selection.Sinks.{removal_is, removal_there}
+use Rattle.jsonpath_rust.specs.Prelude.Documents.{document_of, nodelist, Removal, removal_count, removal_set}
+use Rattle.jsonpath_rust.specs.Prelude.Selection.{runner_view}
+use Rattle.jsonpath_rust.proofs.laws.selection.{removal_is, removal_there}
 use Rattle.jsonpath_rust.proofs.selection.runner.Runner.removal.Goals as goal
 
 pub returns-in-Some-clause-removal : goal.returns-in-Some-clause-removal

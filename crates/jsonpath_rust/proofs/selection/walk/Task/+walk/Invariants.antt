@@ -1,112 +1,100 @@
 use Rattle.std.proofs.Common.{◌+◌, ◌*◌, ◌≡◌, ◌<◌, ◌++◌, drop, map, length, All}
-use Rattle.std.specs.List.{flat_map}
-use Rattle.jsonpath_base.specs.Slice.{slice_of}
-use Rattle.jsonpath_base.specs.SliceSteps.{places_left}
-use Rattle.jsonpath_rust.specs.documents.Node.{element_nodes, member_nodes, children}
-use Rattle.jsonpath_rust.specs.documents.Meaning.{all_pick, element, some_holds, each_holds, all_trees}
-use Rattle.jsonpath_rust.specs.selection.inner.PlanViews.{segment_view, segments_meant, selector_view, selectors_meant, filter_view, filters_meant, side_view, call_view, argument_view, arguments_meant, nodes_view, query_at, call_at, called_view, comparison_at}
-use Rattle.jsonpath_rust.specs.selection.inner.Walking.{through, node_of, acted}
-use Rattle.jsonpath_rust.specs.selection.inner.Keeping.{document, kept_of}
-use Rattle.jsonpath_rust.specs.selection.inner.Standing.{Returns}
-use Rattle.jsonpath_rust.specs.documents.inner.Operands.{arg_trees}
-use Rattle.jsonpath_rust.specs.documents.inner.Whole.{tree_of}
-use Rattle.jsonpath_rust.specs.documents.inner.Size.{size}
-use Rattle.jsonpath_rust.proofs.laws.selection.Along.{Goes}
-use Rattle.jsonpath_rust.proofs.laws.selection.Work.{work}
-use Rattle.jsonpath_rust.specs.selection.inner.Passing.{action_weight}
-use Rattle.jsonpath_rust.specs.documents.inner.Weight.{segments_weight, segment_weight, selectors_weight, selector_weight, filter_weight, filters_weight, test_weight, call_weight, argument_weight, arguments_weight}
-use Rattle.jsonpath_rust.specs.declared.selection.sink.Wanted.TheVariants.{Any, Only, Values}
+use Rattle.jsonpath_rust.specs.Prelude.Documents.{all_pick, all_trees, arg_trees, argument_effort, arguments_effort, call_effort, children, each_holds, element, element_nodes, filter_effort, filters_effort, flat_map, member_nodes, places_left, segment_effort, segments_effort, selector_effort, selectors_effort, size, slice_of, some_holds, test_effort, tree_of}
+use Rattle.jsonpath_rust.specs.Prelude.Selection.{acted, action_effort, Any, argument_view, arguments_meant, call_at, call_view, called_view, comparison_at, document, filter_view, filters_meant, kept_of, node_of, nodes_view, Only, query_at, Returns, segment_view, segments_meant, selector_view, selectors_meant, side_view, through, Values}
+use Rattle.jsonpath_rust.proofs.laws.selection.{Goes}
 use Rattle.jsonpath_rust.proofs.selection.walk.Task.+walk.Given as goal
 
+-- Each measure is the effort of the parts that are left, five for each value of the tree at hand, and the place of the method among those that pass
+-- the same on. What begins again at the root pays for it by its effort.
 abbrev pub decreases-walk : goal.decreases-walk
-decreases-walk g l = work (segments_weight (segments_meant (kept_of l.self.now) l.segments.now) + 1) (size (tree_of l.self.now.root)) (5 * size (tree_of l.at))
+decreases-walk g l = segments_effort (size (tree_of l.self.now.root)) (segments_meant (kept_of l.self.now) l.segments.now) + 5 * size (tree_of l.at) + 1
 
 abbrev pub decreases-pass : goal.decreases-pass
-decreases-pass g l = work (segment_weight (segment_view (kept_of l.self.now) l.onward.next.now) + segments_weight (segments_meant (kept_of l.self.now) l.onward.rest.now)) (size (tree_of l.self.now.root)) (5 * size (tree_of l.at))
+decreases-pass g l = segment_effort (size (tree_of l.self.now.root)) (segment_view (kept_of l.self.now) l.onward.next.now) + segments_effort (size (tree_of l.self.now.root)) (segments_meant (kept_of l.self.now) l.onward.rest.now) + 5 * size (tree_of l.at)
 
 abbrev pub decreases-pick_each : goal.decreases-pick_each
-decreases-pick_each g l = work (selectors_weight (selectors_meant (kept_of l.self.now) l.onward.next.now) + 1 + segments_weight (segments_meant (kept_of l.self.now) l.onward.rest.now)) (size (tree_of l.self.now.root)) (5 * size (tree_of l.at))
+decreases-pick_each g l = selectors_effort (size (tree_of l.self.now.root)) (selectors_meant (kept_of l.self.now) l.onward.next.now) + segments_effort (size (tree_of l.self.now.root)) (segments_meant (kept_of l.self.now) l.onward.rest.now) + 5 * size (tree_of l.at) + 2
 
 abbrev pub decreases-pick : goal.decreases-pick
-decreases-pick g l = work (selector_weight (selector_view (kept_of l.self.now) l.onward.next.now) + segments_weight (segments_meant (kept_of l.self.now) l.onward.rest.now)) (size (tree_of l.self.now.root)) (5 * size (tree_of l.at))
+decreases-pick g l = selector_effort (size (tree_of l.self.now.root)) (selector_view (kept_of l.self.now) l.onward.next.now) + segments_effort (size (tree_of l.self.now.root)) (segments_meant (kept_of l.self.now) l.onward.rest.now) + 5 * size (tree_of l.at) + 1
 
 abbrev pub decreases-pick_slice : goal.decreases-pick_slice
-decreases-pick_slice g l = work (segments_weight (segments_meant (kept_of l.self.now) l.onward.rest.now) + 3) (size (tree_of l.self.now.root)) (5 * size (tree_of l.at))
+decreases-pick_slice g l = segments_effort (size (tree_of l.self.now.root)) (segments_meant (kept_of l.self.now) l.onward.rest.now) + 5 * size (tree_of l.at) + 8
 
 abbrev pub decreases-each_child : goal.decreases-each_child
-decreases-each_child g l = work (action_weight (kept_of l.self.now) l.onward.next + segments_weight (segments_meant (kept_of l.self.now) l.onward.rest.now)) (size (tree_of l.self.now.root)) (5 * size (tree_of l.at) + 1)
+decreases-each_child g l = action_effort (size (tree_of l.self.now.root)) (kept_of l.self.now) l.onward.next + segments_effort (size (tree_of l.self.now.root)) (segments_meant (kept_of l.self.now) l.onward.rest.now) + 5 * size (tree_of l.at) + 1
 
 abbrev pub decreases-each_member : goal.decreases-each_member
-decreases-each_member g l = work (action_weight (kept_of l.self.now) l.onward.next + segments_weight (segments_meant (kept_of l.self.now) l.onward.rest.now)) (size (tree_of l.self.now.root)) (5 * size (tree_of l.members.now.of))
+decreases-each_member g l = action_effort (size (tree_of l.self.now.root)) (kept_of l.self.now) l.onward.next + segments_effort (size (tree_of l.self.now.root)) (segments_meant (kept_of l.self.now) l.onward.rest.now) + 5 * size (tree_of l.members.now.of)
 
 abbrev pub decreases-descend : goal.decreases-descend
-decreases-descend g l = work (segment_weight (segment_view (kept_of l.self.now) l.onward.next.now) + 1 + segments_weight (segments_meant (kept_of l.self.now) l.onward.rest.now)) (size (tree_of l.self.now.root)) (5 * size (tree_of l.at) + 2)
+decreases-descend g l = segment_effort (size (tree_of l.self.now.root)) (segment_view (kept_of l.self.now) l.onward.next.now) + segments_effort (size (tree_of l.self.now.root)) (segments_meant (kept_of l.self.now) l.onward.rest.now) + 5 * size (tree_of l.at) + 3
 
 abbrev pub decreases-at_child : goal.decreases-at_child
-decreases-at_child g l = work (action_weight (kept_of l.self.now) l.onward.next + segments_weight (segments_meant (kept_of l.self.now) l.onward.rest.now)) (size (tree_of l.self.now.root)) (5 * size (tree_of l.child.value) + 4)
+decreases-at_child g l = action_effort (size (tree_of l.self.now.root)) (kept_of l.self.now) l.onward.next + segments_effort (size (tree_of l.self.now.root)) (segments_meant (kept_of l.self.now) l.onward.rest.now) + 5 * size (tree_of l.child.value) + 4
 
 abbrev pub decreases-act : goal.decreases-act
-decreases-act g l = work (action_weight (kept_of l.self.now) l.onward.next + segments_weight (segments_meant (kept_of l.self.now) l.onward.rest.now)) (size (tree_of l.self.now.root)) (5 * size (tree_of l.at) + 3)
+decreases-act g l = action_effort (size (tree_of l.self.now.root)) (kept_of l.self.now) l.onward.next + segments_effort (size (tree_of l.self.now.root)) (segments_meant (kept_of l.self.now) l.onward.rest.now) + 5 * size (tree_of l.at) + 3
 
 abbrev pub decreases-is_met : goal.decreases-is_met
-decreases-is_met g l = work (filter_weight (filter_view (kept_of l.self.now) l.filter.now)) (size (tree_of l.self.now.root)) (5 * size (tree_of l.at) + 2)
+decreases-is_met g l = filter_effort (size (tree_of l.self.now.root)) (filter_view (kept_of l.self.now) l.filter.now) + 5 * size (tree_of l.at) + 6
 
 abbrev pub decreases-filter_holds : goal.decreases-filter_holds
-decreases-filter_holds g l = work (filter_weight (filter_view (kept_of l.self.now) l.filter.now)) (size (tree_of l.self.now.root)) (5 * size (tree_of l.at) + 1)
+decreases-filter_holds g l = filter_effort (size (tree_of l.self.now.root)) (filter_view (kept_of l.self.now) l.filter.now) + 5 * size (tree_of l.at) + 4
 
 abbrev pub decreases-some_holds : goal.decreases-some_holds
-decreases-some_holds g l = work (filters_weight (filters_meant (kept_of l.self.now) l.parts.now) + 1) (size (tree_of l.self.now.root)) (5 * size (tree_of l.at))
+decreases-some_holds g l = filters_effort (size (tree_of l.self.now.root)) (filters_meant (kept_of l.self.now) l.parts.now) + 5 * size (tree_of l.at) + 6
 
 abbrev pub decreases-each_holds : goal.decreases-each_holds
-decreases-each_holds g l = work (filters_weight (filters_meant (kept_of l.self.now) l.parts.now) + 1) (size (tree_of l.self.now.root)) (5 * size (tree_of l.at))
+decreases-each_holds g l = filters_effort (size (tree_of l.self.now.root)) (filters_meant (kept_of l.self.now) l.parts.now) + 5 * size (tree_of l.at) + 6
 
 abbrev pub decreases-answer : goal.decreases-answer
-decreases-answer g l = work (call_weight (call_view (kept_of l.self.now) l.call.now)) (size (tree_of l.self.now.root)) (5 * size (tree_of l.at))
+decreases-answer g l = call_effort (size (tree_of l.self.now.root)) (call_view (kept_of l.self.now) l.call.now) + 5 * size (tree_of l.at) + 1
 
 abbrev pub decreases-called : goal.decreases-called
-decreases-called g l = work (call_weight (called_view (kept_of l.self.now) l.call.now)) (size (tree_of l.self.now.root)) (5 * size (tree_of l.self.now.root) + 4)
+decreases-called g l = call_effort (size (tree_of l.self.now.root)) (called_view (kept_of l.self.now) l.call.now) + 5 * size (tree_of l.at) + 5 * size (tree_of l.self.now.root) + 6
 
 abbrev pub decreases-constant_answer : goal.decreases-constant_answer
-decreases-constant_answer g l = work (call_weight (call_at (kept_of l.self.now) l.number)) (size (tree_of l.self.now.root)) (5 * size (tree_of l.self.now.root) + 3)
+decreases-constant_answer g l = call_effort (size (tree_of l.self.now.root)) (call_at (kept_of l.self.now) l.number) + 5 * size (tree_of l.self.now.root) + 5
 
 abbrev pub decreases-constant_comparison : goal.decreases-constant_comparison
-decreases-constant_comparison g l = work (filter_weight (comparison_at (kept_of l.self.now) l.number)) (size (tree_of l.self.now.root)) 0
+decreases-constant_comparison g l = filter_effort (size (tree_of l.self.now.root)) (comparison_at (kept_of l.self.now) l.number) + 1
 
 abbrev pub decreases-match_or_search : goal.decreases-match_or_search
-decreases-match_or_search g l = work (argument_weight (argument_view (kept_of l.self.now) l.args.0.now Only) + argument_weight (argument_view (kept_of l.self.now) l.args.1.now Only) + 1) (size (tree_of l.self.now.root)) (5 * size (tree_of l.at))
+decreases-match_or_search g l = argument_effort (size (tree_of l.self.now.root)) (argument_view (kept_of l.self.now) l.args.0.now Only) + argument_effort (size (tree_of l.self.now.root)) (argument_view (kept_of l.self.now) l.args.1.now Only) + 5 * size (tree_of l.at) + 4
 
 abbrev pub decreases-custom : goal.decreases-custom
-decreases-custom g l = work (arguments_weight (arguments_meant (kept_of l.self.now) l.args.now) + 1) (size (tree_of l.self.now.root)) (5 * size (tree_of l.at))
+decreases-custom g l = arguments_effort (size (tree_of l.self.now.root)) (arguments_meant (kept_of l.self.now) l.args.now) + 5 * size (tree_of l.at) + 4
 
 abbrev pub decreases-push_argument : goal.decreases-push_argument
-decreases-push_argument g l = work (argument_weight (argument_view (kept_of l.self.now) l.arg.now Values)) (size (tree_of l.self.now.root)) (5 * size (tree_of l.at) + 1)
+decreases-push_argument g l = argument_effort (size (tree_of l.self.now.root)) (argument_view (kept_of l.self.now) l.arg.now Values) + 5 * size (tree_of l.at) + 3
 
 abbrev pub decreases-value : goal.decreases-value
-decreases-value g l = work (argument_weight (argument_view (kept_of l.self.now) l.arg.now Only)) (size (tree_of l.self.now.root)) (5 * size (tree_of l.at))
+decreases-value g l = argument_effort (size (tree_of l.self.now.root)) (argument_view (kept_of l.self.now) l.arg.now Only) + 5 * size (tree_of l.at) + 1
 
 abbrev pub decreases-gather : goal.decreases-gather
-decreases-gather g l = work (segments_weight (segments_meant (kept_of l.self.now) l.segments.now) + 2) (size (tree_of l.self.now.root)) (5 * size (tree_of l.at))
+decreases-gather g l = segments_effort (size (tree_of l.self.now.root)) (segments_meant (kept_of l.self.now) l.segments.now) + 5 * size (tree_of l.at) + 3
 
 abbrev pub decreases-exists : goal.decreases-exists
-decreases-exists g l = work (test_weight (nodes_view (kept_of l.self.now) l.nodes.now Any)) (size (tree_of l.self.now.root)) (5 * size (tree_of l.at) + 1)
+decreases-exists g l = test_effort (size (tree_of l.self.now.root)) (nodes_view (kept_of l.self.now) l.nodes.now Any) + 5 * size (tree_of l.at) + 2
 
 abbrev pub decreases-comparison_holds : goal.decreases-comparison_holds
-decreases-comparison_holds g l = work (argument_weight (side_view (kept_of l.self.now) l.comparison.1.now) + argument_weight (side_view (kept_of l.self.now) l.comparison.2.now) + 1) (size (tree_of l.self.now.root)) (5 * size (tree_of l.at) + 1)
+decreases-comparison_holds g l = argument_effort (size (tree_of l.self.now.root)) (side_view (kept_of l.self.now) l.comparison.1.now) + argument_effort (size (tree_of l.self.now.root)) (side_view (kept_of l.self.now) l.comparison.2.now) + 5 * size (tree_of l.at) + 5
 
 abbrev pub decreases-walked_compare : goal.decreases-walked_compare
-decreases-walked_compare g l = work (argument_weight (side_view (kept_of l.self.now) l.comparison.1.now) + argument_weight (side_view (kept_of l.self.now) l.comparison.2.now) + 1) (size (tree_of l.self.now.root)) (5 * size (tree_of l.at))
+decreases-walked_compare g l = argument_effort (size (tree_of l.self.now.root)) (side_view (kept_of l.self.now) l.comparison.1.now) + argument_effort (size (tree_of l.self.now.root)) (side_view (kept_of l.self.now) l.comparison.2.now) + 5 * size (tree_of l.at) + 4
 
 abbrev pub decreases-side : goal.decreases-side
-decreases-side g l = work (argument_weight (side_view (kept_of l.self.now) l.side.now)) (size (tree_of l.self.now.root)) (5 * size (tree_of l.at))
+decreases-side g l = argument_effort (size (tree_of l.self.now.root)) (side_view (kept_of l.self.now) l.side.now) + 5 * size (tree_of l.at) + 2
 
 abbrev pub decreases-nodes : goal.decreases-nodes
-decreases-nodes g l = work (test_weight (nodes_view (kept_of l.self.now) l.nodes.now l.wanted)) (size (tree_of l.self.now.root)) (5 * size (tree_of l.at))
+decreases-nodes g l = test_effort (size (tree_of l.self.now.root)) (nodes_view (kept_of l.self.now) l.nodes.now l.wanted) + 5 * size (tree_of l.at) + 1
 
 abbrev pub decreases-push_nodes : goal.decreases-push_nodes
-decreases-push_nodes g l = work (test_weight (nodes_view (kept_of l.self.now) l.nodes.now Values)) (size (tree_of l.self.now.root)) (5 * size (tree_of l.at))
+decreases-push_nodes g l = test_effort (size (tree_of l.self.now.root)) (nodes_view (kept_of l.self.now) l.nodes.now Values) + 5 * size (tree_of l.at) + 2
 
 abbrev pub decreases-keep_nodes : goal.decreases-keep_nodes
-decreases-keep_nodes g l = work (segments_weight (query_at (kept_of l.self.now) l.wanted l.number) + 3) (size (tree_of l.self.now.root)) (5 * size (tree_of l.self.now.root))
+decreases-keep_nodes g l = segments_effort (size (tree_of l.self.now.root)) (query_at (kept_of l.self.now) l.wanted l.number) + 5 * size (tree_of l.self.now.root) + 6
 
 -- what was given, with what is left, is what all of them give
 abbrev pub invariant-pick_each-loop-selector : goal.invariant-pick_each-loop-selector

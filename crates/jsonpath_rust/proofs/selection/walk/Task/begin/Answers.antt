@@ -1,5 +1,5 @@
 use Rattle.std.proofs.Common.{◌∙◌, rules}
-use Rattle.jsonpath_rust.specs.selection.inner.Keeping.{document, kept_of}
+use Rattle.jsonpath_rust.specs.Prelude.Selection.{document, kept_of}
 use Rattle.jsonpath_rust.proofs.laws.selection.Constants.{as_many}
 use Rattle.jsonpath_rust.proofs.selection.walk.Task.begin.Goals as goal
 

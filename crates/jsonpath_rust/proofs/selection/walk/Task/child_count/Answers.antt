@@ -1,7 +1,7 @@
 use Rattle.std.proofs.Common.{◌≡◌, map, length, rules, sym, ◌∙◌}
 use Rattle.std.proofs.lemmas.List.{length-map}
-use Rattle.jsonpath_rust.proofs.laws.selection.Counting.{list_count, object_count}
-use Rattle.jsonpath_rust.specs.documents.inner.Whole.{tree_of}
+use Rattle.jsonpath_rust.specs.Prelude.Documents.{tree_of}
+use Rattle.jsonpath_rust.proofs.laws.selection.{list_count, object_count}
 use Rattle.jsonpath_rust.proofs.selection.walk.Task.child_count.Goals as goal
 
 pub returns-in-Some-clause-count : goal.returns-in-Some-clause-count

@@ -1,6 +1,6 @@
 use Rattle.std.proofs.Common.{refl, ◌∙◌}
-use Rattle.jsonpath_rust.specs.selection.inner.Keeping.{document, kept_of}
-use Rattle.jsonpath_rust.proofs.laws.selection.Kept.{gives_value}
+use Rattle.jsonpath_rust.specs.Prelude.Selection.{document, kept_of}
+use Rattle.jsonpath_rust.proofs.laws.selection.{gives_value}
 use Rattle.jsonpath_rust.proofs.selection.walk.Task.constant_value.Goals as goal
 
 pub returns-clause-ready : goal.returns-clause-ready

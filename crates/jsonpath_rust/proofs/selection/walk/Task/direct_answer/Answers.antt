@@ -1,14 +1,7 @@
 use Rattle.std.proofs.Common.{List, Some, map, ap, sym, ◌∙◌}
-use Rattle.jsonpath_parser.specs.tree.Syntax.{length_call, value_call, relative}
-use Rattle.jsonpath_parser.specs.tree.View.{step_view}
-use Rattle.jsonpath_parser.specs.declared.tree.model.SingularQuerySegment.{SingularQuerySegment}
-use Rattle.jsonpath_rust.specs.documents.Functions.{as_nodes, count_of, length_of}
-use Rattle.jsonpath_rust.specs.documents.Meaning.{answer, tested}
-use Rattle.jsonpath_rust.specs.documents.inner.Whole.{tree_of}
-use Rattle.jsonpath_rust.specs.selection.inner.PlanViews.{call_view, children_query}
-use Rattle.jsonpath_rust.specs.declared.selection.sink.Wanted.TheVariants.{Only}
-use Rattle.jsonpath_rust.proofs.laws.selection.DirectLaws.{looked_up, query_count}
-use Rattle.jsonpath_rust.proofs.laws.selection.PlanEquations.{call_view-Length, call_view-Value, call_view-CountChildren}
+use Rattle.jsonpath_rust.specs.Prelude.Documents.{answer, as_nodes, count_of, length_call, length_of, relative, SingularQuerySegment, step_view, tested, tree_of, value_call}
+use Rattle.jsonpath_rust.specs.Prelude.Selection.{call_view, children_query, Only}
+use Rattle.jsonpath_rust.proofs.laws.selection.{call_view-CountChildren, call_view-Length, call_view-Value, looked_up, query_count}
 use Rattle.jsonpath_rust.proofs.selection.walk.Task.direct_answer.Goals as goal
 
 pub returns-in_ok-direct_length-in-Some-clause-value : goal.returns-in_ok-direct_length-in-Some-clause-value

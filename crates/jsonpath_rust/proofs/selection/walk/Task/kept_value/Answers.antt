@@ -1,8 +1,6 @@
 use Rattle.std.proofs.Common.{ap, sym, ◌∙◌, Some, option_map}
-use Rattle.jsonpath_rust.specs.selection.inner.Keeping.{document, kept_of}
-use Rattle.jsonpath_rust.specs.selection.inner.Wanting.{gave}
-use Rattle.jsonpath_rust.specs.selection.inner.PlanViews.{part_at}
-use Rattle.jsonpath_rust.proofs.laws.selection.Kept.{value_given}
+use Rattle.jsonpath_rust.specs.Prelude.Selection.{document, gave, kept_of, part_at}
+use Rattle.jsonpath_rust.proofs.laws.selection.{value_given}
 use Rattle.jsonpath_rust.proofs.selection.walk.Task.kept_value.Goals as goal
 
 pub returns-in_ok-try_clone-in-Some-Value-clause-value : goal.returns-in_ok-try_clone-in-Some-Value-clause-value

@@ -1,13 +1,8 @@
 use Rattle.std.proofs.Common.{ap, sym, ◌∙◌}
 use Rattle.std.proofs.lemmas.Option.{IfSome_then}
-use Rattle.jsonpath_rust.specs.documents.Meaning.{answer}
-use Rattle.jsonpath_rust.specs.documents.Node.{root_node}
-use Rattle.jsonpath_rust.specs.documents.inner.Operands.{side_tree}
-use Rattle.jsonpath_rust.specs.selection.inner.Keeping.{document, kept_of, value_by}
-use Rattle.jsonpath_rust.specs.selection.inner.PlanViews.{call_in, call_view, called_view}
-use Rattle.jsonpath_rust.proofs.laws.selection.DirectLaws.{at_hand_as}
-use Rattle.jsonpath_rust.proofs.laws.selection.PlanEquations.{called_view-Here, called_view-Constant}
-use Rattle.jsonpath_rust.proofs.laws.selection.RootedLaws.{kept_call_same}
+use Rattle.jsonpath_rust.specs.Prelude.Documents.{answer, root_node, side_tree}
+use Rattle.jsonpath_rust.specs.Prelude.Selection.{call_in, call_view, called_view, document, kept_of, value_by}
+use Rattle.jsonpath_rust.proofs.laws.selection.{at_hand_as, called_view-Constant, called_view-Here, kept_call_same}
 use Rattle.jsonpath_rust.proofs.selection.walk.Task.lent_answer.Goals as goal
 
 pub returns-in-Some-clause-value : goal.returns-in-Some-clause-value

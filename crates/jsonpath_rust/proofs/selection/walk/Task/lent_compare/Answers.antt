@@ -1,11 +1,7 @@
 use Rattle.std.proofs.Common.{◌≡◌, ap, ◌∙◌}
-use Rattle.jsonpath_parser.specs.tree.View.{operator_view}
-use Rattle.jsonpath_rust.specs.documents.Comparing.{compares}
-use Rattle.jsonpath_rust.specs.documents.inner.Operands.{side_tree}
-use Rattle.jsonpath_rust.specs.documents.inner.Singular.{value_of}
-use Rattle.jsonpath_rust.specs.selection.inner.Keeping.{document, kept_of}
-use Rattle.jsonpath_rust.specs.selection.inner.PlanViews.{side_view}
-use Rattle.jsonpath_rust.proofs.laws.selection.Kept.{of_some}
+use Rattle.jsonpath_rust.specs.Prelude.Documents.{compares, operator_view, side_tree, value_of}
+use Rattle.jsonpath_rust.specs.Prelude.Selection.{document, kept_of, side_view}
+use Rattle.jsonpath_rust.proofs.laws.selection.{of_some}
 use Rattle.jsonpath_rust.proofs.selection.walk.Task.lent_compare.Goals as goal
 
 pub returns-clause-holds : goal.returns-clause-holds

@@ -1,14 +1,8 @@
 use Rattle.std.proofs.Common.{List, ap, map, sym, ◌∙◌, Some}
 use Rattle.std.proofs.lemmas.Option.{IfSome_then}
-use Rattle.jsonpath_parser.specs.tree.View.{step_view}
-use Rattle.jsonpath_parser.specs.declared.tree.model.SingularQuerySegment.{SingularQuerySegment}
-use Rattle.jsonpath_rust.specs.documents.inner.Singular.{value_at, value_of}
-use Rattle.jsonpath_rust.specs.selection.inner.Keeping.{document, kept_of, value_by}
-use Rattle.jsonpath_rust.specs.selection.inner.PlanViews.{side_view, steps_in}
-use Rattle.jsonpath_rust.proofs.laws.selection.PlanEquations.{side_view-Literal, side_view-Lookup, side_view-Constant, side_view-Call}
-use Rattle.jsonpath_rust.specs.documents.inner.Operands.{side_tree}
-use Rattle.jsonpath_rust.specs.documents.inner.Whole.{tree_of}
-use Rattle.jsonpath_rust.proofs.laws.selection.DirectLaws.{at_hand_as, looked_up, looked_up_from_root}
+use Rattle.jsonpath_rust.specs.Prelude.Documents.{side_tree, SingularQuerySegment, step_view, tree_of, value_at, value_of}
+use Rattle.jsonpath_rust.specs.Prelude.Selection.{document, kept_of, side_view, steps_in, value_by}
+use Rattle.jsonpath_rust.proofs.laws.selection.{at_hand_as, looked_up, looked_up_from_root, side_view-Call, side_view-Constant, side_view-Literal, side_view-Lookup}
 use Rattle.jsonpath_rust.proofs.selection.walk.Task.lent_side.Goals as goal
 
 pub returns-in-Literal-clause-value : goal.returns-in-Literal-clause-value

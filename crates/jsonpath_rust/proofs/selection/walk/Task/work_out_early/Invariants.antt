@@ -1,4 +1,4 @@
-use Rattle.jsonpath_rust.specs.selection.inner.Keeping.{IsReady}
+use Rattle.jsonpath_rust.specs.Prelude.Selection.{IsReady}
 use Rattle.jsonpath_rust.proofs.selection.walk.Task.work_out_early.Given as goal
 
 abbrev pub invariant-loop-number : goal.invariant-loop-number

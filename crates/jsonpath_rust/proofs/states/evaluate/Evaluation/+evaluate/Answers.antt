@@ -1,31 +1,22 @@
 use Rattle.std.proofs.Common.{rules, refl, sym, ap, ◌∙◌, arith, ◌≡◌, ◌∷◌, ◌++◌, [], map, filter, cond, List, Bool, Some, option_map, w64, SFits, string_bytes, inl, true, false}
 use Rattle.std.proofs.lemmas.Int.{to_z-of_z}
-use Rattle.std.specs.List.{flat_map}
-use Rattle.jsonpath_parser.specs.tree.View.{segment_view, selector_view, filter_view, atom_view, comparison_view, call_view, argument_view, test_view}
+use Rattle.jsonpath_rust.specs.Prelude.Documents.{absolute, argument_effort, argument_patterns, argument_view, arguments_effort, arguments_in, arguments_patterns, atom_view, call_patterns, call_view, comparison_view, filter_effort, filter_patterns, filter_view, filters_effort, filters_in, filters_patterns, flat_map, segment_effort, segment_patterns, segment_view, segments_effort, segments_in, segments_of, segments_patterns, selector_effort, selector_patterns, selector_view, selectors_effort, selectors_in, selectors_patterns, singular_view, SingularQuerySegment, step_view, test_patterns, test_view, Tree, truth}
+use Rattle.jsonpath_rust.specs.Prelude.States.{arguments_trees, basic_content, call_content, Content, content_at, content_of, document, each_holds_at, holds_at, indexed_from, inside, is_truth, joined_from, mapped, part_content, parts_from, plain, reduced, ref, refs, root_content, segment_content, segments_content, selector_content, several_content, some_holds_at, Target, target_at, target_of, targets, targets_at, test_content, value}
+use Rattle.jsonpath_rust.proofs.laws.documents.{each_failed, each_next, filter_more, fold_next, joined_end, joined_next, ok_through, part_of, parts_end, some_found, some_next}
+use Rattle.jsonpath_rust.proofs.laws.states.{kept-parts, stays-itself, steps_as}
 use Rattle.jsonpath_parser.specs.declared.tree.model.Filter.{Filter}
 use Rattle.jsonpath_parser.specs.declared.tree.model.Segment.{Segment}
 use Rattle.jsonpath_parser.specs.declared.tree.model.Selector.{Selector}
 use Rattle.jsonpath_parser.specs.declared.tree.model.FnArg.{FnArg}
 use Rattle.jsonpath_parser.proofs.laws.tree.ViewEquations.{segment_view-Selectors, selector_view-Index, selector_view-Slice, call_view-Custom, segment_view-Descendant, filter_view-Atom, atom_view-Comparison, test_view-RelQuery, test_view-AbsQuery, query_view-segments, call_view-Search, call_view-Match}
 use Rattle.jsonpath_parser.proofs.laws.tree.Kinds.{comparison_is_comparison}
-use Rattle.jsonpath_base.specs.Tree.{Tree, truth}
-use Rattle.jsonpath_rust.specs.states.Process.{holds_at, some_holds_at, each_holds_at, basic_content, is_truth, several_content, segments_content, segment_content, selector_content, joined_from, call_content, arguments_trees, plain}
-use Rattle.jsonpath_rust.specs.states.State.{Target, Content, ref, refs, value, mapped, reduced, targets, inside, indexed_from, target_of, content_of, root_content}
-use Rattle.jsonpath_rust.specs.states.inner.Evaluating.{document, content_at, target_at, targets_at, parts_from, part_content}
-use Rattle.jsonpath_rust.specs.documents.inner.Parts.{segments_in, selectors_in, filters_in, arguments_in}
-use Rattle.jsonpath_rust.specs.documents.inner.Weight.{segment_weight, segments_weight, selector_weight, selectors_weight, filter_weight, filters_weight, argument_weight, arguments_weight}
-use Rattle.jsonpath_rust.proofs.laws.states.Found.{kept-parts}
-use Rattle.jsonpath_rust.proofs.laws.documents.Parts.{part_of, some_found, some_next, each_failed, each_next, fold_next, parts_end, ok_through, joined_next, joined_end, filter_more}
-use Rattle.jsonpath_parser.specs.tree.Syntax.{absolute}
-use Rattle.jsonpath_rust.specs.documents.Patterns.{segments_patterns, segment_patterns, selectors_patterns, selector_patterns, filters_patterns, filter_patterns, test_patterns, call_patterns, argument_patterns, arguments_patterns}
-use Rattle.jsonpath_rust.proofs.laws.states.Asking.{asks_left, asks_right, asks_rest, asks_at, asks_here, asks_nothing, asks_same, asks_below, asks_parents, asks_target, asks_child, asks_root, asks_too, asks_within, stays_next, data-distinct, halts_as, halts_so}
+use Rattle.jsonpath_rust.proofs.laws.states.Asking.{asks_left, asks_right, asks_rest, asks_at, asks_here, asks_nothing, asks_same, asks_below, asks_parents, asks_target, asks_child, asks_root, asks_too, asks_within, stays_next, data-distinct, halts_as, halts_so, memory_alone}
 use Rattle.jsonpath_rust.proofs.laws.states.Basic.{basic-truth, basic-comparison}
-use Rattle.jsonpath_rust.proofs.laws.states.Lies.{stays-itself}
 use Rattle.jsonpath_rust.proofs.states.evaluate.Evaluation.+evaluate.Goals as goal
 
 pub arguments-argument_data-requires : goal.arguments-argument_data-requires
 arguments-argument_data-requires g t c κs within =
-    let w = part_of (λ (x : FnArg). argument_weight (argument_view x)) (λ xs. arguments_weight (arguments_in xs)) (λ x xs. refl) c.args.args.now c.loop-arg.arg-index c.arg-item.result c.loop-arg-test.true c.arg-item.is in
+    let w = part_of (λ (x : FnArg). argument_effort 0 (argument_view x)) (λ xs. arguments_effort 0 (arguments_in xs)) (λ x xs. refl) c.args.args.now c.loop-arg.arg-index c.arg-item.result c.loop-arg-test.true c.arg-item.is in
     (omega (arith, c.decreases, w), within)
 
 pub segment_data-returns-in-Selectors-clause-value : goal.segment_data-returns-in-Selectors-clause-value
@@ -102,7 +93,7 @@ call_data-returns-in_ok-values-in-Custom-clause-value g t c =
 
 pub segments_data-segment_data-requires : goal.segments_data-segment_data-requires
 segments_data-segment_data-requires g t c κs within =
-    let w = part_of (λ (x : Segment). segment_weight (segment_view x)) (λ xs. segments_weight (segments_in xs)) (λ x xs. refl) c.args.segments.now c.loop-segment.segment-index c.segment-item.result c.loop-segment-test.true c.segment-item.is in
+    let w = part_of (λ (x : Segment). segment_effort 0 (segment_view x)) (λ xs. segments_effort 0 (segments_in xs)) (λ x xs. refl) c.args.segments.now c.loop-segment.segment-index c.segment-item.result c.loop-segment-test.true c.segment-item.is in
     (omega (arith, c.decreases, w), within)
 
 pub segments_data-loop-segment-preserved : goal.segments_data-loop-segment-preserved
@@ -118,9 +109,51 @@ segments_data-returns-clause-value g t c =
     let d = document c.args.self.now in
     parts_end (λ (gs : List Segment). segments_content (segments_in gs) d (content_at c.loop-segment.answer)) c.args.segments.now c.loop-segment.segment-index _ c.loop-segment-test.false c.loop-segment.invariant.made
 
+pub singular_data-returns-in_ok-here-in-Current-clause-value : goal.singular_data-returns-in_ok-here-in-Current-clause-value
+singular_data-returns-in_ok-here-in-Current-clause-value g t c =
+    let d = document c.args.self.now in
+    let k = content_at c.args.given.now in
+    let e = ap (λ q. test_content (singular_view q) d k) c.in-Current.is in
+    ok_through _ content_at _ _ (steps_as _ c.in-Current.steps.items _ k d c.deref.ensures.value c.in_ok-here-in-Current.ensures.value ∙ sym e) c.steps_data.ensures.value
+
+pub singular_data-returns-in_ok-here-in-Root-clause-value : goal.singular_data-returns-in_ok-here-in-Root-clause-value
+singular_data-returns-in_ok-here-in-Root-clause-value g t c =
+    let d = document c.args.self.now in
+    let k = content_at c.args.given.now in
+    let e = ap (λ q. test_content (singular_view q) d k) c.in-Root.is in
+    ok_through _ content_at _ _ (steps_as _ c.in-Root.steps.items _ (root_content d) d c.deref-in-Root.ensures.value c.in_ok-here-in-Root.ensures.value ∙ sym e) c.steps_data-in-Root.ensures.value
+
+pub steps_data-step_data-requires : goal.steps_data-step_data-requires
+steps_data-step_data-requires g t c κs within =
+    let w = part_of (λ (x : SingularQuerySegment). segment_effort 0 (step_view x)) (λ xs. segments_effort 0 (segments_of (map step_view xs))) (λ x xs. refl) c.args.steps.now c.loop-step.step-index c.step-item.result c.loop-step-test.true c.step-item.is in
+    (omega (arith, c.decreases, w), within)
+
+pub steps_data-loop-step-preserved : goal.steps_data-loop-step-preserved
+steps_data-loop-step-preserved g t c =
+    let d = document c.args.self.now in
+    fold_next (λ (ss : List SingularQuerySegment) (k : Content). segments_content (segments_of (map step_view ss)) d k) (λ s. segment_content (step_view s) d) (λ x xs k. refl) c.args.steps.now c.loop-step.step-index c.step-item.result _ _ _ c.loop-step-test.true c.step-item.is c.in_ok-answer.ensures.value c.loop-step.invariant
+
+pub steps_data-returns-clause-value : goal.steps_data-returns-clause-value
+steps_data-returns-clause-value g t c =
+    let d = document c.args.self.now in
+    parts_end (λ (ss : List SingularQuerySegment). segments_content (segments_of (map step_view ss)) d (content_at c.loop-step.answer)) c.args.steps.now c.loop-step.step-index _ c.loop-step-test.false c.loop-step.invariant
+
+pub step_data-returns-in-Index-clause-value : goal.step_data-returns-in-Index-clause-value
+step_data-returns-in-Index-clause-value g t c =
+    let d = document c.args.self.now in
+    let k = content_at c.args.given in
+    let fits : SFits w64 c.in-Index.index = search rules in
+    ok_through _ content_at _ _ (ap (λ i. mapped (indexed_from i) k) (to_z-of_z w64 c.in-Index.index fits) ∙ sym (ap (λ s. segment_content (step_view s) d k) c.in-Index.is)) c.each_target-in-Index.ensures.value
+
+pub step_data-returns-in-Name-clause-memory : goal.step_data-returns-in-Name-clause-memory
+step_data-returns-in-Name-clause-memory g t c = memory_alone _ _ _ c.each_target.ensures.refused
+
+pub step_data-returns-in-Index-clause-memory : goal.step_data-returns-in-Index-clause-memory
+step_data-returns-in-Index-clause-memory g t c = memory_alone _ _ _ c.each_target-in-Index.ensures.refused
+
 pub joined-selector_data-requires : goal.joined-selector_data-requires
 joined-selector_data-requires g t c κs within =
-    let w = part_of (λ (x : Selector). selector_weight (selector_view x)) (λ xs. selectors_weight (selectors_in xs)) (λ x xs. refl) c.args.selectors.now c.loop-selector.selector-index c.selector-item.result c.loop-selector-test.true c.selector-item.is in
+    let w = part_of (λ (x : Selector). selector_effort 0 (selector_view x)) (λ xs. selectors_effort 0 (selectors_in xs)) (λ x xs. refl) c.args.selectors.now c.loop-selector.selector-index c.selector-item.result c.loop-selector-test.true c.selector-item.is in
     (omega (arith, c.decreases, w), within)
 
 pub joined-loop-selector-preserved : goal.joined-loop-selector-preserved
@@ -138,7 +171,7 @@ joined-returns-clause-value g t c =
 
 pub some_holds-holds-requires : goal.some_holds-holds-requires
 some_holds-holds-requires g t c κs within =
-    let w = part_of (λ (x : Filter). filter_weight (filter_view x)) (λ xs. filters_weight (filters_in xs)) (λ x xs. refl) c.args.parts.now c.loop-part.part-index c.part-item.result c.loop-part-test.true c.part-item.is in
+    let w = part_of (λ (x : Filter). filter_effort 0 (filter_view x)) (λ xs. filters_effort 0 (filters_in xs)) (λ x xs. refl) c.args.parts.now c.loop-part.part-index c.part-item.result c.loop-part-test.true c.part-item.is in
     (omega (arith, c.decreases, w), within)
 
 pub some_holds-returns-then-branch-clause-value : goal.some_holds-returns-then-branch-clause-value
@@ -160,7 +193,7 @@ some_holds-returns-clause-value g t c =
 
 pub each_holds-holds-requires : goal.each_holds-holds-requires
 each_holds-holds-requires g t c κs within =
-    let w = part_of (λ (x : Filter). filter_weight (filter_view x)) (λ xs. filters_weight (filters_in xs)) (λ x xs. refl) c.args.parts.now c.loop-part.part-index c.part-item.result c.loop-part-test.true c.part-item.is in
+    let w = part_of (λ (x : Filter). filter_effort 0 (filter_view x)) (λ xs. filters_effort 0 (filters_in xs)) (λ x xs. refl) c.args.parts.now c.loop-part.part-index c.part-item.result c.loop-part-test.true c.part-item.is in
     (omega (arith, c.decreases, w), within)
 
 pub each_holds-returns-then-not-branch-clause-value : goal.each_holds-returns-then-not-branch-clause-value

@@ -1,70 +1,72 @@
 use Rattle.std.proofs.Common.{◌≡◌, ◌++◌, ◌+◌, ◌*◌, drop, map, filter, List, Bool}
-use Rattle.std.specs.List.{AllByRecursion, flat_map}
-use Rattle.jsonpath_parser.specs.tree.View.{segment_view, selector_view, filter_view, atom_view, test_view, comparison_view, comparable_view, call_view, argument_view}
-use Rattle.jsonpath_rust.specs.documents.inner.Operands.{arg_trees}
-use Rattle.jsonpath_rust.specs.states.Process.{segments_content, joined_from, holds_at, some_holds_at, each_holds_at, arguments_trees}
-use Rattle.jsonpath_rust.specs.states.State.{Target, nothing, targets, inside, target_of}
-use Rattle.jsonpath_rust.specs.states.inner.Evaluating.{document, content_at, target_at, targets_at, part_content}
-use Rattle.jsonpath_rust.specs.documents.inner.Parts.{segments_in, selectors_in, filters_in, arguments_in}
-use Rattle.jsonpath_rust.proofs.laws.states.PartWeight.{part_weight}
-use Rattle.jsonpath_rust.specs.documents.inner.Weight.{segments_weight, segment_weight, selectors_weight, selector_weight, filter_weight, filters_weight, test_weight, call_weight, argument_weight, arguments_weight}
-use Rattle.jsonpath_rust.specs.states.Asking.{tops}
-use Rattle.jsonpath_rust.proofs.laws.states.Lies.{Stays}
+use Rattle.jsonpath_rust.specs.Prelude.Documents.{AllByRecursion, arg_trees, argument_effort, argument_view, arguments_effort, arguments_in, atom_view, call_effort, call_view, comparable_view, comparison_view, filter_effort, filter_view, filters_effort, filters_in, flat_map, segment_effort, segment_view, segments_effort, segments_in, segments_of, selector_effort, selector_view, selectors_effort, selectors_in, singular_view, step_view, test_effort, test_view}
+use Rattle.jsonpath_rust.specs.Prelude.States.{arguments_trees, content_at, document, each_holds_at, holds_at, inside, joined_from, nothing, part_content, segments_content, some_holds_at, Target, target_at, target_of, targets, targets_at, tops}
+use Rattle.jsonpath_rust.proofs.laws.states.{Stays}
+use Rattle.jsonpath_rust.proofs.laws.states.PartEffort.{part_effort}
 use Rattle.jsonpath_rust.proofs.states.evaluate.Evaluation.+evaluate.Given as goal
 
 abbrev pub decreases-segments_data : goal.decreases-segments_data
-decreases-segments_data g l = 4 * segments_weight (segments_in l.segments.now) + 1
+decreases-segments_data g l = 4 * segments_effort 0 (segments_in l.segments.now) + 1
 
 abbrev pub decreases-segment_data : goal.decreases-segment_data
-decreases-segment_data g l = 4 * segment_weight (segment_view l.segment.now)
+decreases-segment_data g l = 4 * segment_effort 0 (segment_view l.segment.now)
 
 abbrev pub decreases-several_data : goal.decreases-several_data
-decreases-several_data g l = 4 * selectors_weight (selectors_in l.selectors.now) + 7
+decreases-several_data g l = 4 * selectors_effort 0 (selectors_in l.selectors.now) + 7
 
 abbrev pub decreases-selector_data : goal.decreases-selector_data
-decreases-selector_data g l = 4 * selector_weight (selector_view l.selector.now)
+decreases-selector_data g l = 4 * selector_effort 0 (selector_view l.selector.now)
 
 abbrev pub decreases-each_target : goal.decreases-each_target
-decreases-each_target g l = 4 * part_weight l.part + 2
+decreases-each_target g l = 4 * part_effort l.part + 2
 
 abbrev pub decreases-at_target : goal.decreases-at_target
-decreases-at_target g l = 4 * part_weight l.part + 1
+decreases-at_target g l = 4 * part_effort l.part + 1
 
 abbrev pub decreases-kept : goal.decreases-kept
-decreases-kept g l = 4 * filter_weight (filter_view l.filter.now) + 3
+decreases-kept g l = 4 * filter_effort 0 (filter_view l.filter.now) + 3
 
 abbrev pub decreases-joined : goal.decreases-joined
-decreases-joined g l = 4 * selectors_weight (selectors_in l.selectors.now) + 1
+decreases-joined g l = 4 * selectors_effort 0 (selectors_in l.selectors.now) + 1
 
 abbrev pub decreases-holds : goal.decreases-holds
-decreases-holds g l = 4 * filter_weight (filter_view l.filter.now) + 2
+decreases-holds g l = 4 * filter_effort 0 (filter_view l.filter.now) + 2
 
 abbrev pub decreases-some_holds : goal.decreases-some_holds
-decreases-some_holds g l = 4 * filters_weight (filters_in l.parts.now) + 3
+decreases-some_holds g l = 4 * filters_effort 0 (filters_in l.parts.now) + 3
 
 abbrev pub decreases-each_holds : goal.decreases-each_holds
-decreases-each_holds g l = 4 * filters_weight (filters_in l.parts.now) + 3
+decreases-each_holds g l = 4 * filters_effort 0 (filters_in l.parts.now) + 3
 
 abbrev pub decreases-atom_data : goal.decreases-atom_data
-decreases-atom_data g l = 4 * filter_weight (atom_view l.atom.now) + 1
+decreases-atom_data g l = 4 * filter_effort 0 (atom_view l.atom.now) + 1
 
 abbrev pub decreases-comparison_holds : goal.decreases-comparison_holds
-decreases-comparison_holds g l = 4 * filter_weight (comparison_view l.comparison.now)
+decreases-comparison_holds g l = 4 * filter_effort 0 (comparison_view l.comparison.now)
 
 abbrev pub decreases-comparable_data : goal.decreases-comparable_data
-decreases-comparable_data g l = 4 * argument_weight (comparable_view l.comparable.now)
+decreases-comparable_data g l = 4 * argument_effort 0 (comparable_view l.comparable.now)
+
+abbrev pub decreases-singular_data : goal.decreases-singular_data
+decreases-singular_data g l = 4 * test_effort 0 (singular_view l.query.now)
+
+abbrev pub decreases-steps_data : goal.decreases-steps_data
+decreases-steps_data g l = 4 * segments_effort 0 (segments_of (map step_view l.steps.now)) + 1
+
+abbrev pub decreases-step_data : goal.decreases-step_data
+decreases-step_data g l = 4 * segment_effort 0 (step_view l.step.now)
 
 abbrev pub decreases-test_data : goal.decreases-test_data
-decreases-test_data g l = 4 * test_weight (test_view l.test.now)
+decreases-test_data g l = 4 * test_effort 0 (test_view l.test.now)
 
 abbrev pub decreases-call_data : goal.decreases-call_data
-decreases-call_data g l = 4 * call_weight (call_view l.function.now)
+decreases-call_data g l = 4 * call_effort 0 (call_view l.function.now)
 
 abbrev pub decreases-arguments : goal.decreases-arguments
-decreases-arguments g l = 4 * arguments_weight (arguments_in l.args.now) + 1
+decreases-arguments g l = 4 * arguments_effort 0 (arguments_in l.args.now) + 1
 
 abbrev pub decreases-argument_data : goal.decreases-argument_data
-decreases-argument_data g l = 4 * argument_weight (argument_view l.arg.now)
+decreases-argument_data g l = 4 * argument_effort 0 (argument_view l.arg.now)
 
 -- what was found, with what is left
 abbrev pub invariant-each_target-loop-from : goal.invariant-each_target-loop-from
@@ -94,6 +96,12 @@ invariant-segments_data-loop-segment g l =
       made : segments_content (segments_in (drop l.segment-index l.segments)) d (content_at l.answer) ≡ segments_content (segments_in l.segments) d (content_at l.initial.answer);
       within : AllByRecursion (Stays (tops d (content_at l.initial.answer))) (targets (content_at l.answer));
     }
+
+-- what the steps that are left make of the answer so far
+abbrev pub invariant-steps_data-loop-step : goal.invariant-steps_data-loop-step
+invariant-steps_data-loop-step g l =
+    let d = document l.self in
+    segments_content (segments_of (map step_view (drop l.step-index l.steps))) d (content_at l.answer) ≡ segments_content (segments_of (map step_view l.steps)) d (content_at l.initial.answer)
 
 -- what the selectors that are left join behind what there is
 abbrev pub invariant-joined-loop-selector : goal.invariant-joined-loop-selector

@@ -1,9 +1,7 @@
 use Rattle.std.proofs.Common.{◌≡◌, map, ap, ◌∙◌, sym, Some}
-use Rattle.jsonpath_base.specs.Tree.{as_list}
-use Rattle.jsonpath_rust.specs.documents.inner.Whole.{tree_of}
-use Rattle.jsonpath_rust.specs.states.Process.{lists_same}
-use Rattle.jsonpath_rust.specs.states.State.{target_of}
-use Rattle.jsonpath_rust.proofs.laws.states.Found.{targets-trees, are_trees-list}
+use Rattle.jsonpath_rust.specs.Prelude.Documents.{as_list, tree_of}
+use Rattle.jsonpath_rust.specs.Prelude.States.{lists_same, target_of}
+use Rattle.jsonpath_rust.proofs.laws.states.{are_trees-list, targets-trees}
 use Rattle.jsonpath_rust.proofs.states.evaluate.comparison.are_elements.Goals as goal
 
 pub returns-in-Some : goal.returns-in-Some

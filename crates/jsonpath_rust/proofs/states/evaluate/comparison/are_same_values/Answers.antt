@@ -1,8 +1,7 @@
 use Rattle.std.proofs.Common.{rules, ◌≡◌, List, length, map, refl}
-use Rattle.jsonpath_base.specs.Same.{same}
-use Rattle.jsonpath_rust.specs.states.Process.{lists_same}
-use Rattle.jsonpath_rust.specs.declared.states.state.pointer.Pointer.{Pointer}
-use Rattle.jsonpath_rust.proofs.laws.documents.Parts.{pairs_apart}
+use Rattle.jsonpath_rust.specs.Prelude.Documents.{same}
+use Rattle.jsonpath_rust.specs.Prelude.States.{lists_same, Pointer}
+use Rattle.jsonpath_rust.proofs.laws.documents.{pairs_apart}
 use Rattle.jsonpath_rust.proofs.states.evaluate.comparison.are_same_values.Goals as goal
 
 pub returns-then-items-nodes : goal.returns-then-items-nodes

@@ -1,5 +1,5 @@
 use Rattle.std.proofs.Common.{◌≡◌, map, drop}
-use Rattle.jsonpath_rust.specs.states.Process.{lists_same}
+use Rattle.jsonpath_rust.specs.Prelude.States.{lists_same}
 use Rattle.jsonpath_rust.proofs.states.evaluate.comparison.are_same_values.Given as goal
 
 -- those that are left decide

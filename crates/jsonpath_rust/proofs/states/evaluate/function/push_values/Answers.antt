@@ -1,9 +1,8 @@
 use Rattle.std.proofs.Common.{◌++◌, map, ap, ◌∙◌, sym, refl}
-use Rattle.jsonpath_rust.specs.documents.inner.Operands.{arg_trees}
-use Rattle.jsonpath_rust.specs.states.Process.{content_trees}
-use Rattle.jsonpath_rust.specs.states.State.{content_of}
-use Rattle.jsonpath_rust.proofs.laws.states.Found.{targets-trees}
-use Rattle.jsonpath_rust.proofs.laws.documents.Parts.{joined_end}
+use Rattle.jsonpath_rust.specs.Prelude.Documents.{arg_trees}
+use Rattle.jsonpath_rust.specs.Prelude.States.{content_of, content_trees}
+use Rattle.jsonpath_rust.proofs.laws.documents.{joined_end}
+use Rattle.jsonpath_rust.proofs.laws.states.{targets-trees}
 use Rattle.jsonpath_rust.proofs.states.evaluate.function.push_values.Goals as goal
 
 pub returns-after-loop-from-clause-value : goal.returns-after-loop-from-clause-value

@@ -1,8 +1,7 @@
 use Rattle.std.proofs.Common.{rules, ◌≡◌, List, length, refl, ◌&&◌, bytes_eq}
-use Rattle.jsonpath_base.specs.Same.{same}
-use Rattle.jsonpath_rust.specs.states.State.{target_of, targets_of, targets_same}
-use Rattle.jsonpath_rust.specs.declared.states.state.pointer.Pointer.{Pointer}
-use Rattle.jsonpath_rust.proofs.laws.documents.Parts.{pairs_apart}
+use Rattle.jsonpath_rust.specs.Prelude.Documents.{same}
+use Rattle.jsonpath_rust.specs.Prelude.States.{Pointer, target_of, targets_of, targets_same}
+use Rattle.jsonpath_rust.proofs.laws.documents.{pairs_apart}
 use Rattle.jsonpath_rust.proofs.states.state.data.are_same.Goals as goal
 
 pub returns-then-left-right : goal.returns-then-left-right

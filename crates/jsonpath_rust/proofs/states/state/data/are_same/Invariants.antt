@@ -1,5 +1,5 @@
 use Rattle.std.proofs.Common.{◌≡◌, drop}
-use Rattle.jsonpath_rust.specs.states.State.{targets_of, targets_same}
+use Rattle.jsonpath_rust.specs.Prelude.States.{targets_of, targets_same}
 use Rattle.jsonpath_rust.proofs.states.state.data.are_same.Given as goal
 
 -- those that are left decide

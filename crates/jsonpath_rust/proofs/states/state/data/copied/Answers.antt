@@ -1,8 +1,7 @@
 use Rattle.std.proofs.Common.{◌∷◌, ◌++◌, [], map, ap, ◌∙◌, refl, subst, sym, IsTrue}
 use Rattle.std.proofs.lemmas.List.{map-append}
-use Rattle.jsonpath_rust.specs.states.State.{target_of}
-use Rattle.jsonpath_rust.proofs.laws.documents.Parts.{joined_next, all_more}
-use Rattle.jsonpath_rust.proofs.laws.documents.Trees.{all_at}
+use Rattle.jsonpath_rust.specs.Prelude.States.{target_of}
+use Rattle.jsonpath_rust.proofs.laws.documents.{all_at, all_more, joined_next}
 use Rattle.jsonpath_rust.proofs.states.state.data.copied.Goals as goal
 
 pub loop-pointer-preserved : goal.loop-pointer-preserved

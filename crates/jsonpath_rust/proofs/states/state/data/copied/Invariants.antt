@@ -1,5 +1,5 @@
 use Rattle.std.proofs.Common.{◌≡◌, ◌++◌, map, drop}
-use Rattle.jsonpath_rust.specs.states.State.{target_of, PointersAreWhole}
+use Rattle.jsonpath_rust.specs.Prelude.States.{PointersAreWhole, target_of}
 use Rattle.jsonpath_rust.proofs.states.state.data.copied.Given as goal
 
 -- what is copied, with what is left

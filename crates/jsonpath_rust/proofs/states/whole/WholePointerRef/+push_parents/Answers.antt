@@ -1,9 +1,8 @@
 use Rattle.std.proofs.Common.{◌≡◌, ◌∷◌, ◌++◌, [], map, ap, ◌∙◌, sym, refl, append_assoc, arith, Some, option_map}
-use Rattle.std.specs.List.{flat_map}
-use Rattle.jsonpath_rust.specs.states.State.{parents_in, target_of}
-use Rattle.jsonpath_rust.specs.states.inner.Evaluating.{target_at, targets_at, parts_from}
-use Rattle.jsonpath_rust.proofs.laws.states.Found.{part_size, parents-some}
-use Rattle.jsonpath_rust.proofs.laws.documents.Parts.{joined_end}
+use Rattle.jsonpath_rust.specs.Prelude.Documents.{flat_map}
+use Rattle.jsonpath_rust.specs.Prelude.States.{parents_in, parts_from, target_at, target_of, targets_at}
+use Rattle.jsonpath_rust.proofs.laws.documents.{joined_end}
+use Rattle.jsonpath_rust.proofs.laws.states.{parents-some, part_size}
 use Rattle.jsonpath_rust.proofs.states.whole.WholePointerRef.+push_parents.Goals as goal
 
 pub push_parents-requires : goal.push_parents-requires

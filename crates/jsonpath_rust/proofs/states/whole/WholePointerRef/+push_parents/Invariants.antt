@@ -1,8 +1,6 @@
 use Rattle.std.proofs.Common.{◌≡◌, ◌++◌, map, drop}
-use Rattle.std.specs.List.{flat_map}
-use Rattle.jsonpath_rust.specs.states.State.{parents_in, target_of}
-use Rattle.jsonpath_rust.specs.states.inner.Evaluating.{target_at, targets_at}
-use Rattle.jsonpath_rust.specs.documents.inner.Size.{size}
+use Rattle.jsonpath_rust.specs.Prelude.Documents.{flat_map, size}
+use Rattle.jsonpath_rust.specs.Prelude.States.{parents_in, target_at, target_of, targets_at}
 use Rattle.jsonpath_rust.proofs.states.whole.WholePointerRef.+push_parents.Given as goal
 
 abbrev pub decreases-push_parents : goal.decreases-push_parents

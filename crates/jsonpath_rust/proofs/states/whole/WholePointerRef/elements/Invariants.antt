@@ -1,7 +1,6 @@
 use Rattle.std.proofs.Common.{◌≡◌, ◌++◌, [], map, drop}
-use Rattle.jsonpath_rust.specs.documents.Node.{element_nodes}
-use Rattle.jsonpath_rust.specs.states.State.{under}
-use Rattle.jsonpath_rust.specs.states.inner.Evaluating.{target_at, targets_at}
+use Rattle.jsonpath_rust.specs.Prelude.Documents.{element_nodes}
+use Rattle.jsonpath_rust.specs.Prelude.States.{target_at, targets_at, under}
 use Rattle.jsonpath_rust.proofs.states.whole.WholePointerRef.elements.Given as goal
 
 -- what was found, with what is left

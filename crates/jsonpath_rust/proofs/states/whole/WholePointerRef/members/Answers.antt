@@ -1,9 +1,7 @@
 use Rattle.std.proofs.Common.{◌∷◌, ◌++◌, [], map, ap, ◌∙◌, refl}
-use Rattle.jsonpath_parser.specs.Location.{name}
-use Rattle.jsonpath_rust.specs.documents.Node.{below, member_nodes}
-use Rattle.jsonpath_rust.specs.states.State.{under}
-use Rattle.jsonpath_rust.specs.states.inner.Evaluating.{target_at, targets_at}
-use Rattle.jsonpath_rust.proofs.laws.documents.Parts.{joined_next}
+use Rattle.jsonpath_rust.specs.Prelude.Documents.{below, member_nodes, name}
+use Rattle.jsonpath_rust.specs.Prelude.States.{target_at, targets_at, under}
+use Rattle.jsonpath_rust.proofs.laws.documents.{joined_next}
 use Rattle.jsonpath_rust.proofs.states.whole.WholePointerRef.members.Goals as goal
 
 pub loop-pair-preserved : goal.loop-pair-preserved

@@ -1,13 +1,8 @@
 use Rattle.std.proofs.Common.{◌<◌, ◌∷◌, ◌++◌, [], map, ap, ◌∙◌, sym, get_or, length, subst, All, rules}
 use Rattle.std.proofs.lemmas.List.{map-append}
-use Rattle.std.specs.List.{flat_map}
-use Rattle.jsonpath_base.specs.Tree.{as_list}
-use Rattle.jsonpath_rust.specs.documents.Node.{root_node}
-use Rattle.jsonpath_rust.specs.documents.Meaning.{element}
-use Rattle.jsonpath_rust.specs.states.State.{under}
-use Rattle.jsonpath_rust.specs.states.inner.Evaluating.{target_at, targets_at}
-use Rattle.jsonpath_rust.proofs.laws.documents.Parts.{joined_next, get_or-self}
-use Rattle.jsonpath_rust.proofs.laws.documents.Trees.{all_at, element_at}
+use Rattle.jsonpath_rust.specs.Prelude.Documents.{as_list, element, flat_map, root_node}
+use Rattle.jsonpath_rust.specs.Prelude.States.{target_at, targets_at, under}
+use Rattle.jsonpath_rust.proofs.laws.documents.{all_at, element_at, get_or-self, joined_next}
 use Rattle.jsonpath_rust.proofs.states.whole.WholePointerRef.sliced.Goals as goal
 
 pub loop-at-preserved : goal.loop-at-preserved

@@ -1,9 +1,6 @@
 use Rattle.std.proofs.Common.{◌≡◌, ◌++◌, map, drop}
-use Rattle.std.specs.List.{flat_map}
-use Rattle.jsonpath_rust.specs.documents.Node.{root_node}
-use Rattle.jsonpath_rust.specs.documents.Meaning.{element}
-use Rattle.jsonpath_rust.specs.states.State.{under}
-use Rattle.jsonpath_rust.specs.states.inner.Evaluating.{target_at, targets_at}
+use Rattle.jsonpath_rust.specs.Prelude.Documents.{element, flat_map, root_node}
+use Rattle.jsonpath_rust.specs.Prelude.States.{target_at, targets_at, under}
 use Rattle.jsonpath_rust.proofs.states.whole.WholePointerRef.sliced.Given as goal
 
 -- what was found, with what is left

@@ -1,6 +1,6 @@
 use Rattle.std.proofs.Common.{IsTrue}
 use Rattle.std.proofs.lemmas.List.Elements.{recursion_from_All}
-use Rattle.jsonpath_base.specs.Values.{value_is_whole}
+use Rattle.jsonpath_rust.specs.Prelude.Documents.{value_is_whole}
 use Rattle.jsonpath_base.proofs.Views.{get-value_tree, get_whole, as_members_whole}
 use Rattle.jsonpath_rust.proofs.documents.queryable.value.ValueQueryable.get.Goals as goal
 

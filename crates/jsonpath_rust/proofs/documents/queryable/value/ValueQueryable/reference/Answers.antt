@@ -1,8 +1,6 @@
 use Rattle.std.proofs.Common.{Bor}
-use Rattle.serde_json.specs.declared.value.Value.{Value}
-use Rattle.jsonpath_base.specs.Values.{value_tree}
-use Rattle.jsonpath_rust.specs.documents.Document.{value_document}
-use Rattle.jsonpath_rust.proofs.laws.documents.NormalSteps.{normal_answered}
+use Rattle.jsonpath_rust.specs.Prelude.Documents.{Value, value_document, value_tree}
+use Rattle.jsonpath_rust.proofs.laws.documents.{normal_answered}
 use Rattle.jsonpath_rust.proofs.documents.queryable.value.ValueQueryable.reference.Goals as goal
 
 pub returns-clause-normal : goal.returns-clause-normal

@@ -1,6 +1,7 @@
 -- `reference_mut` hands its reference on to `referred_mut`.
 use Rattle.jsonpath_base.proofs.LoanWords.{[], ◌∷◌, ◌≡◌, refl, proved, ftrue, flft, named, fact, tables, ‵, raw, ◌⊛◌, ◌$◌, ◌∵◌, !, qed, done, move, keep, drop, use0, use1, use2, split, join, fjoin, suffices, frame, enter, addr, stop, returns, alloc_all, pass_all, free_all, look_at, get, through, sets, lands_as, heard, MutRef, MutBor, mut_vals, mut_Tells, plain, nothing, no, yes, Stays, walk_of, stay_dropped, Goes-spent_ref, Goes-dropped, mut_ref_to, ends_at, says, calls_at, triple_of, lasts, framed, peeks, shows, no_more, and_then, id⊢}
-use Rattle.jsonpath_rust.proofs.laws.documents.LendingLaws.{Answer, answer_laws}
+use Rattle.jsonpath_rust.specs.Prelude.Documents.{at, HasIndexesInRange, IsNormal, IsReferred, LendsReferred, lent_in, Location, OutOfMemory, value_document, value_is_whole, value_tree}
+use Rattle.jsonpath_rust.proofs.laws.documents.{Answer, answer_laws, normal_answered}
 use Rattle.std.proofs.Common.{Option, Result, IfOk, IfErr, IfSome, IsTrue, option_map}
 use Rattle.std.specs.contracts.alloc.Global.{the_row as A}
 use Rattle.std.proofs.alloc.Global.TheLaws.{the_row_laws as A-laws, the_told as A-told}
@@ -14,16 +15,6 @@ use denote.Text.{Str, StrRefOf, str-laws}
 use denote.Triple.Clauses.{Lasts}
 use Rattle.serde_json.specs.contracts.value.Value.{the_row as R}
 use Rattle.jsonpath_parser.specs.contracts.errors.JsonPathError.{the_row as E}
-use Rattle.jsonpath_parser.specs.declared.errors.JsonPathError.TheVariants.{OutOfMemory}
-use Rattle.jsonpath_parser.specs.Location.{Location}
-use Rattle.jsonpath_parser.specs.Normal.{IsNormal}
-use Rattle.jsonpath_parser.specs.tree.Steps.{HasIndexesInRange}
-use Rattle.jsonpath_base.specs.Places.{at}
-use Rattle.jsonpath_base.specs.Values.{value_tree, value_is_whole}
-use Rattle.jsonpath_rust.proofs.laws.documents.NormalSteps.{normal_answered}
-use Rattle.jsonpath_rust.specs.documents.Document.{value_document}
-use Rattle.jsonpath_rust.specs.documents.Lending.{LendsReferred, lent_in}
-use Rattle.jsonpath_rust.specs.documents.Referring.{IsReferred}
 use Rattle.jsonpath_rust.specs.contracts.documents.queryable.value.ValueQueryable.reference_mut as f
 use Rattle.jsonpath_rust.proofs.documents.queryable.value.ValueQueryable.reference_mut.Statement.{statement}
 use Rattle.jsonpath_rust.proofs.documents.queryable.value.ValueQueryable.reference_mut.Code as code

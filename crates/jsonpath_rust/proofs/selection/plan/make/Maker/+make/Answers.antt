@@ -7,15 +7,11 @@ use Rattle.std.proofs.lemmas.Result.{IfOk-weaker}
 use Rattle.jsonpath_parser.specs.tree.Syntax as syntax
 use Rattle.jsonpath_parser.specs.tree.View as tree
 use Rattle.jsonpath_parser.proofs.laws.tree.ViewEquations as source
-use Rattle.jsonpath_rust.specs.selection.inner.PlanMaking.{every}
-use Rattle.jsonpath_rust.specs.selection.inner.Rooted.{filter_is_rooted, argument_is_rooted}
-use Rattle.jsonpath_rust.specs.selection.inner.PlanViews.{segment_view, selector_view, filter_view, call_view, argument_view, nodes, answered, compared, query_in, call_in, part_is_rooted}
-use Rattle.jsonpath_rust.specs.declared.selection.sink.Wanted.TheVariants.{Any, Values}
-use Rattle.jsonpath_rust.proofs.laws.selection.PlanLaws.{made_none, made_as, made_both, made_start, made_next, made_end, made_around, made_ended, made_here, filters_rooted, arguments_rooted, query_in-nodes}
+use Rattle.jsonpath_rust.specs.Prelude.Documents.{Bor, Operator}
+use Rattle.jsonpath_rust.specs.Prelude.Selection.{answered, Any, argument_is_rooted, argument_view, call_in, call_view, compared, every, filter_is_rooted, filter_view, nodes, part_is_rooted, query_in, segment_view, selector_view, Values}
+use Rattle.jsonpath_rust.proofs.laws.selection.{arguments_rooted, filters_rooted, made_around, made_as, made_both, made_end, made_ended, made_here, made_next, made_none, made_start, query_in-nodes}
 use Rattle.jsonpath_rust.proofs.laws.selection.PlanEquations as plan
-use Rattle.std.specs.Borrow.{Bor}
 use Rattle.jsonpath_parser.specs.declared.tree.model.Comparable.{Comparable}
-use Rattle.jsonpath_parser.specs.declared.tree.model.operator.Operator.{Operator}
 use Rattle.jsonpath_rust.proofs.selection.plan.make.Maker.+make.Goals as goal
 use Rattle.jsonpath_rust.proofs.selection.plan.make.Maker.+make.Goals.{comparison-in-Eq, comparison-in-Ne, comparison-in-Gt, comparison-in-Gte, comparison-in-Lt, comparison-in-Lte}
 

@@ -1,10 +1,7 @@
 use Rattle.std.proofs.Common.{map, take}
-use Rattle.std.specs.List.{list_all}
+use Rattle.jsonpath_rust.specs.Prelude.Documents.{list_all}
+use Rattle.jsonpath_rust.specs.Prelude.Selection.{argument_is_rooted, argument_view, every, filter_is_rooted, filter_view, Made, segment_view, selector_view, Values}
 use Rattle.jsonpath_parser.specs.tree.View as tree
-use Rattle.jsonpath_rust.specs.selection.inner.PlanViews.{segment_view, selector_view, filter_view, argument_view}
-use Rattle.jsonpath_rust.specs.selection.inner.PlanMaking.{Made, every}
-use Rattle.jsonpath_rust.specs.selection.inner.Rooted.{filter_is_rooted, argument_is_rooted}
-use Rattle.jsonpath_rust.specs.declared.selection.sink.Wanted.TheVariants.{Values}
 use Rattle.jsonpath_rust.proofs.selection.plan.make.Maker.+make.Given as goal
 
 abbrev pub invariant-segments-segments : goal.invariant-segments-segments

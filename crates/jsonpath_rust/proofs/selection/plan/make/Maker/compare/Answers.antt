@@ -1,7 +1,6 @@
 use Rattle.std.proofs.Common.{◌∙◌, refl, sym}
-use Rattle.jsonpath_rust.specs.selection.inner.PlanViews.{comparison_in}
-use Rattle.jsonpath_rust.proofs.laws.selection.PlanEquations.{filter_view-Comparison, filter_view-Constant}
-use Rattle.jsonpath_rust.proofs.laws.selection.PlanLaws.{made_as, made_ended}
+use Rattle.jsonpath_rust.specs.Prelude.Selection.{comparison_in}
+use Rattle.jsonpath_rust.proofs.laws.selection.{filter_view-Comparison, filter_view-Constant, made_as, made_ended}
 use Rattle.jsonpath_rust.proofs.selection.plan.make.Maker.compare.Goals as goal
 
 pub returns-then-end-clause-made : goal.returns-then-end-clause-made

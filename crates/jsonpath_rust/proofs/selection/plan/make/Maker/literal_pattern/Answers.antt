@@ -1,10 +1,8 @@
 use Rattle.std.proofs.Common.{◌≡◌, ◌∙◌, ap, refl, string_bytes, rules}
 use Rattle.jsonpath_parser.specs.tree.Syntax as syntax
 use Rattle.jsonpath_parser.specs.tree.View as tree
-use Rattle.jsonpath_rust.specs.selection.inner.PlanMaking.{every}
-use Rattle.jsonpath_rust.specs.declared.selection.sink.Wanted.TheVariants.{Only}
-use Rattle.jsonpath_rust.proofs.laws.selection.PlanEquations.{argument_view-Literal, argument_view-Pattern}
-use Rattle.jsonpath_rust.proofs.laws.selection.PlanLaws.{made_none, made_around, same_maker}
+use Rattle.jsonpath_rust.specs.Prelude.Selection.{every, Only}
+use Rattle.jsonpath_rust.proofs.laws.selection.{argument_view-Literal, argument_view-Pattern, made_around, made_none, same_maker}
 use Rattle.jsonpath_rust.proofs.selection.plan.make.Maker.literal_pattern.Goals as goal
 
 pub returns-in_ok-from_str-in-Some-clause-made : goal.returns-in_ok-from_str-in-Some-clause-made

@@ -1,10 +1,9 @@
 use Rattle.std.proofs.Common.{◌∙◌, ap, refl, map}
 use Rattle.jsonpath_parser.specs.tree.Syntax as syntax
 use Rattle.jsonpath_parser.specs.tree.View as tree
-use Rattle.jsonpath_rust.specs.selection.inner.PlanMaking.{every}
-use Rattle.jsonpath_rust.specs.selection.inner.PlanViews.{steps_in, value}
+use Rattle.jsonpath_rust.specs.Prelude.Selection.{every, steps_in, value}
+use Rattle.jsonpath_rust.proofs.laws.selection.{made_as, made_here, made_none}
 use Rattle.jsonpath_rust.proofs.laws.selection.PlanEquations as plan
-use Rattle.jsonpath_rust.proofs.laws.selection.PlanLaws.{made_none, made_as, made_here}
 use Rattle.jsonpath_rust.proofs.selection.plan.make.Maker.singular.Goals as goal
 
 pub returns-in_ok-steps_again-in-Current-clause-made : goal.returns-in_ok-steps_again-in-Current-clause-made

@@ -1,6 +1,6 @@
 use Rattle.std.proofs.Common.{length, arith, ap, inl, inr}
 use Rattle.std.proofs.lemmas.Result.{err_from_is_err_and}
-use Rattle.jsonpath_rust.proofs.laws.states.Maps.{completes_step, completes_end, made_whole}
+use Rattle.jsonpath_rust.proofs.laws.states.{completes_end, completes_step, made_whole}
 use Rattle.jsonpath_rust.proofs.states.state.data.Data.flat_map.Goals as goal
 
 pub returns-in_err-found-in-Refs-clause-refused : goal.returns-in_err-found-in-Refs-clause-refused

@@ -1,9 +1,6 @@
 use Rattle.std.proofs.Common.{◌≡◌, Ok, Err, length}
-use Rattle.std.specs.Vec.Iter.{into_iter_items, into_iter_len}
-use Rattle.std.specs.List.{AllByRecursion}
-use Rattle.jsonpath_rust.specs.states.State.{SomeHas}
-use Rattle.jsonpath_rust.specs.states.inner.Evaluating.{Completes}
-use Rattle.jsonpath_parser.specs.declared.errors.JsonPathError.{JsonPathError}
+use Rattle.jsonpath_rust.specs.Prelude.Documents.{AllByRecursion, into_iter_items, into_iter_len, JsonPathError}
+use Rattle.jsonpath_rust.specs.Prelude.States.{Completes, SomeHas}
 use Rattle.jsonpath_rust.proofs.states.state.data.Data.flat_map.Given as goal
 
 abbrev pub invariant-loop-p : goal.invariant-loop-p

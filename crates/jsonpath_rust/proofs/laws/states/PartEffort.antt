@@ -1,0 +1,14 @@
+-- How much work a part of a path is.
+use Rattle.std.specs.Prelude.{◌+◌, ℕ}
+use Rattle.jsonpath_rust.specs.Prelude.Documents.{filter_effort, filter_view, selectors_effort, selectors_in}
+use Rattle.jsonpath_rust.specs.declared.states.evaluate.segments.Part.{Part}
+use Rattle.jsonpath_rust.specs.declared.states.evaluate.segments.Part.TheVariants.{Name, Wildcard, Index, Slice, Parents, Kept, Joined}
+
+abbrev pub part_effort : Part → ℕ
+part_effort (Name s) = 1
+part_effort Wildcard = 1
+part_effort (Index i) = 1
+part_effort (Slice start end step) = 1
+part_effort Parents = 1
+part_effort (Kept f) = filter_effort 0 (filter_view f.now) + 1
+part_effort (Joined ss) = selectors_effort 0 (selectors_in ss.now) + 1
