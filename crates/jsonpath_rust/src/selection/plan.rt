@@ -1,6 +1,6 @@
 //! A plan of a query: what is to be done at a node, found out once and not at each node. It says
-//! which queries inside filters are looked up and which are walked, which queries from the root are
-//! the same, and which patterns are.
+//! which queries inside filters are looked up and which are walked, which parts are
+//! constants, and which patterns are the same.
 ghost use Rattle.jsonpath_rust.specs.selection.inner.PlanViews.{IsSettled, IsSettled-prop, IsRooted, IsRooted-prop};
 
 mod constants;
