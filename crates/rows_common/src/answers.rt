@@ -16,8 +16,8 @@ pub fn are_same(value: &Value, wanted: &Value) -> bool
     whole(value) && whole(wanted) && same(value, wanted)
 }
 
-/// A value, or a refusal by an error, which is `{"refused": ..}`, with its kind; `InvalidNumber` has the literal behind it, and
-/// `MaxNestingDepthExceeded` the depth. Out of memory is no answer.
+/// A value, or a refusal by an error, which is `{"refused": ..}`, with its kind; `PestError` has the place behind it, `InvalidNumber`
+/// the literal, and `MaxNestingDepthExceeded` the depth. Out of memory is no answer.
 pub fn answered(alloc: Global, given: Given<Value>) -> Given<Value> {
     let kind = match given {
         Err(Refusal::Error(error)) => {
@@ -34,7 +34,7 @@ pub fn answered(alloc: Global, given: Given<Value>) -> Given<Value> {
 fn kind_of(alloc: Global, error: &JsonPathError) -> Given<String> {
     match error {
         JsonPathError::OutOfMemory => Err(Refusal::memory()),
-        JsonPathError::PestError(_) => Ok(String::from_str(alloc, "PestError")?),
+        JsonPathError::PestError(place) => Ok(format!(in alloc; "PestError {place}")?),
         JsonPathError::InvalidJsonPath(_) => Ok(String::from_str(alloc, "InvalidJsonPath")?),
         JsonPathError::InvalidNumber(literal) => {
             Ok(format!(in alloc; "InvalidNumber {literal}")?)
