@@ -1,12 +1,6 @@
 -- A query that is spelled is read: the law of arguments closes the circle, and whole texts follow.
 use Rattle.std.proofs.Common.{◌≡◌, ℕ, zero, suc, ◌<◌, ◌≤◌, true, ℤ, pos, unwrap_or, List, [], ◌∷◌, ◌++◌, length, Option, Some, None, refl, append-nil, arith}
-use Rattle.jsonpath_parser.specs.Grammar.{SpellsArgument, Spells}
-use Rattle.jsonpath_parser.specs.words.inner.Reading.{Read, first, skip_blank}
-use Rattle.jsonpath_parser.specs.inner.ReadingGrammar.{number_reading, is_int_first, all_segments_at, argument_at, query_at, whole_query, IsAny}
-use Rattle.jsonpath_parser.specs.words.inner.ReadingNumbers.{number_at}
-use Rattle.jsonpath_parser.specs.tree.Syntax.{Argument, Segments, Query}
-use Rattle.jsonpath_parser.specs.Values.{IsValued}
-use Rattle.jsonpath_parser.specs.declared.grammar.literals.Numbers.TheVariants.{Valued, Any}
+use Rattle.jsonpath_parser.specs.Prelude.{all_segments_at, Any, Argument, argument_at, first, is_int_first, IsAny, IsValued, number_at, number_reading, Query, query_at, Read, Segments, skip_blank, Spells, SpellsArgument, Valued, whole_query}
 use Rattle.jsonpath_parser.proofs.NumberComplete.{EndsNumber, number_start, complete_number}
 use Rattle.jsonpath_parser.proofs.CompleteParts.{EndsLogical}
 use Rattle.jsonpath_parser.proofs.CompleteSegments.{complete_all_segments}

@@ -1,12 +1,7 @@
 -- Filters and arguments that are spelled are read, where the text after them cannot continue them.
 use Rattle.std.proofs.Common.{◌≡◌, ℕ, suc, ◌+◌, ◌-◌, ◌<◌, ◌≤◌, Bool, true, false, ◌==◌, ℤ, List, [], ◌∷◌, ◌++◌, length, drop, codes, Option, Some, refl, ap, ◌∙◌, append_assoc, length-append, arith}
 use Rattle.std.proofs.lemmas.Bool.Decides.{nat_tests}
-use Rattle.jsonpath_parser.specs.Grammar.{Between, IsNoBareTest, SpellsLogical, SpellsMoreOr, SpellsMoreAnd, SpellsTest, SpellsArgument}
-use Rattle.jsonpath_parser.specs.Parts.{SpellsConjunction, SpellsBasic}
-use Rattle.jsonpath_parser.specs.words.Lexical.{is_blank}
-use Rattle.jsonpath_parser.specs.words.inner.Reading.{Read, first, skip_blank}
-use Rattle.jsonpath_parser.specs.inner.ReadingGrammar.{is_int_first, operand_behind, comparable_of, filter_of, is_operator_first, is_twice, operator_at, logical_at, operand_at, group_at, negated_at, compared_at, plain_at, basic_at, ands_at, conjunction_at, ors_at, disjunction_at}
-use Rattle.jsonpath_parser.specs.tree.Syntax.{Operator, Filter, or, and, Filters, no_filters, filter_then, group, test, compare, Test, Argument, literal_argument, test_argument, filter_argument}
+use Rattle.jsonpath_parser.specs.Prelude.{and, ands_at, Argument, basic_at, Between, comparable_of, compare, compared_at, conjunction_at, disjunction_at, Filter, filter_argument, filter_of, filter_then, Filters, first, group, group_at, is_blank, is_int_first, is_operator_first, is_twice, IsNoBareTest, literal_argument, logical_at, negated_at, no_filters, operand_at, operand_behind, Operator, operator_at, or, ors_at, plain_at, Read, skip_blank, SpellsArgument, SpellsBasic, SpellsConjunction, SpellsLogical, SpellsMoreAnd, SpellsMoreOr, SpellsTest, Test, test, test_argument}
 use Rattle.jsonpath_parser.proofs.laws.words.Fronts.{skip_over}
 use Rattle.jsonpath_parser.proofs.Turns.{many_end, many_read, operand_read}
 use Rattle.jsonpath_parser.proofs.NumberComplete.{EndsNumber}

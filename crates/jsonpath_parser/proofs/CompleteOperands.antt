@@ -1,13 +1,7 @@
 -- Literals, queries and calls that are spelled are read, where the text after them cannot continue them.
 use Rattle.std.proofs.Common.{◌≡◌, ℕ, suc, ◌+◌, ◌-◌, ◌<◌, ◌≤◌, true, false, ◌==◌, ℤ, List, [], ◌∷◌, ◌++◌, length, codes, Option, Some, refl, sym, ap, ◌∙◌, append_assoc, append-nil, length-append, arith, IsTrue}
 use Rattle.std.proofs.lemmas.Bool.Decides.{nat_tests}
-use Rattle.jsonpath_parser.specs.Grammar.{SpellsCalled, SpellsLiteral, SpellsSegments, SpellsTest, SpellsCall, SpellsArgument, SpellsArguments, SpellsMoreArguments}
-use Rattle.jsonpath_parser.specs.words.Lexical.{is_function_first, IsBlank, IsFunctionName, is_quote}
-use Rattle.jsonpath_parser.specs.words.inner.Reading.{Read, first, skip_blank}
-use Rattle.jsonpath_parser.specs.inner.ReadingGrammar.{is_int_first, steps_of, comparable_of, word_at, word_literal, all_segments_at, arguments_at, all_arguments_at, called_at, word_operand_at, operand_at, steps_in}
-use Rattle.jsonpath_parser.specs.words.inner.ReadingStrings.{string_at}
-use Rattle.jsonpath_parser.specs.tree.Syntax.{Literal, number, string, bool, null, name, index, Segment, one, Segments, no_segments, segment, Test, relative, absolute, call, Call, custom_call, length_call, value_call, count_call, search_call, match_call, Argument, literal_argument, test_argument, Arguments, no_arguments, argument, list_of, filter_argument, wildcard, slice, filter, several, descendant}
-use Rattle.jsonpath_parser.specs.tree.Typing.{call_of, is_comparable, is_singular}
+use Rattle.jsonpath_parser.specs.Prelude.{absolute, all_arguments_at, all_segments_at, Argument, argument, Arguments, arguments_at, bool, Call, call, call_of, called_at, comparable_of, count_call, custom_call, descendant, filter, filter_argument, first, index, is_comparable, is_function_first, is_int_first, is_quote, is_singular, IsBlank, IsFunctionName, length_call, list_of, Literal, literal_argument, match_call, name, no_arguments, no_segments, null, number, one, operand_at, Read, relative, search_call, Segment, segment, Segments, several, skip_blank, slice, SpellsArgument, SpellsArguments, SpellsCall, SpellsCalled, SpellsComparable, SpellsLiteral, SpellsMoreArguments, SpellsSegments, SpellsTest, steps_in, steps_of, string, string_at, Test, test_argument, value_call, wildcard, word_at, word_literal, word_operand_at}
 use Rattle.jsonpath_parser.proofs.laws.words.Fronts.{skip_over}
 use Rattle.jsonpath_parser.proofs.Turns.{separated_end, separated_read}
 use Rattle.jsonpath_parser.proofs.NumberComplete.{EndsNumber}
@@ -16,7 +10,6 @@ use Rattle.jsonpath_parser.proofs.CompleteParts.{EndsLogical, EndsOperand, EndsS
 use Rattle.jsonpath_parser.proofs.CompleteStarts.{basic_other, call_start, argument_start}
 use Rattle.jsonpath_parser.proofs.CompleteWords.{word_over, word_start, string_start, custom_of}
 use Rattle.jsonpath_parser.proofs.CompleteSegments.{behind_mark, complete_all_segments}
-use Rattle.jsonpath_parser.specs.Parts.{SpellsComparable}
 
 -- ---- singular queries
 

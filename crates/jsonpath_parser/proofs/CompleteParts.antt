@@ -2,14 +2,7 @@
 use Rattle.std.proofs.Common.{◌≡◌, ℕ, zero, suc, ◌≤◌, Bool, true, false, ◌||◌, ◌==◌, ℤ, pos, negsuc, List, [], ◌∷◌, ◌++◌, drop, Some, refl, sym, ap, ◌⊎◌, inl, inr, arith}
 use Rattle.std.proofs.lemmas.Bool.Decides.{nat_tests}
 use Rattle.std.proofs.lemmas.Int.{ints}
-use Rattle.std.specs.List.{prefix_len}
-use Rattle.std.specs.Str.Parse.{digits_value}
-use Rattle.std.specs.Char.{is_ascii_digit}
-use Rattle.jsonpath_parser.specs.Grammar.{SpellsPositive, SpellsInt, IsInRange, SpellsShorthand}
-use Rattle.jsonpath_parser.specs.words.Lexical.{is_blank, is_name_first, is_name_byte, is_function_byte, IsRun, IsBlank, IsName}
-use Rattle.jsonpath_parser.specs.words.inner.Reading.{first, skip_blank, split_while, is_magnitude, magnitude_at, int_at, name_at}
-use Rattle.jsonpath_parser.specs.inner.ReadingGrammar.{is_int_first, shorthand_at, starts_segment, is_operator_first}
-use Rattle.jsonpath_parser.specs.tree.Syntax.{Selector, name, wildcard, index, slice, filter}
+use Rattle.jsonpath_parser.specs.Prelude.{digits_value, filter, first, index, int_at, is_ascii_digit, is_blank, is_function_byte, is_int_first, is_magnitude, is_name_byte, is_name_first, is_operator_first, IsBlank, IsInRange, IsName, IsRun, magnitude_at, name, name_at, prefix_len, Selector, shorthand_at, skip_blank, slice, SpellsInt, SpellsPositive, SpellsShorthand, split_while, starts_segment, wildcard}
 use Rattle.jsonpath_parser.proofs.laws.words.Fronts.{run_over, skip_over, back, front}
 use Rattle.jsonpath_parser.proofs.NumberComplete.{continues_number}
 

@@ -3,12 +3,7 @@
 -- That arguments of shorter texts are read is assumed: the law of arguments closes the circle.
 use Rattle.std.proofs.Common.{◌≡◌, ℕ, suc, ◌+◌, ◌-◌, ◌<◌, ◌≤◌, true, false, ◌==◌, ℤ, List, [], ◌∷◌, ◌++◌, length, codes, Option, Some, refl, sym, ap, ◌∙◌, subst, inl, inr, append_assoc, length-append, arith}
 use Rattle.std.proofs.lemmas.Bool.Decides.{nat_tests}
-use Rattle.jsonpath_parser.specs.Grammar.{Between, IsSeveral, SpellsSelector, SpellsSelectors, SpellsMoreSelectors, SpellsSegment, SpellsSegments, SpellsLogical, SpellsArgument, SpellsTest}
-use Rattle.jsonpath_parser.specs.words.Lexical.{is_name_byte, IsBlank, is_quote}
-use Rattle.jsonpath_parser.specs.words.inner.Reading.{Read, first, skip_blank}
-use Rattle.jsonpath_parser.specs.inner.ReadingGrammar.{is_int_first, selection_of, filter_of, starts_segment, numbered_at, shorthand_at, logical_at, selector_at, selectors_at, selection_at, descendant_at, segment_at, segments_at, all_segments_at}
-use Rattle.jsonpath_parser.specs.words.inner.ReadingStrings.{string_at}
-use Rattle.jsonpath_parser.specs.tree.Syntax.{Selector, name, wildcard, index, slice, filter, Selectors, no_selectors, selector, Segment, one, several, descendant, Segments, no_segments, segment, Filter, or, and, group, test, compare, Argument, test_argument, filter_argument}
+use Rattle.jsonpath_parser.specs.Prelude.{all_segments_at, and, Argument, Between, compare, descendant, descendant_at, Filter, filter, filter_argument, filter_of, first, group, index, is_int_first, is_name_byte, is_quote, IsBlank, IsSeveral, logical_at, name, no_segments, no_selectors, numbered_at, one, or, Read, Segment, segment, segment_at, Segments, segments_at, selection_at, selection_of, Selector, selector, selector_at, Selectors, selectors_at, several, shorthand_at, skip_blank, slice, SpellsArgument, SpellsLogical, SpellsMoreSelectors, SpellsSegment, SpellsSegments, SpellsSelector, SpellsSelectors, SpellsTest, starts_segment, string_at, test, test_argument, wildcard}
 use Rattle.jsonpath_parser.proofs.laws.words.Fronts.{skip_over}
 use Rattle.jsonpath_parser.proofs.Turns.{many_end, many_read, separated_end, separated_read}
 use Rattle.jsonpath_parser.proofs.laws.words.StringComplete.{complete_string}

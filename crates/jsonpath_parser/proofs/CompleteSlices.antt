@@ -1,14 +1,9 @@
 -- An index or a slice that is spelled is read.
 --
 -- A slice without its second `:` takes the blanks behind it along, so what is left is the text after it up to blanks.
-use Rattle.std.specs.Char.{is_ascii_digit}
+use Rattle.jsonpath_parser.specs.Prelude.{end_at, first, index, int_at, is_ascii_digit, is_blank, is_int_first, is_quote, IsBlank, numbered_at, Selector, skip_blank, slice, slice_at, SpellsBound, SpellsIndex, SpellsSlice, SpellsStep, step_at}
 use Rattle.std.proofs.Common.{◌≡◌, ℕ, Bool, true, false, ◌||◌, ◌==◌, ℤ, List, [], ◌∷◌, ◌++◌, Option, Some, None, refl, ap, ◌∙◌, inl, inr, append_assoc, arith}
 use Rattle.std.proofs.lemmas.Bool.Decides.{nat_tests}
-use Rattle.jsonpath_parser.specs.Grammar.{SpellsIndex, SpellsBound, SpellsStep, SpellsSlice}
-use Rattle.jsonpath_parser.specs.words.Lexical.{is_blank, IsBlank, is_quote}
-use Rattle.jsonpath_parser.specs.words.inner.Reading.{first, skip_blank, int_at}
-use Rattle.jsonpath_parser.specs.inner.ReadingGrammar.{is_int_first, end_at, step_at, slice_at, numbered_at}
-use Rattle.jsonpath_parser.specs.tree.Syntax.{Selector, index, slice}
 use Rattle.jsonpath_parser.proofs.laws.words.Fronts.{skip_over}
 use Rattle.jsonpath_parser.proofs.CompleteParts.{ends_logical, EndsLogical, logical_stops, skip_more, skip_again, front_other, int_start, int_over}
 

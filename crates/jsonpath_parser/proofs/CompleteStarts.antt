@@ -1,15 +1,10 @@
 -- How each part of the grammar begins.
 use Rattle.std.proofs.Common.{◌≡◌, ℕ, ◌<◌, Bool, true, false, ◌||◌, ◌==◌, ℤ, List, ◌++◌, length, codes, Option, refl, inl, inr, append_assoc, arith}
 use Rattle.std.proofs.lemmas.Bool.Decides.{nat_tests}
-use Rattle.jsonpath_parser.specs.Grammar.{SpellsNot, SpellsLiteral, SpellsSelector, SpellsSegment, SpellsSegments, SpellsLogical, SpellsOr, SpellsAnd, SpellsTest, SpellsCall, SpellsArgument}
-use Rattle.jsonpath_parser.specs.words.Lexical.{is_blank, is_name_byte, is_function_first, is_quote}
-use Rattle.jsonpath_parser.specs.words.inner.Reading.{first}
-use Rattle.jsonpath_parser.specs.inner.ReadingGrammar.{is_int_first, starts_segment}
-use Rattle.jsonpath_parser.specs.tree.Syntax.{Literal, number, string, bool, null, Selector, name, wildcard, index, slice, filter, Segment, one, several, descendant, Segments, no_segments, segment, Filter, or, and, Filters, no_filters, filter_then, group, test, compare, Test, relative, absolute, call, Call, custom_call, length_call, value_call, count_call, search_call, match_call, Argument, literal_argument, test_argument, filter_argument}
+use Rattle.jsonpath_parser.specs.Prelude.{absolute, and, Argument, bool, Call, call, compare, count_call, custom_call, descendant, Filter, filter, filter_argument, filter_then, Filters, first, group, index, is_blank, is_function_first, is_int_first, is_name_byte, is_quote, length_call, Literal, literal_argument, match_call, name, no_filters, no_segments, null, number, one, or, relative, search_call, Segment, segment, Segments, Selector, several, slice, SpellsAnd, SpellsArgument, SpellsCall, SpellsComparable, SpellsLiteral, SpellsLogical, SpellsNot, SpellsOr, SpellsSegment, SpellsSegments, SpellsSelector, SpellsTest, starts_segment, string, Test, test, test_argument, value_call, wildcard}
 use Rattle.jsonpath_parser.proofs.CompleteParts.{front_other}
 use Rattle.jsonpath_parser.proofs.CompleteSlices.{numbered_other, index_start, slice_start}
 use Rattle.jsonpath_parser.proofs.CompleteWords.{word_start, string_start}
-use Rattle.jsonpath_parser.specs.Parts.{SpellsComparable}
 
 -- `@`, `$`, a quote, a digit, `-` or a letter begins a literal, a query or a call
 abbrev pub starts_operand : ℕ → Bool

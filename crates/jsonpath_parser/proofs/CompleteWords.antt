@@ -1,12 +1,6 @@
 -- Operators, words and strings that are spelled are read, where the text after them cannot continue them.
 use Rattle.std.proofs.Common.{◌≡◌, ℕ, Bool, true, false, ◌||◌, ◌==◌, bytes_eq, List, [], ◌∷◌, ◌++◌, codes, Some, refl, ap}
-use Rattle.jsonpath_parser.specs.Grammar.{SpellsOperator}
-use Rattle.jsonpath_parser.specs.words.Lexical.{is_function_first, is_function_byte, IsFunctionName, is_quote}
-use Rattle.jsonpath_parser.specs.words.inner.Reading.{first, split_while}
-use Rattle.jsonpath_parser.specs.inner.ReadingGrammar.{word_at, is_operator_first, operator_at}
-use Rattle.jsonpath_parser.specs.words.Strings.{SpellsString}
-use Rattle.jsonpath_parser.specs.tree.Syntax.{Operator, equal, not_equal, greater, greater_or_equal, less, less_or_equal, Arguments, custom_call}
-use Rattle.jsonpath_parser.specs.tree.Typing.{call_of, is_table_name}
+use Rattle.jsonpath_parser.specs.Prelude.{Arguments, call_of, custom_call, equal, first, greater, greater_or_equal, is_function_byte, is_function_first, is_operator_first, is_quote, is_table_name, IsFunctionName, less, less_or_equal, not_equal, Operator, operator_at, SpellsOperator, SpellsString, split_while, word_at}
 use Rattle.jsonpath_parser.proofs.laws.words.Fronts.{run_over}
 
 -- an operator, where no `=` follows it

@@ -1,7 +1,7 @@
 -- What a test of two values by their parts decides.
 use Rattle.std.proofs.Common.{◌≡◌, ◌&&◌, Bool, false, true≢false, String, Global, string_bytes, ap, sym, ◌∙◌}
 use Rattle.std.proofs.lemmas.Bool.Decides.{Decides-and}
-use Rattle.std.specs.Bool.{Decides}
+use Rattle.jsonpath_parser.specs.Prelude.{Decides}
 use Rattle.std.specs.Cmp.Lexicographic.{bytes_decides}
 use Rattle.std.specs.String.{string_eq}
 

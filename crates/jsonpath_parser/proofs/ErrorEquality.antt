@@ -1,10 +1,8 @@
 -- `==` of errors is equality of what they hold.
 use Rattle.std.proofs.Common.{◌≡◌, refl}
-use Rattle.std.specs.Bool.{Decides}
+use Rattle.jsonpath_parser.specs.Prelude.{Decides, error_view, JsonPathError}
 use Rattle.jsonpath_parser.specs.Errors as error
-use Rattle.jsonpath_parser.specs.Errors.{error_view}
 use Rattle.jsonpath_parser.proofs.Deciding.{under, under_two, differ, string_same}
-use Rattle.jsonpath_parser.specs.declared.errors.JsonPathError.{JsonPathError}
 use Rattle.jsonpath_parser.specs.declared.errors.JsonPathError.TheVariants as code
 use Rattle.jsonpath_parser.specs.contracts.errors.JsonPathErrorPartialEq.TheImpl as error_eq
 use Rattle.std.proofs.lemmas.Bool.Decides.{Decides-eqb}

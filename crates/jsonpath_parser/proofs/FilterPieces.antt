@@ -1,10 +1,7 @@
 -- How the parts of filters lie in the text that they are read from.
 use Rattle.std.proofs.Common.{◌≡◌, ℕ, ◌<◌, true, ℤ, List, [], ◌∷◌, ◌++◌, drop, codes, Option, Some, sym, ap, ◌∙◌, subst, append_assoc, append-nil}
 use Rattle.std.proofs.lemmas.Bool.{and_parts}
-use Rattle.jsonpath_parser.specs.Grammar.{Between, Behind, Then, IsNothing, SpellsArgument, SpellsArguments}
-use Rattle.jsonpath_parser.specs.inner.ReadingGrammar.{is_twice}
-use Rattle.jsonpath_parser.specs.tree.Syntax.{Argument, Arguments, no_arguments, argument}
-use Rattle.jsonpath_parser.specs.tree.Typing.{one_argument, two_arguments}
+use Rattle.jsonpath_parser.specs.Prelude.{Argument, argument, Arguments, Behind, Between, is_twice, IsNothing, no_arguments, one_argument, SpellsArgument, SpellsArguments, Then, two_arguments}
 use Rattle.jsonpath_parser.proofs.SoundParts.{two_front}
 
 -- a byte twice at the front

@@ -5,11 +5,10 @@ use Rattle.std.proofs.lemmas.Bool.{cases_eq, cases_lt, cond-true, cond-false}
 use Rattle.std.proofs.lemmas.Bool.Decides.{nat_tests}
 use Rattle.std.proofs.lemmas.Option.{same_Some}
 use Rattle.std.specs.Prelude.{if◌then◌else◌, ◌==◌, nat_lt}
-use Rattle.std.specs.Char.{digit_char}
-use Rattle.std.specs.Int.Digits.{digits_of, AllBelowBase}
+use Rattle.jsonpath_parser.specs.Prelude.{AllBelowBase, Begins, digit_char, digits_of, index_digits, IsNormal, Location, name_char, name_chars, Step, step_text, steps_text}
 use Rattle.std.proofs.lemmas.Int.Digits.{same_from_digits_of, all_below_base_digits_of, first_digits_of}
-use Rattle.jsonpath_parser.specs.Location.{Step, name, index, Location, Begins}
-use Rattle.jsonpath_parser.specs.Normal.{name_char, name_chars, index_digits, step_text, steps_text, normal, IsNormal, IsOnlyPath}
+use Rattle.jsonpath_parser.specs.Location.{name, index}
+use Rattle.jsonpath_parser.specs.Normal.{normal, IsOnlyPath}
 
 abbrev hex_value : ℕ → ℕ
 hex_value d = if nat_lt d 58 then d - 48 else d - 87

@@ -6,21 +6,11 @@ use Rattle.std.proofs.lemmas.Int.Digits.{digits_value_is, number_digits_of, all_
 use Rattle.std.proofs.lemmas.Str.{digit_value-digit_char}
 use Rattle.std.proofs.lemmas.Str.Ascii.{encode_ascii}
 use Rattle.std.specs.Prelude.{nat_lt}
-use Rattle.std.specs.Char.{digit_char, digit_value, is_ascii_digit}
-use Rattle.std.specs.Int.Digits.{digits_of, AllBelowBase, number_from_digits}
-use Rattle.std.specs.List.{concat}
-use Rattle.std.specs.Str.Parse.{digits_value}
-use Rattle.jsonpath_parser.specs.words.Depth.{depth_from, next_place, opens, closes, outside, inside}
-use Rattle.jsonpath_parser.specs.Derives.{Derives}
-use Rattle.jsonpath_parser.specs.Grammar.{SpellsInt, SpellsPositive, SpellsSegment, SpellsSegments}
-use Rattle.jsonpath_parser.specs.words.Lexical.{IsRun, is_quote}
-use Rattle.jsonpath_parser.specs.Location.{Step, name, index, Location}
-use Rattle.jsonpath_parser.specs.Normal.{name_char, name_chars, index_digits, step_text, steps_text, IsNormal}
-use Rattle.jsonpath_parser.specs.tree.Steps.{step_segment, steps_query, HasIndexesInRange}
+use Rattle.jsonpath_parser.specs.Prelude.{AllBelowBase, closes, concat, depth_from, Derives, digit_char, digit_value, digits_of, digits_value, HasIndexesInRange, index_digits, inside, is_ascii_digit, is_hex_digit, is_quote, IsNormal, IsRun, IsValued, Location, name_char, name_chars, next_place, opens, outside, SpellsChar, SpellsChars, SpellsInt, SpellsPositive, SpellsSegment, SpellsSegments, SpellsString, Step, step_text, steps_query, steps_text, Typed}
+use Rattle.std.specs.Int.Digits.{number_from_digits}
+use Rattle.jsonpath_parser.specs.Location.{name, index}
+use Rattle.jsonpath_parser.specs.tree.Steps.{step_segment}
 use Rattle.jsonpath_parser.specs.words.Strings as strings
-use Rattle.jsonpath_parser.specs.words.Strings.{is_hex_digit, SpellsChar, SpellsChars, SpellsString}
-use Rattle.jsonpath_parser.specs.tree.Typing.{Typed}
-use Rattle.jsonpath_parser.specs.Values.{IsValued}
 use Rattle.jsonpath_parser.proofs.NormalLemmas.{at_char, quoted, bracketed, nonzero, positive}
 use Rattle.jsonpath_parser.proofs.SoundParts.{pos_range}
 

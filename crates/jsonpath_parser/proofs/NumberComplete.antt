@@ -1,13 +1,7 @@
 -- A number literal is read whole, with its one value, where the text after it cannot continue it.
 use Rattle.std.proofs.Common.{◌≡◌, ℕ, ◌≤◌, Bool, true, false, ◌||◌, ◌==◌, ℤ, List, [], ◌∷◌, ◌++◌, length, Option, Some, refl, ap, ◌∙◌, inl, inr, append_assoc, arith}
 use Rattle.std.proofs.lemmas.Bool.Decides.{nat_tests}
-use Rattle.std.specs.Str.Parse.{digits_value}
-use Rattle.std.specs.Char.{is_ascii_digit}
-use Rattle.jsonpath_parser.specs.words.Lexical.{IsRun}
-use Rattle.jsonpath_parser.specs.words.Numbers.{Exponent, raised, lowered, is_exponent_mark, IsDigits, SpellsSign, IsWholePart, SpellsFraction, SpellsExponent, signed, SpellsNumber}
-use Rattle.jsonpath_parser.specs.words.inner.Reading.{first, split_while}
-use Rattle.jsonpath_parser.specs.words.inner.ReadingNumbers.{digits_at, sign_at, whole_part_at, fraction_at, signed_digits_at, exponent_at, scaled_value, number_at}
-use Rattle.jsonpath_parser.specs.inner.ReadingGrammar.{is_int_first}
+use Rattle.jsonpath_parser.specs.Prelude.{digits_at, digits_value, Exponent, exponent_at, first, fraction_at, is_ascii_digit, is_exponent_mark, is_int_first, IsDigits, IsRun, IsWholePart, lowered, number_at, raised, scaled_value, sign_at, signed, signed_digits_at, SpellsExponent, SpellsFraction, SpellsNumber, SpellsSign, split_while, whole_part_at}
 use Rattle.jsonpath_parser.proofs.laws.words.Fronts.{run_over}
 use Rattle.jsonpath_parser.proofs.laws.words.NumberValues.{one_value, sound_value}
 

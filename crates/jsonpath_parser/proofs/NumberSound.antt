@@ -2,13 +2,7 @@
 use Rattle.std.proofs.Common.{◌≡◌, ℕ, suc, ◌≤◌, Bool, true, false, cond, ◌==◌, ℤ, List, [], ◌∷◌, ◌++◌, length, take, drop, Option, Some, None, unwrap_or, refl, sym, ap, ◌∙◌, subst, ◌⊎◌, inl, inr, append_assoc, arith}
 use Rattle.std.proofs.lemmas.Bool.Decides.{nat_tests}
 use Rattle.std.proofs.lemmas.Option.{cond_some}
-use Rattle.std.specs.List.{prefix_len}
-use Rattle.std.specs.Str.Parse.{digits_value}
-use Rattle.std.specs.Char.{is_ascii_digit}
-use Rattle.jsonpath_parser.specs.words.Lexical.{IsRun}
-use Rattle.jsonpath_parser.specs.words.Numbers.{Exponent, raised, lowered, is_exponent_mark, IsDigits, SpellsSign, IsWholePart, SpellsFraction, SpellsExponent, signed, IsValue, SpellsNumber}
-use Rattle.jsonpath_parser.specs.words.inner.Reading.{first, split_while}
-use Rattle.jsonpath_parser.specs.words.inner.ReadingNumbers.{digits_at, sign_at, whole_part_at, fraction_at, signed_digits_at, exponent_at, scaled_value, number_at}
+use Rattle.jsonpath_parser.specs.Prelude.{digits_at, digits_value, Exponent, exponent_at, first, fraction_at, is_ascii_digit, is_exponent_mark, IsDigits, IsRun, IsValue, IsWholePart, lowered, number_at, prefix_len, raised, scaled_value, sign_at, signed, signed_digits_at, SpellsExponent, SpellsFraction, SpellsNumber, SpellsSign, split_while, whole_part_at}
 use Rattle.jsonpath_parser.proofs.laws.words.Fronts.{run_holds}
 use Rattle.jsonpath_parser.proofs.laws.words.NumberValues.{sound_value}
 use Rattle.jsonpath_parser.proofs.SoundParts.{bind_ok, chosen, at_front}

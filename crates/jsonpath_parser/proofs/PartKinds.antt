@@ -1,18 +1,9 @@
 -- Each kind of tree is read as it is spelled.
 use Rattle.std.proofs.Common.{◌≡◌, ℕ, suc, ◌<◌, ◌≤◌, ◌==◌, Bool, true, false, ℤ, List, [], ◌∷◌, ◌++◌, length, codes, Option, Some, le_refl, refl, sym, ap, ◌∙◌, subst, inl, inr, append-nil, arith, IsTrue}
 use Rattle.std.proofs.lemmas.Option.{cond_some}
-use Rattle.jsonpath_parser.specs.Grammar.{Spells, SpellsArgument, SpellsSegments, SpellsSegment, SpellsSelector, SpellsSelectors, SpellsLogical, SpellsLiteral, SpellsTest, SpellsCall, SpellsShorthand, Between, is_basic}
-use Rattle.jsonpath_parser.specs.words.Numbers.{SpellsNumber}
-use Rattle.jsonpath_parser.specs.Parts.{Spelling, SpellsRelative, SpellsChild, SpellsSliceParts, SpellsSteps, SpellsSingular, SpellsConjunction, SpellsBasic, SpellsComparison, is_comparison, always, SpellsComparable}
-use Rattle.jsonpath_parser.specs.words.inner.Reading.{Read, first, skip_blank}
-use Rattle.jsonpath_parser.specs.inner.ReadingGrammar.{number_reading, is_int_first, filter_of, comparable_of, numbered_at, shorthand_at, selection_at, descendant_at, argument_at, IsAny, steps_in}
-use Rattle.jsonpath_parser.specs.inner.ReadingParts.{taken_at, inner_at, operand_in, basic_in, conjunction_in, logical_in, segments_in, segment_in, selector_in, child_in, literal_in, test_in, call_in, relative_in, query_in, singular_of, singular_in, where_it_is, atom_in, comparison_in, slice_in}
-use Rattle.jsonpath_parser.specs.tree.Syntax.{Literal, Selector, name, wildcard, index, slice, filter, Segment, one, several, descendant, Segments, Filter, or, and, test, Test, relative, absolute, call, Call, Argument, literal_argument, test_argument, filter_argument, Query}
-use Rattle.jsonpath_parser.specs.tree.Typing.{is_typed, is_typed_segment, is_typed_selector, is_typed_filter, is_typed_truth, is_typed_call, is_singular_test, is_typed_side}
-use Rattle.jsonpath_parser.specs.declared.grammar.literals.Numbers.{Numbers}
-use Rattle.jsonpath_parser.specs.declared.grammar.literals.Numbers.TheVariants.{Valued, Any}
-use Rattle.jsonpath_parser.specs.Unambiguous.{IsUnambiguous}
-use Rattle.jsonpath_parser.specs.Values.{IsValued}
+use Rattle.jsonpath_parser.specs.Prelude.{absolute, always, and, Any, Argument, argument_at, Between, Call, call, comparable_of, descendant, descendant_at, Filter, filter, filter_argument, filter_of, first, index, is_basic, is_comparison, is_int_first, is_singular_test, is_typed, is_typed_call, is_typed_filter, is_typed_segment, is_typed_selector, is_typed_side, IsAny, IsUnambiguous, IsValued, Literal, literal_argument, name, number_reading, numbered_at, Numbers, one, or, Query, Read, relative, Segment, Segments, selection_at, Selector, several, shorthand_at, skip_blank, slice, slice_in, Spelling, Spells, SpellsArgument, SpellsBasic, SpellsCall, SpellsChild, SpellsComparable, SpellsComparison, SpellsConjunction, SpellsLiteral, SpellsLogical, SpellsNumber, SpellsRelative, SpellsSegment, SpellsSegments, SpellsSelector, SpellsSelectors, SpellsShorthand, SpellsSingular, SpellsSliceParts, SpellsSteps, SpellsTest, steps_in, taken_at, Test, test, test_argument, Valued, wildcard}
+use Rattle.jsonpath_parser.specs.inner.ReadingParts.{inner_at, operand_in, basic_in, conjunction_in, logical_in, segments_in, segment_in, selector_in, child_in, literal_in, test_in, call_in, relative_in, query_in, singular_of, singular_in, where_it_is, atom_in, comparison_in}
+use Rattle.jsonpath_parser.specs.tree.Typing.{is_typed_truth}
 use Rattle.jsonpath_parser.proofs.Complete.{valued_start, valued_over, any_start, any_over, complete_argument}
 use Rattle.jsonpath_parser.proofs.CompleteFilters.{complete_basic, complete_conjunction}
 use Rattle.jsonpath_parser.proofs.CompleteOperands.{comparable_back, complete_literal, complete_test, complete_comparable, steps_made}

@@ -3,20 +3,10 @@ use Rattle.std.proofs.Common.{◌≡◌, ℕ, Bool, true, false, ℤ, List, [], 
 use Rattle.std.proofs.Math.Seq.{drop-append_seam}
 use Rattle.std.proofs.lemmas.Str.{IsCharBoundary-from_drop}
 use Rattle.std.specs.Borrow.{Bor}
-use Rattle.std.specs.Str.{IsUtf8, IsCharBoundary}
-use Rattle.jsonpath_parser.specs.inner.ReadingGrammar.{IsAny}
-use Rattle.jsonpath_parser.specs.words.Numbers.{SpellsNumber}
-use Rattle.jsonpath_parser.specs.Parts.{text_of, rest_of, Spelling, IsPartRefusal, ReadsPart}
-use Rattle.jsonpath_parser.specs.words.inner.Reading.{Read, Gives, Reads}
-use Rattle.jsonpath_parser.specs.inner.ReadingParts.{IsCursorRefusal, taken_at, Takes, StaysInText, IsAnswer}
-use Rattle.jsonpath_parser.specs.Values.{IsValued}
-use Rattle.jsonpath_parser.specs.declared.errors.JsonPathError.{JsonPathError}
+use Rattle.jsonpath_parser.specs.Prelude.{Any, Gives, IsAnswer, IsAny, IsCharBoundary, IsCursorRefusal, IsUtf8, IsValued, JsonPathError, Memory, Numbers, Read, Reads, ReadsPart, rest_of, Spelling, SpellsNumber, StaysInText, Stop, taken_at, Takes, text_of, Valued}
+use Rattle.jsonpath_parser.specs.Parts.{IsPartRefusal}
 use Rattle.jsonpath_parser.specs.declared.errors.JsonPathError.TheVariants as error
-use Rattle.jsonpath_parser.specs.declared.grammar.literals.Numbers.{Numbers}
-use Rattle.jsonpath_parser.specs.declared.grammar.literals.Numbers.TheVariants.{Valued, Any}
 use Rattle.jsonpath_parser.specs.declared.cursor.Cursor.{Cursor}
-use Rattle.jsonpath_parser.specs.declared.words.stop.Stop.{Stop}
-use Rattle.jsonpath_parser.specs.declared.words.stop.Stop.TheVariants.{Memory}
 
 -- which number literals are read
 abbrev pub as_read : Numbers → Option ℤ → List ℕ → Type 0

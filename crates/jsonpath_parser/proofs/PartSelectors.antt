@@ -1,11 +1,6 @@
 -- A slice and a selector that the whole text is: also the blanks at its end are read.
-use Rattle.std.specs.Char.{is_ascii_digit}
+use Rattle.jsonpath_parser.specs.Prelude.{Argument, filter, first, index, is_ascii_digit, is_int_first, IsBlank, name, numbered_at, Read, Selector, selector_at, skip_blank, slice, slice_at, SpellsArgument, SpellsBound, SpellsSelector, SpellsSlice, SpellsStep, wildcard}
 use Rattle.std.proofs.Common.{◌≡◌, ℕ, ◌<◌, ◌≤◌, true, ℤ, List, [], ◌∷◌, ◌++◌, length, Option, Some, None, refl, ap, ◌∙◌, inl, inr, append_assoc, append-nil, length-append, arith}
-use Rattle.jsonpath_parser.specs.Grammar.{SpellsBound, SpellsStep, SpellsSlice, SpellsSelector, SpellsArgument}
-use Rattle.jsonpath_parser.specs.words.Lexical.{IsBlank}
-use Rattle.jsonpath_parser.specs.words.inner.Reading.{Read, first, skip_blank}
-use Rattle.jsonpath_parser.specs.inner.ReadingGrammar.{is_int_first, slice_at, numbered_at, selector_at}
-use Rattle.jsonpath_parser.specs.tree.Syntax.{Selector, name, wildcard, index, slice, filter, Argument}
 use Rattle.jsonpath_parser.proofs.CompleteParts.{EndsLogical, front_other, int_start, int_over}
 use Rattle.jsonpath_parser.proofs.CompleteSegments.{complete_logical, selector_string, selector_numbered, selector_filter, selector_star}
 use Rattle.jsonpath_parser.proofs.CompleteSlices.{blank_digit, int_other, end_over, end_colon, step_none, step_over, slice_short, slice_long, pieces, numbered_colon, numbered_slice, complete_index, index_start, slice_start}

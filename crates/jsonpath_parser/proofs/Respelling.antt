@@ -1,11 +1,7 @@
 -- What is spelled with some number literals is spelled as another tree with others in their place, typed as it is.
 use Rattle.std.proofs.Common.{◌∙◌, ◌≡◌, refl, ap, inl, inr, ℕ, ℤ, pos, Bool, true, false, not, ◌&&◌, Option, Some, unwrap_or, List, ◌++◌, codes}
-use Rattle.jsonpath_parser.specs.inner.ReadingGrammar.{IsAny}
-use Rattle.jsonpath_parser.specs.words.Numbers.{SpellsNumber}
-use Rattle.jsonpath_parser.specs.Grammar.{Between, Behind, Then, is_conjunction, is_basic, IsSeveral, IsPlural, IsNoBareTest, SpellsLiteral, SpellsSelector, SpellsSelectors, SpellsMoreSelectors, SpellsSegment, SpellsSegments, SpellsLogical, SpellsOr, SpellsMoreOr, SpellsAnd, SpellsMoreAnd, SpellsTest, SpellsCall, SpellsArgument, SpellsArguments, SpellsMoreArguments, Spells}
-use Rattle.jsonpath_parser.specs.tree.Syntax.{Literal, number, string, bool, null, Selector, name, wildcard, index, slice, filter, Selectors, no_selectors, selector, Segment, one, several, descendant, Segments, no_segments, segment, Filter, or, and, Filters, no_filters, filter_then, group, test, compare, Test, relative, absolute, call, Call, custom_call, length_call, value_call, count_call, search_call, match_call, Argument, literal_argument, test_argument, filter_argument, Arguments, no_arguments, argument, Query}
-use Rattle.jsonpath_parser.specs.tree.Typing.{gives_value, is_step, is_singular, is_value_test, is_query_test, is_truth_test, is_value_argument, is_query_argument, is_typed, is_typed_segment, is_typed_selector, are_typed_selectors, is_typed_filter, are_typed_filters, is_typed_test, is_typed_call, is_typed_argument, are_typed_arguments, is_comparable, is_singular_test, is_typed_side}
-use Rattle.jsonpath_parser.specs.Parts.{SpellsConjunction, SpellsBasic, is_comparison, SpellsComparison, SpellsComparable}
+use Rattle.jsonpath_parser.specs.Prelude.{absolute, and, are_typed_arguments, are_typed_filters, are_typed_selectors, Argument, argument, Arguments, Behind, Between, bool, Call, call, compare, count_call, custom_call, descendant, Filter, filter, filter_argument, filter_then, Filters, group, index, is_basic, is_comparable, is_comparison, is_conjunction, is_singular, is_singular_test, is_step, is_typed, is_typed_argument, is_typed_call, is_typed_filter, is_typed_segment, is_typed_selector, is_typed_side, IsAny, IsNoBareTest, IsPlural, IsSeveral, length_call, Literal, literal_argument, match_call, name, no_arguments, no_filters, no_segments, no_selectors, null, number, one, or, Query, relative, search_call, Segment, segment, Segments, Selector, selector, Selectors, several, slice, Spells, SpellsAnd, SpellsArgument, SpellsArguments, SpellsBasic, SpellsCall, SpellsComparable, SpellsComparison, SpellsConjunction, SpellsLiteral, SpellsLogical, SpellsMoreAnd, SpellsMoreArguments, SpellsMoreOr, SpellsMoreSelectors, SpellsNumber, SpellsOr, SpellsSegment, SpellsSegments, SpellsSelector, SpellsSelectors, SpellsTest, string, Test, test, test_argument, Then, value_call, wildcard}
+use Rattle.jsonpath_parser.specs.tree.Typing.{gives_value, is_value_test, is_query_test, is_truth_test, is_value_argument, is_query_argument, is_typed_test}
 
 -- a number literal as it is written, whatever stands for it
 pub from_any : (v : Option ℤ) (a : List ℕ) → IsAny v a → (w : Option ℤ) × SpellsNumber w a

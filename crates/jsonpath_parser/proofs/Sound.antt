@@ -2,13 +2,7 @@
 use Rattle.std.proofs.Common.{◌≡◌, ℕ, zero, suc, true, ◌==◌, ℤ, pos, unwrap_or, List, [], ◌∷◌, ◌++◌, length, Option, Some, refl, ap, ◌∙◌, append-nil, arith}
 use Rattle.std.proofs.lemmas.Bool.Decides.{nat_tests}
 use Rattle.std.proofs.lemmas.Option.{cond_some}
-use Rattle.jsonpath_parser.specs.declared.grammar.literals.Numbers.TheVariants.{Valued, Any}
-use Rattle.jsonpath_parser.specs.Grammar.{SpellsArgument, Spells}
-use Rattle.jsonpath_parser.specs.words.inner.Reading.{Read, after_byte}
-use Rattle.jsonpath_parser.specs.inner.ReadingGrammar.{number_reading, argument_at, query_at, whole_query, IsAny}
-use Rattle.jsonpath_parser.specs.words.inner.ReadingNumbers.{number_at}
-use Rattle.jsonpath_parser.specs.tree.Syntax.{Argument, Query}
-use Rattle.jsonpath_parser.specs.Values.{IsValued}
+use Rattle.jsonpath_parser.specs.Prelude.{after_byte, Any, Argument, argument_at, IsAny, IsValued, number_at, number_reading, Query, query_at, Read, Spells, SpellsArgument, Valued, whole_query}
 use Rattle.jsonpath_parser.proofs.NumberSound.{sound_number}
 use Rattle.jsonpath_parser.proofs.SoundFilters.{sound_disjunction}
 use Rattle.jsonpath_parser.proofs.SoundParts.{bind_ok, byte_read, Spelled, moved}

@@ -2,21 +2,14 @@
 --
 -- What an argument of a call reads is taken as a premise, so no law is mutual.
 use Rattle.std.proofs.Common.{◌≡◌, ℕ, suc, Bool, true, false, ◌==◌, bytes_eq, ℤ, List, [], ◌∷◌, ◌++◌, length, drop, codes, Option, Some, option_map, refl, sym, ap, ◌∙◌, subst, inl, inr, append_assoc, arith, IsTrue}
-use Rattle.jsonpath_parser.specs.Grammar.{is_conjunction, is_basic, IsNoBareTest, SpellsNot, SpellsCalled, SpellsLiteral, SpellsMoreOr, SpellsMoreAnd, SpellsTest, SpellsCall, SpellsArgument, SpellsArguments, SpellsMoreArguments}
-use Rattle.jsonpath_parser.specs.words.Lexical.{IsBlank, IsFunctionName, is_quote}
-use Rattle.jsonpath_parser.specs.words.inner.Reading.{Read, first, after_byte, skip_blank}
-use Rattle.jsonpath_parser.specs.inner.ReadingGrammar.{operand_behind, comparable_of, filter_of, negated_of, is_int_first, word_at, word_literal, is_operator_first, operator_at, is_twice, logical_at, all_segments_at, all_arguments_at, called_at, word_operand_at, operand_at, group_at, negated_at, compared_at, plain_at, basic_at, ands_at, conjunction_at, ors_at, disjunction_at, steps_in}
-use Rattle.jsonpath_parser.specs.inner.ReadingLists.{found_then}
-use Rattle.jsonpath_parser.specs.words.inner.ReadingStrings.{string_at}
-use Rattle.jsonpath_parser.specs.tree.Syntax.{number, string, Filter, or, and, Filters, no_filters, filter_then, group, test, compare, relative, absolute, call, Call, custom_call, length_call, value_call, count_call, search_call, match_call, Argument, literal_argument, test_argument, filter_argument, Arguments, no_arguments, argument}
-use Rattle.jsonpath_parser.specs.tree.Typing.{one_argument, two_arguments, call_of, is_table_name}
+use Rattle.jsonpath_parser.specs.Prelude.{absolute, after_byte, all_arguments_at, all_segments_at, and, ands_at, Argument, argument, Arguments, basic_at, Call, call, call_of, called_at, comparable_of, compare, compared_at, conjunction_at, count_call, custom_call, disjunction_at, Filter, filter_argument, filter_of, filter_then, Filters, first, found_then, group, group_at, is_basic, is_conjunction, is_int_first, is_operator_first, is_quote, is_table_name, is_twice, IsBlank, IsFunctionName, IsNoBareTest, length_call, literal_argument, logical_at, match_call, negated_at, no_arguments, no_filters, number, one_argument, operand_at, operand_behind, operator_at, or, ors_at, plain_at, Read, relative, search_call, skip_blank, SpellsArgument, SpellsArguments, SpellsBasic, SpellsCall, SpellsCalled, SpellsComparable, SpellsConjunction, SpellsLiteral, SpellsMoreAnd, SpellsMoreArguments, SpellsMoreOr, SpellsNot, SpellsTest, steps_in, string, string_at, test, test_argument, two_arguments, value_call, word_at, word_literal, word_operand_at}
+use Rattle.jsonpath_parser.specs.inner.ReadingGrammar.{negated_of}
 use Rattle.jsonpath_parser.proofs.laws.words.Fronts.{skip_split}
 use Rattle.jsonpath_parser.proofs.FilterPieces.{twice_front, marked, marked_others, call_pieces, group_pieces, compared_pieces, within, one_spelled, SpellsTwo, two_spelled}
 use Rattle.jsonpath_parser.proofs.SoundLists.{sound_many, many_some, sound_separated}
 use Rattle.jsonpath_parser.proofs.SoundParts.{bind_ok, map_ok, chosen, at_front, byte_read, Spelled, same_parts, moved, glue, same_word, word_sound, sound_operator, word_spelled}
 use Rattle.jsonpath_parser.proofs.SoundSegments.{gathered, steps_spelled, sound_logical, sound_all_segments}
 use Rattle.jsonpath_parser.proofs.laws.words.StringSound.{sound_string}
-use Rattle.jsonpath_parser.specs.Parts.{SpellsConjunction, SpellsBasic, SpellsComparable}
 
 module _ (Number : Option ℤ → List ℕ → Type 0) where
   -- ---- arguments

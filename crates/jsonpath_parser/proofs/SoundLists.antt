@@ -1,8 +1,7 @@
 -- What is read is spelled so: lists of parts, of which each is.
 use Rattle.std.proofs.Common.{◌≡◌, ℕ, zero, suc, Bool, true, cond, ◌==◌, List, [], ◌∷◌, ◌++◌, drop, codes, Some, refl, sym, ap, ◌∙◌, inl, inr, append_assoc, arith}
-use Rattle.jsonpath_parser.specs.Grammar.{Behind}
-use Rattle.jsonpath_parser.specs.words.inner.Reading.{Read, ◌>>=◌, first, skip_blank}
-use Rattle.jsonpath_parser.specs.inner.ReadingLists.{many_at, separated_at}
+use Rattle.jsonpath_parser.specs.Prelude.{Behind, first, many_at, Read, separated_at, skip_blank}
+use Rattle.jsonpath_parser.specs.words.inner.Reading.{◌>>=◌}
 use Rattle.jsonpath_parser.proofs.laws.words.Fronts.{skip_split}
 use Rattle.jsonpath_parser.proofs.SoundParts.{bind_ok, chosen, at_front, Spelled, same_parts, moved}
 

@@ -5,14 +5,7 @@ use Rattle.std.proofs.lemmas.Bool.{cases_eq}
 use Rattle.std.proofs.lemmas.Int.{ints}
 use Rattle.std.proofs.lemmas.Option.{cond_some}
 use Rattle.std.proofs.lemmas.Slice.Eq.{bytes_eq-Decides}
-use Rattle.std.specs.Char.{digit_value, is_ascii_digit}
-use Rattle.std.specs.List.{prefix_len}
-use Rattle.std.specs.Str.Parse.{digits_value, digits_value_after}
-use Rattle.jsonpath_parser.specs.Grammar.{SpellsInt, IsInRange, SpellsIndex, SpellsBound, SpellsStep, SpellsShorthand, SpellsOperator, SpellsLiteral, SpellsSelector}
-use Rattle.jsonpath_parser.specs.words.Lexical.{is_name_first, is_name_byte, is_function_first, is_function_byte, IsRun, IsName, IsFunctionName}
-use Rattle.jsonpath_parser.specs.words.inner.Reading.{first, after_byte, skip_blank, split_while, is_magnitude, magnitude_at, int_at, name_at}
-use Rattle.jsonpath_parser.specs.inner.ReadingGrammar.{is_int_first, end_at, step_at, slice_at, numbered_at, shorthand_at, word_at, word_literal, operator_at}
-use Rattle.jsonpath_parser.specs.tree.Syntax.{Literal, bool, null, Operator, equal, not_equal, greater, greater_or_equal, less, less_or_equal, Selector, name, wildcard, index, slice}
+use Rattle.jsonpath_parser.specs.Prelude.{after_byte, bool, digit_value, digits_value, digits_value_after, end_at, equal, first, greater, greater_or_equal, index, int_at, is_ascii_digit, is_function_byte, is_function_first, is_int_first, is_magnitude, is_name_byte, is_name_first, IsFunctionName, IsInRange, IsName, IsRun, less, less_or_equal, Literal, magnitude_at, name, name_at, not_equal, null, numbered_at, Operator, operator_at, prefix_len, Selector, shorthand_at, skip_blank, slice, slice_at, SpellsBound, SpellsIndex, SpellsInt, SpellsLiteral, SpellsOperator, SpellsSelector, SpellsShorthand, SpellsStep, split_while, step_at, wildcard, word_at, word_literal}
 use Rattle.jsonpath_parser.proofs.laws.words.Fronts.{run_holds, skip_split}
 use Rattle.jsonpath_parser.proofs.laws.words.Ints.{magnitude_tells}
 

@@ -2,17 +2,12 @@
 --
 -- What an argument of a call reads is taken as a premise, so no law is mutual.
 use Rattle.std.proofs.Common.{◌≡◌, ℕ, suc, true, false, ◌==◌, ℤ, List, [], ◌∷◌, ◌++◌, length, drop, slice_index, codes, Option, Some, refl, sym, ap, ◌∙◌, subst, inl, inr, append_assoc, append-nil, arith, IsTrue}
-use Rattle.jsonpath_parser.specs.Grammar.{Between, IsSeveral, SpellsSelector, SpellsSelectors, SpellsMoreSelectors, SpellsSegment, SpellsSegments, SpellsLogical, SpellsArgument}
-use Rattle.jsonpath_parser.specs.words.Lexical.{IsBlank, is_quote}
-use Rattle.jsonpath_parser.specs.words.inner.Reading.{Read, first, after_byte, skip_blank}
-use Rattle.jsonpath_parser.specs.inner.ReadingGrammar.{selection_of, step_of_segment, steps_of, filter_of, shorthand_at, starts_segment, logical_at, selector_at, selectors_at, selection_at, descendant_at, segment_at, all_segments_at, steps_in}
-use Rattle.jsonpath_parser.specs.words.inner.ReadingStrings.{string_at}
-use Rattle.jsonpath_parser.specs.tree.Syntax.{Selector, name, wildcard, index, slice, filter, Selectors, no_selectors, selector, Segment, one, several, descendant, Segments, no_segments, segment, Filter, test, Argument, literal_argument, test_argument, filter_argument, list_of}
+use Rattle.jsonpath_parser.specs.Prelude.{after_byte, all_segments_at, Argument, Between, descendant, descendant_at, Filter, filter, filter_argument, filter_of, first, index, is_quote, is_singular, is_step, IsBlank, IsSeveral, list_of, literal_argument, logical_at, name, no_segments, no_selectors, one, Read, Segment, segment, segment_at, Segments, selection_at, selection_of, Selector, selector, selector_at, Selectors, selectors_at, several, shorthand_at, skip_blank, slice, SpellsArgument, SpellsLogical, SpellsMoreSelectors, SpellsSegment, SpellsSegments, SpellsSelector, SpellsSelectors, starts_segment, steps_in, steps_of, string_at, test, test_argument, wildcard}
+use Rattle.jsonpath_parser.specs.inner.ReadingGrammar.{step_of_segment}
 use Rattle.jsonpath_parser.proofs.laws.words.Fronts.{skip_split}
 use Rattle.jsonpath_parser.proofs.SoundLists.{sound_many, sound_separated}
 use Rattle.jsonpath_parser.proofs.SoundParts.{bind_ok, chosen, at_front, two_front, byte_read, Spelled, moved, glue, sound_shorthand, sound_numbered}
 use Rattle.jsonpath_parser.proofs.laws.words.StringSound.{sound_string}
-use Rattle.jsonpath_parser.specs.tree.Typing.{is_singular, is_step}
 
 -- the pieces of a text between two others
 pub between : (before after text t1 t2 t3 t4 rest b a c : List ℕ) → text ≡ before ++ t1 → t1 ≡ b ++ t2 → t2 ≡ a ++ t3 → t3 ≡ c ++ t4 → t4 ≡ after ++ rest → text ≡ (before ++ (b ++ (a ++ (c ++ after)))) ++ rest

@@ -2,16 +2,7 @@
 use Rattle.std.proofs.Common.{◌≡◌, refl, inl, inr, ℕ, ℤ, pos, negsuc, Bool, true, false, ◌&&◌, Option, Some, None, List, [], ◌∷◌}
 use Rattle.std.proofs.lemmas.Bool.{not_from_false}
 use Rattle.std.proofs.Math.Dec.{T}
-use Rattle.std.specs.Int.Signed.{le_z}
-use Rattle.std.specs.List.{list_all}
-use Rattle.jsonpath_parser.specs.Grammar.{IsSeveral, IsPlural, IsNoBareTest, IsCustomName, IsInRange, SpellsBound, SpellsStep, SpellsShorthand, SpellsLiteral, SpellsSelector, SpellsSelectors, SpellsMoreSelectors, SpellsSegment, SpellsSegments, SpellsLogical, SpellsOr, SpellsMoreOr, SpellsAnd, SpellsMoreAnd, SpellsTest, SpellsCall, SpellsArgument, SpellsArguments, SpellsMoreArguments, Spells}
-use Rattle.jsonpath_parser.specs.words.Lexical.{IsRun, IsFunctionName, is_function_first, is_function_byte}
-use Rattle.jsonpath_parser.specs.words.Numbers.{IsLong}
-use Rattle.jsonpath_parser.specs.tree.Typing.{is_table_name}
-use Rattle.jsonpath_parser.specs.tree.Syntax.{Literal, number, string, bool, null, Selector, name, wildcard, index, slice, filter, Selectors, no_selectors, selector, Segment, one, several, descendant, Segments, no_segments, segment, Filter, or, and, Filters, no_filters, filter_then, group, test, compare, Test, relative, absolute, call, Call, custom_call, length_call, value_call, count_call, search_call, match_call, Argument, literal_argument, test_argument, filter_argument, Arguments, no_arguments, argument, Query}
-use Rattle.jsonpath_parser.specs.Derives.{Derives}
-use Rattle.jsonpath_parser.specs.Values.{IsValued}
-use Rattle.jsonpath_parser.specs.inner.Spellable.{is_in_range, is_long, is_bound, is_function_name, is_custom_name, is_spelled_literal, are_several_selectors, are_several_filters, is_no_bare_test, is_spelled, is_spelled_segment, is_spelled_selector, are_spelled_selectors, is_spelled_filter, are_spelled_conjunctions, are_spelled_operands, is_spelled_test, is_spelled_call, is_spelled_argument, are_spelled_arguments}
+use Rattle.jsonpath_parser.specs.Prelude.{absolute, and, are_several_filters, are_several_selectors, are_spelled_arguments, are_spelled_conjunctions, are_spelled_operands, are_spelled_selectors, Argument, argument, Arguments, bool, Call, call, compare, count_call, custom_call, Derives, descendant, Filter, filter, filter_argument, filter_then, Filters, group, index, is_bound, is_custom_name, is_function_byte, is_function_first, is_function_name, is_in_range, is_long, is_no_bare_test, is_spelled, is_spelled_argument, is_spelled_call, is_spelled_filter, is_spelled_literal, is_spelled_segment, is_spelled_selector, is_spelled_test, is_table_name, IsCustomName, IsFunctionName, IsInRange, IsLong, IsNoBareTest, IsPlural, IsRun, IsSeveral, IsValued, le_z, length_call, list_all, Literal, literal_argument, match_call, name, no_arguments, no_filters, no_segments, no_selectors, null, number, one, or, Query, relative, search_call, Segment, segment, Segments, Selector, selector, Selectors, several, slice, Spells, SpellsAnd, SpellsArgument, SpellsArguments, SpellsBound, SpellsCall, SpellsLiteral, SpellsLogical, SpellsMoreAnd, SpellsMoreArguments, SpellsMoreOr, SpellsMoreSelectors, SpellsOr, SpellsSegment, SpellsSegments, SpellsSelector, SpellsSelectors, SpellsShorthand, SpellsStep, SpellsTest, string, Test, test, test_argument, value_call, wildcard}
 use Rattle.jsonpath_parser.proofs.Respelling.{and_alike}
 
 -- ---- words

@@ -1,12 +1,6 @@
 -- All texts of a tree nest as deep as one another, or one less: a name without brackets opens none.
 use Rattle.std.proofs.Common.{◌≡◌, ℕ, suc, ◌+◌, ◌≤◌, max, Bool, true, false, ℤ, Option, Some, None, List, [], ◌++◌, append-nil, append_assoc, refl, sym, ap, ◌∙◌, inl, inr, codes, arith}
-use Rattle.jsonpath_parser.specs.words.Depth.{depth, depth_from, outside}
-use Rattle.jsonpath_parser.specs.words.Lexical.{IsBlank}
-use Rattle.jsonpath_parser.specs.Derives.{Derives}
-use Rattle.jsonpath_parser.specs.Grammar.{Between, Behind, Then, IsNothing, SpellsIndex, SpellsBound, SpellsStep, SpellsSlice, SpellsShorthand, SpellsOperator, SpellsNot, SpellsCalled, SpellsLiteral, SpellsSelector, SpellsSelectors, SpellsMoreSelectors, SpellsSegment, SpellsSegments, SpellsLogical, SpellsOr, SpellsMoreOr, SpellsAnd, SpellsMoreAnd, SpellsTest, SpellsCall, SpellsArgument, SpellsArguments, SpellsMoreArguments, Spells}
-use Rattle.jsonpath_parser.specs.tree.Syntax.{Literal, number, string, bool, null, Operator, equal, not_equal, greater, greater_or_equal, less, less_or_equal, Selector, name, wildcard, index, slice, filter, Selectors, no_selectors, selector, Segment, one, several, descendant, Segments, no_segments, segment, Filter, or, and, Filters, no_filters, filter_then, group, test, compare, Test, relative, absolute, call, Call, custom_call, length_call, value_call, count_call, search_call, match_call, Argument, literal_argument, test_argument, filter_argument, Arguments, no_arguments, argument, Query}
-use Rattle.jsonpath_parser.specs.Parts.{SpellsConjunction, SpellsBasic}
-use Rattle.jsonpath_parser.specs.Values.{IsValued}
+use Rattle.jsonpath_parser.specs.Prelude.{absolute, and, Argument, argument, Arguments, Behind, Between, bool, Call, call, compare, count_call, custom_call, depth, depth_from, Derives, descendant, equal, Filter, filter, filter_argument, filter_then, Filters, greater, greater_or_equal, group, index, IsBlank, IsNothing, IsValued, length_call, less, less_or_equal, Literal, literal_argument, match_call, name, no_arguments, no_filters, no_segments, no_selectors, not_equal, null, number, one, Operator, or, outside, Query, relative, search_call, Segment, segment, Segments, Selector, selector, Selectors, several, slice, Spells, SpellsAnd, SpellsArgument, SpellsArguments, SpellsBasic, SpellsBound, SpellsCall, SpellsCalled, SpellsConjunction, SpellsIndex, SpellsLiteral, SpellsLogical, SpellsMoreAnd, SpellsMoreArguments, SpellsMoreOr, SpellsMoreSelectors, SpellsNot, SpellsOperator, SpellsOr, SpellsSegment, SpellsSegments, SpellsSelector, SpellsSelectors, SpellsShorthand, SpellsSlice, SpellsStep, SpellsTest, string, Test, test, test_argument, Then, value_call, wildcard}
 use Rattle.jsonpath_parser.specs.inner.Nesting.{nesting, segment_nesting, selector_nesting, selectors_nesting, filter_nesting, filters_nesting, test_nesting, call_nesting, argument_nesting, arguments_nesting}
 use Rattle.jsonpath_parser.proofs.laws.words.Openings.{Opens, opens_append, opens_flat, opens_nothing, opens_same, opens_blank, opens_name, opens_function_name, opens_int, opens_number, opens_string, opens_square, opens_round}
 

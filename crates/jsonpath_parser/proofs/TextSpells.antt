@@ -4,21 +4,10 @@ use Rattle.std.proofs.lemmas.Bool.{and_parts, not-true}
 use Rattle.std.proofs.lemmas.Float.{T_from_true}
 use Rattle.std.proofs.lemmas.Int.{ints}
 use Rattle.std.specs.Prelude.{◌*ℤ◌}
-use Rattle.std.specs.Int.Signed.{le_z, le_z_yes}
-use Rattle.std.specs.Fmt.{signed_decimal, decimal}
-use Rattle.std.specs.List.{list_all}
-use Rattle.std.specs.Str.Parse.{digits_value}
-use Rattle.jsonpath_parser.specs.Grammar.{Between, Behind, Then, is_conjunction, is_basic, IsNothing, IsSeveral, IsPlural, IsNoBareTest, IsCustomName, IsInRange, SpellsInt, SpellsIndex, SpellsBound, SpellsStep, SpellsSlice, SpellsOperator, SpellsNot, SpellsLiteral, SpellsSelector, SpellsSelectors, SpellsMoreSelectors, SpellsSegment, SpellsSegments, SpellsLogical, SpellsOr, SpellsMoreOr, SpellsAnd, SpellsMoreAnd, SpellsTest, SpellsCall, SpellsArgument, SpellsArguments, SpellsMoreArguments, Spells}
-use Rattle.jsonpath_parser.specs.words.Lexical.{IsRun, IsFunctionName, is_function_first, is_function_byte}
-use Rattle.jsonpath_parser.specs.words.Numbers.{SpellsSign, IsWholePart, raised, signed, IsLong, SpellsNumber}
-use Rattle.jsonpath_parser.specs.Normal.{index_digits}
-use Rattle.jsonpath_parser.specs.tree.Shown.{not_shown, operator_shown}
-use Rattle.jsonpath_parser.specs.tree.Typing.{is_table_name, is_comparable}
-use Rattle.jsonpath_parser.specs.tree.Syntax.{Literal, number, string, bool, null, Operator, equal, not_equal, greater, greater_or_equal, less, less_or_equal, Selector, name, wildcard, index, slice, filter, Selectors, no_selectors, selector, Segment, one, several, descendant, Segments, no_segments, segment, Filter, or, and, Filters, no_filters, filter_then, group, test, compare, Test, relative, absolute, call, Call, custom_call, length_call, value_call, count_call, search_call, match_call, Argument, literal_argument, test_argument, filter_argument, Arguments, no_arguments, argument, Query}
-use Rattle.jsonpath_parser.specs.Parts.{SpellsConjunction, SpellsBasic}
-use Rattle.jsonpath_parser.specs.Values.{IsValued}
-use Rattle.jsonpath_parser.specs.inner.Spellable.{is_in_range, is_long, is_bound, is_function_name, is_custom_name, is_spelled_literal, are_several_selectors, are_several_filters, is_no_bare_test, is_spelled, is_spelled_segment, is_spelled_selector, are_spelled_selectors, is_spelled_filter, are_spelled_conjunctions, are_spelled_operands, is_spelled_test, is_spelled_call, is_spelled_argument, are_spelled_arguments}
-use Rattle.jsonpath_parser.specs.inner.QueryTexts.{bound_text, slice_step_text, slice_text, literal_text, segments_text, segment_text, selector_text, selectors_text, filter_text, filters_text, test_text, call_text, argument_text, arguments_text, query_text}
+use Rattle.jsonpath_parser.specs.Prelude.{absolute, and, are_several_filters, are_several_selectors, are_spelled_arguments, are_spelled_conjunctions, are_spelled_operands, are_spelled_selectors, Argument, argument, Arguments, arguments_text, Behind, Between, bool, Call, call, compare, count_call, custom_call, decimal, descendant, digits_value, equal, Filter, filter, filter_argument, filter_then, Filters, filters_text, greater, greater_or_equal, group, index, index_digits, is_basic, is_bound, is_comparable, is_conjunction, is_custom_name, is_function_byte, is_function_first, is_function_name, is_in_range, is_long, is_no_bare_test, is_spelled, is_spelled_argument, is_spelled_call, is_spelled_filter, is_spelled_literal, is_spelled_segment, is_spelled_selector, is_spelled_test, is_table_name, IsCustomName, IsFunctionName, IsInRange, IsLong, IsNoBareTest, IsNothing, IsPlural, IsRun, IsSeveral, IsValued, IsWholePart, le_z, length_call, less, less_or_equal, list_all, Literal, literal_argument, match_call, name, no_arguments, no_filters, no_segments, no_selectors, not_equal, not_shown, null, number, one, Operator, or, Query, query_text, raised, relative, search_call, Segment, segment, segment_text, Segments, segments_text, Selector, selector, Selectors, selectors_text, several, signed, signed_decimal, slice, Spells, SpellsAnd, SpellsArgument, SpellsArguments, SpellsBasic, SpellsBound, SpellsCall, SpellsConjunction, SpellsIndex, SpellsInt, SpellsLiteral, SpellsLogical, SpellsMoreAnd, SpellsMoreArguments, SpellsMoreOr, SpellsMoreSelectors, SpellsNot, SpellsNumber, SpellsOperator, SpellsOr, SpellsSegment, SpellsSegments, SpellsSelector, SpellsSelectors, SpellsSign, SpellsSlice, SpellsStep, SpellsTest, string, Test, test, test_argument, Then, value_call, wildcard}
+use Rattle.std.specs.Int.Signed.{le_z_yes}
+use Rattle.jsonpath_parser.specs.tree.Shown.{operator_shown}
+use Rattle.jsonpath_parser.specs.inner.QueryTexts.{bound_text, slice_step_text, slice_text, literal_text, selector_text, filter_text, test_text, call_text, argument_text}
 use Rattle.jsonpath_parser.proofs.NormalQueries.{name_spelled, index_spelled}
 use Rattle.jsonpath_parser.proofs.laws.words.Quoting.{decimal_index}
 

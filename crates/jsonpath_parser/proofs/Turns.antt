@@ -1,12 +1,8 @@
 -- The loops of the reading functions, a turn at a time.
 use Rattle.std.proofs.Common.{◌≡◌, ℕ, zero, suc, ◌-◌, ◌<◌, ℤ, Bool, true, false, ◌==◌, List, [], ◌∷◌, ◌++◌, length, drop, map, Vec, Global, Option, Some, None, refl, sym, ap, ◌∙◌, arith}
 use Rattle.std.proofs.lemmas.List.{map-append}
-use Rattle.jsonpath_parser.specs.words.inner.Reading.{Read, first, skip_blank}
-use Rattle.jsonpath_parser.specs.inner.ReadingGrammar.{selection_of, filter_of, operand_behind, segments_at, all_segments_at, disjunction_at, argument_at}
-use Rattle.jsonpath_parser.specs.inner.ReadingLists.{found_then, many_at, separated_at}
+use Rattle.jsonpath_parser.specs.Prelude.{all_segments_at, Argument, argument_at, disjunction_at, Filter, filter_of, first, found_then, list_of, many_at, operand_behind, Read, segment_view, segments_at, selection_of, selector_view, selectors_of, selectors_view, separated_at, skip_blank}
 use Rattle.jsonpath_parser.specs.tree.Syntax as tree
-use Rattle.jsonpath_parser.specs.tree.Syntax.{Filter, Argument, list_of}
-use Rattle.jsonpath_parser.specs.tree.View.{segment_view, selector_view, selectors_of, selectors_view}
 use Rattle.jsonpath_parser.specs.declared.tree.model.Segment
 use Rattle.jsonpath_parser.specs.declared.tree.model.Selector.{Selector as CodeSelector}
 use Rattle.jsonpath_parser.proofs.laws.tree.ViewEquations.{segment_view-Selectors}

@@ -1,16 +1,7 @@
 -- No text spells two trees: a query that is spelled is read, and reading is a function, so a query's text spells one; and each other kind of tree can stand in a query.
 use Rattle.std.proofs.Common.{◌≡◌, ℕ, true, false, ℤ, List, [], ◌++◌, codes, Option, Some, refl, sym, ap, inl, append-nil}
-use Rattle.jsonpath_parser.specs.Grammar.{Spells, SpellsSegments, SpellsSegment, SpellsSelector, SpellsLogical, SpellsLiteral, SpellsTest, SpellsCall}
-use Rattle.jsonpath_parser.specs.words.Numbers.{SpellsNumber}
-use Rattle.jsonpath_parser.specs.Parts.{Spelling, SpellsRelative, SpellsChild, SpellsSliceParts, SpellsSteps, SpellsSingular, SpellsConjunction, SpellsBasic, SpellsComparison, SpellsComparable}
-use Rattle.jsonpath_parser.specs.tree.Syntax.{equal, slice, filter, one, descendant, no_segments, segment, or, and, test, compare, relative, call, literal_argument, test_argument, Test, absolute}
-use Rattle.jsonpath_parser.specs.Unambiguous.{NoTextDerivesTwoTrees, SpellsOneTree, IsUnambiguous}
-use Rattle.jsonpath_parser.specs.Values.{IsValued}
-use Rattle.jsonpath_parser.specs.words.inner.Reading.{Read, first}
-use Rattle.jsonpath_parser.specs.inner.ReadingGrammar.{number_reading, is_int_first}
-use Rattle.jsonpath_parser.specs.words.inner.ReadingNumbers.{number_at}
-use Rattle.jsonpath_parser.specs.inner.ReadingParts.{slice_in}
-use Rattle.jsonpath_parser.specs.declared.grammar.literals.Numbers.TheVariants.{Valued}
+use Rattle.jsonpath_parser.specs.Prelude.{absolute, and, call, compare, descendant, equal, filter, first, is_int_first, IsUnambiguous, IsValued, literal_argument, no_segments, NoTextDerivesTwoTrees, number_at, number_reading, one, or, Read, relative, segment, slice, slice_in, Spelling, Spells, SpellsBasic, SpellsCall, SpellsChild, SpellsComparable, SpellsComparison, SpellsConjunction, SpellsLiteral, SpellsLogical, SpellsNumber, SpellsRelative, SpellsSegment, SpellsSegments, SpellsSelector, SpellsSingular, SpellsSliceParts, SpellsSteps, SpellsTest, Test, test, test_argument, Valued}
+use Rattle.jsonpath_parser.specs.Unambiguous.{SpellsOneTree}
 use Rattle.jsonpath_parser.proofs.Complete.{complete_query, valued_start, valued_over}
 use Rattle.jsonpath_parser.proofs.NumberComplete.{EndsNumber, number_start, complete_number}
 

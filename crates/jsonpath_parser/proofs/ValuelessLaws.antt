@@ -2,10 +2,7 @@
 use Rattle.std.proofs.Common.{◌≡◌, ℕ, ℤ, List, [], ◌++◌, ◌-◌, length, take, drop, Option, Some, None, sym, ap, ◌∙◌, subst, inl, inr, append_assoc, length-append, take-append-drop, arith}
 use Rattle.std.proofs.lemmas.List.{take_at}
 use Rattle.std.proofs.lemmas.Str.{IsCharBoundary-at_seam}
-use Rattle.std.specs.Str.{IsUtf8, IsCharBoundary}
-use Rattle.jsonpath_parser.specs.words.Numbers.{SpellsNumber}
-use Rattle.jsonpath_parser.specs.words.inner.ReadingNumbers.{number_at}
-use Rattle.jsonpath_parser.specs.Valueless.{IsValuelessIn}
+use Rattle.jsonpath_parser.specs.Prelude.{IsCharBoundary, IsUtf8, IsValuelessIn, number_at, SpellsNumber}
 use Rattle.jsonpath_parser.proofs.NumberSound.{sound_number}
 
 -- a front by the length of what follows it

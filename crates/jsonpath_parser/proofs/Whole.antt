@@ -1,17 +1,9 @@
 -- What the readings of a whole text say of the trees that it derives.
 use Rattle.std.proofs.Common.{◌≡◌, ℕ, ◌≤◌, Bool, true, false, is_some, cond, ℤ, List, Option, Some, None, option_and_then, arith, refl, ◌∙◌, subst}
-use Rattle.jsonpath_parser.specs.words.Depth.{depth}
-use Rattle.jsonpath_parser.specs.Derives.{Derives, SpellsTyped, SpellsValueless, IsRefusal}
-use Rattle.jsonpath_parser.specs.Grammar.{Spells}
-use Rattle.jsonpath_parser.specs.inner.ReadingGrammar.{whole_query, number_reading, IsAny}
-use Rattle.jsonpath_parser.specs.inner.ReadingQuery.{typed_query, IsReadRefusal}
-use Rattle.jsonpath_parser.specs.words.Numbers.{SpellsNumber}
-use Rattle.jsonpath_parser.specs.tree.Syntax.{Query}
-use Rattle.jsonpath_parser.specs.tree.Typing.{Typed, is_typed}
-use Rattle.jsonpath_parser.specs.Values.{IsValued}
-use Rattle.jsonpath_parser.specs.declared.errors.JsonPathError.{JsonPathError}
-use Rattle.jsonpath_parser.specs.declared.errors.JsonPathError.TheVariants.{PestError, InvalidNumber, MaxNestingDepthExceeded, OutOfMemory}
-use Rattle.jsonpath_parser.specs.declared.grammar.literals.Numbers.TheVariants.{Valued, Any}
+use Rattle.jsonpath_parser.specs.Prelude.{Any, depth, Derives, is_typed, IsAny, IsReadRefusal, IsRefusal, IsValued, JsonPathError, number_reading, OutOfMemory, Query, Spells, SpellsNumber, Typed, Valued, whole_query}
+use Rattle.jsonpath_parser.specs.Derives.{SpellsTyped, SpellsValueless}
+use Rattle.jsonpath_parser.specs.inner.ReadingQuery.{typed_query}
+use Rattle.jsonpath_parser.specs.declared.errors.JsonPathError.TheVariants.{PestError, InvalidNumber, MaxNestingDepthExceeded}
 use Rattle.jsonpath_parser.proofs.Complete.{complete_valued, complete_any}
 use Rattle.jsonpath_parser.proofs.Respelling.{query_again, from_any, as_any}
 use Rattle.jsonpath_parser.proofs.Sound.{sound_valued, sound_any}

@@ -1,8 +1,6 @@
 -- What is spelled with some number literals is spelled with more of them.
 use Rattle.std.proofs.Common.{inl, inr, ℕ, ℤ, true, false, Option, List, ◌++◌, codes}
-use Rattle.jsonpath_parser.specs.Grammar.{Between, Behind, Then, IsNothing, SpellsLiteral, SpellsSelector, SpellsSelectors, SpellsMoreSelectors, SpellsSegment, SpellsSegments, SpellsLogical, SpellsOr, SpellsMoreOr, SpellsAnd, SpellsMoreAnd, SpellsTest, SpellsCall, SpellsArgument, SpellsArguments, SpellsMoreArguments, Spells}
-use Rattle.jsonpath_parser.specs.tree.Syntax.{Literal, number, string, bool, null, Selector, name, wildcard, index, slice, filter, Selectors, no_selectors, selector, Segment, one, several, descendant, Segments, no_segments, segment, Filter, or, and, Filters, no_filters, filter_then, group, test, compare, Test, relative, absolute, call, Call, custom_call, length_call, value_call, count_call, search_call, match_call, Argument, literal_argument, test_argument, filter_argument, Arguments, no_arguments, argument, Query}
-use Rattle.jsonpath_parser.specs.Parts.{SpellsConjunction, SpellsBasic, SpellsComparison, SpellsComparable}
+use Rattle.jsonpath_parser.specs.Prelude.{absolute, and, Argument, argument, Arguments, Behind, Between, bool, Call, call, compare, count_call, custom_call, descendant, Filter, filter, filter_argument, filter_then, Filters, group, index, IsNothing, length_call, Literal, literal_argument, match_call, name, no_arguments, no_filters, no_segments, no_selectors, null, number, one, or, Query, relative, search_call, Segment, segment, Segments, Selector, selector, Selectors, several, slice, Spells, SpellsAnd, SpellsArgument, SpellsArguments, SpellsBasic, SpellsCall, SpellsComparable, SpellsComparison, SpellsConjunction, SpellsLiteral, SpellsLogical, SpellsMoreAnd, SpellsMoreArguments, SpellsMoreOr, SpellsMoreSelectors, SpellsOr, SpellsSegment, SpellsSegments, SpellsSelector, SpellsSelectors, SpellsTest, string, Test, test, test_argument, Then, value_call, wildcard}
 
 between_wider : (S T : List ℕ → Type 0) → ((a : List ℕ) → S a → T a) → (x y text : List ℕ) → Between x S y text → Between x T y text
 between_wider S T wider x y text h = let (b, a, c, hb, ha, hc, e) = h in (b, a, c, hb, wider a ha, hc, e)

@@ -1,6 +1,5 @@
 //! What `==` of errors decides.
-ghost use Rattle.jsonpath_parser.specs.Equality.{IsEqualityOf};
-ghost use Rattle.jsonpath_parser.specs.Errors.{error_view};
+ghost use Rattle.jsonpath_parser.specs.Prelude.{error_view, IsEqualityOf};
 ghost use Rattle.jsonpath_parser.specs.contracts.errors.JsonPathErrorPartialEq.TheImpl as error;
 
 /// States a law and does nothing: `==` of errors is equality of what they hold.

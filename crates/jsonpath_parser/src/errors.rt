@@ -1,8 +1,7 @@
 //! What a call of the crates returns in place of a result.
 ghost use Rattle.std.specs.Prelude.{◌≡◌, ℕ, List, IfOk, IfErr};
 ghost use Rattle.jsonpath_parser.specs.Errors as error;
-ghost use Rattle.jsonpath_parser.specs.Errors.{error_view};
-ghost use Rattle.jsonpath_parser.specs.declared.errors.JsonPathError.TheVariants.{OutOfMemory};
+ghost use Rattle.jsonpath_parser.specs.Prelude.{error_view, OutOfMemory};
 
 use std::alloc::{AllocError, AllocFailed, Global};
 use std::num::ParseIntError;

@@ -1,10 +1,8 @@
 //! The reading functions: from a text to a tree and the text after it (RFC 9535, 2.1 to 2.5). Each reads its text
 //! once, from the left, and never goes back over what it has read, so the time is linear in the text.
 ghost use Rattle.std.specs.Prelude.{ℕ, ◌≤◌, length};
-ghost use Rattle.jsonpath_parser.specs.words.inner.Reading.{Gives, Reads};
+ghost use Rattle.jsonpath_parser.specs.Prelude.{Gives, number_reading, query_view, Reads};
 ghost use Rattle.jsonpath_parser.specs.inner.ReadingGrammar as spec;
-ghost use Rattle.jsonpath_parser.specs.inner.ReadingGrammar.{number_reading};
-ghost use Rattle.jsonpath_parser.specs.tree.View.{query_view};
 
 mod calls;
 mod filters;

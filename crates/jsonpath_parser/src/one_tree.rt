@@ -1,7 +1,5 @@
 //! The law that no text spells two trees (RFC 9535, 2.1 to 2.5).
-ghost use Rattle.jsonpath_parser.specs.Grammar.{Spells, SpellsSegments, SpellsSegment, SpellsSelector, SpellsLogical, SpellsLiteral, SpellsTest, SpellsCall};
-ghost use Rattle.jsonpath_parser.specs.Parts.{SpellsRelative, SpellsChild, SpellsSliceParts, SpellsSteps, SpellsSingular, SpellsConjunction, SpellsBasic, SpellsComparison, SpellsComparable};
-ghost use Rattle.jsonpath_parser.specs.Unambiguous.{NoTextDerivesTwoTrees, IsUnambiguous};
+ghost use Rattle.jsonpath_parser.specs.Prelude.{IsUnambiguous, NoTextDerivesTwoTrees, Spells, SpellsBasic, SpellsCall, SpellsChild, SpellsComparable, SpellsComparison, SpellsConjunction, SpellsLiteral, SpellsLogical, SpellsRelative, SpellsSegment, SpellsSegments, SpellsSelector, SpellsSingular, SpellsSliceParts, SpellsSteps, SpellsTest};
 
 /// States a law and does nothing: no text derives two trees, whatever the limits of depth.
 pub fn no_text_derives_two_trees()

@@ -1,20 +1,10 @@
 //! Query texts to query trees, at a limit of depth (RFC 9535, 2.1 and 4.1).
 ghost use Rattle.std.specs.Prelude.{◌≡◌, ◌<◌, ◌≤◌, Some, IfOk, IfErr};
-ghost use Rattle.std.specs.Str.{IsCharBoundary};
+ghost use Rattle.jsonpath_parser.specs.Prelude.{Derives, Gives, HasIndexesInRange, IsCharBoundary, IsNormal, IsReadRefusal, IsRefusal, IsValuelessIn, Location, Query, query_view, Spells, SpellsNumber, steps_query, Valued};
 ghost use Rattle.jsonpath_parser.specs.words.Depth as spec;
-ghost use Rattle.jsonpath_parser.specs.words.inner.Reading.{Gives};
-ghost use Rattle.jsonpath_parser.specs.Derives.{Derives, Answers, IsRefusal};
-ghost use Rattle.jsonpath_parser.specs.Grammar.{Spells};
+ghost use Rattle.jsonpath_parser.specs.Derives.{Answers};
 ghost use Rattle.jsonpath_parser.specs.inner.ReadingQuery as reading;
-ghost use Rattle.jsonpath_parser.specs.inner.ReadingQuery.{IsTextRefusal, IsReadRefusal};
-ghost use Rattle.jsonpath_parser.specs.Location.{Location};
-ghost use Rattle.jsonpath_parser.specs.Normal.{IsNormal};
-ghost use Rattle.jsonpath_parser.specs.words.Numbers.{SpellsNumber};
-ghost use Rattle.jsonpath_parser.specs.tree.Steps.{steps_query, HasIndexesInRange};
-ghost use Rattle.jsonpath_parser.specs.tree.Syntax.{Query};
-ghost use Rattle.jsonpath_parser.specs.Valueless.{IsValuelessIn};
-ghost use Rattle.jsonpath_parser.specs.tree.View.{query_view};
-ghost use Rattle.jsonpath_parser.specs.declared.grammar.literals.Numbers.TheVariants.{Valued};
+ghost use Rattle.jsonpath_parser.specs.inner.ReadingQuery.{IsTextRefusal};
 
 use crate::errors::{JsonPathError, Parsed};
 use crate::grammar::{Numbers, whole_query};

@@ -1,8 +1,6 @@
 //! The grammar functions for logical expressions and what stands in them (RFC 9535, 2.3.5.1 and 2.4).
-ghost use Rattle.jsonpath_parser.specs.Grammar.{SpellsLogical, SpellsLiteral, SpellsTest, SpellsCall};
-ghost use Rattle.jsonpath_parser.specs.Parts.{ReadsPart, SpellsConjunction, SpellsBasic, SpellsComparison, SpellsComparable, always};
+ghost use Rattle.jsonpath_parser.specs.Prelude.{always, atom_view, call_view, comparable_view, comparison_view, filter_view, literal_view, ReadsPart, SpellsBasic, SpellsCall, SpellsComparable, SpellsComparison, SpellsConjunction, SpellsLiteral, SpellsLogical, SpellsTest, test_view};
 ghost use Rattle.jsonpath_parser.specs.tree.Typing as typed;
-ghost use Rattle.jsonpath_parser.specs.tree.View.{filter_view, atom_view, comparison_view, comparable_view, literal_view, test_view, call_view};
 
 use super::Cursor;
 use super::part::part;

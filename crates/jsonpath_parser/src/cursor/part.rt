@@ -1,7 +1,6 @@
 //! How a part of a query is read at a cursor, and what is refused there.
 ghost use Rattle.std.specs.Prelude.{◌≡◌};
-ghost use Rattle.jsonpath_parser.specs.inner.ReadingParts.{IsCursorRefusal, Takes, StaysInText, IsAnswer};
-ghost use Rattle.jsonpath_parser.specs.declared.grammar.literals.Numbers.TheVariants.{Valued};
+ghost use Rattle.jsonpath_parser.specs.Prelude.{IsAnswer, IsCursorRefusal, StaysInText, Takes, Valued};
 
 use super::Cursor;
 use crate::errors::{JsonPathError, Parsed};

@@ -1,7 +1,7 @@
 //! The place of a cursor.
 ghost use Rattle.std.specs.Prelude.{◌≡◌, ◌-◌, ◌==◌, length, drop};
-ghost use Rattle.std.specs.Str.{IsCharBoundary};
-ghost use Rattle.jsonpath_parser.specs.Parts.{text_of, rest_of, place_of};
+ghost use Rattle.jsonpath_parser.specs.Prelude.{IsCharBoundary, rest_of, text_of};
+ghost use Rattle.jsonpath_parser.specs.Parts.{place_of};
 
 use super::Cursor;
 

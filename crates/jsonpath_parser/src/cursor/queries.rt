@@ -1,8 +1,6 @@
 //! The grammar functions for queries, segments and selectors (RFC 9535, 2.1 to 2.3.4, 2.3.5.1 and 2.5).
-ghost use Rattle.jsonpath_parser.specs.Grammar.{Spells, SpellsSegments, SpellsSegment, SpellsSelector};
-ghost use Rattle.jsonpath_parser.specs.Parts.{ReadsPart, SpellsRelative, SpellsChild, SpellsSliceParts, SpellsSteps, SpellsSingular, always};
+ghost use Rattle.jsonpath_parser.specs.Prelude.{always, query_view, ReadsPart, segment_view, segments_view, selector_view, singular_view, Spells, SpellsChild, SpellsRelative, SpellsSegment, SpellsSegments, SpellsSelector, SpellsSingular, SpellsSliceParts, SpellsSteps, steps_view};
 ghost use Rattle.jsonpath_parser.specs.tree.Typing as typed;
-ghost use Rattle.jsonpath_parser.specs.tree.View.{query_view, segments_view, segment_view, selector_view, singular_view, steps_view};
 
 use super::Cursor;
 use super::part::part;

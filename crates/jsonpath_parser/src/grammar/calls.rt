@@ -1,9 +1,7 @@
 //! Calls of functions (RFC 9535, 2.4).
 ghost use Rattle.std.specs.Prelude.{ℕ, ◌<◌, ◌≤◌, length, IfOk};
-ghost use Rattle.jsonpath_parser.specs.words.inner.Reading.{Reads};
+ghost use Rattle.jsonpath_parser.specs.Prelude.{arguments_view, call_view, number_reading, Reads};
 ghost use Rattle.jsonpath_parser.specs.inner.ReadingGrammar as spec;
-ghost use Rattle.jsonpath_parser.specs.inner.ReadingGrammar.{number_reading};
-ghost use Rattle.jsonpath_parser.specs.tree.View.{call_view, arguments_view};
 
 use super::filters::argument;
 use super::literals::Numbers;

@@ -1,11 +1,7 @@
 //! Logical expressions, and the arguments of calls, which are the widest production (RFC 9535, 2.3.5.1 and 2.4).
 ghost use Rattle.std.specs.Prelude.{ℕ, ◌<◌, ◌≤◌, [], ◌∷◌, length, IfOk};
-ghost use Rattle.jsonpath_parser.specs.words.inner.Reading.{Reads};
+ghost use Rattle.jsonpath_parser.specs.Prelude.{argument_view, filter_then, filter_view, filters_view, found_then, number_reading, Reads};
 ghost use Rattle.jsonpath_parser.specs.inner.ReadingGrammar as spec;
-ghost use Rattle.jsonpath_parser.specs.inner.ReadingGrammar.{number_reading};
-ghost use Rattle.jsonpath_parser.specs.inner.ReadingLists.{found_then};
-ghost use Rattle.jsonpath_parser.specs.tree.Syntax.{filter_then};
-ghost use Rattle.jsonpath_parser.specs.tree.View.{argument_view, filter_view, filters_view};
 
 use super::literals::Numbers;
 use super::operands::{comparable, filter, negated_test, operand};

@@ -1,7 +1,6 @@
 //! Number literals in a query text (RFC 9535, 2.3.5.1).
 ghost use Rattle.std.specs.Prelude.{◌<◌, ◌≢◌, length, IfOk, Some, IfErr};
-ghost use Rattle.jsonpath_parser.specs.words.inner.Reading.{Reads};
-ghost use Rattle.jsonpath_parser.specs.inner.ReadingGrammar.{number_reading};
+ghost use Rattle.jsonpath_parser.specs.Prelude.{number_reading, Reads};
 
 use crate::words::number::number;
 use crate::words::stop::Stop;

@@ -1,9 +1,7 @@
 //! What stands on a side of a comparison, or alone (RFC 9535, 2.3.5.1).
 ghost use Rattle.std.specs.Prelude.{◌≡◌, ◌≢◌, ℕ, ◌<◌, ◌≤◌, length, IfOk, option_map, IfErr};
-ghost use Rattle.jsonpath_parser.specs.words.inner.Reading.{Gives, Reads};
+ghost use Rattle.jsonpath_parser.specs.Prelude.{argument_view, comparable_view, filter_view, Gives, number_reading, Reads, segment_view, segments_view, step_view, steps_view};
 ghost use Rattle.jsonpath_parser.specs.inner.ReadingGrammar as spec;
-ghost use Rattle.jsonpath_parser.specs.inner.ReadingGrammar.{number_reading};
-ghost use Rattle.jsonpath_parser.specs.tree.View.{argument_view, comparable_view, filter_view, segment_view, segments_view, step_view, steps_view};
 
 use super::calls::called;
 use super::literals::{Numbers, number_literal};

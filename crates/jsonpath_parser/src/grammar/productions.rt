@@ -1,9 +1,7 @@
 //! The productions that a part of a query may be: what is read, and how that is turned into the tree (RFC 9535, 2.1 to 2.5).
 ghost use Rattle.std.specs.Prelude.{◌≡◌, true, Ok};
-ghost use Rattle.jsonpath_parser.specs.words.inner.Reading.{Gives, Reads};
-ghost use Rattle.jsonpath_parser.specs.inner.ReadingGrammar.{numbered_at};
+ghost use Rattle.jsonpath_parser.specs.Prelude.{argument_view, atom_view, call_view, comparison_view, Gives, literal_view, numbered_at, query_view, Reads, segment_view, segments_view, selector_view, singular_view, test_view};
 ghost use Rattle.jsonpath_parser.specs.inner.ReadingParts as spec;
-ghost use Rattle.jsonpath_parser.specs.tree.View.{literal_view, singular_view, argument_view, atom_view, call_view, comparison_view, query_view, segment_view, segments_view, selector_view, test_view};
 
 pub use super::filters::{basic, conjunction, logical};
 use super::literals::Numbers;

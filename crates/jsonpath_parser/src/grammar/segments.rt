@@ -1,9 +1,7 @@
 //! Segments (RFC 9535, 2.5).
 ghost use Rattle.std.specs.Prelude.{◌≡◌, ℕ, ◌<◌, ◌≤◌, length, IfOk};
-ghost use Rattle.jsonpath_parser.specs.words.inner.Reading.{Reads};
+ghost use Rattle.jsonpath_parser.specs.Prelude.{number_reading, Reads, segment_view, segments_view};
 ghost use Rattle.jsonpath_parser.specs.inner.ReadingGrammar as spec;
-ghost use Rattle.jsonpath_parser.specs.inner.ReadingGrammar.{number_reading};
-ghost use Rattle.jsonpath_parser.specs.tree.View.{segment_view, segments_view};
 
 use super::literals::Numbers;
 use super::selectors::selection;

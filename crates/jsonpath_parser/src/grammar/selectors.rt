@@ -1,9 +1,7 @@
 //! Selectors, and selectors between brackets (RFC 9535, 2.3 and 2.5.1).
 ghost use Rattle.std.specs.Prelude.{◌≡◌, ℕ, ◌<◌, ◌≤◌, length, IfOk};
-ghost use Rattle.jsonpath_parser.specs.words.inner.Reading.{Reads};
+ghost use Rattle.jsonpath_parser.specs.Prelude.{number_reading, Reads, segment_view, selector_view, selectors_view};
 ghost use Rattle.jsonpath_parser.specs.inner.ReadingGrammar as spec;
-ghost use Rattle.jsonpath_parser.specs.inner.ReadingGrammar.{number_reading};
-ghost use Rattle.jsonpath_parser.specs.tree.View.{selector_view, selectors_view, segment_view};
 
 use super::filters::logical;
 use super::literals::Numbers;

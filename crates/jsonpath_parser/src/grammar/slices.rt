@@ -1,8 +1,7 @@
 //! Indexes and slices (RFC 9535, 2.3.3 and 2.3.4).
 ghost use Rattle.std.specs.Prelude.{◌≡◌, ◌≢◌, ◌<◌, ◌≤◌, length, IfOk, IfErr};
-ghost use Rattle.jsonpath_parser.specs.words.inner.Reading.{Reads};
+ghost use Rattle.jsonpath_parser.specs.Prelude.{Reads, selector_view};
 ghost use Rattle.jsonpath_parser.specs.inner.ReadingGrammar as spec;
-ghost use Rattle.jsonpath_parser.specs.tree.View.{selector_view};
 
 use crate::tree::model::Selector;
 use crate::words::int::int;

@@ -1,9 +1,8 @@
 //! Names, words and operators (RFC 9535, 2.3.5.1, 2.4 and 2.5.1.1).
 ghost use Rattle.std.specs.Prelude.{◌≡◌, ◌≢◌, ◌<◌, ◌≤◌, length, IfOk, option_map, string_bytes, IfErr};
-ghost use Rattle.jsonpath_parser.specs.words.inner.Reading.{Reads};
+ghost use Rattle.jsonpath_parser.specs.Prelude.{literal_view, operator_view, Reads, selector_view};
 ghost use Rattle.jsonpath_parser.specs.words.inner.Reading as reading;
 ghost use Rattle.jsonpath_parser.specs.inner.ReadingGrammar as spec;
-ghost use Rattle.jsonpath_parser.specs.tree.View.{selector_view, literal_view, operator_view};
 
 use crate::tree::model::{Literal, Operator, Selector};
 use crate::words::stop::Stop;

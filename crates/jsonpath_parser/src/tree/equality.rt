@@ -1,6 +1,6 @@
 //! What `==` of query trees decides.
-ghost use Rattle.jsonpath_parser.specs.Equality.{IsEqualityOf, items_equal};
-ghost use Rattle.jsonpath_parser.specs.tree.View.{query_view, segment_view, selector_view, filter_view, atom_view, comparison_view, comparable_view, singular_view, step_view, test_view, call_view, argument_view, literal_view, operator_view, segments_view, steps_view};
+ghost use Rattle.jsonpath_parser.specs.Prelude.{argument_view, atom_view, call_view, comparable_view, comparison_view, filter_view, IsEqualityOf, literal_view, operator_view, query_view, segment_view, segments_view, selector_view, singular_view, step_view, steps_view, test_view};
+ghost use Rattle.jsonpath_parser.specs.Equality.{items_equal};
 ghost use Rattle.jsonpath_parser.specs.contracts.tree.model.JpQueryPartialEq.TheImpl as jp_query;
 ghost use Rattle.jsonpath_parser.specs.contracts.tree.model.SegmentPartialEq.TheImpl as segment;
 ghost use Rattle.jsonpath_parser.specs.contracts.tree.model.SelectorPartialEq.TheImpl as selector;

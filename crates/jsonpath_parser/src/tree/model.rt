@@ -1,9 +1,8 @@
 //! The query tree (RFC 9535, 2.1 to 2.5).
 ghost use Rattle.std.specs.Prelude.{◌≡◌, Some, IfOk, IfErr, IsOk, IsSome};
-ghost use Rattle.jsonpath_parser.specs.tree.Making.{Makes, comparison_of, operator_of, sides};
+ghost use Rattle.jsonpath_parser.specs.Prelude.{atom_view, comparable_view, comparison_view, filter_view, Makes, operator_of, operator_view, OutOfMemory, query_view, segment_view, segments_view, selector_view, test_view};
+ghost use Rattle.jsonpath_parser.specs.tree.Making.{comparison_of, sides};
 ghost use Rattle.jsonpath_parser.specs.tree.Syntax as tree;
-ghost use Rattle.jsonpath_parser.specs.tree.View.{query_view, segment_view, segments_view, selector_view, filter_view, atom_view, comparison_view, comparable_view, operator_view, test_view};
-ghost use Rattle.jsonpath_parser.specs.declared.errors.JsonPathError.TheVariants.{OutOfMemory};
 
 pub(crate) mod call;
 mod clone;

@@ -1,7 +1,7 @@
 //! What a query can reach, known before any document (RFC 9535, 2.3.5).
 ghost use Rattle.std.specs.Prelude.{◌≡◌};
 ghost use Rattle.jsonpath_parser.specs.tree.Typing as typing;
-ghost use Rattle.jsonpath_parser.specs.tree.View.{query_view};
+ghost use Rattle.jsonpath_parser.specs.Prelude.{query_view};
 
 mod calls;
 mod local;

@@ -1,10 +1,7 @@
 //! Query trees as query texts (RFC 9535, 2.1 to 2.5).
 ghost use Rattle.std.specs.Prelude.{◌≡◌, ℕ, List, IfOk, IfErr, IfSome, IsSome, string_bytes};
-ghost use Rattle.jsonpath_parser.specs.Derives.{Derives, EachTextDerives};
-ghost use Rattle.jsonpath_parser.specs.Grammar.{Spells};
-ghost use Rattle.jsonpath_parser.specs.Values.{IsValued};
-ghost use Rattle.jsonpath_parser.specs.tree.View.{query_view};
-ghost use Rattle.jsonpath_parser.specs.declared.errors.JsonPathError.TheVariants.{OutOfMemory};
+ghost use Rattle.jsonpath_parser.specs.Prelude.{Derives, IsValued, OutOfMemory, query_view, Spells};
+ghost use Rattle.jsonpath_parser.specs.Derives.{EachTextDerives};
 
 mod spellable;
 mod written;

@@ -1,7 +1,7 @@
 //! How deep brackets nest in a text.
 ghost use Rattle.std.specs.Prelude.{◌≡◌, ◌<◌, ◌≤◌, nat_lt, MatchOption};
 ghost use Rattle.jsonpath_parser.specs.words.Depth as spec;
-ghost use Rattle.jsonpath_parser.specs.words.inner.Places.{place_view};
+ghost use Rattle.jsonpath_parser.specs.Prelude.{place_view};
 
 /// Where reading stands: outside of strings, inside one that this quote ends, or there behind a backslash.
 #[derive(Clone, Copy)]

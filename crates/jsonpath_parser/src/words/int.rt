@@ -1,6 +1,6 @@
 //! Whole numbers, as indexes are written (RFC 9535, 2.1 and 2.3.3.1).
 ghost use Rattle.std.specs.Prelude.{◌≢◌, ◌<◌, ◌≤◌, length, IfOk, IfErr};
-ghost use Rattle.jsonpath_parser.specs.words.inner.Reading.{Reads};
+ghost use Rattle.jsonpath_parser.specs.Prelude.{Reads};
 ghost use Rattle.jsonpath_parser.specs.words.inner.Reading as spec;
 
 use crate::words::stop::Stop;

@@ -1,12 +1,6 @@
 //! Number literals and their exact values (RFC 9535, 2.3.5.1).
 ghost use Rattle.std.specs.Prelude.{◌≡◌, ◌≢◌, ℕ, ◌+◌, ◌*◌, ◌%◌, ◌^◌, ◌<◌, ◌≤◌, ◌++◌, length, min, slice_index, take, drop, IfOk, IfErr, IfSome, IfNone};
-ghost use Rattle.std.specs.Option.{option_map};
-ghost use Rattle.std.specs.Str.Parse.{digits_value, digits_value_after};
-ghost use Rattle.std.specs.Char.{is_ascii_digit};
-ghost use Rattle.jsonpath_parser.specs.words.Lexical.{IsRun};
-ghost use Rattle.jsonpath_parser.specs.words.Numbers.{up, down};
-ghost use Rattle.jsonpath_parser.specs.words.inner.Reading.{Reads};
-ghost use Rattle.jsonpath_parser.specs.words.inner.ReadingNumbers.{exponent_view, number_of, IsTrimmed, IsUnheld};
+ghost use Rattle.jsonpath_parser.specs.Prelude.{digits_value, digits_value_after, down, exponent_view, is_ascii_digit, IsRun, IsTrimmed, IsUnheld, number_of, option_map, Reads, up};
 ghost use Rattle.jsonpath_parser.specs.words.inner.ReadingNumbers as spec;
 
 use crate::words::stop::Stop;

@@ -1,8 +1,6 @@
 //! How a Normalized Path writes the characters of a name (RFC 9535, 2.7).
 ghost use Rattle.std.specs.Prelude.{◌≡◌, ◌≢◌, ◌↔◌, ◌<◌, ◌≤◌, ◌++◌, OnOk, OnErr, IsTrue, length, take, slice_index, string_bytes};
-ghost use Rattle.std.specs.Char.{digit_char};
-ghost use Rattle.jsonpath_parser.specs.Location.{Begins};
-ghost use Rattle.jsonpath_parser.specs.Normal.{name_char, name_chars};
+ghost use Rattle.jsonpath_parser.specs.Prelude.{Begins, digit_char, name_char, name_chars};
 
 use std::alloc::AllocError;
 

@@ -1,10 +1,7 @@
 //! Quoted strings (RFC 9535, 2.3.1). Each function reads its text once, from the left, and never goes back over what
 //! it has read.
 ghost use Rattle.std.specs.Prelude.{◌≡◌, ◌≢◌, suc, ◌<◌, ◌≤◌, [], true, length, slice_index, IfOk, IfSome, if◌then◌else◌, string_bytes, IfErr};
-ghost use Rattle.std.specs.Char.{digit_value};
-ghost use Rattle.std.specs.List.{prefix_len};
-ghost use Rattle.jsonpath_parser.specs.words.Lexical.{is_quote};
-ghost use Rattle.jsonpath_parser.specs.words.inner.Reading.{Reads, split_while};
+ghost use Rattle.jsonpath_parser.specs.Prelude.{digit_value, is_quote, prefix_len, Reads, split_while};
 ghost use Rattle.jsonpath_parser.specs.words.inner.ReadingStrings as spec;
 ghost use Rattle.jsonpath_parser.specs.words.Strings as strings;
 

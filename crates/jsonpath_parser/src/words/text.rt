@@ -1,9 +1,7 @@
 //! Steps over a text that allocate nothing. A text is seen as its bytes; each delimiter of the grammar is ASCII.
 ghost use Rattle.std.specs.Prelude.{◌≡◌, ◌-◌, ◌<◌, ◌≤◌, length, drop, slice_index};
-ghost use Rattle.std.specs.List.{prefix_len};
-ghost use Rattle.std.specs.Char.{is_ascii_digit};
+ghost use Rattle.jsonpath_parser.specs.Prelude.{is_ascii_digit, prefix_len, split_while};
 ghost use Rattle.jsonpath_parser.specs.words.Lexical as spec;
-ghost use Rattle.jsonpath_parser.specs.words.inner.Reading.{split_while};
 ghost use Rattle.jsonpath_parser.specs.words.inner.Reading as reading;
 
 /// The byte at `index`, or 0 past the end.

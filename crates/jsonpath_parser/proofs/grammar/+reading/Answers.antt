@@ -1,10 +1,6 @@
 use Rattle.std.proofs.Common.{◌≡◌, suc, ◌==◌, ◌-◌, ◌≤◌, true, false, map, length, drop, Some, le_refl, sym, ap, ◌∙◌, rules, arith}
 use Rattle.std.proofs.lemmas.Grind.{common_steps}
-use Rattle.jsonpath_parser.specs.words.inner.Reading.{first, skip_blank}
-use Rattle.jsonpath_parser.specs.inner.ReadingGrammar.{number_reading, starts_segment, is_twice, basic_at, conjunction_at, argument_at}
-use Rattle.jsonpath_parser.specs.inner.ReadingLists.{found_then}
-use Rattle.jsonpath_parser.specs.tree.Syntax.{selector, no_selectors, segment, filter_then, argument, no_arguments}
-use Rattle.jsonpath_parser.specs.tree.View.{segment_view, selector_view, filter_view, argument_view}
+use Rattle.jsonpath_parser.specs.Prelude.{argument, argument_at, argument_view, basic_at, conjunction_at, filter_then, filter_view, first, found_then, is_twice, no_arguments, no_selectors, number_reading, segment, segment_view, selector, selector_view, skip_blank, starts_segment}
 use Rattle.jsonpath_parser.proofs.laws.words.Giving.{gives_err}
 use Rattle.jsonpath_parser.proofs.Turns.{many_end, many_none, many_next, separated_none, separated_end, separated_next, operand_none, operand_other, operand_read, all_segments, argument_turn, found_none, found_push}
 use Rattle.jsonpath_parser.proofs.grammar.+reading.Goals as goal

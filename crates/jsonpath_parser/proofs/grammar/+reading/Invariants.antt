@@ -1,10 +1,7 @@
 use Rattle.std.proofs.Common.{◌≡◌, ℕ, ◌+◌, ◌*◌, ◌<◌, ◌≤◌, [], ◌∷◌, map, length}
 use denote.Text.{Utf8}
 use denote.Shadow.{shadow}
-use Rattle.jsonpath_parser.specs.inner.ReadingGrammar.{number_reading, argument_at, selectors_at, segments_at, all_segments_at, arguments_at, ands_at, ors_at}
-use Rattle.jsonpath_parser.specs.inner.ReadingLists.{found_then}
-use Rattle.jsonpath_parser.specs.tree.Syntax.{selector, segment, filter_then, argument}
-use Rattle.jsonpath_parser.specs.tree.View.{segment_view, selector_view, filter_view, argument_view}
+use Rattle.jsonpath_parser.specs.Prelude.{all_segments_at, ands_at, argument, argument_at, argument_view, arguments_at, filter_then, filter_view, found_then, number_reading, ors_at, segment, segment_view, segments_at, selector, selector_view, selectors_at}
 use Rattle.jsonpath_parser.proofs.grammar.+reading.Given as goal
 
 abbrev pub decreases-calls::arguments : goal.decreases-calls::arguments

@@ -1,10 +1,7 @@
 -- Segments and arguments of calls, as lists.
 use Rattle.std.proofs.Common.{◌≡◌, ◌&&◌, List, [], ◌∷◌, length, map, None, refl, ap}
-use Rattle.std.specs.List.{list_all}
-use Rattle.jsonpath_parser.specs.tree.Typing.{is_step, is_singular, one_argument, two_arguments}
-use Rattle.jsonpath_parser.specs.tree.View.{segment_view, segments_of, argument_view, arguments_of}
+use Rattle.jsonpath_parser.specs.Prelude.{argument_view, arguments_of, FnArg, is_singular, is_step, list_all, one_argument, segment_view, segments_of, two_arguments}
 use Rattle.jsonpath_parser.specs.declared.tree.model.Segment.{Segment}
-use Rattle.jsonpath_parser.specs.declared.tree.model.FnArg.{FnArg}
 
 pub is_singular_all : (gs : List Segment) → is_singular (segments_of (map segment_view gs)) ≡ list_all (λ g. is_step (segment_view g)) gs
 is_singular_all [] = refl

@@ -1,15 +1,11 @@
 -- Texts with another between each two, and the parts of a tree as such.
 use Rattle.std.proofs.Common.{◌≡◌, ◌∙◌, refl, sym, ap, ℕ, ◌+◌, ◌<◌, ◌≤◌, List, [], ◌∷◌, ◌++◌, length, get_or, map, take, flat_map, append-nil, append_assoc, codes, Option, ℤ, pos, unwrap_or, Vec, Global}
-use Rattle.std.specs.Fmt.{signed_decimal}
+use Rattle.jsonpath_parser.specs.Prelude.{argument_shown, argument_view, arguments_of, arguments_view, concat, filter_shown, filter_view, filters_of, filters_view, FnArg, joined, segment_shown, segment_view, segments_of, segments_shown, segments_view, selector_shown, selector_view, selectors_of, selectors_view, signed_decimal, SingularQuerySegment, step_view, steps_view}
 use Rattle.std.proofs.lemmas.List.{take_more, take_all}
-use Rattle.std.specs.List.{concat}
-use Rattle.jsonpath_parser.specs.tree.Shown.{joined, filter_shown, filters_shown, argument_shown, arguments_shown, segment_shown, segments_shown, selector_shown, selectors_shown, slice_shown}
-use Rattle.jsonpath_parser.specs.tree.View.{filter_view, filters_of, argument_view, arguments_view, segment_view, segments_view, selector_view, selectors_view, step_view, steps_view, arguments_of, segments_of, selectors_of, filters_view}
+use Rattle.jsonpath_parser.specs.tree.Shown.{filters_shown, arguments_shown, selectors_shown, slice_shown}
 use Rattle.jsonpath_parser.specs.declared.tree.model.Filter.{Filter}
-use Rattle.jsonpath_parser.specs.declared.tree.model.FnArg.{FnArg}
 use Rattle.jsonpath_parser.specs.declared.tree.model.Segment.{Segment}
 use Rattle.jsonpath_parser.specs.declared.tree.model.Selector.{Selector}
-use Rattle.jsonpath_parser.specs.declared.tree.model.SingularQuerySegment.{SingularQuerySegment}
 
 -- each of the texts behind this one
 abbrev pub followed : List ℕ → List (List ℕ) → List ℕ

@@ -1,14 +1,8 @@
 -- Which filters the code's comparisons and atoms are: a comparison is one, and no atom is an `||` or an `&&`.
 use Rattle.std.proofs.Common.{◌≡◌, Bool, true, refl, ap, ◌∙◌, rules}
-use Rattle.jsonpath_parser.specs.Grammar.{is_conjunction, is_basic}
-use Rattle.jsonpath_parser.specs.Parts.{is_comparison}
-use Rattle.jsonpath_parser.specs.inner.Spellable.{is_no_bare_test}
+use Rattle.jsonpath_parser.specs.Prelude.{atom_view, comparable_view, Comparison, comparison_view, filter_view, FilterAtom, is_basic, is_comparison, is_conjunction, is_no_bare_test, test_view, the_lemmas}
 use Rattle.jsonpath_parser.specs.tree.Syntax as tree
-use Rattle.jsonpath_parser.specs.tree.View.{comparable_view, comparison_view, filter_view, atom_view, test_view}
-use Rattle.jsonpath_parser.specs.declared.tree.model.Comparison.{Comparison}
-use Rattle.jsonpath_parser.specs.declared.tree.model.Filter.{the_lemmas}
 use Rattle.jsonpath_parser.specs.declared.tree.model.FilterAtom
-use Rattle.jsonpath_parser.specs.declared.tree.model.FilterAtom.{FilterAtom}
 use Rattle.jsonpath_parser.specs.declared.tree.model.FilterAtom.TheVariants as atom_variants
 use Rattle.jsonpath_parser.proofs.laws.tree.ViewEquations.{comparison_view-Eq, comparison_view-Ne, comparison_view-Gt, comparison_view-Gte, comparison_view-Lt, comparison_view-Lte}
 

@@ -1,12 +1,9 @@
 -- A list of parts reaches as far as its parts do.
 use Rattle.std.proofs.Common.{◌≡◌, ℕ, Bool, ◌&&◌, List, [], ◌∷◌, map, refl, ap}
-use Rattle.std.specs.List.{list_all}
-use Rattle.jsonpath_parser.specs.tree.Reach.{is_local, is_local_segment, are_local_selectors, is_local_selector, are_local_filters, is_local_filter, are_local_arguments, is_local_argument, calls_only, segment_calls_only, selectors_call_only, selector_calls_only, filters_call_only, filter_calls_only, arguments_call_only, argument_calls_only}
-use Rattle.jsonpath_parser.specs.tree.View.{segment_view, segments_of, selector_view, selectors_of, filter_view, filters_of, argument_view, arguments_of}
+use Rattle.jsonpath_parser.specs.Prelude.{are_local_arguments, are_local_filters, are_local_selectors, argument_calls_only, argument_view, arguments_call_only, arguments_of, calls_only, filter_calls_only, filter_view, filters_call_only, filters_of, FnArg, is_local, is_local_argument, is_local_filter, is_local_segment, is_local_selector, list_all, segment_calls_only, segment_view, segments_of, selector_calls_only, selector_view, selectors_call_only, selectors_of}
 use Rattle.jsonpath_parser.specs.declared.tree.model.Segment.{Segment}
 use Rattle.jsonpath_parser.specs.declared.tree.model.Selector.{Selector}
 use Rattle.jsonpath_parser.specs.declared.tree.model.Filter.{Filter}
-use Rattle.jsonpath_parser.specs.declared.tree.model.FnArg.{FnArg}
 
 pub segments_local : (gs : List Segment) → is_local (segments_of (map segment_view gs)) ≡ list_all (λ g. is_local_segment (segment_view g)) gs
 segments_local [] = refl

@@ -2,16 +2,11 @@
 use Rattle.std.proofs.Common.{◌≡◌, ◌&&◌, true, List, [], ◌∷◌, length, map, refl, sym, ap, arith}
 use Rattle.std.proofs.lemmas.Bool.Decides.{nat_tests}
 use Rattle.std.specs.Prelude.{nat_le}
-use Rattle.std.specs.List.{list_all}
-use Rattle.jsonpath_parser.specs.inner.Spellable.{is_spelled, is_spelled_segment, are_several_selectors, are_spelled_selectors, is_spelled_selector, are_several_filters, are_spelled_conjunctions, is_spelled_conjunction, are_spelled_operands, is_spelled_operand, are_spelled_arguments, is_spelled_argument}
-use Rattle.jsonpath_parser.specs.tree.Typing.{is_singular}
+use Rattle.jsonpath_parser.specs.Prelude.{are_several_filters, are_several_selectors, are_spelled_arguments, are_spelled_conjunctions, are_spelled_operands, are_spelled_selectors, argument_view, arguments_of, filter_view, filters_of, FnArg, is_singular, is_spelled, is_spelled_argument, is_spelled_conjunction, is_spelled_operand, is_spelled_segment, is_spelled_selector, list_all, segment_view, segments_of, selector_view, selectors_of, SingularQuerySegment, step_view}
 use Rattle.jsonpath_parser.proofs.laws.tree.Steps.{steps_singular}
-use Rattle.jsonpath_parser.specs.tree.View.{segment_view, segments_of, selector_view, selectors_of, filter_view, filters_of, argument_view, arguments_of, step_view}
 use Rattle.jsonpath_parser.specs.declared.tree.model.Segment.{Segment}
 use Rattle.jsonpath_parser.specs.declared.tree.model.Selector.{Selector}
 use Rattle.jsonpath_parser.specs.declared.tree.model.Filter.{Filter}
-use Rattle.jsonpath_parser.specs.declared.tree.model.FnArg.{FnArg}
-use Rattle.jsonpath_parser.specs.declared.tree.model.SingularQuerySegment.{SingularQuerySegment}
 
 pub several_selectors : (ss : List Selector) → are_several_selectors (selectors_of (map selector_view ss)) ≡ nat_le 2 (length ss)
 several_selectors [] = refl

@@ -1,13 +1,9 @@
 -- The steps of a singular query are segments with nothing inside.
 use Rattle.std.proofs.Common.{◌≡◌, ℕ, Bool, true, List, [], ◌∷◌, ◌++◌, map, refl, codes}
-use Rattle.jsonpath_parser.specs.inner.QueryTexts.{segment_text, bare_text}
-use Rattle.jsonpath_parser.specs.tree.Reach.{is_local, calls_only, test_calls_only}
-use Rattle.jsonpath_parser.specs.tree.Syntax.{test_argument}
-use Rattle.jsonpath_parser.specs.tree.Typing.{is_singular, is_typed, is_typed_side}
-use Rattle.jsonpath_parser.specs.tree.View.{step_view, segments_of, singular_view}
-use Rattle.jsonpath_parser.specs.declared.tree.model.SingularQuery.{SingularQuery}
+use Rattle.jsonpath_parser.specs.Prelude.{calls_only, is_local, is_singular, is_typed, is_typed_side, segment_text, segments_of, singular_view, SingularQuery, SingularQuerySegment, step_view, test_argument}
+use Rattle.jsonpath_parser.specs.inner.QueryTexts.{bare_text}
+use Rattle.jsonpath_parser.specs.tree.Reach.{test_calls_only}
 use Rattle.jsonpath_parser.specs.declared.tree.model.SingularQuery.TheVariants.{Current, Root}
-use Rattle.jsonpath_parser.specs.declared.tree.model.SingularQuerySegment.{SingularQuerySegment}
 use Rattle.jsonpath_parser.specs.declared.tree.model.SingularQuerySegment.TheVariants.{Index, Name}
 
 pub steps_singular : (ss : List SingularQuerySegment) → is_singular (segments_of (map step_view ss)) ≡ true

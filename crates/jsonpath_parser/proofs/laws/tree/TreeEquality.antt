@@ -1,22 +1,18 @@
 -- `==` of trees is equality of what they stand for.
 use Rattle.std.proofs.Common.{◌≡◌, ℕ, ℤ, int_eq, Bool, true, false, true≢false, List, [], ◌∷◌, map, Option, Some, None, string_bytes, refl, ap, sym, ◌∙◌, rules, arith}
 use Rattle.std.proofs.lemmas.Bool.Decides.{Decides-int_eq}
-use Rattle.std.specs.Bool.{Decides, beq}
+use Rattle.jsonpath_parser.specs.Prelude.{argument_view, arguments_of, atom_view, call_view, Comparable, comparable_view, Comparison, comparison_view, Decides, filter_view, FilterAtom, filters_of, FnArg, JpQuery, literal_view, operator_view, query_view, segment_view, segments_of, selector_view, selectors_of, singular_view, SingularQuery, SingularQuerySegment, step_view, test_view, TestFunction, the_lemmas}
+use Rattle.std.specs.Bool.{beq}
 use Rattle.std.specs.Cmp.Lexicographic.{pointwise}
 use Rattle.std.specs.Option.{option_eq}
 use Rattle.jsonpath_parser.proofs.Deciding.{under, both, under_two, differ, string_same}
 use Rattle.jsonpath_parser.specs.tree.Syntax as tree
-use Rattle.jsonpath_parser.specs.tree.View.{literal_view, step_view, singular_view, operator_view, segments_of, selectors_of, filters_of, arguments_of, comparable_view, comparison_view, filter_view, atom_view, argument_view, segment_view, selector_view, test_view, call_view, query_view}
 use Rattle.jsonpath_parser.proofs.laws.tree.Kinds.{of_comparison, of_atom}
 use Rattle.jsonpath_parser.proofs.laws.tree.ViewEquations.{query_view-segments}
-use Rattle.jsonpath_parser.specs.declared.tree.model.Filter.{the_lemmas}
 use Rattle.jsonpath_parser.specs.declared.tree.model.Literal.{Literal}
 use Rattle.jsonpath_parser.specs.declared.tree.model.Literal.TheVariants as lit
-use Rattle.jsonpath_parser.specs.declared.tree.model.SingularQuery.{SingularQuery}
 use Rattle.jsonpath_parser.specs.declared.tree.model.SingularQuery.TheVariants as single
-use Rattle.jsonpath_parser.specs.declared.tree.model.SingularQuerySegment.{SingularQuerySegment}
 use Rattle.jsonpath_parser.specs.declared.tree.model.SingularQuerySegment.TheVariants as step
-use Rattle.jsonpath_parser.specs.declared.tree.model.JpQuery.{JpQuery}
 use Rattle.jsonpath_parser.specs.declared.tree.model.operator.Operator.{Operator}
 use Rattle.jsonpath_parser.specs.declared.tree.model.operator.Operator.TheVariants as operator
 use Rattle.jsonpath_parser.specs.contracts.tree.model.LiteralPartialEq.TheImpl as literal_eq
@@ -28,10 +24,8 @@ use Rattle.jsonpath_parser.specs.contracts.tree.model.JpQueryPartialEq.TheImpl.L
 use Rattle.jsonpath_parser.specs.contracts.tree.model.ComparablePartialEq.TheImpl as comparable_eq
 use Rattle.jsonpath_parser.specs.contracts.tree.model.ComparablePartialEq.TheImpl.Laws as comparable_laws
 use Rattle.jsonpath_parser.specs.declared.tree.model.Comparable
-use Rattle.jsonpath_parser.specs.declared.tree.model.Comparable.{Comparable}
 use Rattle.jsonpath_parser.specs.contracts.tree.model.ComparisonPartialEq.TheImpl as comparison_eq
 use Rattle.jsonpath_parser.specs.contracts.tree.model.ComparisonPartialEq.TheImpl.Laws as comparison_laws
-use Rattle.jsonpath_parser.specs.declared.tree.model.Comparison.{Comparison}
 use Rattle.jsonpath_parser.specs.contracts.tree.model.FilterPartialEq.TheImpl as filter_eq
 use Rattle.jsonpath_parser.specs.contracts.tree.model.FilterPartialEq.TheImpl.Laws as filter_laws
 use Rattle.jsonpath_parser.specs.declared.tree.model.Filter.{Filter, Row_of-Filter, end_of-Filter, more_of-Filter, items-the_row-Filter, items_shown-the_row-Filter-0}
@@ -39,12 +33,10 @@ use Rattle.jsonpath_parser.specs.declared.tree.model.Filter.TheVariants as filte
 use Rattle.jsonpath_parser.specs.contracts.tree.model.FilterAtomPartialEq.TheImpl as atom_eq
 use Rattle.jsonpath_parser.specs.contracts.tree.model.FilterAtomPartialEq.TheImpl.Laws as atom_laws
 use Rattle.jsonpath_parser.specs.declared.tree.model.FilterAtom
-use Rattle.jsonpath_parser.specs.declared.tree.model.FilterAtom.{FilterAtom}
 use Rattle.jsonpath_parser.specs.declared.tree.model.FilterAtom.TheVariants as atom_variants
 use Rattle.jsonpath_parser.specs.contracts.tree.model.FnArgPartialEq.TheImpl as argument_eq
 use Rattle.jsonpath_parser.specs.contracts.tree.model.FnArgPartialEq.TheImpl.Laws as argument_laws
 use Rattle.jsonpath_parser.specs.declared.tree.model.FnArg
-use Rattle.jsonpath_parser.specs.declared.tree.model.FnArg.{FnArg}
 use Rattle.jsonpath_parser.specs.declared.tree.model.FnArg.TheVariants as argument_variants
 use Rattle.jsonpath_parser.specs.contracts.tree.model.SegmentPartialEq.TheImpl as segment_eq
 use Rattle.jsonpath_parser.specs.contracts.tree.model.SegmentPartialEq.TheImpl.Laws as segment_laws
@@ -61,7 +53,7 @@ use Rattle.jsonpath_parser.specs.declared.tree.model.Test.{Test, Row_of-Segment,
 use Rattle.jsonpath_parser.specs.declared.tree.model.Test.TheVariants as test_variants
 use Rattle.jsonpath_parser.specs.contracts.tree.model.TestFunctionPartialEq.TheImpl as call_eq
 use Rattle.jsonpath_parser.specs.contracts.tree.model.TestFunctionPartialEq.TheImpl.Laws as call_laws
-use Rattle.jsonpath_parser.specs.declared.tree.model.TestFunction.{TestFunction, Row_of-FnArg, end_of-FnArg, more_of-FnArg, items-the_row-FnArg, items_shown-the_row-FnArg-3}
+use Rattle.jsonpath_parser.specs.declared.tree.model.TestFunction.{Row_of-FnArg, end_of-FnArg, more_of-FnArg, items-the_row-FnArg, items_shown-the_row-FnArg-3}
 use Rattle.jsonpath_parser.specs.declared.tree.model.TestFunction.TheVariants as call_variants
 
 -- how a value opens into its variant and its parts

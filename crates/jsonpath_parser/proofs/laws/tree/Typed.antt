@@ -1,12 +1,9 @@
 -- The parts of a list are well-typed where each one is.
 use Rattle.std.proofs.Common.{◌≡◌, ◌&&◌, List, [], ◌∷◌, map, refl, ap}
-use Rattle.std.specs.List.{list_all}
-use Rattle.jsonpath_parser.specs.tree.Typing.{is_typed, is_typed_segment, are_typed_selectors, is_typed_selector, are_typed_filters, is_typed_filter, are_typed_arguments, is_typed_argument}
-use Rattle.jsonpath_parser.specs.tree.View.{segment_view, segments_of, selector_view, selectors_of, filter_view, filters_of, argument_view, arguments_of}
+use Rattle.jsonpath_parser.specs.Prelude.{are_typed_arguments, are_typed_filters, are_typed_selectors, argument_view, arguments_of, filter_view, filters_of, FnArg, is_typed, is_typed_argument, is_typed_filter, is_typed_segment, is_typed_selector, list_all, segment_view, segments_of, selector_view, selectors_of}
 use Rattle.jsonpath_parser.specs.declared.tree.model.Segment.{Segment}
 use Rattle.jsonpath_parser.specs.declared.tree.model.Selector.{Selector}
 use Rattle.jsonpath_parser.specs.declared.tree.model.Filter.{Filter}
-use Rattle.jsonpath_parser.specs.declared.tree.model.FnArg.{FnArg}
 
 pub segments_all : (gs : List Segment) → is_typed (segments_of (map segment_view gs)) ≡ list_all (λ g. is_typed_segment (segment_view g)) gs
 segments_all [] = refl

@@ -1,19 +1,13 @@
 -- The view of a tree, one equation for each variant.
 use Rattle.std.proofs.Common.{◌≡◌, ℤ, Option, Bool, Box, Vec, String, Global, string_bytes, rules}
 use Rattle.jsonpath_parser.specs.tree.Syntax as tree
-use Rattle.jsonpath_parser.specs.tree.View.{literal_view, singular_view, comparable_view, comparison_view, filter_view, atom_view, argument_view, segment_view, selector_view, test_view, call_view, query_view, segments_view, selectors_view, filters_view, arguments_view}
+use Rattle.jsonpath_parser.specs.Prelude.{argument_view, arguments_view, atom_view, call_view, Comparable, comparable_view, Comparison, comparison_view, filter_view, FilterAtom, filters_view, FnArg, JpQuery, literal_view, query_view, segment_view, segments_view, selector_view, selectors_view, singular_view, SingularQuery, test_view, TestFunction, the_lemmas}
 use Rattle.jsonpath_parser.specs.declared.tree.model.Literal.{Literal}
-use Rattle.jsonpath_parser.specs.declared.tree.model.SingularQuery.{SingularQuery}
 use Rattle.jsonpath_parser.specs.declared.tree.model.Comparable
-use Rattle.jsonpath_parser.specs.declared.tree.model.Comparable.{Comparable}
-use Rattle.jsonpath_parser.specs.declared.tree.model.Comparison.{Comparison}
 use Rattle.jsonpath_parser.specs.declared.tree.model.Filter
-use Rattle.jsonpath_parser.specs.declared.tree.model.Filter.{Filter, the_lemmas}
+use Rattle.jsonpath_parser.specs.declared.tree.model.Filter.{Filter}
 use Rattle.jsonpath_parser.specs.declared.tree.model.FilterAtom
-use Rattle.jsonpath_parser.specs.declared.tree.model.FilterAtom.{FilterAtom}
 use Rattle.jsonpath_parser.specs.declared.tree.model.FnArg
-use Rattle.jsonpath_parser.specs.declared.tree.model.FnArg.{FnArg}
-use Rattle.jsonpath_parser.specs.declared.tree.model.JpQuery.{JpQuery}
 use Rattle.jsonpath_parser.specs.declared.tree.model.Segment
 use Rattle.jsonpath_parser.specs.declared.tree.model.Segment.{Segment}
 use Rattle.jsonpath_parser.specs.declared.tree.model.Selector
@@ -21,7 +15,6 @@ use Rattle.jsonpath_parser.specs.declared.tree.model.Selector.{Selector}
 use Rattle.jsonpath_parser.specs.declared.tree.model.Test
 use Rattle.jsonpath_parser.specs.declared.tree.model.Test.{Test}
 use Rattle.jsonpath_parser.specs.declared.tree.model.TestFunction
-use Rattle.jsonpath_parser.specs.declared.tree.model.TestFunction.{TestFunction}
 
 pub comparable_view-Literal : (l : Literal) → comparable_view (Comparable.Literal l) ≡ tree.literal_argument (literal_view l)
 comparable_view-Literal l = search (rules, the_lemmas)

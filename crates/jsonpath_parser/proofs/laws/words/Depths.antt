@@ -2,7 +2,8 @@
 use Rattle.std.proofs.Common.{◌≡◌, ℕ, ◌+◌, ◌<◌, ◌≤◌, max, true, false, nat_lt, List, [], ◌∷◌, length, drop, get_or, le_refl, ap, arith}
 use Rattle.std.proofs.lemmas.Bool.Decides.{nat_tests}
 use Rattle.std.proofs.lemmas.List.{drop_more, drop_all}
-use Rattle.jsonpath_parser.specs.words.Depth.{Place, next_place, next_open, depth_from}
+use Rattle.jsonpath_parser.specs.Prelude.{depth_from, next_place}
+use Rattle.jsonpath_parser.specs.words.Depth.{Place, next_open}
 
 -- what stands open counts
 pub depth_from-ge : (place : Place) (o : ℕ) (bs : List ℕ) → o ≤ depth_from place o bs

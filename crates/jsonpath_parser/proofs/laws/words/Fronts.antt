@@ -1,9 +1,7 @@
 -- What is read at the front of a text.
 use Rattle.std.proofs.Common.{◌≡◌, ℕ, suc, Bool, true, false, List, [], ◌∷◌, ◌++◌, length, take, drop, refl, sym, ap, subst, arith}
 use Rattle.std.proofs.lemmas.Grind.{common_steps}
-use Rattle.std.specs.List.{prefix_len}
-use Rattle.jsonpath_parser.specs.words.Lexical.{IsRun, IsBlank, is_blank}
-use Rattle.jsonpath_parser.specs.words.inner.Reading.{split_while, skip_blank, first}
+use Rattle.jsonpath_parser.specs.Prelude.{first, is_blank, IsBlank, IsRun, prefix_len, skip_blank, split_while}
 
 -- the longest front is a run, and the text is it and the rest
 pub run_holds : (p : ℕ → Bool) (text : List ℕ) → IsRun p (take (prefix_len p text) text) × (text ≡ take (prefix_len p text) text ++ drop (prefix_len p text) text)

@@ -1,8 +1,6 @@
 -- What reading gives where a `?` hands an error on.
 use Rattle.std.proofs.Common.{◌≡◌, Option, None, Result, Ok, Err, IsErrAnd, ◌∙◌}
-use Rattle.jsonpath_parser.specs.words.inner.Reading.{Gives}
-use Rattle.jsonpath_parser.specs.declared.words.stop.Stop.{Stop}
-use Rattle.jsonpath_parser.specs.declared.words.stop.Stop.TheVariants.{Memory}
+use Rattle.jsonpath_parser.specs.Prelude.{Gives, Memory, Stop}
 
 -- an error that a `?` passes on
 pub gives_err : {A B : Type 0} (f : A → B) (r : Result A Stop) (expected : Option B) (e : Stop) (Q : Stop → Type 0)

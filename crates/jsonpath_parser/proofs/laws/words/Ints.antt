@@ -3,11 +3,7 @@ use Rattle.std.proofs.Common.{◌≡◌, ℕ, ◌^◌, ◌<◌, ◌≤◌, true,
 use Rattle.std.proofs.lemmas.Bool.Decides.{nat_tests}
 use Rattle.std.proofs.lemmas.Bool.{false_from_ne_true}
 use Rattle.std.proofs.lemmas.Str.Parse.{IsNumeralModel, numerals_by_value, parse_digits}
-use Rattle.std.specs.List.{prefix_len}
-use Rattle.std.specs.Str.Parse.{digits_value, ParsesUnsigned}
-use Rattle.std.specs.Char.{is_ascii_digit}
-use Rattle.jsonpath_parser.specs.words.Lexical.{IsRun}
-use Rattle.jsonpath_parser.specs.words.inner.Reading.{split_while, first, is_magnitude, magnitude_at}
+use Rattle.jsonpath_parser.specs.Prelude.{digits_value, first, is_ascii_digit, is_magnitude, IsRun, magnitude_at, ParsesUnsigned, prefix_len, split_while}
 use Rattle.jsonpath_parser.proofs.laws.words.Fronts.{run_holds, front}
 
 -- the digits lie from 48 to 57

@@ -4,10 +4,7 @@ use Rattle.std.proofs.lemmas.Bool.{cases_lt}
 use Rattle.std.proofs.lemmas.Bool.Decides.{nat_tests}
 use Rattle.std.proofs.lemmas.Nat.{pow-add}
 use Rattle.std.proofs.Math.Nat.{pow-suc, mul_assoc, one-le-pow, pow-le-pow_right, mul-le-mul_left, mul-le-mul_right, mul-div_cancel, one-mul}
-use Rattle.std.specs.Char.{digit_value, is_ascii_digit}
-use Rattle.std.specs.Str.Parse.{digits_value_after}
-use Rattle.jsonpath_parser.specs.words.Lexical.{IsRun}
-use Rattle.jsonpath_parser.specs.words.inner.ReadingNumbers.{IsUnheld}
+use Rattle.jsonpath_parser.specs.Prelude.{digit_value, digits_value_after, is_ascii_digit, IsRun, IsUnheld}
 
 pub positive : (k : ℕ) → 0 < 10 ^ k
 positive k = one-le-pow k 10 (lit< tt)

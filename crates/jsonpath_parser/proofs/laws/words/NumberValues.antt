@@ -8,11 +8,9 @@ use Rattle.std.specs.Int.RustNames.{unsigned_abs}
 use Rattle.std.proofs.lemmas.Str.Parse.{parse_digits}
 use Rattle.std.proofs.Math.Nat.{mul-mod_left, mul-div_cancel, mod-add-div'}
 use Rattle.std.proofs.Math.IntN.{pos-*ℤ-pos, negsuc-*ℤ-pos}
-use Rattle.std.specs.Str.Parse.{digits_value, ParsesUnsigned}
-use Rattle.std.specs.Char.{is_ascii_digit}
-use Rattle.jsonpath_parser.specs.words.Lexical.{IsRun}
-use Rattle.jsonpath_parser.specs.words.Numbers.{Exponent, up, down, signed, IsWhole, IsLong, IsValue}
-use Rattle.jsonpath_parser.specs.words.inner.ReadingNumbers.{long_of, scaled_value, IsUnheld}
+use Rattle.jsonpath_parser.specs.Prelude.{digits_value, down, Exponent, is_ascii_digit, IsLong, IsRun, IsUnheld, IsValue, ParsesUnsigned, scaled_value, signed, up}
+use Rattle.jsonpath_parser.specs.words.Numbers.{IsWhole}
+use Rattle.jsonpath_parser.specs.words.inner.ReadingNumbers.{long_of}
 use Rattle.jsonpath_parser.proofs.laws.words.Ints.{numeral}
 use Rattle.jsonpath_parser.proofs.laws.words.NumberPowers.{cancel, positive, unheld_scaled}
 

@@ -3,12 +3,7 @@ use Rattle.std.proofs.Common.{◌≡◌, ◌⊎◌, ℕ, zero, suc, ◌+◌, ◌
 use Rattle.std.proofs.lemmas.Bool.{and_parts, not-true}
 use Rattle.std.proofs.lemmas.Bool.Decides.{nat_tests}
 use Rattle.std.specs.Prelude.{nat_le, not, ◌&&◌}
-use Rattle.std.specs.Char.{is_ascii_digit}
-use Rattle.jsonpath_parser.specs.words.Depth.{depth_from, outside, inside, opens, closes}
-use Rattle.jsonpath_parser.specs.words.Lexical.{IsRun, IsBlank, IsName, IsFunctionName, is_blank, is_quote, is_name_byte, is_name_first, is_function_byte, is_function_first}
-use Rattle.jsonpath_parser.specs.words.Numbers.{SpellsSign, IsWholePart, SpellsFraction, SpellsExponent, Exponent, raised, lowered, is_exponent_mark, SpellsNumber}
-use Rattle.jsonpath_parser.specs.words.Strings.{is_hex_digit, SpellsCode, SpellsChar, SpellsChars, SpellsString}
-use Rattle.jsonpath_parser.specs.Grammar.{SpellsInt}
+use Rattle.jsonpath_parser.specs.Prelude.{closes, depth_from, Exponent, inside, is_ascii_digit, is_blank, is_exponent_mark, is_function_byte, is_function_first, is_hex_digit, is_name_byte, is_name_first, is_quote, IsBlank, IsFunctionName, IsName, IsRun, IsWholePart, lowered, opens, outside, raised, SpellsChar, SpellsChars, SpellsCode, SpellsExponent, SpellsFraction, SpellsInt, SpellsNumber, SpellsSign, SpellsString}
 use Rattle.jsonpath_parser.proofs.laws.words.Depths.{depth_from-ge}
 
 -- at most n more than stand open before it, and then as many as before

@@ -6,9 +6,8 @@ use Rattle.std.proofs.lemmas.Fmt.{decimal-digits_of}
 use Rattle.std.proofs.lemmas.List.{take_more, drop_more, take-append-drop}
 use Rattle.std.proofs.lemmas.Slice.{between_from_start}
 use Rattle.std.specs.Prelude.{nat_lt, slice_range}
-use Rattle.std.specs.Fmt.{digits, decimal}
-use Rattle.jsonpath_parser.specs.Location.{Begins}
-use Rattle.jsonpath_parser.specs.Normal.{name_char, name_chars, index_digits}
+use Rattle.jsonpath_parser.specs.Prelude.{Begins, decimal, index_digits, name_char, name_chars}
+use Rattle.std.specs.Fmt.{digits}
 
 -- ---- names
 

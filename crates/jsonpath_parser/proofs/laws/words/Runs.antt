@@ -5,10 +5,7 @@ use Rattle.std.proofs.lemmas.Bool.Decides.{nat_tests}
 use Rattle.std.proofs.lemmas.List.{get_or_past}
 use Rattle.std.proofs.lemmas.List.Sums.{prefix_len-le-length, prefix_len_passes, prefix_len_stops}
 use Rattle.std.proofs.lemmas.Str.{IsCharBoundary-start, IsCharBoundary-end, IsCharBoundary-before_ascii, IsCharBoundary-after_ascii}
-use Rattle.std.specs.List.{prefix_len}
-use Rattle.std.specs.Str.{IsCharBoundary}
-use Rattle.std.specs.Char.{is_ascii_digit}
-use Rattle.jsonpath_parser.specs.words.Lexical.{is_blank, is_name_byte, is_function_byte}
+use Rattle.jsonpath_parser.specs.Prelude.{is_ascii_digit, is_blank, is_function_byte, is_name_byte, IsCharBoundary, prefix_len}
 
 -- a byte that is not 0 was read inside the text
 pub within_from_byte : (xs : List ℕ) (i : ℕ) → 0 < get_or xs i 0 → i < length xs

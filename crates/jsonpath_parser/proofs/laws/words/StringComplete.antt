@@ -2,13 +2,7 @@
 use Rattle.std.proofs.Common.{◌≡◌, ℕ, zero, suc, ◌+◌, ◌<◌, true, false, ◌==◌, List, [], ◌∷◌, ◌++◌, length, drop, Some, option_and_then, refl, sym, ap, ◌∙◌, inl, inr, append_assoc, append-nil, length-append, arith}
 use Rattle.std.proofs.lemmas.Bool.Decides.{nat_tests}
 use Rattle.std.proofs.lemmas.Str.Ascii.{encode_ascii}
-use Rattle.std.specs.Char.{encode_utf8}
-use Rattle.std.specs.List.{concat}
-use Rattle.std.specs.Str.Parse.{digits_value}
-use Rattle.jsonpath_parser.specs.words.Lexical.{IsRun, is_quote}
-use Rattle.jsonpath_parser.specs.words.inner.Reading.{first}
-use Rattle.jsonpath_parser.specs.words.inner.ReadingStrings.{code_value, low_at, unicode_at, escape_at, char_at, chars_at, string_at}
-use Rattle.jsonpath_parser.specs.words.Strings.{escaped, is_hex_digit, is_high_surrogate, is_low_surrogate, pair_code, SpellsChar, SpellsChars, SpellsString}
+use Rattle.jsonpath_parser.specs.Prelude.{char_at, chars_at, code_value, concat, digits_value, encode_utf8, escape_at, escaped, first, is_hex_digit, is_high_surrogate, is_low_surrogate, is_quote, IsRun, low_at, pair_code, SpellsChar, SpellsChars, SpellsString, string_at, unicode_at}
 use Rattle.jsonpath_parser.proofs.laws.words.StringTurns.{char_plain, char_escape, chars_end, chars_more}
 
 -- four digits, and what follows them

@@ -1,10 +1,7 @@
 -- Where a run of bytes that stand for themselves ends.
 use Rattle.std.proofs.Common.{◌≡◌, ℕ, ◌<◌, true, false, List, arith}
 use Rattle.std.proofs.lemmas.Bool.Decides.{nat_tests}
-use Rattle.std.specs.List.{prefix_len}
-use Rattle.std.specs.Str.{IsCharBoundary}
-use Rattle.jsonpath_parser.specs.words.Lexical.{is_quote}
-use Rattle.jsonpath_parser.specs.words.Strings.{is_plain}
+use Rattle.jsonpath_parser.specs.Prelude.{is_plain, is_quote, IsCharBoundary, prefix_len}
 use Rattle.jsonpath_parser.proofs.laws.words.Runs.{wide_boundary}
 
 -- what does not stand for itself is ASCII

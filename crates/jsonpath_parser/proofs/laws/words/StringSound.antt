@@ -4,13 +4,8 @@ use Rattle.std.proofs.lemmas.Bool.{cases_Bool, and_parts}
 use Rattle.std.proofs.lemmas.Bool.Decides.{nat_tests}
 use Rattle.std.proofs.lemmas.Option.{cond_some, option_and_then_some, some_pair_parts}
 use Rattle.std.proofs.lemmas.Str.Ascii.{encode_ascii}
-use Rattle.std.specs.Char.{encode_utf8}
-use Rattle.std.specs.List.{concat}
-use Rattle.std.specs.Str.Parse.{digits_value}
-use Rattle.jsonpath_parser.specs.words.Lexical.{IsRun, is_quote}
-use Rattle.jsonpath_parser.specs.words.inner.Reading.{first}
-use Rattle.jsonpath_parser.specs.words.inner.ReadingStrings.{code_value, low_at, unicode_at, escape_at, char_at, chars_at, string_at}
-use Rattle.jsonpath_parser.specs.words.Strings.{is_plain, escaped, is_hex_digit, is_high_surrogate, is_low_surrogate, pair_code, SpellsCode, SpellsScalar, SpellsPair, SpellsChar, SpellsChars, SpellsString}
+use Rattle.jsonpath_parser.specs.Prelude.{char_at, chars_at, code_value, concat, digits_value, encode_utf8, escape_at, escaped, first, is_hex_digit, is_high_surrogate, is_low_surrogate, is_plain, is_quote, IsRun, low_at, pair_code, SpellsChar, SpellsChars, SpellsCode, SpellsString, string_at, unicode_at}
+use Rattle.jsonpath_parser.specs.words.Strings.{SpellsScalar, SpellsPair}
 
 -- four digits at the front
 digits_front : (text : List ℕ) → is_hex_digit (slice_index text 0) ≡ true → is_hex_digit (slice_index text 1) ≡ true → is_hex_digit (slice_index text 2) ≡ true → is_hex_digit (slice_index text 3) ≡ true

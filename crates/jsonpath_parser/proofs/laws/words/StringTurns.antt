@@ -2,12 +2,7 @@
 use Rattle.std.proofs.Common.{◌≡◌, ℕ, zero, suc, ◌+◌, ◌<◌, ◌≤◌, true, false, ◌==◌, List, [], ◌∷◌, ◌++◌, length, take, drop, Some, None, option_and_then, refl, ap, ◌∙◌, inl, inr, arith, append_assoc, append-nil}
 use Rattle.std.proofs.lemmas.Bool.{cases_Bool}
 use Rattle.std.proofs.lemmas.Bool.Decides.{nat_tests}
-use Rattle.std.specs.Char.{encode_utf8}
-use Rattle.std.specs.List.{prefix_len}
-use Rattle.jsonpath_parser.specs.words.Lexical.{is_quote}
-use Rattle.jsonpath_parser.specs.words.inner.Reading.{first, split_while}
-use Rattle.jsonpath_parser.specs.words.inner.ReadingStrings.{escape_at, char_at, chars_at}
-use Rattle.jsonpath_parser.specs.words.Strings.{is_plain}
+use Rattle.jsonpath_parser.specs.Prelude.{char_at, chars_at, encode_utf8, escape_at, first, is_plain, is_quote, prefix_len, split_while}
 
 -- the loop has read what was found, and goes on at the rest
 abbrev pub HasRead : ℕ → List ℕ → List ℕ → List ℕ → Type 0

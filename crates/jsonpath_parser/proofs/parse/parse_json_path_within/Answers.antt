@@ -1,4 +1,4 @@
-use Rattle.jsonpath_parser.specs.tree.Steps.{steps_query}
+use Rattle.jsonpath_parser.specs.Prelude.{steps_query}
 use Rattle.jsonpath_parser.proofs.NormalQueries.{normal_derives}
 use Rattle.jsonpath_parser.proofs.Whole.{read_derives, read_only, read_one, refused_only}
 use Rattle.jsonpath_parser.proofs.parse.parse_json_path_within.Goals as goal

@@ -1,9 +1,8 @@
 //! Calls of functions, and what they take (RFC 9535, 2.4).
 ghost use Rattle.std.specs.Prelude.{◌≡◌, IfOk, map, option_map};
-ghost use Rattle.std.specs.List.{list_all};
-ghost use Rattle.jsonpath_parser.specs.tree.Making.{Makes, typed_call_of, is_truth_call, is_literal_argument, is_filter_argument};
+ghost use Rattle.jsonpath_parser.specs.Prelude.{argument_view, arguments_view, call_view, list_all, Makes, segment_view, segments_of, test_view};
+ghost use Rattle.jsonpath_parser.specs.tree.Making.{typed_call_of, is_truth_call, is_literal_argument, is_filter_argument};
 ghost use Rattle.jsonpath_parser.specs.tree.Typing as typing;
-ghost use Rattle.jsonpath_parser.specs.tree.View.{segment_view, segments_of, argument_view, arguments_view, test_view, call_view};
 
 use super::refusal::invalid;
 use super::{FnArg, Segment, Selector, Test, TestFunction};

@@ -1,7 +1,6 @@
 //! Copies of the query tree and of its parts.
 ghost use Rattle.std.specs.Prelude.{◌≡◌, IfOk, IfErr, map};
-ghost use Rattle.jsonpath_parser.specs.tree.View.{literal_view, step_view, singular_view, comparable_view, comparison_view, filter_view, atom_view, argument_view, segment_view, selector_view, test_view, call_view, query_view};
-ghost use Rattle.jsonpath_parser.specs.declared.errors.JsonPathError.TheVariants.{OutOfMemory};
+ghost use Rattle.jsonpath_parser.specs.Prelude.{argument_view, atom_view, call_view, comparable_view, comparison_view, filter_view, literal_view, OutOfMemory, query_view, segment_view, selector_view, singular_view, step_view, test_view};
 
 use super::{
     Comparable, Comparison, Filter, FilterAtom, FnArg, JpQuery, Literal, Operator, Segment,

@@ -2,8 +2,8 @@
 //! brackets, strings without escapes, and filters without parentheses.
 ghost use Rattle.std.specs.Prelude.{◌≡◌, ℕ, List, Some, map};
 ghost use Rattle.std.specs.Fmt.{WritesOnOk};
-ghost use Rattle.jsonpath_parser.specs.tree.Shown.{joined, not_shown, query_shown, segment_shown, selector_shown, filter_shown, comparable_shown, singular_shown, test_shown, call_shown, argument_shown, literal_shown};
-ghost use Rattle.jsonpath_parser.specs.tree.View.{query_view, segment_view, selector_view, filter_view, atom_view, comparison_view, comparable_view, singular_view, step_view, test_view, call_view, argument_view, literal_view};
+ghost use Rattle.jsonpath_parser.specs.Prelude.{argument_shown, argument_view, atom_view, call_view, comparable_view, comparison_view, filter_shown, filter_view, joined, literal_view, not_shown, query_view, segment_shown, segment_view, selector_shown, selector_view, singular_view, step_view, test_view};
+ghost use Rattle.jsonpath_parser.specs.tree.Shown.{query_shown, comparable_shown, singular_shown, test_shown, call_shown, literal_shown};
 
 use super::{
     Comparable, Comparison, Filter, FilterAtom, FnArg, JpQuery, Literal, Segment, Selector,

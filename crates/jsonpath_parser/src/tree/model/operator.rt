@@ -1,8 +1,6 @@
 //! The operators of comparisons (RFC 9535, 2.3.5.1).
 ghost use Rattle.std.specs.Prelude.{◌≡◌, option_map};
-ghost use Rattle.jsonpath_parser.specs.tree.Making.{operator_of};
-ghost use Rattle.jsonpath_parser.specs.tree.Syntax.{compare};
-ghost use Rattle.jsonpath_parser.specs.tree.View.{comparable_view, comparison_view, operator_view};
+ghost use Rattle.jsonpath_parser.specs.Prelude.{comparable_view, compare, comparison_view, operator_of, operator_view};
 
 use super::{Comparable, Comparison};
 

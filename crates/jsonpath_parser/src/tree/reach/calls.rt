@@ -1,7 +1,7 @@
 //! Whether a query calls known functions alone (RFC 9535, 2.4).
 ghost use Rattle.std.specs.Prelude.{◌≡◌, map};
 ghost use Rattle.jsonpath_parser.specs.tree.Reach as reach;
-ghost use Rattle.jsonpath_parser.specs.tree.View.{segment_view, segments_of, selector_view, selectors_of, filter_view, filters_of, atom_view, comparison_view, comparable_view, test_view, call_view, argument_view, arguments_of, query_view};
+ghost use Rattle.jsonpath_parser.specs.Prelude.{argument_view, arguments_of, atom_view, call_view, comparable_view, comparison_view, filter_view, filters_of, query_view, segment_view, segments_of, selector_view, selectors_of, test_view};
 
 use crate::tree::model::{
     Comparable, Comparison, Filter, FilterAtom, FnArg, JpQuery, Segment, Selector, Test,

@@ -1,12 +1,10 @@
 //! Whether some text spells a tree (RFC 9535, 2.1 to 2.5).
 ghost use Rattle.std.specs.Prelude.{◌≡◌, map};
-ghost use Rattle.std.specs.List.{list_all};
+ghost use Rattle.jsonpath_parser.specs.Prelude.{argument_view, arguments_of, atom_view, call_view, comparable_view, comparison_view, filter_view, filters_of, list_all, literal_view, query_view, segment_view, segments_of, selector_view, selectors_of, singular_view, step_view, test_argument, test_view};
 ghost use Rattle.jsonpath_parser.specs.Grammar as grammar;
 ghost use Rattle.jsonpath_parser.specs.inner.Spellable as spec;
 ghost use Rattle.jsonpath_parser.specs.words.Lexical as lexical;
-ghost use Rattle.jsonpath_parser.specs.tree.Syntax.{test_argument};
 ghost use Rattle.jsonpath_parser.specs.tree.Typing as typing;
-ghost use Rattle.jsonpath_parser.specs.tree.View.{literal_view, step_view, singular_view, segment_view, segments_of, selector_view, selectors_of, filter_view, filters_of, atom_view, comparison_view, comparable_view, test_view, call_view, argument_view, arguments_of, query_view};
 
 use crate::tree::model::{
     Comparable, Comparison, Filter, FilterAtom, FnArg, JpQuery, Literal, Segment, Selector,

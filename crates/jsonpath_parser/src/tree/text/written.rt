@@ -1,9 +1,8 @@
 //! The text of a tree that some text spells, part by part (RFC 9535, 2.1 to 2.5). Each function appends the text of its
 //! part; where memory runs out, a part of that may stand there.
 ghost use Rattle.std.specs.Prelude.{◌≡◌, [], ◌++◌, OnOk, map, string_bytes};
-ghost use Rattle.std.specs.Fmt.{signed_decimal};
+ghost use Rattle.jsonpath_parser.specs.Prelude.{argument_view, arguments_of, atom_view, call_view, comparable_view, comparison_view, filter_view, filters_of, literal_view, query_view, segment_view, segments_of, selector_view, selectors_of, signed_decimal, singular_view, step_view, test_view};
 ghost use Rattle.jsonpath_parser.specs.inner.QueryTexts as spec;
-ghost use Rattle.jsonpath_parser.specs.tree.View.{literal_view, step_view, singular_view, segment_view, segments_of, selector_view, selectors_of, filter_view, filters_of, atom_view, comparison_view, comparable_view, test_view, call_view, argument_view, arguments_of, query_view};
 
 use crate::tree::model::display::not_sign;
 use crate::tree::model::{

@@ -1,7 +1,7 @@
 use Rattle.std.proofs.Common.{refl, of_calls}
 use Rattle.jsonpath_parser.proofs.PartKinds.{call_law}
 use Rattle.jsonpath_parser.proofs.PartLaws.{kind_stays, kind_read}
-use Rattle.jsonpath_parser.specs.tree.View.{argument_view, call_view}
+use Rattle.jsonpath_parser.specs.Prelude.{argument_view, call_view}
 use Rattle.jsonpath_parser.proofs.cursor.filters.function_expr.Goals as goal
 
 pub part-requires : goal.part-requires

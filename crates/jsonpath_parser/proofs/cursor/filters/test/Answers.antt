@@ -1,7 +1,7 @@
 use Rattle.std.proofs.Common.{refl, of_calls}
 use Rattle.jsonpath_parser.proofs.PartKinds.{test_law}
 use Rattle.jsonpath_parser.proofs.PartLaws.{kind_stays, kind_read}
-use Rattle.jsonpath_parser.specs.tree.View.{argument_view, test_view}
+use Rattle.jsonpath_parser.specs.Prelude.{argument_view, test_view}
 use Rattle.jsonpath_parser.proofs.cursor.filters.test.Goals as goal
 
 pub part-requires : goal.part-requires

@@ -1,7 +1,7 @@
 use Rattle.std.proofs.Common.{refl, of_calls}
 use Rattle.jsonpath_parser.proofs.PartKinds.{query_law}
 use Rattle.jsonpath_parser.proofs.PartLaws.{kind_stays, kind_read}
-use Rattle.jsonpath_parser.specs.tree.View.{argument_view, query_view}
+use Rattle.jsonpath_parser.specs.Prelude.{argument_view, query_view}
 use Rattle.jsonpath_parser.proofs.cursor.queries.jp_query.Goals as goal
 
 pub part-requires : goal.part-requires

@@ -1,7 +1,7 @@
 use Rattle.std.proofs.Common.{refl, of_calls}
 use Rattle.jsonpath_parser.proofs.PartKinds.{steps_law}
 use Rattle.jsonpath_parser.proofs.PartLaws.{kind_stays, kind_read}
-use Rattle.jsonpath_parser.specs.tree.View.{segments_view, steps_view}
+use Rattle.jsonpath_parser.specs.Prelude.{segments_view, steps_view}
 use Rattle.jsonpath_parser.proofs.cursor.queries.singular_query_segments.Goals as goal
 
 pub part-requires : goal.part-requires

@@ -1,7 +1,5 @@
 use Rattle.std.proofs.Common.{◌≡◌, ◌++◌, map, reverse, vec_len}
-use Rattle.std.specs.Option.{option_map}
-use Rattle.jsonpath_parser.specs.inner.ReadingGrammar.{steps_of}
-use Rattle.jsonpath_parser.specs.tree.View.{segment_view, segments_of, segments_view, step_view}
+use Rattle.jsonpath_parser.specs.Prelude.{option_map, segment_view, segments_of, segments_view, step_view, steps_of}
 use Rattle.jsonpath_parser.proofs.grammar.operands.steps.Given as goal
 
 abbrev pub invariant-steps : goal.invariant-steps

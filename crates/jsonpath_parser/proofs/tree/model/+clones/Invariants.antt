@@ -1,5 +1,5 @@
 use Rattle.std.proofs.Common.{◌≡◌, map, take}
-use Rattle.jsonpath_parser.specs.tree.View.{segment_view, selector_view, filter_view, argument_view}
+use Rattle.jsonpath_parser.specs.Prelude.{argument_view, filter_view, segment_view, selector_view}
 use Rattle.jsonpath_parser.proofs.tree.model.+clones.Given as goal
 
 abbrev pub invariant-clone::arguments-arguments : goal.invariant-clone::arguments-arguments

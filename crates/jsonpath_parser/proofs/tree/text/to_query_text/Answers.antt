@@ -1,9 +1,5 @@
 use Rattle.std.proofs.Common.{◌≡◌, sym, subst, rules, true, string_bytes}
-use Rattle.jsonpath_parser.specs.Grammar.{Spells}
-use Rattle.jsonpath_parser.specs.Values.{IsValued}
-use Rattle.jsonpath_parser.specs.inner.Spellable.{is_spelled}
-use Rattle.jsonpath_parser.specs.inner.QueryTexts.{query_text}
-use Rattle.jsonpath_parser.specs.tree.View.{query_view}
+use Rattle.jsonpath_parser.specs.Prelude.{is_spelled, IsValued, query_text, query_view, Spells}
 use Rattle.jsonpath_parser.proofs.SpelledTrees.{read_passes}
 use Rattle.jsonpath_parser.proofs.TextSpells.{text_spells}
 use Rattle.jsonpath_parser.proofs.tree.text.to_query_text.Goals as goal

@@ -1,6 +1,5 @@
 use Rattle.std.proofs.Common.{◌∙◌, ap, sym}
-use Rattle.jsonpath_parser.specs.tree.Typing.{is_typed_side}
-use Rattle.jsonpath_parser.specs.tree.View.{comparable_view}
+use Rattle.jsonpath_parser.specs.Prelude.{comparable_view, is_typed_side}
 use Rattle.jsonpath_parser.proofs.laws.tree.Steps.{singular_side}
 use Rattle.jsonpath_parser.proofs.laws.tree.ViewEquations.{comparable_view-SingularQuery}
 use Rattle.jsonpath_parser.proofs.laws.tree.Typed.{segments_all, selectors_all, filters_all, arguments_all}

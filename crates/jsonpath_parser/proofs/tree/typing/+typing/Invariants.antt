@@ -1,7 +1,5 @@
 use Rattle.std.proofs.Common.{◌≡◌, map, drop}
-use Rattle.std.specs.List.{list_all}
-use Rattle.jsonpath_parser.specs.tree.Typing.{is_typed, is_typed_segment, are_typed_selectors, is_typed_selector, are_typed_filters, is_typed_filter, are_typed_arguments, is_typed_argument}
-use Rattle.jsonpath_parser.specs.tree.View.{segment_view, segments_of, selector_view, selectors_of, filter_view, filters_of, argument_view, arguments_of}
+use Rattle.jsonpath_parser.specs.Prelude.{are_typed_arguments, are_typed_filters, are_typed_selectors, argument_view, arguments_of, filter_view, filters_of, is_typed, is_typed_argument, is_typed_filter, is_typed_segment, is_typed_selector, list_all, segment_view, segments_of, selector_view, selectors_of}
 use Rattle.jsonpath_parser.proofs.tree.typing.+typing.Given as goal
 
 abbrev pub invariant-arguments-arguments : goal.invariant-arguments-arguments

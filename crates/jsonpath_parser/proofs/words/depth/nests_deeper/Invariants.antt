@@ -1,6 +1,5 @@
 use Rattle.std.proofs.Common.{◌≡◌, ◌≤◌, nat_lt, drop}
-use Rattle.jsonpath_parser.specs.words.Depth.{depth, depth_from}
-use Rattle.jsonpath_parser.specs.words.inner.Places.{place_view}
+use Rattle.jsonpath_parser.specs.Prelude.{depth, depth_from, place_view}
 use Rattle.jsonpath_parser.proofs.words.depth.nests_deeper.Given as goal
 
 abbrev pub invariant-loop-byte : goal.invariant-loop-byte

@@ -1,4 +1,4 @@
-use Rattle.std.specs.Char.{is_ascii_digit}
+use Rattle.jsonpath_parser.specs.Prelude.{is_ascii_digit}
 use Rattle.jsonpath_parser.proofs.laws.words.Fronts.{split_run}
 use Rattle.jsonpath_parser.proofs.words.number.digits.Goals as goal
 

@@ -1,4 +1,4 @@
-use Rattle.std.specs.Str.Parse.{digits_value}
+use Rattle.jsonpath_parser.specs.Prelude.{digits_value}
 use Rattle.jsonpath_parser.proofs.laws.words.NumberPowers.{below_some, below_none, above_some, above_none}
 use Rattle.jsonpath_parser.proofs.words.number.scaled.Goals as goal
 

@@ -1,7 +1,5 @@
 use Rattle.std.proofs.Common.{◌≡◌, ◌++◌, ◌*◌, ◌^◌, ap, sym, ◌∙◌, subst, length}
-use Rattle.std.specs.Str.Parse.{digits_value, digits_value_after}
-use Rattle.jsonpath_parser.specs.words.Numbers.{up}
-use Rattle.jsonpath_parser.specs.words.inner.ReadingNumbers.{number_of, exponent_view, IsUnheld}
+use Rattle.jsonpath_parser.specs.Prelude.{digits_value, digits_value_after, exponent_view, IsUnheld, number_of, up}
 use Rattle.jsonpath_parser.proofs.laws.words.NumberPowers.{unheld_after, digits_value_after-append}
 use Rattle.jsonpath_parser.proofs.laws.words.NumberValues.{value_unheld, value_none, value_some}
 use Rattle.jsonpath_parser.proofs.words.number.value.Goals as goal

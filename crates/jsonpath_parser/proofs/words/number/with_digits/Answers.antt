@@ -1,6 +1,5 @@
 use Rattle.std.proofs.Common.{◌∙◌, subst}
-use Rattle.jsonpath_parser.specs.words.inner.ReadingNumbers.{number_of, IsUnheld}
-use Rattle.std.specs.Str.Parse.{digits_value_after}
+use Rattle.jsonpath_parser.specs.Prelude.{digits_value_after, IsUnheld, number_of}
 use Rattle.jsonpath_parser.proofs.laws.words.NumberPowers.{unheld_turn, next_digit, digit_small}
 use Rattle.jsonpath_parser.proofs.words.number.with_digits.Goals as goal
 

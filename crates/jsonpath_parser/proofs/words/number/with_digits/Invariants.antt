@@ -1,8 +1,5 @@
 use Rattle.std.proofs.Common.{◌≡◌, ◌+◌, ◌≤◌, drop}
-use Rattle.std.specs.Str.Parse.{digits_value_after}
-use Rattle.std.specs.Char.{is_ascii_digit}
-use Rattle.jsonpath_parser.specs.words.Lexical.{IsRun}
-use Rattle.jsonpath_parser.specs.words.inner.ReadingNumbers.{number_of, IsTrimmed}
+use Rattle.jsonpath_parser.specs.Prelude.{digits_value_after, is_ascii_digit, IsRun, IsTrimmed, number_of}
 use Rattle.jsonpath_parser.proofs.words.number.with_digits.Given as goal
 
 abbrev pub invariant-loop-byte : goal.invariant-loop-byte

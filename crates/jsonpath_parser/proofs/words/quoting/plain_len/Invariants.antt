@@ -1,5 +1,5 @@
 use Rattle.std.proofs.Common.{◌≡◌, take}
-use Rattle.jsonpath_parser.specs.Normal.{name_chars}
+use Rattle.jsonpath_parser.specs.Prelude.{name_chars}
 use Rattle.jsonpath_parser.proofs.words.quoting.plain_len.Given as goal
 
 -- all so far stand for themselves

@@ -1,6 +1,6 @@
 use Rattle.std.proofs.Common.{◌<◌, ◌++◌, length, arith, get_or, string_bytes, subst}
 use Rattle.std.proofs.lemmas.Str.{IsCharBoundary-after_ascii}
-use Rattle.jsonpath_parser.specs.Normal.{name_chars}
+use Rattle.jsonpath_parser.specs.Prelude.{name_chars}
 use Rattle.jsonpath_parser.proofs.laws.words.Quoting.{name_turn, Begins-more}
 use Rattle.jsonpath_parser.proofs.words.quoting.push_name_chars.Goals as goal
 

@@ -1,8 +1,7 @@
 use Rattle.std.proofs.Common.{◌≡◌, ◌++◌, length, string_bytes}
 use denote.Text.{Utf8}
 use denote.Shadow.{shadow}
-use Rattle.jsonpath_parser.specs.Location.{Begins}
-use Rattle.jsonpath_parser.specs.Normal.{name_chars}
+use Rattle.jsonpath_parser.specs.Prelude.{Begins, name_chars}
 use Rattle.jsonpath_parser.proofs.words.quoting.push_name_chars.Given as goal
 
 -- what is written, and then the spelling of the rest, is what was there and the spelling of the name

@@ -1,6 +1,6 @@
 use Rattle.std.proofs.Common.{◌≡◌, ◌++◌, string_bytes, ◌∙◌, ap, rules, arith}
 use Rattle.std.proofs.lemmas.Grind.{common_steps}
-use Rattle.std.specs.Char.{encode_utf8}
+use Rattle.jsonpath_parser.specs.Prelude.{encode_utf8}
 use Rattle.jsonpath_parser.proofs.laws.words.StringTurns.{after_run, at_quote, at_other, at_no_escape, at_escape}
 use Rattle.jsonpath_parser.proofs.laws.words.Giving.{gives_err}
 use Rattle.jsonpath_parser.proofs.words.string.chars.Goals as goal

@@ -1,6 +1,6 @@
 use Rattle.std.proofs.Common.{◌≡◌, ◌+◌, ◌-◌, subst, arith}
 use Rattle.std.proofs.lemmas.Str.{IsCharBoundary-after_ascii}
-use Rattle.std.specs.Str.{IsCharBoundary}
+use Rattle.jsonpath_parser.specs.Prelude.{IsCharBoundary}
 use Rattle.jsonpath_parser.proofs.laws.words.Runs.{within_from_byte}
 use Rattle.jsonpath_parser.proofs.words.text.skip.Goals as goal
 

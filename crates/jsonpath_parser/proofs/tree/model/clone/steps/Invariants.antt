@@ -1,5 +1,5 @@
 use Rattle.std.proofs.Common.{◌≡◌, map, take}
-use Rattle.jsonpath_parser.specs.tree.View.{step_view}
+use Rattle.jsonpath_parser.specs.Prelude.{step_view}
 use Rattle.jsonpath_parser.proofs.tree.model.clone.steps.Given as goal
 
 abbrev pub invariant-steps : goal.invariant-steps

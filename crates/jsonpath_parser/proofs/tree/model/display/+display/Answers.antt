@@ -1,9 +1,7 @@
 use Rattle.std.proofs.Common.{◌++◌, ◌∙◌, sym, refl, rules, ap, codes, w64, SFits}
 use Rattle.std.proofs.lemmas.Int.{to_z-of_z}
-use Rattle.std.specs.List.{concat}
+use Rattle.jsonpath_parser.specs.Prelude.{argument_shown, argument_view, concat, filter_shown, filter_view, segment_shown, segment_view, segments_shown, selector_shown, selector_view}
 use Rattle.std.proofs.Output.{has_written_append, has_written_of_eq}
-use Rattle.jsonpath_parser.specs.tree.View.{segment_view, selector_view, filter_view, argument_view}
-use Rattle.jsonpath_parser.specs.tree.Shown.{segment_shown, segments_shown, selector_shown, filter_shown, argument_shown}
 use Rattle.jsonpath_parser.proofs.laws.tree.Joined.{segments_joined, selectors_joined, filters_joined, arguments_joined, called, slice_parts}
 use Rattle.jsonpath_parser.proofs.laws.tree.ViewEquations.{segment_view-Selectors, selector_view-Slice, filter_view-Or, filter_view-And, test_view-RelQuery, query_view-segments, call_view-Custom}
 use Rattle.jsonpath_parser.proofs.tree.model.display.+display.Goals as goal

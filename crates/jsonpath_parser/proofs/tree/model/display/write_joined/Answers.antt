@@ -1,7 +1,7 @@
 use Rattle.std.proofs.Common.{◌≡◌, ◌∙◌, ap, sym, ◌∷◌, map, rules, arith}
 use Rattle.std.proofs.lemmas.Grind.{common_steps}
 use Rattle.std.proofs.Output.{has_written_append, has_written_of_eq}
-use Rattle.jsonpath_parser.specs.tree.Shown.{joined}
+use Rattle.jsonpath_parser.specs.Prelude.{joined}
 use Rattle.jsonpath_parser.proofs.laws.tree.Joined.{followed_more, followed_all}
 use Rattle.jsonpath_parser.proofs.tree.model.display.write_joined.Goals as goal
 

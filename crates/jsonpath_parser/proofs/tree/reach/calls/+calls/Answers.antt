@@ -1,6 +1,5 @@
 use Rattle.std.proofs.Common.{◌∙◌, ap, sym}
-use Rattle.jsonpath_parser.specs.tree.Reach.{is_one_of, argument_calls_only}
-use Rattle.jsonpath_parser.specs.tree.View.{comparable_view}
+use Rattle.jsonpath_parser.specs.Prelude.{argument_calls_only, comparable_view, is_one_of}
 use Rattle.jsonpath_parser.proofs.laws.tree.Steps.{singular_calls}
 use Rattle.jsonpath_parser.proofs.laws.tree.ViewEquations.{comparable_view-SingularQuery}
 use Rattle.jsonpath_parser.proofs.laws.tree.Reached.{segments_calling, selectors_calling, filters_calling, arguments_calling}

@@ -1,7 +1,5 @@
 use Rattle.std.proofs.Common.{◌≡◌, map, drop}
-use Rattle.std.specs.List.{list_all}
-use Rattle.jsonpath_parser.specs.tree.Reach.{is_one_of, calls_only, segment_calls_only, selectors_call_only, selector_calls_only, filters_call_only, filter_calls_only, arguments_call_only, argument_calls_only}
-use Rattle.jsonpath_parser.specs.tree.View.{segment_view, segments_of, selector_view, selectors_of, filter_view, filters_of, argument_view, arguments_of}
+use Rattle.jsonpath_parser.specs.Prelude.{argument_calls_only, argument_view, arguments_call_only, arguments_of, calls_only, filter_calls_only, filter_view, filters_call_only, filters_of, is_one_of, list_all, segment_calls_only, segment_view, segments_of, selector_calls_only, selector_view, selectors_call_only, selectors_of}
 use Rattle.jsonpath_parser.proofs.tree.reach.calls.+calls.Given as goal
 
 abbrev pub invariant-arguments-arguments : goal.invariant-arguments-arguments

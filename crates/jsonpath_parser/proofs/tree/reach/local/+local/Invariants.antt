@@ -1,7 +1,5 @@
 use Rattle.std.proofs.Common.{◌≡◌, map, drop}
-use Rattle.std.specs.List.{list_all}
-use Rattle.jsonpath_parser.specs.tree.Reach.{is_local, is_local_segment, are_local_selectors, is_local_selector, are_local_filters, is_local_filter, are_local_arguments, is_local_argument}
-use Rattle.jsonpath_parser.specs.tree.View.{segment_view, segments_of, selector_view, selectors_of, filter_view, filters_of, argument_view, arguments_of}
+use Rattle.jsonpath_parser.specs.Prelude.{are_local_arguments, are_local_filters, are_local_selectors, argument_view, arguments_of, filter_view, filters_of, is_local, is_local_argument, is_local_filter, is_local_segment, is_local_selector, list_all, segment_view, segments_of, selector_view, selectors_of}
 use Rattle.jsonpath_parser.proofs.tree.reach.local.+local.Given as goal
 
 abbrev pub invariant-arguments-arguments : goal.invariant-arguments-arguments

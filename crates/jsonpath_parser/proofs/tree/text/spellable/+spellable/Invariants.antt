@@ -1,7 +1,5 @@
 use Rattle.std.proofs.Common.{◌≡◌, map, drop}
-use Rattle.std.specs.List.{list_all}
-use Rattle.jsonpath_parser.specs.inner.Spellable.{is_spelled, is_spelled_segment, are_spelled_selectors, is_spelled_selector, are_spelled_conjunctions, is_spelled_conjunction, are_spelled_operands, is_spelled_operand, are_spelled_arguments, is_spelled_argument}
-use Rattle.jsonpath_parser.specs.tree.View.{segment_view, segments_of, selector_view, selectors_of, filter_view, filters_of, argument_view, arguments_of}
+use Rattle.jsonpath_parser.specs.Prelude.{are_spelled_arguments, are_spelled_conjunctions, are_spelled_operands, are_spelled_selectors, argument_view, arguments_of, filter_view, filters_of, is_spelled, is_spelled_argument, is_spelled_conjunction, is_spelled_operand, is_spelled_segment, is_spelled_selector, list_all, segment_view, segments_of, selector_view, selectors_of}
 use Rattle.jsonpath_parser.proofs.tree.text.spellable.+spellable.Given as goal
 
 abbrev pub invariant-arguments-arguments : goal.invariant-arguments-arguments

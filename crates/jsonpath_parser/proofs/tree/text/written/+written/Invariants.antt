@@ -1,8 +1,7 @@
 use Rattle.std.proofs.Common.{◌≡◌, [], ◌++◌, map, drop, string_bytes}
 use denote.Shadow.{shadow}
 use denote.Text.{Utf8}
-use Rattle.jsonpath_parser.specs.inner.QueryTexts.{segments_text, selectors_text, filters_text, arguments_text}
-use Rattle.jsonpath_parser.specs.tree.View.{segment_view, segments_of, selector_view, selectors_of, filter_view, filters_of, argument_view, arguments_of}
+use Rattle.jsonpath_parser.specs.Prelude.{argument_view, arguments_of, arguments_text, filter_view, filters_of, filters_text, segment_view, segments_of, segments_text, selector_view, selectors_of, selectors_text}
 use Rattle.jsonpath_parser.proofs.tree.text.written.+written.Given as goal
 
 -- In each loop what is written, and then the parts that are left, are what was there and all parts.

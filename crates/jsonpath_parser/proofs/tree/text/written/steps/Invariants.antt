@@ -1,6 +1,5 @@
 use Rattle.std.proofs.Common.{◌≡◌, ◌++◌, map, drop, string_bytes}
-use Rattle.jsonpath_parser.specs.inner.QueryTexts.{segments_text}
-use Rattle.jsonpath_parser.specs.tree.View.{step_view, segments_of}
+use Rattle.jsonpath_parser.specs.Prelude.{segments_of, segments_text, step_view}
 use Rattle.jsonpath_parser.proofs.tree.text.written.steps.Given as goal
 
 abbrev pub invariant-steps : goal.invariant-steps

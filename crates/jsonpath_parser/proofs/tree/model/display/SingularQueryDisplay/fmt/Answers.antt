@@ -1,7 +1,6 @@
 use Rattle.std.proofs.Common.{◌++◌, refl, rules, ap, codes}
 use Rattle.std.proofs.Output.{has_written_append, has_written_of_eq}
-use Rattle.jsonpath_parser.specs.tree.View.{step_view}
-use Rattle.jsonpath_parser.specs.tree.Shown.{segment_shown}
+use Rattle.jsonpath_parser.specs.Prelude.{segment_shown, step_view}
 use Rattle.jsonpath_parser.proofs.laws.tree.Joined.{steps_joined}
 use Rattle.jsonpath_parser.proofs.tree.model.display.SingularQueryDisplay.fmt.Goals as goal
 
