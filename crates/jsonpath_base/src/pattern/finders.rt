@@ -5,7 +5,7 @@ ghost use Rattle.jsonpath_base.specs.Pattern.{is_entire, pattern_sought, found, 
 
 use crate::pattern::cells::{Cells, LentCells, Origin};
 use crate::pattern::unbuilt::Built;
-use crate::pattern::weight::{MOST_WEIGHT, byte_cost, weight_of};
+use crate::pattern::weight::{MOST_WEIGHT, building_cost, byte_cost, weight_of};
 use crate::pattern::{Extent, Finder, Pattern};
 use std::alloc::{AllocError, Global};
 
@@ -32,12 +32,19 @@ impl<'p> Asked<'p> {
     }
 }
 
+/// How many finders are kept for the patterns of a query, and for those of a document in one call. What one has worked out
+/// grows to some 10 MB.
+const MOST_FINDERS: usize = 32;
+
 /// Cells for patterns, with what asks each of these.
 #[derive(Drop)]
 pub struct KeptFinders<'p> {
     cells: &'p Cells,
-    /// By the numbers of the cells. Those that were not asked yet have none.
+    /// By the numbers of the cells. Those that were not asked yet have none, and those that gave way to a later one.
     finders: Vec<Option<Box<Finder<'p>>>>,
+    /// How many are kept, and the number of the one that came last.
+    kept: usize,
+    last: usize,
 }
 
 impl<'p> KeptFinders<'p> {
@@ -52,6 +59,8 @@ impl<'p> KeptFinders<'p> {
         KeptFinders {
             cells,
             finders: Vec::new(alloc),
+            kept: 0,
+            last: 0,
         }
     }
 
@@ -87,6 +96,16 @@ impl<'p> KeptFinders<'p> {
         count
     }
 
+    /// Makes room for one more finder: where there are too many, the one that came last gives way, so that of patterns asked in
+    /// turn most keep theirs.
+    fn make_room(&mut self) {
+        if self.kept < MOST_FINDERS {
+            self.kept += 1;
+        } else if let Some(finder) = self.finders.get_mut(self.last) {
+            *finder = None;
+        }
+    }
+
     /// Makes what asks the pattern of this number, if it is this one, or none was built there yet.
     fn make(&mut self, alloc: Global, number: usize, asked: Asked<'_>) -> Built<()>
         ensures { IfErr result (IsUnbuilt (pattern_sought (is_entire asked.entry.extent) asked.entry.pattern.now)) }
@@ -118,8 +137,10 @@ impl<'p> KeptFinders<'p> {
         for _ in self.finders.len()..number.saturating_add(1) {
             self.finders.push(None)?;
         }
-        if let Some(kept) = self.finders.get_mut(number) {
-            *kept = Some(finder);
+        self.make_room();
+        self.last = number;
+        if let Some(place) = self.finders.get_mut(number) {
+            *place = Some(finder);
         }
         Ok(())
     }
@@ -187,8 +208,8 @@ impl<'s, 'p> Finders<'s, 'p> {
         }
     }
 
-    /// What it costs to ask that, in units of work, beside one for each byte: what the search takes, and its weight where the
-    /// pattern has to be built.
+    /// What it costs to ask that, in units of work, beside one for each byte: what the search takes, and what building the
+    /// pattern takes where what asks it is not kept.
     pub fn cost(
         &self,
         alloc: Global,
@@ -200,7 +221,7 @@ impl<'s, 'p> Finders<'s, 'p> {
             return Ok(each.saturating_mul(text.len()));
         }
         let search = byte_cost(alloc, asked.pattern)?.saturating_mul(text.len());
-        Ok(search.saturating_add(asked.weight(alloc)?))
+        Ok(search.saturating_add(building_cost(alloc, asked.pattern)?))
     }
 
     /// What each byte costs that is searched for this pattern, if what asks it is kept.

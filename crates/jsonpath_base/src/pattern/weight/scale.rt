@@ -1,0 +1,332 @@
+//! Reads a pattern, character by character, for what it takes of `regex`.
+
+use crate::pattern::weight::part::{EMPTY, FEW, MOST_LITERALS, MOST_ROUNDS, NOTHING, Part};
+use std::alloc::{AllocError, Global};
+
+/// The length of a class of all characters but a few, and of an escape by number.
+const ALL_BUT_FEW: usize = 6;
+
+/// The length of the ends of a group.
+const ENDS: usize = 2;
+
+/// What a group costs, what the group of this number costs, and for how many others its name costs a unit.
+const GROUP: usize = 100;
+
+const MANY_GROUPS: usize = 1_000;
+
+const MANY: usize = 1 << 20;
+
+const NAMES: usize = 64;
+
+/// What it costs to put two classes together, and to find the other cases of a range.
+const TOGETHER: usize = 60;
+
+const CASES: usize = 700;
+
+/// The length of a pattern whose comments are not told from the rest.
+const VERBOSE: usize = 1 << 20;
+
+/// Where the next character of a pattern stands.
+#[derive(Clone, Copy)]
+enum Place {
+    /// Behind nothing of the following.
+    Free,
+    /// Behind a backslash.
+    Escaped,
+    /// Behind an escape that takes a name, and in the braces of the name.
+    Named,
+    Name,
+    /// Behind the bracket of a class, and behind the `^` that turns the class round.
+    Opened,
+    Turned,
+    /// Behind the `-` of a range.
+    Range,
+    /// In a counted repetition: its greatest number so far, and the one at hand.
+    Count { most: usize, number: usize },
+    /// Behind the parenthesis of a group, and behind the `?` that follows it.
+    Group,
+    Flags,
+}
+
+/// What was read of a pattern.
+#[derive(Drop)]
+pub struct Scale {
+    /// The length of a class of a property.
+    property: usize,
+    place: Place,
+    /// How many brackets of classes are open.
+    brackets: usize,
+    /// Of each open group or class what stands before it in the one around it: the branches that have ended, and the last one.
+    outer: Vec<(Part, Part)>,
+    /// The branches of the innermost one that have ended; of a class its members.
+    ended: Part,
+    /// Its last branch before the last atom.
+    before: Part,
+    /// The last atom, which a repetition multiplies.
+    atom: Part,
+    /// The last character of a class.
+    last: usize,
+    /// Whether a letter stands for its other case too.
+    has_cases: bool,
+    groups: usize,
+    /// Whether the pattern may be a choice among literals, and how many of these are copied if it is.
+    is_choice: bool,
+    copied: usize,
+    /// What else it costs to read it.
+    more: usize,
+}
+
+impl Scale {
+    /// Reads a pattern. A class of a property has so many characters.
+    pub fn of(alloc: Global, pattern: &str, property: usize) -> Result<Scale, AllocError> {
+        let mut scale = Scale {
+            property,
+            place: Place::Free,
+            brackets: 0,
+            outer: Vec::new(alloc),
+            ended: NOTHING,
+            before: EMPTY,
+            atom: EMPTY,
+            last: 0,
+            has_cases: false,
+            groups: 0,
+            is_choice: true,
+            copied: 0,
+            more: 0,
+        };
+        for c in pattern.chars() {
+            scale.put(c)?;
+        }
+        Ok(scale)
+    }
+
+    /// About how many characters it has where its counted repetitions are written out.
+    pub fn length(&self) -> usize {
+        self.whole().length
+    }
+
+    /// What reading it costs beside: its groups, its classes, and the literals that it is a choice among.
+    pub fn beside(&self) -> usize {
+        if self.is_choice {
+            self.more.saturating_add(self.copied)
+        } else {
+            self.more
+        }
+    }
+
+    /// All of the innermost group or class that was read.
+    fn whole(&self) -> Part {
+        self.ended.or(self.before.then(self.atom))
+    }
+
+    /// Reads a character.
+    fn put(&mut self, c: char) -> Result<(), AllocError> {
+        let place = self.place;
+        self.place = Place::Free;
+        match place {
+            Place::Escaped => self.put_escaped(c),
+            Place::Named if c == '{' => self.place = Place::Name,
+            Place::Name if c != '}' => self.place = Place::Name,
+            Place::Named | Place::Name => {}
+            Place::Count { most, number } => self.put_count(c, most, number),
+            Place::Opened if c == '^' => {
+                self.add(Part::other(ALL_BUT_FEW));
+                self.place = Place::Turned;
+            }
+            Place::Opened | Place::Turned if c == ']' => self.put_member(c),
+            Place::Range if !matches!(c, ']' | '[' | '\\') => self.end_range(c),
+            Place::Group if c == '?' => self.place = Place::Flags,
+            Place::Group => {
+                self.add_group();
+                self.put_free(c)?;
+            }
+            Place::Flags => self.put_flag(c),
+            _ => self.put_free(c)?,
+        }
+        Ok(())
+    }
+
+    /// Reads a character behind nothing that gives it another meaning.
+    fn put_free(&mut self, c: char) -> Result<(), AllocError> {
+        match c {
+            '\\' => self.place = Place::Escaped,
+            '[' => self.open_class()?,
+            ']' if self.brackets > 0 => self.close_class(),
+            _ if self.brackets > 0 => self.put_member(c),
+            '(' => self.open(EMPTY, Place::Group)?,
+            ')' => self.close_group(),
+            '|' => self.end_branch(),
+            '{' => self.place = Place::Count { most: 1, number: 0 },
+            '*' | '+' => {
+                self.is_choice = false;
+                self.atom.length = self.atom.length.saturating_add(1);
+            }
+            '?' => self.atom = self.atom.or(Part::maybe(1)),
+            '.' => self.add(Part::other(ALL_BUT_FEW)),
+            '^' | '$' => self.add(Part::other(1)),
+            _ => self.add_character(c),
+        }
+        Ok(())
+    }
+
+    /// Reads what stands behind a backslash. A property may have few members, and so may a range that an escape ends.
+    fn put_escaped(&mut self, c: char) {
+        if matches!(c, 'p' | 'P' | 'x' | 'u' | 'U') {
+            self.place = Place::Named;
+        }
+        self.last = usize::MAX;
+        self.add(match c {
+            'p' | 'P' => Part::some(self.property),
+            'w' | 'W' => Part::other(self.property),
+            'd' | 'D' | 's' | 'S' => Part::other(self.property / 10 + 1),
+            'x' | 'u' | 'U' => Part::some(ALL_BUT_FEW),
+            'b' | 'B' | 'A' | 'z' => Part::other(1),
+            _ if self.brackets > 0 => Part::some(1),
+            _ => Part::new(1, 1),
+        });
+    }
+
+    /// Reads a character of a counted repetition. One whose last number is 0, or left out, is taken to have no bound.
+    fn put_count(&mut self, c: char, most: usize, number: usize) {
+        if c == '}' {
+            self.is_choice &= most <= MOST_ROUNDS && number > 0;
+            self.atom = self.atom.repeated(most);
+            self.count();
+            return;
+        }
+        let number = match c.to_digit(10) {
+            Some(digit) => number.saturating_mul(10).saturating_add(digit as usize),
+            None => 0,
+        };
+        let most = most.max(number);
+        self.place = Place::Count { most, number };
+    }
+
+    /// Reads a character behind the `(?` of a group.
+    fn put_flag(&mut self, c: char) {
+        match c {
+            ')' => return self.close_group(),
+            ':' => return,
+            '<' => {
+                self.more = self.more.saturating_add(self.groups / NAMES);
+                return self.add_group();
+            }
+            'i' => self.has_cases = true,
+            'x' => self.before.length = VERBOSE,
+            _ => {}
+        }
+        self.place = Place::Flags;
+    }
+
+    /// Reads a character of a class.
+    fn put_member(&mut self, c: char) {
+        if c == '-' && self.ended.most > 0 {
+            self.ended = self.ended.or(Part::maybe(1));
+            self.place = Place::Range;
+            return;
+        }
+        let code = c as usize;
+        if code == self.last && matches!(c, '&' | '~') {
+            self.more = self.more.saturating_add(TOGETHER);
+        }
+        self.last = code;
+        self.add_character(c);
+    }
+
+    /// Reads the end of a range, or what takes a class away.
+    fn end_range(&mut self, c: char) {
+        let cost = if self.has_cases { CASES } else { 0 };
+        let cost = if c == '-' { TOGETHER } else { cost };
+        self.more = self.more.saturating_add(cost);
+        let members = (c as usize).saturating_sub(self.last);
+        self.add(Part::new(c.len_utf8(), members));
+    }
+
+    /// Adds a character that stands for itself.
+    fn add_character(&mut self, c: char) {
+        let mut literals = 1;
+        if self.has_cases && c.is_ascii_alphabetic() {
+            literals = 2;
+            self.more = self.more.saturating_add(1);
+        }
+        self.add(Part::new(c.len_utf8(), literals));
+    }
+
+    /// Adds a member of a class, or else an atom.
+    fn add(&mut self, part: Part) {
+        if self.brackets > 0 {
+            self.ended = self.ended.or(part);
+            return;
+        }
+        self.is_choice &= part.least <= FEW;
+        self.before = self.before.then(self.atom);
+        self.atom = part;
+        self.count();
+    }
+
+    /// Counts the literals that are copied for the last atom.
+    fn count(&mut self) {
+        let both = self.before.then(self.atom);
+        self.is_choice &= both.least <= MOST_LITERALS;
+        if both.most > 1 {
+            self.copied = self.copied.saturating_add(both.most);
+        }
+    }
+
+    /// The group at hand is one that is found again, by a number or a name.
+    fn add_group(&mut self) {
+        self.before.length = self.before.length.saturating_add(ENDS);
+        self.groups = self.groups.saturating_add(1);
+        let cost = if self.groups == MANY_GROUPS {
+            MANY
+        } else {
+            GROUP
+        };
+        self.more = self.more.saturating_add(cost);
+    }
+
+    fn open_class(&mut self) -> Result<(), AllocError> {
+        self.brackets = self.brackets.saturating_add(1);
+        self.last = usize::MAX;
+        self.open(NOTHING, Place::Opened)
+    }
+
+    fn open(&mut self, before: Part, place: Place) -> Result<(), AllocError> {
+        self.outer.push((self.ended, self.before.then(self.atom)))?;
+        self.ended = NOTHING;
+        self.before = before;
+        self.atom = EMPTY;
+        self.place = place;
+        Ok(())
+    }
+
+    fn end_branch(&mut self) {
+        self.ended = self.whole().or(Part::new(1, 0));
+        self.before = EMPTY;
+        self.atom = EMPTY;
+    }
+
+    /// What was opened last, which ends here.
+    fn close(&mut self) -> Part {
+        let whole = self.whole();
+        let (ended, before) = self.outer.pop().unwrap_or((NOTHING, EMPTY));
+        self.ended = ended;
+        self.before = before;
+        self.atom = EMPTY;
+        whole
+    }
+
+    fn close_group(&mut self) {
+        self.atom = self.close();
+        self.count();
+    }
+
+    fn close_class(&mut self) {
+        self.brackets = self.brackets.saturating_sub(1);
+        let mut members = self.close();
+        if self.has_cases {
+            members.most = FEW;
+        }
+        self.add(members);
+    }
+}
