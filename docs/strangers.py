@@ -6,13 +6,15 @@
 
 Each row of the first table is a query with its document, in several sizes: the least of three runs of `jpath values`, in
 processor seconds, a slash between the sizes. Its like, which looks at the current node where the query looks at the
-root, comes behind; so do runs of `jpath delete`, with a short name in the like. The second table has the least stack of
+root, comes behind. So do runs of `jpath delete`, also with the memory at its peak, in MB, which is told as no
+less than that of this script, some 25: the like has a short name, or selects each node once. The second table has the least stack of
 `jpath nodes`, in KB, to within 64. The third has, for several sizes of query or document, the least units that are enough
 for `js_path_limited`, and nanoseconds a unit: the least of three runs with one unit less, and less the time of a run with
 none.
 """
 
 import json
+import os
 import resource
 import subprocess
 import sys
@@ -119,6 +121,18 @@ def below_a_name(letters):
     return lambda size: ("$.*[*]", {"a" * (1 + letters * size): numbers(size)})
 
 
+def equal_locations(size):
+    """Two lists of so many indexes, which select four nodes again and again, each below 110 steps more."""
+    indexes = ",".join("01"[i % 2] for i in range(size))
+    below = nest_of_lists(111)
+    return f"$[{indexes}][{indexes}]" + "[0]" * 110, [[below, below], [below, below]]
+
+
+def equal_names(size):
+    """So many times all members: two, whose names are long and differ in the last letter."""
+    return f"$[{','.join('*' * size)}]", {"a" * 10**6 + last: 0 for last in "bc"}
+
+
 def with_query(row, query):
     """The same document under another query."""
     return lambda size: (query, row(size)[1])
@@ -158,19 +172,26 @@ ROWS = [
 # The same of deletions.
 DELETIONS = [
     ("numbers below a long name", below_a_name(10), below_a_name(0), [16000, 32000, 64000, 128000]),
+    ("equal locations", equal_locations, with_query(equal_locations, "$[*][*]" + "[0]" * 110), [50, 100, 200]),
+    ("equal long names", equal_names, with_query(equal_names, "$[*]"), [50, 100, 200]),
 ]
 
 
-def seconds(program, command, query, text):
-    """The least processor time of three runs."""
-    least = None
-    for _ in range(3):
-        before = resource.getrusage(resource.RUSAGE_CHILDREN)
-        subprocess.run([program, command, query], input=text, stdout=subprocess.DEVNULL, check=True)
-        after = resource.getrusage(resource.RUSAGE_CHILDREN)
-        spent = after.ru_utime - before.ru_utime + after.ru_stime - before.ru_stime
-        least = spent if least is None else min(least, spent)
-    return least
+def used(program, command, query, text):
+    """Processor seconds and MB at the peak, of one run."""
+    process = subprocess.Popen([program, command, query], stdin=subprocess.PIPE, stdout=subprocess.DEVNULL)
+    process.stdin.write(text)
+    process.stdin.close()
+    _, status, taken = os.wait4(process.pid, 0)
+    process.returncode = os.waitstatus_to_exitcode(status)
+    if process.returncode != 0:
+        sys.exit(f"{query}: status {process.returncode}")
+    return taken.ru_utime + taken.ru_stime, taken.ru_maxrss / 1024
+
+
+def least(runs):
+    """Of each column the least."""
+    return [min(column) for column in zip(*runs)]
 
 
 def times(program):
@@ -182,7 +203,10 @@ def times(program):
                     columns.append("")
                     continue
                 asked = [made(size) for size in sizes]
-                columns.append("/".join(f"{seconds(program, command, query, json.dumps(document).encode()):.3f}" for query, document in asked))
+                runs = [least(used(program, command, query, json.dumps(document).encode()) for _ in range(3)) for query, document in asked]
+                columns.append("/".join(f"{seconds:.3f}" for seconds, _ in runs))
+                if command == "delete":
+                    columns[-1] += "; " + "/".join(f"{megabytes:.0f}" for _, megabytes in runs) + " MB"
             print(f"| {name}, {'/'.join(map(str, sizes))} | {columns[0]} | {columns[1]} |", flush=True)
 
 

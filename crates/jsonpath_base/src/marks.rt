@@ -33,20 +33,21 @@ impl Marks {
 }
 
 /// Adds a location to the set: at each level in the last entry, where that has its step, and else in a new one. The last
-/// entries are taken to have so many of its first steps, which are not compared.
+/// entries are taken to have so many of its first steps, which are not compared. The result says whether a new entry rises
+/// above those before it; true where there is none.
 #[cycle(mark)]
 pub fn mark(
     alloc: Global,
     marks: &mut Marks,
     steps: &[StepRef<'_>],
     settled: usize,
-) -> Result<(), AllocError>
+) -> Result<bool, AllocError>
     ensures { OnOk result (EndsWith (take settled (lent_location steps.now)) marks.old → Adds marks.old (lent_location steps.now) marks.new) }
 {
     match steps.split_first() {
         None => {
             marks.here = true;
-            Ok(())
+            Ok(true)
         }
         Some((StepRef::Name(name), rest)) => mark_member(
             alloc,
@@ -73,7 +74,7 @@ fn mark_member(
     name: &str,
     rest: &[StepRef<'_>],
     settled: usize,
-) -> Result<(), AllocError>
+) -> Result<bool, AllocError>
     ensures { OnOk result (LevelEnds to_member (take settled (location.name name.now ∷ lent_location rest.now)) below.old.items
         → AddsIn to_member below.old.items (location.name name.now ∷ lent_location rest.now) below.new.items) }
 {
@@ -82,12 +83,13 @@ fn mark_member(
             return mark(alloc, &mut last.1, rest, settled.saturating_sub(1));
         }
     }
+    let rises = name_rises(below, name);
     let key = String::from_str(alloc, name)?;
     let mut marks = Marks::new(alloc);
     mark(alloc, &mut marks, rest, 0)?;
     make_room(below)?;
     below.push((key, marks))?;
-    Ok(())
+    Ok(rises)
 }
 
 /// The same, of a location that goes to the element of this index first.
@@ -98,7 +100,7 @@ fn mark_element(
     index: usize,
     rest: &[StepRef<'_>],
     settled: usize,
-) -> Result<(), AllocError>
+) -> Result<bool, AllocError>
     ensures { OnOk result (LevelEnds location.index (take settled (location.index index ∷ lent_location rest.now)) below.old.items
         → AddsIn location.index below.old.items (location.index index ∷ lent_location rest.now) below.new.items) }
 {
@@ -107,11 +109,12 @@ fn mark_element(
             return mark(alloc, &mut last.1, rest, settled.saturating_sub(1));
         }
     }
+    let rises = index_rises(below, index);
     let mut marks = Marks::new(alloc);
     mark(alloc, &mut marks, rest, 0)?;
     make_room(below)?;
     below.push((index, marks))?;
-    Ok(())
+    Ok(rises)
 }
 
 /// Makes room for a first entry, and for no more, since most levels have one alone.
@@ -149,5 +152,23 @@ fn ends_with_index(below: &[(usize, Marks)], index: usize, settled: usize) -> bo
     match below.last() {
         Some(last) => last.0 == index,
         None => false,
+    }
+}
+
+/// Whether this name is greater than that of the last entry, if there is one.
+#[inline(always)]
+fn name_rises(below: &[(String, Marks)], name: &str) -> bool {
+    match below.last() {
+        Some(last) => last.0.as_str() < name,
+        None => true,
+    }
+}
+
+/// Whether this index is greater than that of the last entry, if there is one.
+#[inline(always)]
+fn index_rises(below: &[(usize, Marks)], index: usize) -> bool {
+    match below.last() {
+        Some(last) => last.0 < index,
+        None => true,
     }
 }

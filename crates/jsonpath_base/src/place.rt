@@ -13,7 +13,8 @@ use serde_json::Value;
 use std::mem;
 
 /// The value at the location of these steps; None where nothing is there (RFC 9535, 1.1). It takes no memory, and time
-/// linear in the steps and in the names that they hold, times the logarithm of an object's members.
+/// linear in the steps and in the names that they hold, times the logarithm of an object's members. Of a value with a number
+/// that is not whole less is proved: that number counts as null in these clauses.
 #[cycle(at)]
 pub fn at<'v>(value: &'v Value, steps: &[Step]) -> Option<&'v Value>
     ensures value { option_map (λ v. value_tree v.now) result ≡ places.at (location_view steps.now) (value_tree value.now) }
@@ -41,7 +42,8 @@ pub fn child<'v>(value: &'v Value, step: &Step) -> Option<&'v Value>
 }
 
 /// Puts a value at the location of these steps, in the place of the one there, and returns true; where nothing is there,
-/// it returns false and changes nothing, and the new value is dropped. It takes no memory, and time as `at`.
+/// it returns false and changes nothing, and the new value is dropped. It takes no memory, and time as `at`. Of values with
+/// a number that is not whole less is proved, as of `at`.
 pub fn put_at(value: &mut Value, steps: &[Step], new: Value) -> bool
     ensures value { value_tree value.new ≡ put (location_view steps.now) (value_tree new) (value_tree value.old) }
     ensures found { result ≡ is_some (places.at (location_view steps.now) (value_tree value.old)) }
@@ -51,7 +53,7 @@ pub fn put_at(value: &mut Value, steps: &[Step], new: Value) -> bool
 }
 
 /// Takes the value at the location of these steps, and leaves null there; None where nothing is there, and then nothing
-/// changes. It takes no memory, and time as `at`.
+/// changes. It takes no memory, and time as `at`. Of a value with a number that is not whole less is proved, as of `at`.
 pub fn take_at(value: &mut Value, place: &[Step]) -> Option<Value>
     ensures taken { option_map value_tree result ≡ places.at (location_view place.now) (value_tree value.old) }
     ensures left { value_tree value.new ≡ put (location_view place.now) null (value_tree value.old) }

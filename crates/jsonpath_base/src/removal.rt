@@ -9,22 +9,32 @@ ghost use Rattle.jsonpath_base.specs.Steps.{location_view, lent_location};
 ghost use Rattle.jsonpath_base.specs.Values.{value_tree, value_is_whole};
 ghost use Rattle.jsonpath_base.specs.Overwritten.{overwritten};
 ghost use Rattle.jsonpath_base.specs.Without.{without, is_among, distinct_count, counted_with, HasAlso};
-ghost use Rattle.jsonpath_base.specs.inner.Marks.{to_member, marked, marked_below, in_order, level_in_order};
+ghost use Rattle.jsonpath_base.specs.inner.Marks.{to_member, marked, marked_below, in_order, level_in_order, IsSameSet};
 ghost use Rattle.jsonpath_base.specs.inner.Thinning.{data_thinned, items_thinned, members_thinned, sieved, IsThinnedAt, IsThinnedBy};
 
 use crate::marks::{Marks, mark};
 use crate::masking::{copies_for, fill};
 use crate::ordering::put_in_order;
+use crate::size::{marks_size, steps_size};
 use crate::step::{Step, StepRef};
 use jsonpath_parser::errors::{JsonPathError, Parsed};
 use serde_json::{Map, Value};
-use std::alloc::Global;
+use std::alloc::{AllocError, Global};
 use std::mem;
 
-/// Locations to be removed from a value, or replaced in it. Of those that come one after the other each step that they begin with is held once.
+/// How much is added out of order, at least, before marks are put in order.
+const LEAST: usize = 1024;
+
+/// Locations to be removed from a value, or replaced in it. A step that several of them begin with is held once where they come
+/// in order. Of others it may be held again, until as much was added as is held, or a small number: then the marks are put in
+/// order, and each step stands once. So memory grows with the distinct steps and with their names, up to twice these.
 #[derive(Drop)]
 pub struct Removal {
     marks: Marks,
+    /// The size of what was added since a location came out of order; 0 where the marks are in order.
+    added: usize,
+    /// How much that is before they are put in order.
+    most: usize,
 }
 
 impl Removal {
@@ -37,13 +47,25 @@ impl Removal {
     {
         Removal {
             marks: Marks::new(alloc),
+            added: 0,
+            most: LEAST,
         }
     }
 
-    /// Adds the location of these steps, of which so many are the first ones of the location that was added last: these are
-    /// neither compared nor held again. It refuses by `OutOfMemory` alone. Time linear in the number of the steps, and in the
-    /// names of the others.
-    pub fn add(&mut self, alloc: Global, steps: &[StepRef<'_>], settled: usize) -> Parsed<()>
+    /// Adds the location of these steps. It refuses by `OutOfMemory` alone, and then the removal may have lost locations. Time
+    /// linear in the steps and in their names; for many locations n log n.
+    pub fn add(&mut self, alloc: Global, steps: &[StepRef<'_>]) -> Parsed<()>
+        ensures added { OnOk result (HasAlso (removal_set self.old) (lent_location steps.now) (removal_set self.new)) }
+        ensures count { OnOk result (removal_count self.new ≡ counted_with (lent_location steps.now) (removal_set self.old) (removal_count self.old)) }
+        ensures last { OnOk result (LastBegins self.new (lent_location steps.now)) }
+        ensures memory { IfErr result (λ e. e ≡ JsonPathError.OutOfMemory) }
+    {
+        self.add_behind(alloc, steps, 0)
+    }
+
+    /// The same of steps of which so many are the first ones of the location that was added last: as long as the marks are
+    /// not put in order, these are neither compared nor held again. Where they are other ones, nothing is known of the removal from there on.
+    pub fn add_behind(&mut self, alloc: Global, steps: &[StepRef<'_>], settled: usize) -> Parsed<()>
         ensures added { OnOk result (LastBegins self.old (take settled (lent_location steps.now))
             → HasAlso (removal_set self.old) (lent_location steps.now) (removal_set self.new)) }
         ensures count { OnOk result (LastBegins self.old (take settled (lent_location steps.now))
@@ -51,7 +73,30 @@ impl Removal {
         ensures last { OnOk result (LastBegins self.old (take settled (lent_location steps.now)) → LastBegins self.new (lent_location steps.now)) }
         ensures memory { IfErr result (λ e. e ≡ JsonPathError.OutOfMemory) }
     {
-        Ok(mark(alloc, &mut self.marks, steps, settled)?)
+        let known = self.joined(alloc, settled)?;
+        let rises = mark(alloc, &mut self.marks, steps, known)?;
+        let size = if self.added > 0 || !rises {
+            steps_size(steps, known)
+        } else {
+            0
+        };
+        self.added = self.added.saturating_add(size);
+        Ok(())
+    }
+
+    /// Where as much was added out of order as is held, puts the marks in order, so that each step stands once. The result says
+    /// how many of the settled steps the marks still end with.
+    fn joined(&mut self, alloc: Global, settled: usize) -> Result<usize, AllocError>
+        ensures same { OnOk result (IsSameSet (removal_set self.old) (removal_set self.new)) }
+        ensures known { (l : Location) → IfOk result (λ n. LastBegins self.old (take settled l) → LastBegins self.new (take n l)) }
+    {
+        if self.added < self.most {
+            return Ok(settled);
+        }
+        let _ = put_in_order(alloc, &mut self.marks)?;
+        self.added = 0;
+        self.most = marks_size(&self.marks).max(LEAST);
+        Ok(0)
     }
 
     /// The same locations, in order and counted. It refuses by `OutOfMemory` alone. Time linear in the steps that are held
@@ -61,7 +106,7 @@ impl Removal {
         ensures count { IfOk result (λ r. ordered_count r ≡ removal_count self) }
         ensures memory { IfErr result (λ e. e ≡ JsonPathError.OutOfMemory) }
     {
-        let Removal { mut marks } = self;
+        let Removal { mut marks, .. } = self;
         let count = put_in_order(alloc, &mut marks)?;
         Ok(OrderedRemoval { marks, count })
     }
@@ -87,7 +132,7 @@ impl OrderedRemoval {
         let mut removal = Removal::new(alloc);
         for place in places {
             let steps = lent_steps(alloc, place)?;
-            removal.add(alloc, &steps, 0)?;
+            removal.add(alloc, &steps)?;
         }
         removal.ordered(alloc)
     }
@@ -128,7 +173,8 @@ impl OrderedRemoval {
 }
 
 /// Removes the values at these locations, all at once and each by its original place, and returns how many distinct
-/// locations there are. One where nothing is counts, and changes nothing; where the root is one of them, null is left.
+/// locations there are. One where nothing is counts, and changes nothing; where the root is one of them, null is left. Of a
+/// value with a number that is not whole less is proved: that number counts as null in these clauses.
 ///
 /// It refuses by `OutOfMemory` alone, and then the value is as it was: all locations are marked first, and from there
 /// on nothing is taken. Time n log n in the steps of the locations; in a list that loses elements, each element behind the
@@ -147,6 +193,7 @@ pub fn remove_all(alloc: Global, value: &mut Value, places: &[Vec<Step>]) -> Par
 
 /// Puts a copy of `new` at each of these locations, all at once, and returns how many distinct locations there are. Of those that
 /// lie inside one another the outermost is replaced, and the others count; one where nothing is counts, and changes nothing.
+/// Of values with a number that is not whole less is proved: that number counts as null in these clauses.
 ///
 /// It refuses by `OutOfMemory` alone, and then the value is as it was: all locations are marked, and all copies made, before
 /// anything is replaced. Time n log n in the steps of the locations, and the size of `new` for each location that lies inside

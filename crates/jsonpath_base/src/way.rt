@@ -5,6 +5,7 @@ ghost use Rattle.jsonpath_base.specs.Steps.{location_view, lent_step, lent_locat
 ghost use Rattle.jsonpath_base.specs.inner.Way.{spelled, IsSpelled};
 ghost use Rattle.jsonpath_base.specs.declared.step.StepRef.{StepRef};
 
+use crate::size::steps_size;
 use crate::step::{Step, StepRef, add_index, add_name};
 use std::alloc::{AllocError, Global};
 
@@ -84,6 +85,11 @@ impl<'s> Way<'s> {
             self.starts.clear();
             self.text.clear();
         }
+    }
+
+    /// The size of the steps that are not settled: one for each, and for each 16 bytes of its name.
+    pub fn unsettled_size(&self) -> usize {
+        steps_size(&self.steps, self.settled)
     }
 
     /// The Normalized Path. It settles all steps.

@@ -12,7 +12,7 @@ use crate::selection::plan::Segment;
 use crate::selection::sink::Sink;
 use crate::selection::trail::Trail;
 use crate::selection::walk::Task;
-use jsonpath_base::StepRef;
+use jsonpath_base::engine::StepRef;
 
 /// A child of the value at hand, and the step that leads to it.
 #[derive(Clone, Copy)]

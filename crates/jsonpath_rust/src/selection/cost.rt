@@ -12,8 +12,8 @@ use crate::documents::value::{Operand, Side};
 use crate::documents::whole::WholeRef;
 use crate::selection::budget::{Budget, Limit};
 use crate::selection::sink::Sink;
-use jsonpath_base::engine::{Asked, Finders, Origin, Way};
-use jsonpath_base::{Extent, StepRef};
+use jsonpath_base::Extent;
+use jsonpath_base::engine::{Asked, Finders, Origin, StepRef, Way};
 use std::alloc::Global;
 
 /// How many bytes of a text are compared for one unit.
@@ -140,13 +140,15 @@ impl Budget {
 }
 
 /// What it costs to give a node to a sink: where that keeps a path or a location, a unit for each
-/// few bytes of names in it.
+/// few bytes of names in it; where it marks one, a unit for each step that is not settled, and for
+/// each few bytes of its name.
 fn path_cost<T: Queryable>(sink: &Sink<'_, T>, way: &Way<'_>) -> usize {
     match sink {
         Sink::Nodes(_) => name_bytes(way) / COPIED,
         Sink::Paths(_) => name_bytes(way) / COPIED,
         Sink::Locations(_) => name_bytes(way) / COPIED,
         Sink::First(_) => name_bytes(way) / COPIED,
+        Sink::Removal(_) => way.unsettled_size(),
         _ => 0,
     }
 }

@@ -14,7 +14,8 @@ use crate::selection::only::Only;
 use crate::selection::runner::Runner;
 use crate::selection::sink::Sink;
 use crate::selection::within::Within;
-use jsonpath_base::{Removal, Step};
+use jsonpath_base::Step;
+use jsonpath_base::engine::Removal;
 use jsonpath_parser::is_singular;
 use std::alloc::Global;
 use std::fmt;
@@ -38,7 +39,9 @@ use std::fmt::{Debug, Formatter, Write};
 /// - for each byte of a text that is searched, one for each eight of these characters, where a class such as `\w` has eight;
 /// - one for each value that a custom function is given, and the product of their sizes, counted so; `count` and `value` spend
 ///   what their walks spend;
-/// - one for each 64 bytes of the names in a path or a location that is returned; none for those in a location that is deleted;
+/// - one for each 64 bytes of the names in a path or a location that is returned;
+/// - one for each step of a location that is deleted or replaced, and for each 16 bytes of that step's name; none for the first
+///   steps that the location before it has too;
 /// - where three queries from the root stand in one another, one for each value of the document that is looked at to see how
 ///   deep it is.
 ///

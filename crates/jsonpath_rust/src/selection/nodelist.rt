@@ -10,7 +10,8 @@ use crate::documents::{Queried, QueryPath, QueryRef};
 use crate::selection::give::give_nodes;
 use crate::selection::only::Only;
 use crate::selection::sink::Sink;
-use jsonpath_base::{Removal, Step};
+use jsonpath_base::Step;
+use jsonpath_base::engine::Removal;
 use jsonpath_parser::model::JpQuery;
 use std::alloc::Global;
 

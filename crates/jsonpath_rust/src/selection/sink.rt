@@ -10,8 +10,8 @@ use crate::documents::value::{GREATEST_COUNT, Operand, Scalar, Side, count_scala
 use crate::documents::whole::WholeRef;
 use crate::documents::{QueryPath, QueryRef};
 use crate::selection::cache::Given;
-use jsonpath_base::engine::Way;
-use jsonpath_base::{Removal, Step};
+use jsonpath_base::Step;
+use jsonpath_base::engine::{Removal, Way};
 use std::alloc::Global;
 
 /// What is wanted of the nodes of a query inside a filter.
@@ -109,7 +109,7 @@ impl<'a, T: Queryable> Sink<'a, T> {
                 Ok(true)
             }
             Sink::Removal(removal) => {
-                removal.add(alloc, &way.steps, way.settled)?;
+                removal.add_behind(alloc, &way.steps, way.settled)?;
                 way.settle();
                 Ok(true)
             }

@@ -20,7 +20,8 @@ use crate::selection::onward::Onward;
 use crate::selection::plan::{Plan, Segment, Selector};
 use crate::selection::sink::Sink;
 use crate::selection::trail::Trail;
-use jsonpath_base::{StepRef, slice_places};
+use jsonpath_base::engine::StepRef;
+use jsonpath_base::slice_places;
 use std::alloc::Global;
 
 /// Start, end and step of a slice (RFC 9535, 2.3.4).

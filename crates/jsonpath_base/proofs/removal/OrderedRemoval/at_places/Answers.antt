@@ -23,7 +23,7 @@ loop-place-preserved c =
     let next : drop i places ≡ p ∷ drop (i + 1) places =
     drop_more places i p c.loop-place-test.true ∙ ap (λ x. x ∷ drop (i + 1) places) (sym c.place-item.is) in
     let at = ap lent_location c.deref-in-loop-place.ensures.value ∙ c.in_ok-steps.ensures.lent ∙ ap location_view c.deref.ensures.value in
-    marks_next (marked old) (marked new) (distinct_count (listed old)) (distinct_count (listed new)) _ (map place (drop (i + 1) places)) (c.in_ok-add.ensures.added tt) (c.in_ok-add.ensures.count tt)
+    marks_next (marked old) (marked new) (distinct_count (listed old)) (distinct_count (listed new)) _ (map place (drop (i + 1) places)) c.in_ok-add.ensures.added c.in_ok-add.ensures.count
     ∙ ap (λ x. set_with (x ∷ map place (drop (i + 1) places)) (marked old) (distinct_count (listed old))) at
     ∙ ap (λ xs. set_with (map place xs) (marked old) (distinct_count (listed old))) (sym next)
     ∙ l.invariant
