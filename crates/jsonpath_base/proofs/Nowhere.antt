@@ -1,11 +1,11 @@
 -- A removal at a location where nothing is leaves the tree.
-use Rattle.std.proofs.Common.{◌≡◌, ℕ, suc, List, [], ◌∷◌, Bool, true, false, if◌then◌else◌, IsTrue, None, refl, sym, ap, ap₂, ◌∙◌}
+use Rattle.std.proofs.Common.{◌≡◌, ℕ, suc, List, [], ◌∷◌, Bool, true, false, if◌then◌else◌, refl, sym, ap, ap₂, ◌∙◌}
 use Rattle.jsonpath_parser.specs.Location.{name, index, Location}
 use Rattle.jsonpath_base.proofs.OverwrittenLaws.{at_one_is_put}
 use Rattle.jsonpath_base.proofs.PutLaws.{put_nowhere}
 use Rattle.jsonpath_base.specs.Overwritten.{overwritten, overwritten_below, elements_overwritten, members_overwritten}
-use Rattle.jsonpath_base.specs.Places.{at}
-use Rattle.jsonpath_base.specs.Tree.{Tree, null, truth, number, text, list, object, Trees, no_trees, tree, Members, no_members, member, has_distinct_names}
+use Rattle.jsonpath_base.specs.Remaining.{WithoutNowhere}
+use Rattle.jsonpath_base.specs.Tree.{Tree, null, truth, number, text, list, object, Trees, no_trees, tree, Members, no_members, member}
 use Rattle.jsonpath_base.specs.Without.{without, thinned, elements_thinned, members_thinned, is_among}
 
 -- ---- what stays whatever is put at a set of locations has none of them, so a removal of these leaves it
@@ -70,5 +70,5 @@ stays set t same = by_root (set []) same (below_stays set t)
     by_root false all below = below all
 
 -- a write where nothing is changes nothing, and a replacement at one location is a write
-pub without_nowhere : (l : Location) (t : Tree) → IsTrue (has_distinct_names t) → at l t ≡ None → without (is_among (l ∷ [])) t ≡ t
+pub without_nowhere : WithoutNowhere
 without_nowhere l t distinct none = stays (is_among (l ∷ [])) t (λ u. at_one_is_put l u t distinct ∙ put_nowhere l u t none)

@@ -4,7 +4,7 @@ use Rattle.std.proofs.lemmas.Slice.Eq.{bytes_eq-Decides}
 use Rattle.std.specs.Str.{bytes_eq}
 use Rattle.jsonpath_parser.specs.Location.{Step, name, index, Location, Begins}
 use Rattle.jsonpath_base.specs.Places.{child, item_at, at}
-use Rattle.jsonpath_base.specs.Put.{with_element, with_member, with_child, put, PutLeavesTheRest, PutIsThere, PutIsSeenAbove}
+use Rattle.jsonpath_base.specs.Put.{with_element, with_member, with_child, put, PutLeavesTheRest, PutIsThere, PutIsSeenAbove, PutNowhere}
 use Rattle.jsonpath_base.specs.Tree.{Tree, null, truth, number, text, list, object, Trees, no_trees, tree, Members, no_members, member, find, pairs}
 
 -- the child at r, where the child at s is written: it is the one that was written, or it is as it was
@@ -164,6 +164,6 @@ child_as_it_was (name k) f (number n) h = refl
 child_as_it_was (name k) f (text k') h = refl
 
 -- a write where nothing is changes nothing
-pub put_nowhere : (l : Location) (u t : Tree) → at l t ≡ None → put l u t ≡ t
+pub put_nowhere : PutNowhere
 put_nowhere [] u t none = absurd cc
 put_nowhere (s ∷ l) u t none = child_as_it_was s (put l u) t (λ c is. put_nowhere l u c (sym (ap (option_and_then (at l)) is) ∙ none))

@@ -82,13 +82,20 @@ object_put test es x w found put h =
 
 -- ---- a value
 
+-- untouched, its data stays
+pub same_list : (value : Value) (v : Vec Value Global) → Some (items_view v.items) ≡ json_find.as_array (view value) → view (Array v) ≡ view value
+same_list value v held = view-Array v ∙ sym (list_data (view value) (items_view v.items) held)
+
+pub same_object : (value : Value) (m n : BTreeMap (String Global) Value) → Some (members_view m.entries) ≡ json_find.as_object (view value) → n ≡ m → view (Object n) ≡ view value
+same_object value m n held same = ap (λ (y : BTreeMap (String Global) Value). view (Object y)) same ∙ view-Object m ∙ sym (object_data (view value) (members_view m.entries) held)
+
 pub element_put : (value : Value) (v n : Vec Value Global) (i : ℕ) (x w : Value) → Some (items_view v.items) ≡ json_find.as_array (view value) → i < length v.items → x ≡ get_or v.items i x → n.items ≡ set v.items i w
     → (IsTrue (value_is_whole x) → IsTrue (value_is_whole w)) → IsTrue (value_is_whole value) → IsTrue (value_is_whole (Array n))
 element_put value v n i x w held within read written put h =
     ap data_whole (view-Array n ∙ ap (λ ys. json.array (items_view ys)) written) ∙ items_put v.items i x w within read put (ap data_whole (sym (list_data (view value) (items_view v.items) held)) ∙ h)
 
 pub elements_kept : (value : Value) (v : Vec Value Global) → Some (items_view v.items) ≡ json_find.as_array (view value) → IsTrue (value_is_whole value) → IsTrue (value_is_whole (Array v))
-elements_kept value v held h = ap data_whole (view-Array v ∙ sym (list_data (view value) (items_view v.items) held)) ∙ h
+elements_kept value v held h = ap data_whole (same_list value v held) ∙ h
 
 pub member_put : (value : Value) (m n : BTreeMap (String Global) Value) (test : String Global → Bool) (x w : Value) → Some (members_view m.entries) ≡ json_find.as_object (view value) → lookup test m.entries ≡ Some x → n.entries ≡ set_value test m.entries w
     → (IsTrue (value_is_whole x) → IsTrue (value_is_whole w)) → IsTrue (value_is_whole value) → IsTrue (value_is_whole (Object n))
@@ -96,4 +103,4 @@ member_put value m n test x w held found written put h =
     ap data_whole (view-Object n ∙ ap (λ ys. json.object (members_view ys)) written) ∙ object_put test m.entries x w found put (ap data_whole (sym (object_data (view value) (members_view m.entries) held)) ∙ h)
 
 pub members_kept : (value : Value) (m n : BTreeMap (String Global) Value) → Some (members_view m.entries) ≡ json_find.as_object (view value) → n ≡ m → IsTrue (value_is_whole value) → IsTrue (value_is_whole (Object n))
-members_kept value m n held same h = ap (λ (y : BTreeMap (String Global) Value). data_whole (view (Object y))) same ∙ ap data_whole (view-Object m ∙ sym (object_data (view value) (members_view m.entries) held)) ∙ h
+members_kept value m n held same h = ap data_whole (same_object value m n held same) ∙ h

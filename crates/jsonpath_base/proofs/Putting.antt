@@ -1,5 +1,5 @@
 -- A write to one child of a value, seen as a tree.
-use Rattle.std.proofs.Common.{◌≡◌, ℕ, zero, suc, ◌<◌, ◌≤◌, ℤ, List, [], ◌∷◌, length, set, get_or, Bool, true, false, Option, Some, None, is_some, nat_cmp, bytes_eq, String, Vec, BTreeMap, Global, string_bytes, unwrap_or, refl, sym, ap, ◌∙◌, arith}
+use Rattle.std.proofs.Common.{◌≡◌, ℕ, zero, suc, ◌<◌, ◌≤◌, ℤ, List, [], ◌∷◌, length, set, get_or, Bool, true, false, Option, Some, None, IfNone, is_some, nat_cmp, bytes_eq, String, Vec, BTreeMap, Global, string_bytes, unwrap_or, refl, sym, ap, ◌∙◌, arith}
 use Rattle.std.proofs.lemmas.Map.Text.{is_eq-slice_cmp}
 use Rattle.std.specs.BTreeMap.{is_at}
 use Rattle.std.specs.Cmp.Lexicographic.{slice_cmp}
@@ -125,6 +125,10 @@ at_child s l t (Some u) e = rw e
 pub nothing_there : (o : Option Tree) → is_some o ≡ false → None ≡ o
 nothing_there None e = refl
 nothing_there (Some t) e = absurd cc
+
+pub none_weaker : {P Q : Type 0} (o : Option Value) → (P → Q) → IfNone o P → IfNone o Q
+none_weaker None weaker p = weaker p
+none_weaker (Some v) weaker p = tt
 
 pub set_element : (value : Value) (v n : Vec Value Global) (i : ℕ) (f : Tree → Tree) (x w : Value) → Some (items_view v.items) ≡ json_find.as_array (view value) → i < length v.items → x ≡ get_or v.items i x
     → n.items ≡ set v.items i w → value_tree w ≡ f (value_tree x) → value_tree (Array n) ≡ with_child (index i) f (value_tree value)

@@ -3,10 +3,9 @@ use Rattle.std.proofs.Common.{◌≡◌, ◌≤◌, ◌<◌, ◌+◌, ◌⊎◌,
 use Rattle.std.proofs.lemmas.Slice.Eq.{bytes_eq-Decides}
 use Rattle.jsonpath_parser.specs.Location.{Step, name, index, Location}
 use Rattle.jsonpath_base.specs.Places.{child, item_at, at}
-use Rattle.jsonpath_base.specs.Remaining.{StaysInPlace, WithoutIsSeen, RemovedMemberIsGone, WithoutLeavesTheRest}
+use Rattle.jsonpath_base.specs.Remaining.{StaysInPlace, KeepsItsIndexes, StayingKeepsIndexes, WithoutIsSeen, RemovedMemberIsGone, WithoutLeavesTheRest}
 use Rattle.jsonpath_base.specs.Tree.{Tree, null, truth, number, text, list, object, Trees, no_trees, tree, Members, no_members, member, find, pairs}
 use Rattle.jsonpath_base.specs.Without.{thinned, elements_thinned, members_thinned, without}
-use Rattle.jsonpath_base.proofs.AddedLaws.{at_both}
 use Rattle.jsonpath_base.proofs.Removed.{without_alike}
 use Rattle.jsonpath_base.proofs.WithoutLaws.{thinned_none}
 
@@ -89,10 +88,12 @@ here_stays gone [] h = h
 here_stays gone (name k ∷ l) h = h.0
 here_stays gone (index i ∷ l) h = h.0
 
-end_stays : (gone : Location → Bool) (l : Location) → StaysInPlace gone l → gone (l ++ []) ≡ false
-end_stays gone [] h = h
-end_stays gone (name k ∷ l) h = end_stays (λ m. gone (name k ∷ m)) l h.1
-end_stays gone (index i ∷ l) h = end_stays (λ m. gone (index i ∷ m)) l h.2
+upto : (gone : Location → Bool) (i : ℕ) → gone (index i ∷ []) ≡ false → ((j : ℕ) → j < i → gone (index j ∷ []) ≡ false) → (j : ℕ) → j ≤ i → gone (index j ∷ []) ≡ false
+upto gone i here before j le = by (eq-or-lt_of_le le)
+  where
+    by : (j ≡ i) ⊎ (j < i) → gone (index j ∷ []) ≡ false
+    by (inl e) = ap (λ n. gone (index n ∷ [])) e ∙ here
+    by (inr lt) = before j lt
 
 as_thinned : (gone : Location → Bool) (t : Tree) → gone [] ≡ false → without gone t ≡ thinned gone t
 as_thinned gone t stays = ap (λ b. if b then null else thinned gone t) stays
@@ -112,18 +113,40 @@ is_seen gone (name k ∷ l) t h =
     down (name k) l gone t h.0 next (named_seen gone k t next) (λ c. is_seen (λ m. gone (name k ∷ m)) l c h.1)
 is_seen gone (index i ∷ l) t h =
     let next : gone (index i ∷ []) ≡ false = here_stays (λ m. gone (index i ∷ m)) l h.2 in
-    down (index i) l gone t h.0 next (numbered_seen gone i t (λ j le. upto j (eq-or-lt_of_le le) next)) (λ c. is_seen (λ m. gone (index i ∷ m)) l c h.2)
+    down (index i) l gone t h.0 next (numbered_seen gone i t (upto gone i next h.1)) (λ c. is_seen (λ m. gone (index i ∷ m)) l c h.2)
+
+-- ---- a member that was removed
+
+none_below : (p : Location) (thin : Tree → Tree) (old new : Option Tree) → new ≡ option_map thin old → ((c : Tree) → at p (thin c) ≡ None) → option_and_then (at p) new ≡ None
+none_below p thin None new e none = ap (option_and_then (at p)) e
+none_below p thin (Some c) new e none = ap (option_and_then (at p)) e ∙ none c
+
+member_thinned : (gone : Location → Bool) (l : Location) (k : List ℕ) (t : Tree) → KeepsItsIndexes gone l → gone (l ++ name k ∷ []) ≡ true → at (l ++ name k ∷ []) (thinned gone t) ≡ None
+member_thinned gone [] k t h goes = ap (option_and_then (at [])) (named_gone gone k t goes)
+member_thinned gone (name j ∷ l) k t h goes = by (gone (name j ∷ [])) refl (λ c stays. member_thinned (λ m. gone (name j ∷ m)) l k c (h stays) goes)
   where
-    upto : (j : ℕ) → (j ≡ i) ⊎ (j < i) → gone (index i ∷ []) ≡ false → gone (index j ∷ []) ≡ false
-    upto j (inl e) next = ap (λ n. gone (index n ∷ [])) e ∙ next
-    upto j (inr lt) next = h.1 j lt
+    by : (b : Bool) → gone (name j ∷ []) ≡ b → ((c : Tree) → gone (name j ∷ []) ≡ false → at (l ++ name k ∷ []) (thinned (λ m. gone (name j ∷ m)) c) ≡ None) → at (name j ∷ (l ++ name k ∷ [])) (thinned gone t) ≡ None
+    by true is below = ap (option_and_then (at (l ++ name k ∷ []))) (named_gone gone j t is)
+    by false is below = none_below (l ++ name k ∷ []) (thinned (λ m. gone (name j ∷ m))) (child (name j) t) _ (named_seen gone j t is) (λ c. below c is)
+member_thinned gone (index i ∷ l) k t h goes =
+    none_below (l ++ name k ∷ []) (thinned (λ m. gone (index i ∷ m))) (child (index i) t) _ (numbered_seen gone i t h.0) (λ c. member_thinned (λ m. gone (index i ∷ m)) l k c h.1 goes)
 
 pub member_is_gone : RemovedMemberIsGone
-member_is_gone gone l k t h goes = at_both l (name k ∷ []) (without gone t) ∙ ap (option_and_then (at (name k ∷ []))) (is_seen gone l t h) ∙ below (at l t)
+member_is_gone gone l k t h goes = by (gone []) refl (member_thinned gone l k t h goes)
   where
-    below : (o : Option Tree) → option_and_then (at (name k ∷ [])) (option_map (without (λ m. gone (l ++ m))) o) ≡ None
-    below None = refl
-    below (Some c) = ap (at (name k ∷ [])) (as_thinned (λ m. gone (l ++ m)) c (end_stays gone l h)) ∙ ap (option_and_then (at [])) (named_gone (λ m. gone (l ++ m)) k c goes)
+    in_null : (p : Location) → at (p ++ name k ∷ []) null ≡ None
+    in_null [] = refl
+    in_null (name j ∷ p) = refl
+    in_null (index i ∷ p) = refl
+
+    by : (b : Bool) → gone [] ≡ b → at (l ++ name k ∷ []) (thinned gone t) ≡ None → at (l ++ name k ∷ []) (without gone t) ≡ None
+    by true is below = ap (λ b. at (l ++ name k ∷ []) (if b then null else thinned gone t)) is ∙ in_null l
+    by false is below = ap (at (l ++ name k ∷ [])) (as_thinned gone t is) ∙ below
+
+pub staying_keeps_indexes : StayingKeepsIndexes
+staying_keeps_indexes gone [] h = tt
+staying_keeps_indexes gone (name k ∷ l) h = λ stays. staying_keeps_indexes (λ m. gone (name k ∷ m)) l h.1
+staying_keeps_indexes gone (index i ∷ l) h = (upto gone i (here_stays (λ m. gone (index i ∷ m)) l h.2) h.1, staying_keeps_indexes (λ m. gone (index i ∷ m)) l h.2)
 
 pub leaves_the_rest : WithoutLeavesTheRest
 leaves_the_rest gone l t h none = is_seen gone l t h ∙ below (at l t)

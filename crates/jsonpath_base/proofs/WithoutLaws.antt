@@ -1,8 +1,18 @@
--- Laws of a tree without a set of locations.
-use Rattle.std.proofs.Common.{◌≡◌, ℕ, suc, [], false, refl, ap, ap₂, ◌∙◌}
+-- Laws of a set of locations, and of a tree without one.
+use Rattle.std.proofs.Common.{◌≡◌, ℕ, suc, [], true, false, Contains, refl, ap, ap₂, subst, ◌∙◌}
+use Rattle.std.proofs.lemmas.List.Folds.{Any-from_list_any, list_any_at}
 use Rattle.jsonpath_base.specs.Tree.{Tree, null, truth, number, text, list, object, Trees, no_trees, tree, Members, no_members, member}
-use Rattle.jsonpath_base.specs.Without.{thinned, elements_thinned, members_thinned, without, is_among}
-use Rattle.jsonpath_base.proofs.Removed.{without_alike}
+use Rattle.jsonpath_base.specs.Without.{is_location, is_among, AmongIsListed, thinned, elements_thinned, members_thinned, without}
+use Rattle.jsonpath_base.proofs.Removed.{same_location, location_itself, without_alike}
+
+pub among_is_listed : AmongIsListed
+among_is_listed ls l = (listed, among)
+  where
+    listed : is_among ls l ≡ true → Contains ls l
+    listed h = let a = Any-from_list_any (λ m. is_location m l) ls h in subst (Contains ls) (same_location a.1 l a.4) (a.0, a.2, a.3)
+
+    among : Contains ls l → is_among ls l ≡ true
+    among c = list_any_at (λ m. is_location m l) ls c.0 l c.1 (ap (λ m. is_location m l) c.2 ∙ location_itself l)
 
 mutual
   pub thinned_none : (t : Tree) → thinned (λ l. false) t ≡ t

@@ -1,5 +1,5 @@
 -- A tree with another tree at a location (RFC 9535, 1.1).
-use Rattle.std.specs.Prelude.{◌≡◌, ℕ, zero, suc, List, [], ◌∷◌, ◌++◌, if◌then◌else◌, option_map, option_and_then}
+use Rattle.std.specs.Prelude.{◌≡◌, ℕ, zero, suc, List, [], ◌∷◌, ◌++◌, if◌then◌else◌, None, option_map, option_and_then}
 use Rattle.std.specs.Str.{bytes_eq}
 use Rattle.jsonpath_parser.specs.Location.{Step, name, index, Location, Begins}
 use Rattle.jsonpath_base.specs.Places.{at}
@@ -35,3 +35,7 @@ PutIsThere = (l m : Location) (u t : Tree) → at (l ++ m) (put l u t) ≡ optio
 -- Above the location of a write stands what was there, with the same write in it.
 abbrev pub PutIsSeenAbove : Type 0
 PutIsSeenAbove = (l m : Location) (u t : Tree) → at l (put (l ++ m) u t) ≡ option_map (put m u) (at l t)
+
+-- Where nothing is, a write changes nothing.
+abbrev pub PutNowhere : Type 0
+PutNowhere = (l : Location) (u t : Tree) → at l t ≡ None → put l u t ≡ t

@@ -1,7 +1,7 @@
 -- A tree without the values at a set of locations (RFC 9535, 1.1), all removed at once. A set is a test of locations.
-use Rattle.std.specs.Prelude.{◌≡◌, ℕ, suc, List, [], ◌∷◌, Bool, true, false, ◌&&◌, ◌||◌, nat_eq, if◌then◌else◌}
+use Rattle.std.specs.Prelude.{◌≡◌, ◌↔◌, ℕ, suc, List, [], ◌∷◌, Bool, true, false, IsTrue, ◌&&◌, ◌||◌, nat_eq, if◌then◌else◌}
 use Rattle.std.specs.Str.{bytes_eq}
-use Rattle.std.specs.List.{list_any}
+use Rattle.std.specs.List.{Contains, list_any}
 use Rattle.jsonpath_parser.specs.Location.{Step, name, index, Location}
 use Rattle.jsonpath_base.specs.Tree.{Tree, null, truth, number, text, list, object, Trees, no_trees, tree, Members, no_members, member}
 
@@ -20,6 +20,10 @@ is_location _ _ = false
 -- the set of the locations of a list
 abbrev pub is_among : List Location → Location → Bool
 is_among ls l = list_any (λ m. is_location m l) ls
+
+-- It has a location exactly where the list does.
+abbrev pub AmongIsListed : Type 0
+AmongIsListed = (ls : List Location) (l : Location) → IsTrue (is_among ls l) ↔ Contains ls l
 
 -- how many distinct ones
 abbrev pub distinct_count : List Location → ℕ

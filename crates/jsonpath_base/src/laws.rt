@@ -3,10 +3,11 @@ ghost use Rattle.jsonpath_parser.specs.Equality.{IsEqualityOf};
 ghost use Rattle.jsonpath_base.specs.Added.{AddedIndexMovesLater, AddedIsThere, AddedLeavesTheRest, AddedNameLeavesSiblings};
 ghost use Rattle.jsonpath_base.specs.Overwritten.{OverwrittenAtOneIsPut, OverwrittenForgets, OverwrittenIsSeen, OverwrittenLeavesTheRest};
 ghost use Rattle.jsonpath_base.specs.Pointer.{PointerFindsItsPlace};
-ghost use Rattle.jsonpath_base.specs.Put.{PutIsSeenAbove, PutIsThere, PutLeavesTheRest};
-ghost use Rattle.jsonpath_base.specs.Remaining.{RemovedMemberIsGone, WithoutIsSeen, WithoutLeavesTheRest};
+ghost use Rattle.jsonpath_base.specs.Put.{PutIsSeenAbove, PutIsThere, PutLeavesTheRest, PutNowhere};
+ghost use Rattle.jsonpath_base.specs.Remaining.{RemovedMemberIsGone, StayingKeepsIndexes, WithoutIsSeen, WithoutLeavesTheRest, WithoutNowhere};
 ghost use Rattle.jsonpath_base.specs.Same.{SameIsAnEquivalence};
 ghost use Rattle.jsonpath_base.specs.Steps.{owned_step};
+ghost use Rattle.jsonpath_base.specs.Without.{AmongIsListed};
 ghost use Rattle.jsonpath_base.specs.contracts.step.StepPartialEq.TheImpl as step;
 
 /// Where something was, what was written stands there, with all its parts; above the location stands what was there, with the
@@ -19,6 +20,11 @@ pub fn put_is_there()
 /// A write changes no value but those inside its location and those above it.
 pub fn put_leaves_the_rest()
     ensures { PutLeavesTheRest }
+{}
+
+/// A write where nothing is changes nothing.
+pub fn put_nowhere()
+    ensures { PutNowhere }
 {}
 
 /// What was added is there, with all its parts.
@@ -51,6 +57,11 @@ pub fn overwritten_forgets()
     ensures { OverwrittenForgets }
 {}
 
+/// The set of the locations of a list has exactly those.
+pub fn among_is_listed()
+    ensures { AmongIsListed }
+{}
+
 /// A location stays in its place where nothing is removed at it or above it, and no element before one that it goes through. Such
 /// a one holds after a removal what it held, without what was removed inside: as it was, where that is nothing.
 pub fn removal_leaves_the_rest()
@@ -58,9 +69,17 @@ pub fn removal_leaves_the_rest()
     ensures rest { WithoutLeavesTheRest }
 {}
 
-/// Nothing is where a member was removed, if what held it stays in its place.
+/// Nothing is where a member was removed, if down to the first member on the way that is removed itself, if there is one, no
+/// element that the location goes through is removed or has a removed one before it. So it is if what held the member stays in
+/// its place.
 pub fn removed_member_is_gone()
-    ensures { RemovedMemberIsGone }
+    ensures gone { RemovedMemberIsGone }
+    ensures staying { StayingKeepsIndexes }
+{}
+
+/// A removal where nothing is changes nothing, on trees with distinct names, such as those of whole values.
+pub fn without_nowhere()
+    ensures { WithoutNowhere }
 {}
 
 /// On trees with distinct names, such as those of whole values, being the same is an equivalence.

@@ -1,5 +1,5 @@
 //! The value at a location, to be read and to be written.
-ghost use Rattle.std.specs.Prelude.{◌≡◌, IfSome, IsTrue, option_map, is_some};
+ghost use Rattle.std.specs.Prelude.{◌≡◌, IfNone, IfSome, IsTrue, false, is_some, option_map};
 ghost use Rattle.serde_json.specs.View.{view};
 ghost use Rattle.jsonpath_base.specs.Places as places;
 ghost use Rattle.jsonpath_base.specs.Put.{put};
@@ -47,6 +47,7 @@ pub fn child<'v>(value: &'v Value, step: &Step) -> Option<&'v Value>
 pub fn put_at(value: &mut Value, steps: &[Step], new: Value) -> bool
     ensures value { value_tree value.new ≡ put (location_view steps.now) (value_tree new) (value_tree value.old) }
     ensures found { result ≡ is_some (places.at (location_view steps.now) (value_tree value.old)) }
+    ensures unchanged { result ≡ false → view value.new ≡ view value.old }
     ensures whole { IsTrue (value_is_whole value.old) → IsTrue (value_is_whole new) → IsTrue (value_is_whole value.new) }
 {
     exchange(value, steps, new).is_some()
@@ -57,6 +58,7 @@ pub fn put_at(value: &mut Value, steps: &[Step], new: Value) -> bool
 pub fn take_at(value: &mut Value, place: &[Step]) -> Option<Value>
     ensures taken { option_map value_tree result ≡ places.at (location_view place.now) (value_tree value.old) }
     ensures left { value_tree value.new ≡ put (location_view place.now) null (value_tree value.old) }
+    ensures unchanged { IfNone result (view value.new ≡ view value.old) }
     ensures whole { IsTrue (value_is_whole value.old) → IsTrue (value_is_whole value.new) }
     ensures taken_whole { IsTrue (value_is_whole value.old) → IfSome result (λ v. IsTrue (value_is_whole v)) }
 {
@@ -68,6 +70,7 @@ pub fn take_at(value: &mut Value, place: &[Step]) -> Option<Value>
 fn exchange(value: &mut Value, steps: &[Step], new: Value) -> Option<Value>
     ensures value { value_tree value.new ≡ put (location_view steps.now) (value_tree new) (value_tree value.old) }
     ensures taken { option_map value_tree result ≡ places.at (location_view steps.now) (value_tree value.old) }
+    ensures unchanged { IfNone result (view value.new ≡ view value.old) }
     ensures whole { IsTrue (value_is_whole value.old) → IsTrue (value_is_whole new) → IsTrue (value_is_whole value.new) }
     ensures taken_whole { IsTrue (value_is_whole value.old) → IfSome result (λ v. IsTrue (value_is_whole v)) }
 {
