@@ -17,6 +17,7 @@ pub mod AddedBelow
 pub mod AddedLaws
 pub mod PointerTexts
 pub mod PointerWays
+pub mod PointerMeanings
 pub mod PointerLaws
 pub mod PutWhole
 pub mod Marking

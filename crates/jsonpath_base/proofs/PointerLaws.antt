@@ -1,5 +1,5 @@
--- The pointer of a location finds what is there.
-use Rattle.std.proofs.Common.{◌≡◌, ◌≢◌, ℕ, zero, suc, ◌^◌, ◌<◌, List, [], ◌∷◌, ◌++◌, length, get_or, slice_get, flat_map, Bool, true, false, ◌||◌, ◌==◌, not, cond, decimal, String, Vec, BTreeMap, Global, Option, Some, None, option_map, option_and_then, refl, sym, ap, subst, ◌∙◌, append-nil, arith, lt-ltb, eq-eqb}
+-- The pointer of a location where something is means that location, and finds what is there.
+use Rattle.std.proofs.Common.{◌≡◌, ◌≢◌, ℕ, zero, suc, ◌^◌, ◌<◌, List, [], ◌∷◌, ◌++◌, length, get_or, slice_get, flat_map, Bool, true, false, ◌||◌, ◌==◌, not, cond, decimal, String, Vec, BTreeMap, Global, Option, Some, None, IsSome, is_some, true≢false, option_map, option_and_then, refl, sym, ap, subst, ◌∙◌, append-nil, arith, lt-ltb, eq-eqb}
 use Rattle.std.proofs.lemmas.Fmt.{decimal_is_IsNumeral, decimal_nonempty, first_decimal}
 use Rattle.std.specs.Char.{digit_value}
 use Rattle.std.specs.Prelude.{⊤}
@@ -10,23 +10,23 @@ use Rattle.fast_float.proofs.Writing.{scan-text_of}
 use Rattle.serde_json.specs.Data as json
 use Rattle.serde_json.specs.Data.{Data}
 use Rattle.serde_json.specs.Find as json_find
-use Rattle.serde_json.specs.Find.{unescape, index_of, walk}
+use Rattle.serde_json.specs.Find.{unescape, index_of}
 use Rattle.serde_json.specs.View.{view, items_view, members_view}
 use Rattle.serde_json.specs.View.{view_step}
 use Rattle.serde_json.specs.declared.value.Value.{Value, map-Value}
 use Rattle.serde_json.specs.declared.value.Value.TheFolds.{fold_out-Value}
 use Rattle.serde_json.specs.declared.value.Value.TheOpen.{Value-F}
 use Rattle.serde_json.specs.declared.value.Value.TheViews.{out-Value}
-use Rattle.serde_json.proofs.Paths.{walk_part, walk_last}
 use Rattle.serde_json.proofs.Views.{view-lookup}
 use Rattle.jsonpath_parser.specs.Location.{Step, name, index, Location}
 use Rattle.jsonpath_parser.specs.Normal.{index_digits}
 use Rattle.jsonpath_base.specs.Places.{child, at}
-use Rattle.jsonpath_base.specs.Pointer.{escaped, token, pointer, PointerFindsItsPlace}
+use Rattle.jsonpath_base.specs.Pointer.{escaped, token, pointer, step_in, tokens_from, tokens, led, PointerReadsBack, PointerFindsItsPlace}
 use Rattle.jsonpath_base.specs.Tree.{Tree}
 use Rattle.jsonpath_base.specs.Values.{tree_of, value_tree}
 use Rattle.jsonpath_base.proofs.PointerTexts.{Lacks}
-use Rattle.jsonpath_base.proofs.PointerWays.{unescape_head, mark_one, mark_zero}
+use Rattle.jsonpath_base.proofs.PointerMeanings.{leads_as_found}
+use Rattle.jsonpath_base.proofs.PointerWays.{unescape_head, mark_one, mark_zero, token_then, led_down}
 use Rattle.jsonpath_parser.proofs.laws.words.Quoting.{decimal_index}
 use Rattle.jsonpath_base.proofs.Placing.{item_at-trees_of}
 use Rattle.jsonpath_base.proofs.Putting.{is_entry, no_list, no_object}
@@ -137,9 +137,9 @@ object_value v ms e = by (out-Value v) (sym (fold_out-Value Data view_step v) �
     by (Value-F.String s) is = absurd cc
     by (Value-F.Array w) is = absurd cc
 
--- the token of the step leads there, and holds no slash
+-- the token of the step means it there, and holds no slash
 abbrev HasChild : Step → Value → Tree → Type 0
-HasChild s v u = (x : Value) × (value_tree x ≡ u) × (json_find.step (token s) (view v) ≡ Some (view x)) × Free 47 (token s)
+HasChild s v u = (x : Value) × (value_tree x ≡ u) × (step_in (token s) (value_tree v) ≡ Some s) × Free 47 (token s)
 
 seen : (o : Option Value) (u : Tree) → option_map tree_of (option_map view o) ≡ Some u → (x : Value) × (o ≡ Some x) × (value_tree x ≡ u)
 seen None u e = absurd cc
@@ -161,7 +161,7 @@ list_child v i u w is e =
     let small : i < 2 ^ 64 = omega (arith, element_within w.items i there.0 there.1, w.ok.0, w.ok.1, w.small) in (
       there.0,
       there.2,
-      ap (json_find.step (index_digits i)) is ∙ ap (option_and_then (λ n. json_find.get_item n (items_view w.items))) (index_back i small) ∙ sym (element_at w.items i) ∙ ap (option_map view) there.1,
+      ap (λ d. step_in (index_digits i) (tree_of d)) is ∙ ap (option_map index) (index_back i small),
       index_free i small,
     )
 
@@ -170,7 +170,7 @@ object_child v k u m is e =
     let there = seen (lookup (is_entry k) m.entries) u (ap (option_map tree_of) (view-lookup k m.entries) ∙ sym (find-members_of k (members_view m.entries)) ∙ sym (ap (λ d. child (name k) (tree_of d)) is) ∙ e) in (
       there.0,
       there.2,
-      ap (json_find.step (flat_map escaped k)) is ∙ ap (λ n. json_find.get_member n (members_view m.entries)) (name_back k) ∙ sym (view-lookup k m.entries) ∙ ap (option_map view) there.1,
+      ap (λ d. step_in (flat_map escaped k) (tree_of d)) is ∙ ap (λ n. Some (name n)) (name_back k),
       name_free k,
     )
 
@@ -190,31 +190,29 @@ child_of v (name k) u e = by (json_find.as_object (view v)) refl
         let is = object_data (view v) ms held in let m = object_value v ms is in
         object_child v k u m.0 (is ∙ ap json.object m.1) e
 
--- ---- the law
+-- ---- the laws
 
-part_then : (t : List ℕ) (l : Location) (d : Data) → Lacks 47 t → walk [] (t ++ pointer l) d ≡ option_and_then (json_find.pointer (pointer l)) (json_find.step t d)
-part_then t [] d lacks = ap (λ y. walk [] y d) (append-nil t) ∙ walk_last t d lacks ∙ by (json_find.step t d)
-  where
-    by : (o : Option Data) → o ≡ option_and_then (json_find.pointer []) o
-    by None = refl
-    by (Some e) = refl
-part_then t (s ∷ l) d lacks = walk_part t (token s ++ pointer l) d lacks ∙ by (json_find.step t d)
-  where
-    by : (o : Option Data) → option_and_then (walk [] (token s ++ pointer l)) o ≡ option_and_then (json_find.pointer (pointer (s ∷ l))) o
-    by None = refl
-    by (Some e) = refl
+behind : (read : List ℕ) (l : Location) (ps : List (List ℕ)) → tokens (pointer l) ≡ Some ps → tokens_from read (pointer l) ≡ read ∷ ps
+behind read [] ps e = let same : [] ≡ ps = cc in ap (λ qs. read ∷ qs) same
+behind read (s ∷ l) ps e = let same : tokens_from [] (token s ++ pointer l) ≡ ps = cc in ap (λ qs. read ∷ qs) same
 
-first_there : (l : Location) (o : Option Tree) (u : Tree) → option_and_then (at l) o ≡ Some u → (c : Tree) × (o ≡ Some c) × (at l c ≡ Some u)
-first_there l None u e = absurd cc
-first_there l (Some c) u e = (c, refl, e)
+first_there : (l : Location) (o : Option Tree) → IsSome (option_and_then (at l) o) → (c : Tree) × (o ≡ Some c) × IsSome (at l c)
+first_there l None there = absurd (true≢false (sym there))
+first_there l (Some c) there = (c, refl, there)
 
-finds : (l : Location) (v : Value) (u : Tree) → at l (value_tree v) ≡ Some u → option_map tree_of (json_find.pointer (pointer l) (view v)) ≡ Some u
-finds [] v u e = e
-finds (s ∷ l) v u e =
-    let first = first_there l (child s (value_tree v)) u e in
+reads_back : (l : Location) (v : Value) → IsSome (at l (value_tree v)) → (ps : List (List ℕ)) × (tokens (pointer l) ≡ Some ps) × (led ps (value_tree v) ≡ Some l)
+reads_back [] v there = ([], refl, refl)
+reads_back (s ∷ l) v there =
+    let first = first_there l (child s (value_tree v)) there in
     let below = child_of v s first.0 first.1 in
-    ap (option_map tree_of) (part_then (token s) l (view v) (free_lacks 47 (token s) below.3) ∙ ap (option_and_then (json_find.pointer (pointer l))) below.2)
-    ∙ finds l below.0 u (ap (at l) below.1 ∙ first.2)
+    let more = reads_back l below.0 (ap (λ t. is_some (at l t)) below.1 ∙ first.2) in (
+      token s ∷ more.0,
+      ap Some (token_then (token s) (pointer l) (free_lacks 47 (token s) below.3) ∙ behind (token s) l more.0 more.1),
+      led_down (token s) more.0 s (value_tree v) first.0 below.2 first.1 ∙ ap (λ t. option_map (λ m. s ∷ m) (led more.0 t)) (sym below.1) ∙ ap (option_map (λ m. s ∷ m)) more.2,
+    )
+
+pub pointer_reads_back : PointerReadsBack
+pointer_reads_back v l there = let back = reads_back l v there in ap (option_and_then (λ ps. led ps (value_tree v))) back.1 ∙ back.2
 
 pub pointer_finds_its_place : PointerFindsItsPlace
-pointer_finds_its_place v l u e = finds l v u e
+pointer_finds_its_place v l u e = leads_as_found (pointer l) v ∙ ap (option_and_then (λ m. at m (value_tree v))) (pointer_reads_back v l (ap is_some e)) ∙ e

@@ -1,20 +1,18 @@
--- The way that a JSON Pointer leads, part by part.
-use Rattle.std.proofs.Common.{◌≡◌, ◌≢◌, ℕ, suc, List, [], ◌∷◌, ◌++◌, Some, None, All, option_map, option_and_then, is_some, refl, sym, ap, subst, ◌∙◌, append_assoc, append-nil, arith, ne_eqb}
-use Rattle.std.proofs.lemmas.List.Elements.{All-from_get_or}
+-- The way that a JSON Pointer leads, token by token.
+use Rattle.std.proofs.Common.{◌≡◌, ◌≢◌, ◌<◌, ℕ, suc, List, [], ◌∷◌, ◌++◌, length, Option, Some, None, option_map, option_and_then, refl, sym, ap, ◌∙◌, append_assoc, append-nil, arith, ne_eqb}
 use Rattle.std.proofs.lemmas.List.{map-append}
-use Rattle.serde_json.specs.Find as json_find
-use Rattle.serde_json.specs.Find.{unescape, walk}
-use Rattle.serde_json.specs.View.{view}
+use Rattle.serde_json.specs.Find.{unescape}
 use Rattle.serde_json.specs.declared.value.Value.{Value}
-use Rattle.serde_json.proofs.Paths.{walk_part, walk_last, unescape_plain}
+use Rattle.serde_json.proofs.Paths.{unescape_plain}
+use Rattle.jsonpath_parser.specs.Location as location
 use Rattle.jsonpath_parser.specs.Location.{Location}
-use Rattle.jsonpath_base.specs.Places as places
-use Rattle.jsonpath_base.specs.Pointer.{Means, PointsTo}
+use Rattle.jsonpath_base.specs.Places.{child}
+use Rattle.jsonpath_base.specs.Pointer.{tokens_from, led, location_in, step_in}
 use Rattle.jsonpath_base.specs.Steps.{owned_step, location_view}
-use Rattle.jsonpath_base.specs.Values.{tree_of, value_tree}
+use Rattle.jsonpath_base.specs.Tree.{Tree}
+use Rattle.jsonpath_base.specs.Values.{value_tree}
 use Rattle.jsonpath_base.specs.declared.step.Step.{Step}
-use Rattle.jsonpath_base.specs.inner.Pointing.{GoesDown, LeadsTo}
-use Rattle.jsonpath_base.proofs.AddedLaws.{at_both}
+use Rattle.jsonpath_base.specs.inner.Pointing.{GoesDown}
 use Rattle.jsonpath_base.proofs.PointerTexts.{Lacks}
 
 -- ---- a part of a text
@@ -51,36 +49,63 @@ mark_turn all name middle out rest plain behind mark more before cut lacks is wr
 pub mark_end : (all name out rest : List ℕ) → name ++ unescape rest ≡ all → Lacks 126 rest → out ≡ name ++ rest → out ≡ all
 mark_end all name out rest before lacks written = written ∙ ap (λ l. name ++ l) (sym (unescape_plain rest lacks)) ∙ before
 
--- ---- a step of the way
+-- ---- tokens
 
-behind_view : (old new : List Step) (s : Step) (l : Location) → new ≡ old ++ s ∷ [] → location_view new ++ l ≡ location_view old ++ (owned_step s ∷ l)
-behind_view old new s l e = ap (λ ss. location_view ss ++ l) e ∙ ap (λ ss. ss ++ l) (map-append owned_step old (s ∷ [])) ∙ append_assoc (location_view old) (owned_step s ∷ []) l
+-- a token has no `/`
+over_token : (read token rest : List ℕ) → Lacks 47 token → tokens_from read (token ++ rest) ≡ tokens_from (read ++ token) rest
+over_token read [] rest lacks = ap (λ p. tokens_from p rest) (sym (append-nil read))
+over_token read (c ∷ cs) rest lacks =
+    rw (ne_eqb c 47 (lacks 0 (omega arith))) (over_token (read ++ c ∷ []) cs rest (λ i less. lacks (suc i) (omega (arith, less))) ∙ ap (λ p. tokens_from p rest) (append_assoc read (c ∷ []) cs))
 
-there_below : (value target below : Value) (part : List ℕ) (old new : List Step) → places.at (location_view old) (value_tree value) ≡ Some (value_tree target) → GoesDown part target old new below → places.at (location_view new) (value_tree value) ≡ Some (value_tree below)
-there_below value target below part old new there g =
-    ap (λ l. places.at l (value_tree value)) (sym (append-nil (location_view new)) ∙ behind_view old new g.step [] g.steps) ∙ at_both (location_view old) (owned_step g.step ∷ []) (value_tree value) ∙ ap (option_and_then (places.at (owned_step g.step ∷ []))) there ∙ ap (option_and_then (places.at [])) g.child
+pub token_then : (token rest : List ℕ) → Lacks 47 token → tokens_from [] (token ++ rest) ≡ tokens_from token rest
+token_then token rest lacks = over_token [] token rest lacks
 
-no_slash : (part : List ℕ) → Lacks 47 part → All (λ c. c ≢ 47) part
-no_slash part lacks = All-from_get_or (λ c. c ≢ 47) part 0 lacks
+pub first_token : (text token more : List ℕ) → text ≡ token ++ 47 ∷ more → Lacks 47 token → tokens_from [] text ≡ token ∷ tokens_from [] more
+first_token text token more cut lacks = ap (tokens_from []) cut ∙ token_then token (47 ∷ more) lacks
 
-pub leads_on : (text : List ℕ) (value target below : Value) (rest part more : List ℕ) (old new : List Step) → LeadsTo text value old rest target → rest ≡ part ++ 47 ∷ more → Lacks 47 part → GoesDown part target old new below → LeadsTo text value new more below
-leads_on text value target below rest part more old new l cut lacks g = record {
-  pointed = l.pointed ∙ ap (λ t. walk [] t (view target)) cut ∙ walk_part part more (view target) lacks ∙ ap (option_and_then (walk [] more)) g.down;
-  there = there_below value target below part old new l.there g;
-  meant = λ m h. subst (Means text) (sym (behind_view old new g.step m g.steps)) (l.meant (owned_step g.step ∷ m) (part, 47 ∷ more, ap (λ t. 47 ∷ t) cut, no_slash part lacks, g.means, h));
-}
+pub only_token : (token : List ℕ) → Lacks 47 token → tokens_from [] token ≡ token ∷ []
+only_token token lacks = ap (tokens_from []) (sym (append-nil token)) ∙ token_then token [] lacks
 
--- where a part leads nowhere
-pub leads_nowhere : (text : List ℕ) (value target : Value) (rest part more : List ℕ) (steps : List Step) → LeadsTo text value steps rest target → rest ≡ part ++ 47 ∷ more → Lacks 47 part → json_find.step part (view target) ≡ None → json_find.pointer text (view value) ≡ None
-leads_nowhere text value target rest part more steps l cut lacks none = l.pointed ∙ ap (λ t. walk [] t (view target)) cut ∙ walk_part part more (view target) lacks ∙ ap (option_and_then (walk [] more)) none
+-- ---- the way
 
-pub last_nowhere : (text : List ℕ) (value target : Value) (rest : List ℕ) (steps : List Step) → LeadsTo text value steps rest target → Lacks 47 rest → json_find.step rest (view target) ≡ None → json_find.pointer text (view value) ≡ None
-last_nowhere text value target rest steps l lacks none = l.pointed ∙ walk_last rest (view target) lacks ∙ none
+pub led_down : (token : List ℕ) (ps : List (List ℕ)) (s : location.Step) (t c : Tree) → step_in token t ≡ Some s → child s t ≡ Some c → led (token ∷ ps) t ≡ option_map (λ l. s ∷ l) (led ps c)
+led_down token ps s t c means down = rw (means, down) refl
 
-pub last_leads : (text : List ℕ) (value target below : Value) (rest : List ℕ) (old new : List Step) → LeadsTo text value old rest target → Lacks 47 rest → GoesDown rest target old new below → PointsTo text value (location_view new)
-last_leads text value target below rest old new l lacks g =
-    let there = there_below value target below rest old new l.there g in record {
-      means = subst (Means text) (sym (behind_view old new g.step [] g.steps) ∙ append-nil (location_view new)) (l.meant (owned_step g.step ∷ []) (rest, [], ap (λ t. 47 ∷ t) (sym (append-nil rest)), no_slash rest lacks, g.means, refl));
-      there = ap is_some there;
-      found = ap (option_map tree_of) (l.pointed ∙ walk_last rest (view target) lacks ∙ g.down) ∙ sym there;
-    }
+led_nowhere : (token : List ℕ) (ps : List (List ℕ)) (t : Tree) (o : Option location.Step) → option_and_then (λ s. child s t) o ≡ None → option_and_then (λ s. option_and_then (λ c. option_map (λ l. s ∷ l) (led ps c)) (child s t)) o ≡ None
+led_nowhere token ps t None none = refl
+led_nowhere token ps t (Some s) none = ap (option_and_then (λ c. option_map (λ l. s ∷ l) (led ps c))) none
+
+-- what is left of the text leads on from the target, as the text does from the value
+abbrev pub LeadsOn : List ℕ → Value → List Step → List (List ℕ) → Value → Type 0
+LeadsOn text value steps ps target = option_map (λ m. location_view steps ++ m) (led ps (value_tree target)) ≡ location_in text (value_tree value)
+
+unmoved : (o : Option Location) → option_map (λ m. [] ++ m) o ≡ o
+unmoved None = refl
+unmoved (Some m) = refl
+
+moved : (l : Location) (s : location.Step) (o : Option Location) → option_map (λ m. (l ++ s ∷ []) ++ m) o ≡ option_map (λ m. l ++ m) (option_map (λ m. s ∷ m) o)
+moved l s None = refl
+moved l s (Some m) = ap Some (append_assoc l (s ∷ []) m)
+
+pub leads_from : (text rest : List ℕ) (value : Value) (steps : List Step) → text ≡ 47 ∷ rest → steps ≡ [] → LeadsOn text value steps (tokens_from [] rest) value
+leads_from text rest value steps cut none =
+    ap (λ ss. option_map (λ m. location_view ss ++ m) (led (tokens_from [] rest) (value_tree value))) none ∙ unmoved (led (tokens_from [] rest) (value_tree value)) ∙ ap (λ t. location_in t (value_tree value)) (sym cut)
+
+pub leads_down : (text token : List ℕ) (all ps : List (List ℕ)) (value target below : Value) (old new : List Step) → LeadsOn text value old all target → all ≡ token ∷ ps → GoesDown token target old new below → LeadsOn text value new ps below
+leads_down text token all ps value target below old new leads first g =
+    ap (λ l. option_map (λ m. l ++ m) (led ps (value_tree below))) (ap location_view g.steps ∙ map-append owned_step old (g.step ∷ []))
+    ∙ moved (location_view old) (owned_step g.step) (led ps (value_tree below))
+    ∙ sym (ap (option_map (λ m. location_view old ++ m)) (ap (λ qs. led qs (value_tree target)) first ∙ led_down token ps (owned_step g.step) (value_tree target) (value_tree below) g.means g.child)) ∙ leads
+
+pub leads_nowhere : (text token : List ℕ) (all ps : List (List ℕ)) (value target : Value) (steps : List Step) → LeadsOn text value steps all target → all ≡ token ∷ ps
+    → option_and_then (λ s. child s (value_tree target)) (step_in token (value_tree target)) ≡ None → None ≡ location_in text (value_tree value)
+leads_nowhere text token all ps value target steps leads first none =
+    sym (ap (option_map (λ m. location_view steps ++ m)) (ap (λ qs. led qs (value_tree target)) first ∙ led_nowhere token ps (value_tree target) (step_in token (value_tree target)) none)) ∙ leads
+
+-- at the end of the text
+pub leads_there : (text : List ℕ) (value target : Value) (steps : List Step) → LeadsOn text value steps [] target → Some (location_view steps) ≡ location_in text (value_tree value)
+leads_there text value target steps leads = ap Some (sym (append-nil (location_view steps))) ∙ leads
+
+pub no_pointer : (text : List ℕ) (t : Tree) → 0 < length text → ((rest : List ℕ) → text ≢ 47 ∷ rest) → None ≡ location_in text t
+no_pointer [] t some h = absurd (omega arith)
+no_pointer (x ∷ xs) t some h = rw (ne_eqb x 47 (λ e. h xs (ap (λ y. y ∷ xs) e)))

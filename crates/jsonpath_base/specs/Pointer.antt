@@ -1,12 +1,12 @@
--- JSON Pointer (RFC 6901): the text of a location, and the locations that a text may mean.
-use Rattle.std.specs.Prelude.{◌≡◌, ◌≢◌, ℕ, List, [], ◌∷◌, ◌++◌, ◌==◌, if◌then◌else◌, codes, Option, Some, None, option_map, flat_map, All, IsSome}
+-- JSON Pointer (RFC 6901): the text of a location, and the location that a text means.
+use Rattle.std.specs.Prelude.{◌≡◌, ℕ, List, [], ◌∷◌, ◌++◌, ◌==◌, if◌then◌else◌, codes, Option, Some, None, IsSome, option_and_then, option_map, flat_map}
 use Rattle.std.specs.Str.{byte}
 use Rattle.serde_json.specs.Find as json_find
 use Rattle.serde_json.specs.View.{view}
 use Rattle.serde_json.specs.declared.value.Value.{Value}
 use Rattle.jsonpath_parser.specs.Location.{Step, name, index, Location}
 use Rattle.jsonpath_parser.specs.Normal.{index_digits}
-use Rattle.jsonpath_base.specs.Places.{at}
+use Rattle.jsonpath_base.specs.Places.{child, at}
 use Rattle.jsonpath_base.specs.Tree.{Tree, list, object}
 use Rattle.jsonpath_base.specs.Values.{tree_of, value_tree}
 
@@ -24,28 +24,43 @@ abbrev pub pointer : Location → List ℕ
 pointer [] = []
 pointer (s ∷ l) = byte "/" ∷ (token s ++ pointer l)
 
--- What a part between two `/` means: a name, unescaped, or an index (section 4).
-abbrev pub MeansStep : List ℕ → Step → Type 0
-MeansStep part (name k) = json_find.unescape part ≡ k
-MeansStep part (index i) = json_find.index_of part ≡ Some i
-
--- The step that a part means in a value: in an object a name, in a list an index, digits without a leading zero (section 4).
+-- The step that a token means in a value: in an object a name, in a list an index, digits without a leading zero (section 4).
 abbrev pub step_in : List ℕ → Tree → Option Step
 step_in part (object ms) = Some (name (json_find.unescape part))
 step_in part (list ts) = option_map index (json_find.index_of part)
 step_in part _ = None
 
--- The text is a `/` and a part for each step.
-abbrev pub Means : List ℕ → Location → Type 0
-Means text [] = text ≡ []
-Means text (s ∷ l) = (part : List ℕ) × (rest : List ℕ) × (text ≡ byte "/" ∷ (part ++ rest)) × All (λ c. c ≢ byte "/") part × MeansStep part s × Means rest l
+-- what stands between one `/` and the next (section 3); of the first, `part` has been read
+abbrev pub tokens_from : List ℕ → List ℕ → List (List ℕ)
+tokens_from part [] = part ∷ []
+tokens_from part (c ∷ rest) = if c == byte "/" then part ∷ tokens_from [] rest else tokens_from (part ++ c ∷ []) rest
 
--- The text means this location, where something is: what `Value::pointer` of serde_json finds by it.
-pub record PointsTo (text : List ℕ) (value : Value) (l : Location) : Type 0 where
-  pub means : Means text l
-  pub there : IsSome (at l (value_tree value))
-  pub found : option_map tree_of (json_find.pointer text (view value)) ≡ at l (value_tree value)
+-- the reference tokens of a text, as they are written; the text is empty, or begins with `/`
+abbrev pub tokens : List ℕ → Option (List (List ℕ))
+tokens [] = Some []
+tokens (c ∷ rest) = if c == byte "/" then Some (tokens_from [] rest) else None
 
--- Asked the pointer of a location where something is, `Value::pointer` of serde_json finds that.
+-- the location to which the tokens lead, one after the other, if something is there (section 4)
+abbrev pub led : List (List ℕ) → Tree → Option Location
+led [] t = Some []
+led (part ∷ parts) t = option_and_then (λ s. option_and_then (λ c. option_map (λ l. s ∷ l) (led parts c)) (child s t)) (step_in part t)
+
+-- the location that a text means
+abbrev pub location_in : List ℕ → Tree → Option Location
+location_in text t = option_and_then (λ parts. led parts t) (tokens text)
+
+-- Something is at the location that a text means.
+abbrev pub PointerLeadsToWhatIs : Type 0
+PointerLeadsToWhatIs = (text : List ℕ) (t : Tree) (l : Location) → location_in text t ≡ Some l → IsSome (at l t)
+
+-- What is there, `Value::pointer` of serde_json finds by the text.
+abbrev pub PointerLeadsAsFound : Type 0
+PointerLeadsAsFound = (text : List ℕ) (v : Value) → option_map tree_of (json_find.pointer text (view v)) ≡ option_and_then (λ l. at l (value_tree v)) (location_in text (value_tree v))
+
+-- The pointer of a location where something is means that location.
+abbrev pub PointerReadsBack : Type 0
+PointerReadsBack = (v : Value) (l : Location) → IsSome (at l (value_tree v)) → location_in (pointer l) (value_tree v) ≡ Some l
+
+-- Asked it, `Value::pointer` of serde_json finds what is there.
 abbrev pub PointerFindsItsPlace : Type 0
 PointerFindsItsPlace = (v : Value) (l : Location) (u : Tree) → at l (value_tree v) ≡ Some u → option_map tree_of (json_find.pointer (pointer l) (view v)) ≡ Some u

@@ -2,7 +2,7 @@
 ghost use Rattle.jsonpath_parser.specs.Equality.{IsEqualityOf};
 ghost use Rattle.jsonpath_base.specs.Added.{AddedIndexMovesLater, AddedIsThere, AddedLeavesTheRest, AddedNameLeavesSiblings};
 ghost use Rattle.jsonpath_base.specs.Overwritten.{OverwrittenAtOneIsPut, OverwrittenForgets, OverwrittenIsSeen, OverwrittenLeavesTheRest};
-ghost use Rattle.jsonpath_base.specs.Pointer.{PointerFindsItsPlace};
+ghost use Rattle.jsonpath_base.specs.Pointer.{PointerFindsItsPlace, PointerLeadsAsFound, PointerLeadsToWhatIs, PointerReadsBack};
 ghost use Rattle.jsonpath_base.specs.Put.{PutIsSeenAbove, PutIsThere, PutLeavesTheRest, PutNowhere};
 ghost use Rattle.jsonpath_base.specs.Remaining.{RemovedMemberIsGone, StayingKeepsIndexes, WithoutIsSeen, WithoutLeavesTheRest, WithoutNowhere};
 ghost use Rattle.jsonpath_base.specs.Same.{SameIsAnEquivalence};
@@ -90,6 +90,17 @@ pub fn same_is_an_equivalence()
 /// `==` of steps is equality of what they stand for: names by their bytes, indexes by their numbers, and no name is an index.
 pub fn equal_steps_are_one_step()
     ensures { IsEqualityOf owned_step step.eq-value.it }
+{}
+
+/// The JSON Pointer of a location where something is means that location.
+pub fn pointer_reads_back()
+    ensures { PointerReadsBack }
+{}
+
+/// Something is at the location that a JSON Pointer means, and that is what `Value::pointer` of `serde_json` finds by it.
+pub fn pointer_leads_as_found()
+    ensures there { PointerLeadsToWhatIs }
+    ensures found { PointerLeadsAsFound }
 {}
 
 /// Asked the JSON Pointer of a location where something is, `Value::pointer` of `serde_json` finds that.

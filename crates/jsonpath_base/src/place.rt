@@ -6,7 +6,6 @@ ghost use Rattle.jsonpath_base.specs.Put.{put};
 ghost use Rattle.jsonpath_base.specs.Steps.{location_view, owned_step};
 ghost use Rattle.jsonpath_base.specs.Tree.{null};
 ghost use Rattle.jsonpath_base.specs.Values.{value_tree, value_is_whole};
-ghost use Rattle.jsonpath_base.specs.inner.Pointing.{data_child};
 
 use crate::step::Step;
 use serde_json::Value;
@@ -31,7 +30,6 @@ pub fn at<'v>(value: &'v Value, steps: &[Step]) -> Option<&'v Value>
 
 /// The child that a step leads to, or None.
 pub fn child<'v>(value: &'v Value, step: &Step) -> Option<&'v Value>
-    ensures data { option_map (λ v. view v.now) result ≡ data_child (owned_step step.now) (view value.now) }
     ensures value { option_map (λ v. value_tree v.now) result ≡ places.child (owned_step step.now) (value_tree value.now) }
     ensures whole { IsTrue (value_is_whole value.now) → IfSome result (λ v. IsTrue (value_is_whole v.now)) }
 {

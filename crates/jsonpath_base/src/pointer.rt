@@ -1,13 +1,13 @@
 //! Locations as JSON Pointers (RFC 6901).
-ghost use Rattle.std.specs.Prelude.{◌≡◌, ◌≤◌, ◌∷◌, ◌++◌, IfErr, IfOk, IfSome, MatchOption, None, OnOk, flat_map, length, option_and_then, option_map, string_bytes};
-ghost use Rattle.serde_json.specs.Find.{pointer as points_to, step as one_step, index_of, unescape};
-ghost use Rattle.serde_json.specs.View.{view};
+ghost use Rattle.std.specs.Prelude.{◌≡◌, ◌≤◌, ◌∷◌, ◌++◌, IfErr, IfOk, MatchOption, None, OnOk, flat_map, length, option_and_then, option_map, string_bytes};
+ghost use Rattle.serde_json.specs.Find.{index_of, unescape};
 ghost use Rattle.jsonpath_parser.specs.Normal.{index_digits};
+ghost use Rattle.jsonpath_base.specs.Places as places;
 ghost use Rattle.jsonpath_base.specs.Pointer as pointers;
-ghost use Rattle.jsonpath_base.specs.Pointer.{MeansStep, PointsTo, escaped, pointer, step_in};
+ghost use Rattle.jsonpath_base.specs.Pointer.{escaped, location_in, pointer, step_in};
 ghost use Rattle.jsonpath_base.specs.Steps.{location_view, owned_step};
 ghost use Rattle.jsonpath_base.specs.Values.{value_tree};
-ghost use Rattle.jsonpath_base.specs.inner.Pointing.{GoesDown, data_child, tilde_escaped};
+ghost use Rattle.jsonpath_base.specs.inner.Pointing.{GoesDown, tilde_escaped};
 
 use crate::place::child;
 use crate::step::Step;
@@ -91,7 +91,7 @@ fn push_part(text: &mut String, part: &str) -> Result<(), AllocError>
 ///
 /// `OutOfMemory` where memory ran out.
 pub fn location_by_pointer(alloc: Global, value: &Value, text: &str) -> Parsed<Option<Vec<Step>>>
-    ensures place { IfOk result (λ o. MatchOption o (points_to text.now (view value.now) ≡ None) (λ l. PointsTo text.now value.now (location_view l.items))) }
+    ensures place { IfOk result (λ o. option_map (λ l. location_view l.items) o ≡ location_in text.now (value_tree value.now)) }
     ensures memory { IfErr result (λ e. e ≡ JsonPathError.OutOfMemory) }
 {
     let mut steps = Vec::new(alloc);
@@ -115,17 +115,17 @@ pub fn location_by_pointer(alloc: Global, value: &Value, text: &str) -> Parsed<O
     }
 }
 
-/// The child that a part of a pointer means, its step behind the others; or None.
+/// The child that a reference token means, its step behind the others; or None.
 fn go_down<'v>(
     alloc: Global,
     steps: &mut Vec<Step>,
     target: &'v Value,
-    part: &str,
+    token: &str,
 ) -> Parsed<Option<&'v Value>>
-    ensures down { IfOk result (λ o. MatchOption o (one_step part.now (view target.now) ≡ None) (λ v. GoesDown part.now target.now steps.old.items steps.new.items v.now)) }
+    ensures down { IfOk result (λ o. MatchOption o (option_and_then (λ s. places.child s (value_tree target.now)) (step_in token.now (value_tree target.now)) ≡ None) (λ v. GoesDown token.now target.now steps.old.items steps.new.items v.now)) }
     ensures memory { IfErr result (λ e. e ≡ JsonPathError.OutOfMemory) }
 {
-    let Some(step) = step_by(alloc, target, part)? else {
+    let Some(step) = step_by_token(alloc, target, token)? else {
         return Ok(None);
     };
     let Some(below) = child(target, &step) else {
@@ -147,19 +147,9 @@ pub fn step_by_token(alloc: Global, value: &Value, token: &str) -> Parsed<Option
     ensures step { IfOk result (λ o. option_map owned_step o ≡ step_in token.now (value_tree value.now)) }
     ensures memory { IfErr result (λ e. e ≡ JsonPathError.OutOfMemory) }
 {
-    step_by(alloc, value, token)
-}
-
-/// The step that a part of a pointer means in a value, or None: in the words of its tree, and in those of `Value::pointer`.
-fn step_by(alloc: Global, target: &Value, part: &str) -> Parsed<Option<Step>>
-    ensures tree { IfOk result (λ o. option_map owned_step o ≡ step_in part.now (value_tree target.now)) }
-    ensures step { IfOk result (λ o. one_step part.now (view target.now) ≡ option_and_then (λ s. data_child (owned_step s) (view target.now)) o) }
-    ensures means { IfOk result (λ o. IfSome o (λ s. MeansStep part.now (owned_step s))) }
-    ensures memory { IfErr result (λ e. e ≡ JsonPathError.OutOfMemory) }
-{
-    match target {
-        Value::Object(_) => Ok(Some(Step::Name(unescaped(alloc, part)?))),
-        Value::Array(_) => match index_by(part) {
+    match value {
+        Value::Object(_) => Ok(Some(Step::Name(unescaped(alloc, token)?))),
+        Value::Array(_) => match index_by(token) {
             Some(index) => Ok(Some(Step::Index(index))),
             None => Ok(None),
         },

@@ -9,8 +9,8 @@ use crate::documents::queryable::Queryable;
 pub use jsonpath_base::laws::{
     added_is_there, added_leaves_the_rest, among_is_listed, equal_steps_are_one_step,
     overwritten_at_one_is_put, overwritten_forgets, overwritten_is_seen, pointer_finds_its_place,
-    put_is_there, put_leaves_the_rest, put_nowhere, removal_leaves_the_rest,
-    removed_member_is_gone, same_is_an_equivalence, without_nowhere,
+    pointer_leads_as_found, pointer_reads_back, put_is_there, put_leaves_the_rest, put_nowhere,
+    removal_leaves_the_rest, removed_member_is_gone, same_is_an_equivalence, without_nowhere,
 };
 pub use jsonpath_parser::{
     each_text_of_a_tree_derives_it, equal_errors_hold_the_same, equal_parts_are_one_tree,

@@ -1,11 +1,12 @@
-use Rattle.std.proofs.Common.{length}
+use Rattle.std.proofs.Common.{[], length}
 use denote.Shadow.{shadow}
 use denote.Text.{Utf8}
-use Rattle.jsonpath_base.specs.inner.Pointing.{LeadsTo}
+use Rattle.jsonpath_base.specs.Pointer.{tokens_from}
+use Rattle.jsonpath_base.proofs.PointerWays.{LeadsOn}
 use Rattle.jsonpath_base.proofs.pointer.location_by_pointer.Given as goal
 
 abbrev pub invariant-loop-part : goal.invariant-loop-part
-invariant-loop-part l = shadow (Utf8 l.rest) × LeadsTo l.fn.text l.fn.value l.steps.items l.rest l.target
+invariant-loop-part l = shadow (Utf8 l.rest) × LeadsOn l.fn.text l.fn.value l.steps.items (tokens_from [] l.rest) l.target
 
 abbrev pub decreases-loop-part : goal.decreases-loop-part
 decreases-loop-part l = length l.rest
