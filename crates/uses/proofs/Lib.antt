@@ -3,7 +3,6 @@ pub mod Firsts
 pub mod Telling
 pub mod Making
 pub mod Admitting
-pub mod Pointing
 pub mod Splitting
 pub mod Patching
 pub mod Taking

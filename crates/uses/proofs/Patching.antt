@@ -5,15 +5,14 @@ use Rattle.serde_json.specs.declared.value.Value.{Value, Array}
 use Rattle.serde_json.proofs.Views.{view-Array}
 use Rattle.jsonpath_rust.specs.Location.{Step, index, Location}
 use Rattle.jsonpath_rust.specs.Places.{at}
-use Rattle.jsonpath_rust.specs.Pointer.{step_in}
+use Rattle.jsonpath_rust.specs.Pointer.{step_in, location_in}
 use Rattle.jsonpath_rust.specs.Put.{put}
 use Rattle.jsonpath_rust.specs.Tree.{Tree, null, truth, number, text, list, object, elements}
 use Rattle.jsonpath_rust.specs.Without.{is_among, without}
 use Rattle.jsonpath_rust.specs.base.Values.{tree_of, trees_of, value_tree}
 use Rattle.std.specs.Path.{rsplit_once}
-use Rattle.uses.specs.Patch.{all_patched, patched, location_in, new_step, target_in, with_added, replaced, is_inside, moved}
+use Rattle.uses.specs.Patch.{all_patched, patched, new_step, target_in, with_added, replaced, is_inside, moved}
 use Rattle.uses.specs.declared.patch.Operation.{Operation}
-use Rattle.uses.proofs.Pointing.{location_stands}
 use Rattle.uses.proofs.Taking.{put_removed}
 
 -- ---- one more operation
@@ -65,8 +64,8 @@ target_nowhere path parent token t split leads = rw (split, leads) refl
 
 -- ---- what an operation makes
 
-pub replaced_there : (path : List ℕ) (u t v : Tree) (l : Location) (b : Bool) → location_in path t ≡ Some l → b ≡ is_some (at l t) → v ≡ put l u t → replaced path u t ≡ (if b then Some v else None)
-replaced_there path u t v l b place found new = let there = location_stands path t l place in rw (place, found ∙ ap is_some there.1, new) refl
+pub replaced_there : (path : List ℕ) (u t v : Tree) (l : Location) (b : Bool) → location_in path t ≡ Some l → is_some (at l t) ≡ true → b ≡ is_some (at l t) → v ≡ put l u t → replaced path u t ≡ (if b then Some v else None)
+replaced_there path u t v l b place there found new = rw (place, found ∙ there, new) refl
 
-pub moved_there : (from path : List ℕ) (t m w : Tree) (l : Location) → is_inside path from ≡ false → location_in from t ≡ Some l → Some w ≡ at l t → m ≡ without (is_among (l ∷ [])) (put l null t) → moved from path t ≡ with_added path w m
-moved_there from path t m w l out place found gone = rw (out, place, ← found, gone, put_removed l null t) refl
+pub moved_there : (from path : List ℕ) (t m w : Tree) (l : Location) → is_inside path from ≡ false → location_in from t ≡ Some l → is_among (l ∷ []) l ≡ true → Some w ≡ at l t → m ≡ without (is_among (l ∷ [])) (put l null t) → moved from path t ≡ with_added path w m
+moved_there from path t m w l out place among found gone = rw (out, place, ← found, gone, put_removed l null t among) refl

@@ -5,7 +5,6 @@ use Rattle.jsonpath_rust.specs.Location.{name, index, Location}
 use Rattle.jsonpath_rust.specs.Put.{with_element, with_member, put}
 use Rattle.jsonpath_rust.specs.Tree.{Tree, null, truth, number, text, list, object, Trees, no_trees, tree, Members, no_members, member}
 use Rattle.jsonpath_rust.specs.Without.{is_among, thinned, elements_thinned, members_thinned, without}
-use Rattle.jsonpath_base.proofs.Removed.{location_itself}
 
 -- At this location, unless it is removed itself, the two are thinned to the same.
 abbrev ThinsAlike : (Location → Bool) → (Tree → Tree) → Type 0
@@ -60,9 +59,6 @@ put_alike (name k ∷ l) gone u is here (number n) = refl
 put_alike (name k ∷ l) gone u is here (text s) = refl
 put_alike (name k ∷ l) gone u is here (list ts) = refl
 
-among_itself : (l : Location) → is_among (l ∷ []) l ≡ true
-among_itself l = rw (location_itself l) refl
-
-pub put_removed : (l : Location) (u t : Tree) → without (is_among (l ∷ [])) (put l u t) ≡ without (is_among (l ∷ [])) t
-put_removed [] u t = refl
-put_removed (s ∷ l) u t = put_alike (s ∷ l) (is_among ((s ∷ l) ∷ [])) u (among_itself (s ∷ l)) refl t
+pub put_removed : (l : Location) (u t : Tree) → is_among (l ∷ []) l ≡ true → without (is_among (l ∷ [])) (put l u t) ≡ without (is_among (l ∷ [])) t
+put_removed [] u t among = refl
+put_removed (s ∷ l) u t among = put_alike (s ∷ l) (is_among ((s ∷ l) ∷ [])) u among refl t

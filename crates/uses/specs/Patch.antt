@@ -1,50 +1,25 @@
 -- What a JSON Patch makes of a document (RFC 6902). Its paths are JSON Pointers (RFC 6901). None: the operation fails.
-use Rattle.std.specs.Prelude.{◌≡◌, ℕ, List, [], ◌∷◌, ◌++◌, ◌==◌, eqb, Bool, ◌&&◌, Option, Some, None, if◌then◌else◌, option_map, option_and_then, codes, length, take, slice_get, slice_index, string_bytes, bytes_eq}
+use Rattle.std.specs.Prelude.{◌≡◌, ℕ, List, [], ◌∷◌, ◌==◌, eqb, Bool, ◌&&◌, Option, Some, None, if◌then◌else◌, option_map, option_and_then, codes, length, take, slice_get, slice_index, string_bytes, bytes_eq}
 use Rattle.std.specs.List.{starts_with}
 use Rattle.std.specs.Path.{rsplit_once}
 use Rattle.std.specs.Str.{byte}
-use Rattle.serde_json.specs.Find as json_find
-use Rattle.serde_json.specs.View.{view}
-use Rattle.serde_json.specs.declared.value.Value.{Value}
 use Rattle.jsonpath_rust.specs.Location.{Step, index, Location}
 use Rattle.jsonpath_rust.specs.Added.{added, takes_at}
-use Rattle.jsonpath_rust.specs.Places.{at, child}
-use Rattle.jsonpath_rust.specs.Pointer.{step_in}
+use Rattle.jsonpath_rust.specs.Places.{at}
+use Rattle.jsonpath_rust.specs.Pointer.{step_in, location_in}
 use Rattle.jsonpath_rust.specs.Put.{put}
 use Rattle.jsonpath_rust.specs.Same.{same}
 use Rattle.jsonpath_rust.specs.Tree.{Tree, list, elements}
 use Rattle.jsonpath_rust.specs.Without.{without, is_among}
-use Rattle.jsonpath_rust.specs.base.Values.{tree_of, value_tree}
+use Rattle.jsonpath_rust.specs.base.Values.{value_tree}
 use Rattle.uses.specs.declared.patch.Operation.{Operation}
 use Rattle.uses.specs.declared.patch.Operation.TheVariants.{Add, Remove, Replace, Move, Copy, Test}
 
 -- ---- where a path leads (RFC 6901)
 
--- what stands between one `/` and the next (section 3); of the first, `part` has been read
-abbrev pub tokens_from : List ℕ → List ℕ → List (List ℕ)
-tokens_from part [] = part ∷ []
-tokens_from part (c ∷ rest) = if c == byte "/" then part ∷ tokens_from [] rest else tokens_from (part ++ c ∷ []) rest
-
--- the reference tokens of a path, as they are written; a path is empty, or begins with `/`
-abbrev pub tokens : List ℕ → Option (List (List ℕ))
-tokens [] = Some []
-tokens (c ∷ rest) = if c == byte "/" then Some (tokens_from [] rest) else None
-
--- the location to which the tokens lead, one after the other, if something is there (section 4)
-abbrev pub led : List (List ℕ) → Tree → Option Location
-led [] t = Some []
-led (part ∷ parts) t = option_and_then (λ s. option_and_then (λ c. option_map (λ l. s ∷ l) (led parts c)) (child s t)) (step_in part t)
-
-abbrev pub location_in : List ℕ → Tree → Option Location
-location_in path t = option_and_then (λ parts. led parts t) (tokens path)
-
--- what stands there
+-- what stands at the location that a path means
 abbrev pub value_in : List ℕ → Tree → Option Tree
 value_in path t = option_and_then (λ l. at l t) (location_in path t)
-
--- It is what `Value::pointer` of serde_json finds.
-abbrev pub PathsLeadAsPointers : Type 0
-PathsLeadAsPointers = (path : List ℕ) (v : Value) → value_in path (value_tree v) ≡ option_map tree_of (json_find.pointer path (view v))
 
 -- ---- what each operation makes of a document (RFC 6902, 4)
 

@@ -2,7 +2,7 @@
 ghost use Rattle.std.specs.Prelude.{◌≡◌, IfErr, IfNone, IfOk, IfSome, IsTrue, None, OnErr, Some, if◌then◌else◌};
 ghost use Rattle.jsonpath_rust.specs.JsonPathError.TheVariants.{OutOfMemory};
 ghost use Rattle.jsonpath_rust.specs.base.Values.{value_tree, value_is_whole};
-ghost use Rattle.uses.specs.Patch.{FailsAt, PathsLeadAsPointers, all_patched, patched};
+ghost use Rattle.uses.specs.Patch.{FailsAt, all_patched, patched};
 
 mod operations;
 mod place;
@@ -108,9 +108,3 @@ fn apply(alloc: Global, operation: &Operation, document: &mut Value) -> Queried<
         Operation::Test { path, value } => test(alloc, document, path, value.get()),
     }
 }
-
-/// States a law and does nothing: where a path leads, by the definition of the operations, there `Value::pointer` of `serde_json` finds
-/// the same.
-pub fn paths_lead_as_pointers()
-    ensures { PathsLeadAsPointers }
-{}

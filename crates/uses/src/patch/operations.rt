@@ -4,9 +4,10 @@ ghost use Rattle.jsonpath_rust.specs.JsonPathError.TheVariants.{OutOfMemory};
 ghost use Rattle.jsonpath_rust.specs.base.Values.{value_tree, value_is_whole};
 ghost use Rattle.uses.specs.Patch.{copied, moved, removed, replaced, tested, with_added};
 
-use crate::patch::place::{is_inside, place_of, target_of, value_of};
+use crate::patch::place::{is_inside, target_of, value_of};
 use jsonpath_rust::Queryable;
-use jsonpath_rust::query::{Queried, add_at, put_at, remove_all, take_at};
+use jsonpath_rust::query::laws::{among_is_listed, pointer_leads_as_found};
+use jsonpath_rust::query::{Queried, add_at, location_by_pointer, put_at, remove_all, take_at};
 use serde_json::Value;
 use std::alloc::Global;
 use std::mem;
@@ -36,7 +37,7 @@ pub fn remove(alloc: Global, document: &mut Value, path: &str) -> Queried<bool>
     ensures whole { IsTrue (value_is_whole document.new) }
     ensures memory { IfErr result (λ e. e ≡ OutOfMemory) }
 {
-    match place_of(alloc, document, path)? {
+    match location_by_pointer(alloc, document, path)? {
         Some(place) => {
             remove_all(alloc, document, &[place])?;
             Ok(true)
@@ -53,7 +54,9 @@ pub fn replace(alloc: Global, document: &mut Value, path: &str, new: Value) -> Q
     ensures whole { IsTrue (value_is_whole document.new) }
     ensures memory { IfErr result (λ e. e ≡ OutOfMemory) }
 {
-    match place_of(alloc, document, path)? {
+    // The law that something is where a pointer leads, which the proof cites.
+    pointer_leads_as_found();
+    match location_by_pointer(alloc, document, path)? {
         Some(place) => Ok(put_at(document, &place, new)),
         None => Ok(false),
     }
@@ -69,13 +72,16 @@ pub fn move_value(alloc: Global, document: &mut Value, from: &str, path: &str) -
     if is_inside(path, from) {
         return Ok(false);
     }
-    let Some(origin) = place_of(alloc, document, from)? else {
+    let Some(origin) = location_by_pointer(alloc, document, from)? else {
         return Ok(false);
     };
     let Some(moved) = take_at(document, &origin) else {
         return Ok(false);
     };
     remove_all(alloc, document, &[origin])?;
+
+    // The law of the set of a list, which the proof cites: what was taken from its place was removed there.
+    among_is_listed();
     add(alloc, document, path, moved)
 }
 

@@ -3,29 +3,21 @@ ghost use Rattle.std.specs.Prelude.{◌≡◌, IfErr, IfOk, IfSome, IsTrue, opti
 ghost use Rattle.jsonpath_rust.specs.JsonPathError.TheVariants.{OutOfMemory};
 ghost use Rattle.jsonpath_rust.specs.base.Steps.{location_view, owned_step};
 ghost use Rattle.jsonpath_rust.specs.base.Values.{value_tree, value_is_whole};
-ghost use Rattle.uses.specs.Patch.{is_inside, location_in, new_step, target_in, value_in};
+ghost use Rattle.uses.specs.Patch.{is_inside, new_step, target_in, value_in};
 
 use jsonpath_rust::Step;
 use jsonpath_rust::query::{Queried, at, location_by_pointer, step_by_token};
 use serde_json::Value;
 use std::alloc::Global;
 
-/// The location to which a path leads, where something is; or None.
-pub fn place_of(alloc: Global, document: &Value, path: &str) -> Queried<Option<Vec<Step>>>
-    ensures place { IfOk result (λ o. option_map (λ v. location_view v.items) o ≡ location_in path.now (value_tree document.now)) }
-    ensures memory { IfErr result (λ e. e ≡ OutOfMemory) }
-{
-    location_by_pointer(alloc, document, path)
-}
-
-/// What is there, or None.
+/// What is at the location that a path means, or None.
 pub fn value_of<'v>(alloc: Global, document: &'v Value, path: &str) -> Queried<Option<&'v Value>>
     requires { IsTrue (value_is_whole document.now) }
     ensures value { IfOk result (λ o. option_map (λ v. value_tree v.now) o ≡ value_in path.now (value_tree document.now)) }
     ensures whole { IfOk result (λ o. IfSome o (λ v. IsTrue (value_is_whole v.now))) }
     ensures memory { IfErr result (λ e. e ≡ OutOfMemory) }
 {
-    match place_of(alloc, document, path)? {
+    match location_by_pointer(alloc, document, path)? {
         Some(place) => Ok(at(document, &place)),
         None => Ok(None),
     }
@@ -39,7 +31,7 @@ pub fn target_of(alloc: Global, document: &Value, path: &str) -> Queried<Option<
     let Some((parent, token)) = path.rsplit_once('/') else {
         return Ok(None);
     };
-    let Some(place) = place_of(alloc, document, parent)? else {
+    let Some(place) = location_by_pointer(alloc, document, parent)? else {
         return Ok(None);
     };
     let Some(target) = at(document, &place) else {
