@@ -1,19 +1,10 @@
 -- A child added below a child of a value, seen as a tree.
 use Rattle.std.proofs.Common.{◌≡◌, ℕ, zero, suc, ◌<◌, ◌≤◌, ◌∷◌, List, [], length, set, get_or, Bool, true, false, Some, None, option_map, option_and_then, unwrap_or, Result, Ok, String, Vec, BTreeMap, Global, string_bytes, refl, sym, ap, subst, ◌∙◌, arith}
 use Rattle.std.proofs.lemmas.Result.{on_ok_weaker, IfOk-weaker}
-use Rattle.std.specs.Map.{lookup, set_value}
-use Rattle.std.specs.declared.alloc.AllocError.{AllocError}
+use Rattle.jsonpath_base.specs.Prelude.{added, Adds, AllocError, Array, at, child, index, items_view, Location, lookup, members_view, name, Object, set_value, Step, takes, takes_at, Tree, Value, value_tree, view}
 use Rattle.serde_json.specs.Data as json
 use Rattle.serde_json.specs.Find as json_find
-use Rattle.serde_json.specs.View.{view, items_view, members_view}
-use Rattle.serde_json.specs.declared.value.Value.{Value, Array, Object}
 use Rattle.serde_json.proofs.Views.{Entry, view-Array, view-Object}
-use Rattle.jsonpath_parser.specs.Location.{Step, name, index, Location}
-use Rattle.jsonpath_base.specs.Added.{takes, takes_at, added}
-use Rattle.jsonpath_base.specs.Places.{child, at}
-use Rattle.jsonpath_base.specs.Tree.{Tree}
-use Rattle.jsonpath_base.specs.Values.{value_tree}
-use Rattle.jsonpath_base.specs.inner.Adding.{Adds}
 use Rattle.jsonpath_base.proofs.AddedChildren.{not_taken}
 use Rattle.jsonpath_base.proofs.Loans.{at_item, at_member}
 use Rattle.jsonpath_base.proofs.Putting.{is_entry, set_element, past_child, set_member, absent_child}

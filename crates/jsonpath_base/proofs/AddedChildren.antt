@@ -2,23 +2,10 @@
 use Rattle.std.proofs.Common.{◌≡◌, ℕ, zero, suc, ◌<◌, ◌≤◌, ◌∷◌, List, [], length, insert, nat_le, Bool, true, false, if◌then◌else◌, true≢false, IsTrue, Some, unwrap_or, is_ok, Result, Ok, Err, IfOk, OnOk, String, Vec, BTreeMap, Global, Ordering, Less, Equal, Greater, nat_cmp, string_bytes, string_cmp, refl, sym, ap, subst, ◌∙◌, arith}
 use Rattle.std.proofs.lemmas.Bool.{and_parts, and_from}
 use Rattle.std.proofs.lemmas.Bool.Decides.{nat_tests}
-use Rattle.std.specs.BTreeMap.{insert_entry, IsOrdered}
-use Rattle.std.specs.List.Sorted.{IsStrictlySortedBy}
-use Rattle.std.specs.Cmp.Lexicographic.{slice_cmp}
-use Rattle.std.specs.Map.{keys_of}
-use Rattle.std.specs.Ordering.{match_ordering}
-use Rattle.std.specs.Result.{result_ok}
-use Rattle.std.specs.declared.alloc.AllocError.{AllocError}
+use Rattle.jsonpath_base.specs.Prelude.{Adds, AllocError, are_distinct, Array, elements, index, insert_entry, IsOrdered, IsStrictlySortedBy, items_view, keys_of, list, match_ordering, members_distinct, members_of, members_view, members_whole, name, Object, object, result_ok, slice_cmp, Step, takes, Tree, tree, tree_of, trees_of, Value, value_is_whole, value_tree, view, with_new, with_new_element, with_new_member}
 use Rattle.serde_json.specs.Data as json
 use Rattle.serde_json.specs.Find as json_find
-use Rattle.serde_json.specs.View.{view, items_view, members_view}
-use Rattle.serde_json.specs.declared.value.Value.{Value, Array, Object}
 use Rattle.serde_json.proofs.Views.{Entry, view-Array, view-Object, members_view-insert_entry}
-use Rattle.jsonpath_parser.specs.Location.{Step, name, index}
-use Rattle.jsonpath_base.specs.Added.{with_new_element, with_new_member, with_new, takes}
-use Rattle.jsonpath_base.specs.Tree.{Tree, tree, list, object, elements, members_distinct, are_distinct}
-use Rattle.jsonpath_base.specs.Values.{value_tree, value_is_whole, tree_of, trees_of, members_of, members_whole}
-use Rattle.jsonpath_base.specs.inner.Adding.{Adds}
 use Rattle.jsonpath_base.proofs.Putting.{array_tree, object_tree}
 use Rattle.jsonpath_base.proofs.PutWhole.{list_data, object_data, item_and_more, member_and_more}
 use Rattle.jsonpath_base.proofs.Views.{names, data_whole, items_are_whole, members_are_whole, object_members_whole, first_item_whole, more_items_whole, first_member_whole, more_members_whole, ordered_names}

@@ -3,14 +3,7 @@ use Rattle.std.proofs.Common.{◌≡◌, ℕ, zero, suc, ◌<◌, ◌≤◌, Lis
 use Rattle.std.proofs.lemmas.Bool.Decides.{nat_tests}
 use Rattle.std.proofs.lemmas.Map.Text.{is_eq-slice_cmp}
 use Rattle.std.proofs.lemmas.Slice.Eq.{bytes_eq-Decides}
-use Rattle.std.specs.Cmp.Lexicographic.{slice_cmp}
-use Rattle.std.specs.Ordering.{match_ordering}
-use Rattle.std.specs.Str.{bytes_eq}
-use Rattle.jsonpath_parser.specs.Location.{Step, name, index, Location}
-use Rattle.jsonpath_base.specs.Added.{with_new_element, with_new_member, with_new, takes, added, AddedIsThere, AddedNameLeavesSiblings, AddedIndexMovesLater, AddedLeavesTheRest}
-use Rattle.jsonpath_base.specs.Places.{child, item_at, at}
-use Rattle.jsonpath_base.specs.Put.{with_child}
-use Rattle.jsonpath_base.specs.Tree.{Tree, null, truth, number, text, list, object, Trees, no_trees, tree, Members, no_members, member, find, pairs, elements}
+use Rattle.jsonpath_base.specs.Prelude.{added, AddedIndexMovesLater, AddedIsThere, AddedLeavesTheRest, AddedNameLeavesSiblings, at, bytes_eq, child, elements, find, index, item_at, list, Location, match_ordering, member, Members, name, no_members, no_trees, null, number, object, pairs, slice_cmp, Step, takes, text, Tree, tree, Trees, truth, with_child, with_new, with_new_element, with_new_member}
 use Rattle.jsonpath_base.proofs.PutLaws.{IsWritten, child_written, child_same, behind_same, longer}
 
 -- ---- the child

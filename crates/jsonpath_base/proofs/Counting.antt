@@ -1,11 +1,7 @@
 -- How many distinct locations lists and marks have.
 use Rattle.std.proofs.Common.{◌≡◌, ℕ, suc, ◌+◌, List, [], ◌∷◌, ◌++◌, map, Bool, true, false, true≢false, not, ◌&&◌, ◌||◌, if◌then◌else◌, None, String, Global, refl, sym, ap, ap₂, ◌∙◌, arith}
-use Rattle.std.specs.Map.{lookup}
+use Rattle.jsonpath_base.specs.Prelude.{counted_with, distinct_count, HasAlso, index, is_among, is_key, is_location, is_same_step, listed, listed_in, Location, lookup, marked_in, Marks, name, Step, to_member}
 use Rattle.std.proofs.lemmas.Bool.{or_parts}
-use Rattle.jsonpath_parser.specs.Location.{Step, name, index, Location}
-use Rattle.jsonpath_base.specs.Without.{is_same_step, is_location, is_among, distinct_count, counted_with, HasAlso}
-use Rattle.jsonpath_base.specs.inner.Marks.{to_member, is_key, listed, listed_in, marked_in}
-use Rattle.jsonpath_base.specs.declared.marks.Marks.{Marks}
 use Rattle.jsonpath_base.proofs.Marking.{step_itself, among_append, among_under, in_here, no_member, no_element, parts, AreKeys, not_held, same_step}
 use Rattle.jsonpath_base.proofs.Removed.{same_location, location_itself, location_back}
 

@@ -2,15 +2,9 @@
 use Rattle.std.proofs.Common.{◌≡◌, ℕ, suc, ℤ, [], ◌∷◌, map, Bool, true, false, if◌then◌else◌, Option, Some, None, refl, ap, ap₂, ◌∙◌}
 use Rattle.std.proofs.lemmas.Bool.{and_parts, and_from}
 use Rattle.serde_json.specs.Data as json
-use Rattle.serde_json.specs.Data.{Data, Items}
-use Rattle.serde_json.specs.Find.{as_i64}
-use Rattle.jsonpath_parser.specs.Location.{name, index, Location}
+use Rattle.jsonpath_base.specs.Prelude.{are_distinct, as_i64, Data, data_below, data_overwritten, elements_overwritten, has_distinct_names, index, Items, items_overwritten, Location, members_distinct, members_of, members_overwritten, members_whole, name, overwritten, overwritten_below, pairs, Tree, tree_of, tree_of_number, trees_of}
 use Rattle.jsonpath_base.specs.Overwritten as replaced
-use Rattle.jsonpath_base.specs.Overwritten.{overwritten, overwritten_below, elements_overwritten}
 use Rattle.jsonpath_base.specs.Tree as trees
-use Rattle.jsonpath_base.specs.Tree.{Tree, pairs, are_distinct, has_distinct_names, members_distinct}
-use Rattle.jsonpath_base.specs.Values.{tree_of, tree_of_number, trees_of, members_of, members_whole}
-use Rattle.jsonpath_base.specs.inner.Masking.{data_below, items_overwritten, members_overwritten, data_overwritten}
 use Rattle.jsonpath_base.proofs.PutWhole.{item_and_more, member_and_more}
 use Rattle.jsonpath_base.proofs.Views.{data_whole, items_are_whole, members_are_whole, object_members_whole, first_item_whole, more_items_whole, first_member_whole, more_members_whole}
 

@@ -3,18 +3,9 @@ use Rattle.std.proofs.Common.{◌≡◌, ℕ, zero, suc, ◌+◌, ◌<◌, ◌�
 use Rattle.std.proofs.lemmas.List.{drop_more}
 use Rattle.std.proofs.lemmas.Map.{NonePasses, none_passes_from_lookup}
 use Rattle.std.proofs.lemmas.Slice.Eq.{bytes_eq-Decides}
-use Rattle.std.specs.List.Sorted.{IsStrictlySortedBy}
-use Rattle.std.specs.Map.{lookup, set_value, keys_of}
-use Rattle.serde_json.specs.Data.{Data, null, boolean, number, string, array, object, Items, no_items, item, Members, no_members, member}
-use Rattle.serde_json.specs.Find.{as_array, as_object}
-use Rattle.serde_json.specs.View.{view, items_view, members_view}
-use Rattle.serde_json.specs.declared.value.Value.{Value}
+use Rattle.jsonpath_base.specs.Prelude.{array, as_array, as_object, boolean, Data, data_below, data_overwritten, index, is_key, IsStrictlySortedBy, item, Items, items_overwritten, items_view, keys_of, Location, lookup, marked, marked_below, marked_by, Marks, marks_count, marks_total, members_overwritten, members_view, name, no_items, out-Marks, outermost_count, outermost_total, set_value, Step, string, the_lemmas, to_member, total, Value, view}
+use Rattle.serde_json.specs.Data.{null, number, object, Members, no_members, member}
 use Rattle.serde_json.proofs.Views.{Entry}
-use Rattle.jsonpath_parser.specs.Location.{Step, name, index, Location}
-use Rattle.jsonpath_base.specs.inner.Marks.{to_member, is_key, marked, marked_by, marked_below, marks_count, marks_total, total}
-use Rattle.jsonpath_base.specs.inner.Masking.{data_below, items_overwritten, members_overwritten, data_overwritten, outermost_count, outermost_total}
-use Rattle.jsonpath_base.specs.declared.marks.Marks.{Marks, the_lemmas}
-use Rattle.jsonpath_base.specs.declared.marks.Marks.TheViews.{out-Marks}
 use Rattle.jsonpath_base.proofs.Marking.{marked_here}
 use Rattle.jsonpath_base.proofs.PutWhole.{list_data, object_data}
 use Rattle.jsonpath_base.proofs.Removing.{is_entry, same_name, other_name, none_after}

@@ -7,17 +7,11 @@ use Rattle.std.proofs.lemmas.List.Folds.{list_all-append, list_all-map}
 use Rattle.std.proofs.lemmas.List.Sums.{sum_by-cons}
 use Rattle.std.proofs.lemmas.Map.{lookup-none}
 use Rattle.std.proofs.lemmas.Map.Entries.{none_below_head, sum_by-insert_entry}
-use Rattle.std.specs.BTreeMap.{insert_entry, is_at}
+use Rattle.jsonpath_base.specs.Prelude.{AllByRecursion, distinct_count, HoldsAlso, in_order, index, insert_entry, is_among, is_at, is_key, is_lt, is_same_step, IsJoined, IsSameSet, IsStrictlySortedBy, keys_of, level_in_order, list_all, listed, listed_in, Location, lookup, marked, marked_by, marked_in, Marks, marks_count, marks_total, match_ordering, name, out-Marks, Step, TestsSteps, the_lemmas, to_member}
 use Rattle.std.specs.Cmp.{IsTotalOrder}
-use Rattle.std.specs.List.{AllByRecursion, list_all, sum_by}
-use Rattle.std.specs.List.Sorted.{IsStrictlySortedBy}
-use Rattle.std.specs.Map.{lookup, keys_of, values_of}
-use Rattle.std.specs.Ordering.{match_ordering, is_lt}
-use Rattle.jsonpath_parser.specs.Location.{Step, name, index, Location}
-use Rattle.jsonpath_base.specs.Without.{is_same_step, is_among, distinct_count}
-use Rattle.jsonpath_base.specs.inner.Marks.{to_member, is_key, keys_rise, in_order, level_in_order, listed, listed_in, marked, marked_in, marked_by, marks_count, marks_total, TestsSteps, IsSameSet, IsJoined, HoldsAlso}
-use Rattle.jsonpath_base.specs.declared.marks.Marks.{Marks, the_lemmas}
-use Rattle.jsonpath_base.specs.declared.marks.Marks.TheViews.{out-Marks}
+use Rattle.std.specs.List.{sum_by}
+use Rattle.std.specs.Map.{values_of}
+use Rattle.jsonpath_base.specs.inner.Marks.{keys_rise}
 use Rattle.jsonpath_base.proofs.Marking.{same_step, in_here, in_step, in_append, parts, parts_here, parts_member, parts_element, rolled, listed_out, listed_rolled, count_out, count_rolled, are_keys, AreKeys}
 use Rattle.jsonpath_base.proofs.Counting.{counts, level_count, parts_count}
 

@@ -2,12 +2,8 @@
 use Rattle.std.proofs.Common.{◌≡◌, ◌<◌, ℕ, suc, ◌+◌, ◌-◌, List, [], ◌∷◌, ◌++◌, length, set, get_or, take, zero, Vec, String, Global, Bool, true, rules, refl, sym, ap, ◌∙◌, subst, arith}
 use Rattle.std.proofs.Math.Seq.{get_or-append_seam}
 use Rattle.std.proofs.lemmas.List.{length-append}
-use Rattle.jsonpath_parser.specs.Location.{Step, name, index, Location}
-use Rattle.jsonpath_base.specs.Steps.{lent_location}
-use Rattle.jsonpath_base.specs.inner.Marks.{to_member, listed, EndsIn, EndsWith, LevelEnds, Adds, AddsIn}
-use Rattle.jsonpath_base.specs.declared.marks.Marks.{Marks, the_lemmas}
-use Rattle.jsonpath_base.specs.declared.marks.Marks.TheViews.{out-Marks}
-use Rattle.jsonpath_base.specs.declared.step.StepRef.{StepRef}
+use Rattle.jsonpath_base.specs.Prelude.{AddsIn, EndsWith, index, lent_location, LevelEnds, listed, Location, Marks, name, out-Marks, Step, StepRef, the_lemmas, to_member}
+use Rattle.jsonpath_base.specs.inner.Marks.{EndsIn, Adds}
 use Rattle.jsonpath_base.proofs.Marking.{rolled, also_here, also_member, also_element, also_set, also_push}
 
 -- fewer of its first steps

@@ -1,19 +1,11 @@
 -- A part that is lent on the way to a location.
 use Rattle.std.proofs.Common.{◌≡◌, ℕ, zero, suc, ◌+◌, ◌-◌, ◌<◌, ◌≤◌, List, [], ◌∷◌, length, get_or, Bool, true, false, Option, Some, None, OnSome, IsSome, is_some, Vec, BTreeMap, String, Global, T, eqb, not, true≢false, refl, sym, ap, ap₂, ◌∙◌, arith}
 use Rattle.std.specs.List.{slice_get}
-use Rattle.std.specs.Map.{lookup}
+use Rattle.jsonpath_base.specs.Prelude.{at, child, has_index, Index, index, index_in, is_entry, items_view, Location, location_view, lookup, members_view, Name, name, name_in, next, null, rest, Tree, Value, value_tree, view}
 use Rattle.serde_json.specs.Data as json
 use Rattle.serde_json.specs.Find as json_find
-use Rattle.serde_json.specs.View.{view, items_view, members_view}
-use Rattle.serde_json.specs.declared.value.Value.{Value}
-use Rattle.jsonpath_parser.specs.Location.{name, index, Location}
-use Rattle.jsonpath_base.specs.Places.{at, child}
-use Rattle.jsonpath_base.specs.Steps.{location_view}
-use Rattle.jsonpath_base.specs.Tree.{Tree, null}
-use Rattle.jsonpath_base.specs.Values.{value_tree}
 use Rattle.jsonpath_base.specs.declared.step.Step.{Step}
-use Rattle.jsonpath_base.specs.declared.step.Step.TheVariants.{Name, Index}
-use Rattle.jsonpath_base.specs.inner.Lent.{next, has_index, index_in, name_in, step_in, rest, is_entry}
+use Rattle.jsonpath_base.specs.inner.Lent.{step_in}
 use Rattle.jsonpath_base.proofs.Putting.{child_element, child_member, past_element, no_elements, absent_member, no_members}
 
 pub on_some : {T : Type 0} {X : Type 0} (o : Option T) → X → OnSome o X

@@ -6,17 +6,10 @@ use Rattle.std.proofs.lemmas.List.Folds.{list_any-append}
 use Rattle.std.proofs.lemmas.Cmp.{ranked}
 use Rattle.std.proofs.lemmas.Map.Text.{is_eq-slice_cmp}
 use Rattle.std.proofs.lemmas.Slice.Eq.{bytes_eq-Decides}
-use Rattle.std.specs.BTreeMap.{insert_entry}
+use Rattle.jsonpath_base.specs.Prelude.{AllByRecursion, HasAlso, index, insert_entry, is_among, is_key, is_location, is_same_step, IsStrictlySortedBy, keys_of, listed, listed_in, Location, lookup, marked, marked_below, marked_by, marked_in, Marks, marks_count, marks_total, match_ordering, name, out-Marks, Step, TestsSteps, the_lemmas, to_member, total}
 use Rattle.std.specs.Cmp.{nat_eq_equiv, unsigned_tied}
-use Rattle.std.specs.List.{AllByRecursion}
-use Rattle.std.specs.List.Sorted.{IsStrictlySortedBy}
-use Rattle.std.specs.Map.{lookup, keys_of}
-use Rattle.std.specs.Ordering.{match_ordering}
-use Rattle.jsonpath_parser.specs.Location.{Step, name, index, Location}
-use Rattle.jsonpath_base.specs.Without.{is_same_step, is_location, is_among, HasAlso}
-use Rattle.jsonpath_base.specs.inner.Marks.{to_member, is_key, listed, listed_of, listed_in, marked, marked_in, marked_by, marked_below, total, marks_count, marks_total, TestsSteps}
-use Rattle.jsonpath_base.specs.declared.marks.Marks.{Marks, the_lemmas}
-use Rattle.jsonpath_base.specs.declared.marks.Marks.TheViews.{out-Marks, roll-Marks}
+use Rattle.jsonpath_base.specs.inner.Marks.{listed_of}
+use Rattle.jsonpath_base.specs.declared.marks.Marks.TheViews.{roll-Marks}
 
 -- ---- steps
 

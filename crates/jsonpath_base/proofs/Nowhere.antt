@@ -1,12 +1,10 @@
 -- A removal at a location where nothing is leaves the tree.
 use Rattle.std.proofs.Common.{◌≡◌, ℕ, suc, List, [], ◌∷◌, Bool, true, false, if◌then◌else◌, refl, sym, ap, ap₂, ◌∙◌}
-use Rattle.jsonpath_parser.specs.Location.{name, index, Location}
+use Rattle.jsonpath_base.specs.Prelude.{elements_overwritten, elements_thinned, index, is_among, list, Location, member, Members, name, no_members, no_trees, null, number, object, overwritten, overwritten_below, text, thinned, Tree, tree, Trees, truth, without, WithoutNowhere}
 use Rattle.jsonpath_base.proofs.OverwrittenLaws.{at_one_is_put}
 use Rattle.jsonpath_base.proofs.PutLaws.{put_nowhere}
-use Rattle.jsonpath_base.specs.Overwritten.{overwritten, overwritten_below, elements_overwritten, members_overwritten}
-use Rattle.jsonpath_base.specs.Remaining.{WithoutNowhere}
-use Rattle.jsonpath_base.specs.Tree.{Tree, null, truth, number, text, list, object, Trees, no_trees, tree, Members, no_members, member}
-use Rattle.jsonpath_base.specs.Without.{without, thinned, elements_thinned, members_thinned, is_among}
+use Rattle.jsonpath_base.specs.Overwritten.{members_overwritten}
+use Rattle.jsonpath_base.specs.Without.{members_thinned}
 
 -- ---- what stays whatever is put at a set of locations has none of them, so a removal of these leaves it
 

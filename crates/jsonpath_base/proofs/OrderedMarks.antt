@@ -1,9 +1,7 @@
 -- The levels of marks in order are in order.
 use Rattle.std.proofs.Common.{◌≡◌, true, string_cmp, nat_cmp, sym, ◌∙◌}
 use Rattle.std.proofs.lemmas.Bool.{and_parts}
-use Rattle.jsonpath_base.specs.inner.Marks.{in_order, level_in_order}
-use Rattle.jsonpath_base.specs.declared.marks.Marks.{Marks}
-use Rattle.jsonpath_base.specs.declared.marks.Marks.TheViews.{out-Marks}
+use Rattle.jsonpath_base.specs.Prelude.{in_order, level_in_order, Marks, out-Marks}
 use Rattle.jsonpath_base.proofs.InOrder.{order_out}
 
 pub names_in_order : (m : Marks) → in_order m ≡ true → level_in_order string_cmp (out-Marks m).names.items ≡ true

@@ -2,13 +2,8 @@
 use Rattle.std.proofs.Common.{◌≡◌, ◌≤◌, ℕ, zero, suc, ◌+◌, List, [], ◌∷◌, ◌++◌, map, Bool, true, false, not, ◌&&◌, ◌||◌, if◌then◌else◌, cond, Option, Some, None, option_map, option_and_then, nat_eq, bytes_eq, eq-eqb, ne_eqb, refl, sym, ap, ap₂, ◌∙◌, arith}
 use Rattle.std.proofs.lemmas.Bool.{and_parts, or_parts}
 use Rattle.std.proofs.lemmas.Slice.Eq.{bytes_eq-Decides}
-use Rattle.std.specs.List.{list_any}
-use Rattle.jsonpath_parser.specs.Location.{Step, name, index, Location}
-use Rattle.jsonpath_base.specs.Overwritten.{overwritten, overwritten_below, elements_overwritten, members_overwritten, OverwrittenAtOneIsPut, OverwrittenIsSeen, OverwrittenLeavesTheRest, OverwrittenForgets}
-use Rattle.jsonpath_base.specs.Places.{child, item_at, at}
-use Rattle.jsonpath_base.specs.Put.{with_element, with_member, with_child, put}
-use Rattle.jsonpath_base.specs.Tree.{Tree, null, truth, number, text, list, object, Trees, no_trees, tree, Members, no_members, member, find, pairs, are_distinct, has_distinct_names, trees_distinct, members_distinct}
-use Rattle.jsonpath_base.specs.Without.{is_among, is_location}
+use Rattle.jsonpath_base.specs.Prelude.{are_distinct, at, child, elements_overwritten, find, has_distinct_names, index, is_among, is_location, item_at, list, list_any, Location, member, Members, members_distinct, name, no_members, no_trees, null, number, object, overwritten, overwritten_below, OverwrittenAtOneIsPut, OverwrittenForgets, OverwrittenIsSeen, OverwrittenLeavesTheRest, pairs, put, Step, text, Tree, tree, Trees, trees_distinct, truth, with_child, with_element, with_member}
+use Rattle.jsonpath_base.specs.Overwritten.{members_overwritten}
 use Rattle.jsonpath_base.proofs.PutLaws.{longer}
 
 -- ---- what the set holds nothing of stays

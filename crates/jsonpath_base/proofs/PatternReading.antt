@@ -1,8 +1,8 @@
 -- What the clauses of `Regex::new` and of the parser say of a text's reading.
 use Rattle.std.proofs.Common.{◌≡◌, ℕ, ◌<◌, ◌≤◌, Bool, true, false, nat_le, List, Option, None, Some, IsSomeAnd, IsSome, IfSome, is_some, option_and_then, ap, sym, refl, arith, inl, inr, length, get_or, rules, if◌then◌else◌}
 use Rattle.std.proofs.lemmas.Bool.{le-leb, leb-true, cond-false}
-use Rattle.std.specs.Str.{chars}
-use Rattle.regex.specs.Patterns.{Re, SameCaptures, Reads, Refuses, default_config, find_str}
+use Rattle.jsonpath_base.specs.Prelude.{chars, Re}
+use Rattle.regex.specs.Patterns.{SameCaptures, Reads, Refuses, default_config, find_str}
 use Rattle.regex.specs.Strings.{regex_pattern, regex_source, regex_config, IsReadFromSource}
 use Rattle.regex.specs.Names.{names_of}
 use Rattle.regex.specs.Failures.{IsPattern}

@@ -3,7 +3,8 @@ use Rattle.std.proofs.Common.{◌≡◌, ℕ, ◌+◌, ◌<◌, Bool, true, fals
 use Rattle.std.proofs.lemmas.Bool.{eqb-true}
 use Rattle.std.proofs.lemmas.List.{at_drop_more}
 use Rattle.std.proofs.lemmas.Str.{encodes-append, chars-append, IsUtf8-append}
-use Rattle.std.specs.Str.{byte, chars, IsUtf8}
+use Rattle.jsonpath_base.specs.Prelude.{chars, IsUtf8}
+use Rattle.std.specs.Str.{byte}
 use Rattle.jsonpath_base.specs.Pattern.{translated, behind_backslash, wrapped}
 use Rattle.jsonpath_base.specs.inner.PatternParts.{written, inside_after, escaped_after}
 

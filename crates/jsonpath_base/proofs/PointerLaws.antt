@@ -3,27 +3,19 @@ use Rattle.std.proofs.Common.{◌≡◌, ◌≢◌, ℕ, zero, suc, ◌^◌, ◌
 use Rattle.std.proofs.lemmas.Fmt.{decimal_is_IsNumeral, decimal_nonempty, first_decimal}
 use Rattle.std.specs.Char.{digit_value}
 use Rattle.std.specs.Prelude.{⊤}
-use Rattle.std.specs.Map.{lookup}
+use Rattle.jsonpath_base.specs.Prelude.{at, child, Data, escaped, index, index_digits, index_of, items_view, led, Location, lookup, members_view, name, pointer, PointerFindsItsPlace, PointerReadsBack, scan, Step, step_in, tokens, tokens_from, Tree, tree_of, unescape, Value, value_tree, view}
 use Rattle.std.specs.Str.Parse.{AllDigits, digits_value}
-use Rattle.fast_float.specs.Text.{Parts, scan, digits_of, IsWellFormed}
+use Rattle.fast_float.specs.Text.{Parts, digits_of, IsWellFormed}
 use Rattle.fast_float.proofs.Writing.{scan-text_of}
 use Rattle.serde_json.specs.Data as json
-use Rattle.serde_json.specs.Data.{Data}
 use Rattle.serde_json.specs.Find as json_find
-use Rattle.serde_json.specs.Find.{unescape, index_of}
-use Rattle.serde_json.specs.View.{view, items_view, members_view}
 use Rattle.serde_json.specs.View.{view_step}
-use Rattle.serde_json.specs.declared.value.Value.{Value, map-Value}
+use Rattle.serde_json.specs.declared.value.Value.{map-Value}
 use Rattle.serde_json.specs.declared.value.Value.TheFolds.{fold_out-Value}
 use Rattle.serde_json.specs.declared.value.Value.TheOpen.{Value-F}
 use Rattle.serde_json.specs.declared.value.Value.TheViews.{out-Value}
 use Rattle.serde_json.proofs.Views.{view-lookup}
-use Rattle.jsonpath_parser.specs.Location.{Step, name, index, Location}
-use Rattle.jsonpath_parser.specs.Normal.{index_digits}
-use Rattle.jsonpath_base.specs.Places.{child, at}
-use Rattle.jsonpath_base.specs.Pointer.{escaped, token, pointer, step_in, tokens_from, tokens, led, PointerReadsBack, PointerFindsItsPlace}
-use Rattle.jsonpath_base.specs.Tree.{Tree}
-use Rattle.jsonpath_base.specs.Values.{tree_of, value_tree}
+use Rattle.jsonpath_base.specs.Pointer.{token}
 use Rattle.jsonpath_base.proofs.PointerTexts.{Lacks}
 use Rattle.jsonpath_base.proofs.PointerMeanings.{leads_as_found}
 use Rattle.jsonpath_base.proofs.PointerWays.{unescape_head, mark_one, mark_zero, token_then, led_down}

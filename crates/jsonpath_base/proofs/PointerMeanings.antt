@@ -1,15 +1,9 @@
 -- What a JSON Pointer means in a tree is there, and is what the kit's `pointer` finds in a value.
 use Rattle.std.proofs.Common.{◌≡◌, ℕ, ℤ, List, [], ◌∷◌, ◌++◌, Bool, true, false, if◌then◌else◌, ◌==◌, Option, Some, None, is_some, option_map, option_and_then, refl, sym, ap, ◌∙◌}
 use Rattle.serde_json.specs.Data as json
-use Rattle.serde_json.specs.Data.{Data}
+use Rattle.jsonpath_base.specs.Prelude.{at, child, Data, index, index_of, led, list, Location, location_in, PointerLeadsAsFound, PointerLeadsToWhatIs, Step, step_in, tokens, tokens_from, Tree, tree_of, tree_of_number, trees_of, unescape, view}
 use Rattle.serde_json.specs.Find as json_find
-use Rattle.serde_json.specs.Find.{unescape, index_of, walk}
-use Rattle.serde_json.specs.View.{view}
-use Rattle.jsonpath_parser.specs.Location.{Step, index, Location}
-use Rattle.jsonpath_base.specs.Places.{at, child}
-use Rattle.jsonpath_base.specs.Pointer.{step_in, tokens_from, tokens, led, location_in, PointerLeadsToWhatIs, PointerLeadsAsFound}
-use Rattle.jsonpath_base.specs.Tree.{Tree, list}
-use Rattle.jsonpath_base.specs.Values.{tree_of, tree_of_number, trees_of}
+use Rattle.serde_json.specs.Find.{walk}
 use Rattle.jsonpath_base.proofs.Placing.{item_at-trees_of}
 use Rattle.jsonpath_base.proofs.Views.{find-members_of}
 

@@ -1,8 +1,7 @@
 -- What is written of a JSON Pointer.
 use Rattle.std.proofs.Common.{◌≡◌, ◌≢◌, ℕ, suc, ◌<◌, List, [], ◌∷◌, ◌++◌, length, get_or, flat_map, refl, sym, ap, ◌∙◌, append_assoc, arith, ne_eqb}
 use Rattle.std.proofs.lemmas.Grind.{flat_map-append}
-use Rattle.jsonpath_base.specs.Pointer.{escaped}
-use Rattle.jsonpath_base.specs.inner.Pointing.{tilde_escaped}
+use Rattle.jsonpath_base.specs.Prelude.{escaped, tilde_escaped}
 
 abbrev pub Lacks : ℕ → List ℕ → Type 0
 Lacks c xs = (i : ℕ) → i < length xs → get_or xs i 0 ≢ c

@@ -1,18 +1,10 @@
 -- The way that a JSON Pointer leads, token by token.
 use Rattle.std.proofs.Common.{◌≡◌, ◌≢◌, ◌<◌, ℕ, suc, List, [], ◌∷◌, ◌++◌, length, Option, Some, None, option_map, option_and_then, refl, sym, ap, ◌∙◌, append_assoc, append-nil, arith, ne_eqb}
 use Rattle.std.proofs.lemmas.List.{map-append}
-use Rattle.serde_json.specs.Find.{unescape}
-use Rattle.serde_json.specs.declared.value.Value.{Value}
+use Rattle.jsonpath_base.specs.Prelude.{child, GoesDown, led, Location, location_in, location_view, owned_step, step_in, tokens_from, Tree, unescape, Value, value_tree}
 use Rattle.serde_json.proofs.Paths.{unescape_plain}
 use Rattle.jsonpath_parser.specs.Location as location
-use Rattle.jsonpath_parser.specs.Location.{Location}
-use Rattle.jsonpath_base.specs.Places.{child}
-use Rattle.jsonpath_base.specs.Pointer.{tokens_from, led, location_in, step_in}
-use Rattle.jsonpath_base.specs.Steps.{owned_step, location_view}
-use Rattle.jsonpath_base.specs.Tree.{Tree}
-use Rattle.jsonpath_base.specs.Values.{value_tree}
 use Rattle.jsonpath_base.specs.declared.step.Step.{Step}
-use Rattle.jsonpath_base.specs.inner.Pointing.{GoesDown}
 use Rattle.jsonpath_base.proofs.PointerTexts.{Lacks}
 
 -- ---- a part of a text

@@ -1,11 +1,7 @@
 -- What a write at a location leaves.
 use Rattle.std.proofs.Common.{◌≡◌, ℕ, zero, suc, List, [], ◌∷◌, ◌++◌, ◌⊎◌, inl, inr, Bool, true, false, cond, Option, Some, None, option_map, option_and_then, refl, sym, ap, ◌∙◌}
 use Rattle.std.proofs.lemmas.Slice.Eq.{bytes_eq-Decides}
-use Rattle.std.specs.Str.{bytes_eq}
-use Rattle.jsonpath_parser.specs.Location.{Step, name, index, Location, Begins}
-use Rattle.jsonpath_base.specs.Places.{child, item_at, at}
-use Rattle.jsonpath_base.specs.Put.{with_element, with_member, with_child, put, PutLeavesTheRest, PutIsThere, PutIsSeenAbove, PutNowhere}
-use Rattle.jsonpath_base.specs.Tree.{Tree, null, truth, number, text, list, object, Trees, no_trees, tree, Members, no_members, member, find, pairs}
+use Rattle.jsonpath_base.specs.Prelude.{at, Begins, bytes_eq, child, find, index, item_at, list, Location, member, Members, name, no_members, no_trees, null, number, object, pairs, put, PutIsSeenAbove, PutIsThere, PutLeavesTheRest, PutNowhere, Step, text, Tree, tree, Trees, truth, with_child, with_element, with_member}
 
 -- the child at r, where the child at s is written: it is the one that was written, or it is as it was
 abbrev pub IsWritten : Step → Step → (Tree → Tree) → Option Tree → Option Tree → Type 0

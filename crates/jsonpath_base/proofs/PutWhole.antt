@@ -1,15 +1,10 @@
 -- A value stays whole where one of its children is put that is whole.
 use Rattle.std.proofs.Common.{◌≡◌, ℕ, zero, suc, ◌<◌, List, [], ◌∷◌, length, set, get_or, Bool, true, false, IsTrue, Some, String, Vec, BTreeMap, Global, string_bytes, unwrap_or, refl, sym, ap, ◌∙◌, arith}
 use Rattle.std.proofs.lemmas.Bool.{and_parts, and_from}
-use Rattle.std.specs.Map.{lookup, set_value}
+use Rattle.jsonpath_base.specs.Prelude.{are_distinct, Array, Data, has_distinct_names, has_whole_numbers, items_view, items_whole, lookup, members_distinct, members_of, members_view, members_whole, Object, set_value, tree_of, trees_distinct, trees_of, Value, value_is_whole, view}
 use Rattle.serde_json.specs.Data as json
-use Rattle.serde_json.specs.Data.{Data}
 use Rattle.serde_json.specs.Find as json_find
-use Rattle.serde_json.specs.View.{view, items_view, members_view}
-use Rattle.serde_json.specs.declared.value.Value.{Value, Array, Object}
 use Rattle.serde_json.proofs.Views.{Entry, view-Array, view-Object}
-use Rattle.jsonpath_base.specs.Tree.{are_distinct, has_distinct_names, members_distinct, trees_distinct}
-use Rattle.jsonpath_base.specs.Values.{value_is_whole, tree_of, trees_of, members_of, has_whole_numbers, items_whole, members_whole}
 use Rattle.jsonpath_base.proofs.Views.{names, data_whole, items_are_whole, members_are_whole, object_members_whole, first_item_whole, more_items_whole, first_member_whole, more_members_whole}
 
 -- ---- the list, the object that a value is

@@ -1,20 +1,10 @@
 -- A write to one child of a value, seen as a tree.
 use Rattle.std.proofs.Common.{◌≡◌, ℕ, zero, suc, ◌<◌, ◌≤◌, ℤ, List, [], ◌∷◌, length, set, get_or, Bool, true, false, Option, Some, None, IfNone, is_some, nat_cmp, bytes_eq, String, Vec, BTreeMap, Global, string_bytes, unwrap_or, refl, sym, ap, ◌∙◌, arith}
 use Rattle.std.proofs.lemmas.Map.Text.{is_eq-slice_cmp}
-use Rattle.std.specs.BTreeMap.{is_at}
-use Rattle.std.specs.Cmp.Lexicographic.{slice_cmp}
-use Rattle.std.specs.Map.{lookup, set_value}
+use Rattle.jsonpath_base.specs.Prelude.{Array, at, child, Data, find, index, is_at, item_at, items_view, list, Location, lookup, member, members_of, members_view, name, Object, object, pairs, put, set_value, slice_cmp, Step, Tree, tree, tree_of, tree_of_number, trees_of, Value, value_tree, view, with_child, with_element, with_member}
 use Rattle.serde_json.specs.Data as json
-use Rattle.serde_json.specs.Data.{Data}
 use Rattle.serde_json.specs.Find as json_find
-use Rattle.serde_json.specs.View.{view, items_view, members_view}
-use Rattle.serde_json.specs.declared.value.Value.{Value, Array, Object}
 use Rattle.serde_json.proofs.Views.{Entry, view-Array, view-Object}
-use Rattle.jsonpath_parser.specs.Location.{Step, name, index, Location}
-use Rattle.jsonpath_base.specs.Places.{child, item_at, at}
-use Rattle.jsonpath_base.specs.Put.{with_element, with_member, with_child, put}
-use Rattle.jsonpath_base.specs.Tree.{Tree, tree, member, list, object, find, pairs}
-use Rattle.jsonpath_base.specs.Values.{value_tree, tree_of, tree_of_number, trees_of, members_of}
 
 -- ---- by kind
 

@@ -1,11 +1,9 @@
 -- What is seen of a tree without a set of locations, child by child.
 use Rattle.std.proofs.Common.{◌≡◌, ◌≤◌, ◌<◌, ◌+◌, ◌⊎◌, inl, inr, eq-or-lt_of_le, ℕ, zero, suc, List, [], ◌∷◌, ◌++◌, Bool, true, false, if◌then◌else◌, cond, bytes_eq, Option, Some, None, option_map, option_and_then, refl, sym, ap, ◌∙◌, arith}
 use Rattle.std.proofs.lemmas.Slice.Eq.{bytes_eq-Decides}
-use Rattle.jsonpath_parser.specs.Location.{Step, name, index, Location}
-use Rattle.jsonpath_base.specs.Places.{child, item_at, at}
-use Rattle.jsonpath_base.specs.Remaining.{StaysInPlace, KeepsItsIndexes, StayingKeepsIndexes, WithoutIsSeen, RemovedMemberIsGone, WithoutLeavesTheRest}
-use Rattle.jsonpath_base.specs.Tree.{Tree, null, truth, number, text, list, object, Trees, no_trees, tree, Members, no_members, member, find, pairs}
-use Rattle.jsonpath_base.specs.Without.{thinned, elements_thinned, members_thinned, without}
+use Rattle.jsonpath_base.specs.Prelude.{at, child, elements_thinned, find, index, item_at, list, Location, member, Members, name, no_members, no_trees, null, number, object, pairs, RemovedMemberIsGone, StayingKeepsIndexes, Step, text, thinned, Tree, tree, Trees, truth, without, WithoutIsSeen, WithoutLeavesTheRest}
+use Rattle.jsonpath_base.specs.Remaining.{StaysInPlace, KeepsItsIndexes}
+use Rattle.jsonpath_base.specs.Without.{members_thinned}
 use Rattle.jsonpath_base.proofs.Removed.{without_alike}
 use Rattle.jsonpath_base.proofs.WithoutLaws.{thinned_none}
 

@@ -2,19 +2,11 @@
 use Rattle.std.proofs.Common.{◌≡◌, ℕ, suc, ℤ, List, [], ◌∷◌, ◌++◌, map, Bool, true, false, not, ◌||◌, if◌then◌else◌, Option, Some, None, bytes_eq, append_assoc, refl, sym, ap, ap₂, ◌∙◌, rules}
 use Rattle.std.proofs.lemmas.Bool.{and_parts, and_from}
 use Rattle.std.proofs.lemmas.List.{append-nil}
-use Rattle.std.specs.List.{list_any}
+use Rattle.jsonpath_base.specs.Prelude.{are_distinct, as_i64, counted_with, Data, data_thinned, distinct_count, elements_thinned, has_distinct_names, has_whole_numbers, HasAlso, index, is_among, is_location, is_same_step, Items, items_thinned, items_whole, list, list_any, Location, member, Members, members_distinct, members_of, members_thinned, members_whole, name, no_members, no_trees, object, pairs, set_with, thinned, Tree, tree, tree_of, tree_of_number, Trees, trees_distinct, trees_of, value_tree, view}
 use Rattle.serde_json.specs.Data as json
-use Rattle.serde_json.specs.Data.{Data, Items}
-use Rattle.serde_json.specs.Find.{as_i64}
-use Rattle.serde_json.specs.View.{view}
 use Rattle.serde_json.specs.declared.value.Value.{Null, the_lemmas}
-use Rattle.jsonpath_parser.specs.Location.{name, index, Location}
-use Rattle.jsonpath_base.specs.Tree.{Tree, list, object, Trees, no_trees, tree, Members, no_members, member, pairs, are_distinct, has_distinct_names, trees_distinct, members_distinct}
-use Rattle.jsonpath_base.specs.Values.{value_tree, tree_of, tree_of_number, trees_of, members_of, has_whole_numbers, items_whole, members_whole}
 use Rattle.jsonpath_base.specs.Without as without
-use Rattle.jsonpath_base.specs.Without.{thinned, elements_thinned, is_among, is_location, is_same_step, distinct_count, HasAlso, also, counted_with}
-use Rattle.jsonpath_base.specs.inner.Marks.{set_with}
-use Rattle.jsonpath_base.specs.inner.Thinning.{data_thinned, items_thinned, members_thinned}
+use Rattle.jsonpath_base.specs.Without.{also}
 use Rattle.jsonpath_base.proofs.Views.{data_whole}
 use Rattle.jsonpath_base.proofs.Marking.{same_step, step_itself}
 

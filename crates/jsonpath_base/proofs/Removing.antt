@@ -4,21 +4,11 @@ use Rattle.std.proofs.lemmas.List.{take_more_set, take-set, take-set-le, drop-se
 use Rattle.std.proofs.lemmas.Map.{NonePasses, none_passes_from_lookup}
 use Rattle.std.proofs.lemmas.Map.Text.{is_eq-slice_cmp}
 use Rattle.std.proofs.lemmas.Slice.Eq.{bytes_eq-Decides}
-use Rattle.std.specs.BTreeMap.{is_at}
-use Rattle.std.specs.Cmp.Lexicographic.{slice_cmp}
-use Rattle.std.specs.List.{AllByRecursion}
-use Rattle.std.specs.List.Sorted.{IsStrictlySortedBy}
-use Rattle.std.specs.Map.{lookup, set_value, remove_entry, keys_of}
-use Rattle.serde_json.specs.Data.{Data, null, boolean, number, string, array, object, Items, no_items, item, Members, no_members, member}
-use Rattle.serde_json.specs.Find.{as_array, as_object}
-use Rattle.serde_json.specs.View.{view, items_view, members_view}
-use Rattle.serde_json.specs.declared.value.Value.{Value}
+use Rattle.jsonpath_base.specs.Prelude.{AllByRecursion, array, as_array, as_object, boolean, Data, data_thinned, index, is_at, is_key, IsStrictlySortedBy, item, Items, items_thinned, items_view, keys_of, Location, lookup, marked, marked_below, Marks, members_thinned, members_view, name, no_items, remove_entry, set_value, sieved, slice_cmp, Step, string, thinned_below, to_member, Value, view}
+use Rattle.serde_json.specs.Data.{null, number, object, Members, no_members, member}
 use Rattle.serde_json.proofs.Views.{Entry}
-use Rattle.jsonpath_parser.specs.Location.{Step, name, index, Location}
-use Rattle.jsonpath_base.specs.inner.Marks.{to_member, is_key, marked, marked_below}
-use Rattle.jsonpath_base.specs.inner.Thinning.{data_thinned, items_thinned, members_thinned, thinned_by, thinned_below, sieved}
+use Rattle.jsonpath_base.specs.inner.Thinning.{thinned_by}
 use Rattle.jsonpath_base.proofs.Marking.{HoldsNoneBelow, IsFrom}
-use Rattle.jsonpath_base.specs.declared.marks.Marks.{Marks}
 
 -- ---- sets that say the same
 

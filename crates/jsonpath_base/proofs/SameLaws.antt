@@ -4,10 +4,8 @@ use Rattle.std.proofs.lemmas.Bool.{and_parts, and_from}
 use Rattle.std.proofs.lemmas.Cmp.{nat_list_eq_equiv, int_eq_equiv}
 use Rattle.std.proofs.lemmas.Slice.Eq.{bytes_eq-Decides}
 use Rattle.std.proofs.lemmas.Bool.Decides.{Decides-int_eq}
-use Rattle.std.specs.List.{list_all, list_any}
+use Rattle.jsonpath_base.specs.Prelude.{are_distinct, find, has_distinct_names, has_name, list, list_all, list_any, member, Members, members_distinct, no_members, no_trees, null, number, object, pairs, same, same_members, same_trees, SameIsAnEquivalence, text, Tree, tree, Trees, trees_distinct, truth}
 use Rattle.std.specs.Option.{option_map_or}
-use Rattle.jsonpath_base.specs.Same.{same, same_trees, same_members, has_name, SameIsAnEquivalence}
-use Rattle.jsonpath_base.specs.Tree.{Tree, null, truth, number, text, list, object, Trees, no_trees, tree, Members, no_members, member, pairs, find, are_distinct, has_distinct_names, trees_distinct, members_distinct}
 
 -- a list of members, as `find` takes it
 abbrev pub Named : Type 0

@@ -4,17 +4,8 @@ use Rattle.std.proofs.Math.Bool.{and_assoc, and-false}
 use Rattle.std.proofs.lemmas.Cmp.{nat_list_cmp_total}
 use Rattle.std.proofs.lemmas.List.Elements.{All-head, All-tail}
 use Rattle.std.proofs.lemmas.Map.Text.{is_eq-slice_cmp}
-use Rattle.std.specs.Cmp.Lexicographic.{slice_cmp}
-use Rattle.std.specs.List.{AllByRecursion, list_all}
-use Rattle.std.specs.List.Sorted.{IsStrictlySortedBy}
-use Rattle.std.specs.Map.{keys_of}
-use Rattle.std.specs.Ordering.{is_eq, ordering_reverse}
-use Rattle.serde_json.specs.View.{items_view, members_view}
-use Rattle.serde_json.specs.declared.value.Value.{Value, Array, Object}
+use Rattle.jsonpath_base.specs.Prelude.{AllByRecursion, Array, find, has_name, is_eq, IsStrictlySortedBy, items_view, keys_of, list, list_all, member, Members, members_of, members_view, no_members, no_trees, null, number, Object, object, ordering_reverse, pairs, same, same_members, same_trees, slice_cmp, text, Tree, tree, Trees, trees_of, truth, Value, value_is_whole, value_tree}
 use Rattle.serde_json.proofs.Views.{Entry, view-Array, view-Object}
-use Rattle.jsonpath_base.specs.Same.{same, same_trees, same_members, has_name}
-use Rattle.jsonpath_base.specs.Tree.{Tree, null, truth, number, text, list, object, Trees, no_trees, tree, Members, no_members, member, pairs, find}
-use Rattle.jsonpath_base.specs.Values.{value_tree, value_is_whole, trees_of, members_of}
 use Rattle.jsonpath_base.proofs.Views.{data_whole, all_items_whole, all_members_whole, object_members_whole}
 
 -- ---- parts of whole values

@@ -5,11 +5,11 @@ use Rattle.std.proofs.lemmas.Bool.{cases_lt}
 use Rattle.std.proofs.lemmas.Bool.Decides.{nat_tests}
 use Rattle.std.proofs.lemmas.List.Elements.{All-nil, All-cons, All-filter}
 use Rattle.std.proofs.Math.Nat.{add-mod_right, mod-eq_of_lt, add-div_right, div-eq_of_lt}
-use Rattle.std.specs.Int.RustNames.{unsigned_abs, int_lt, int_le}
+use Rattle.jsonpath_base.specs.Prelude.{clamped, normalized, picked_of, places_left, slice_by, slice_of, unsigned_abs}
+use Rattle.std.specs.Int.RustNames.{int_lt, int_le}
 use Rattle.std.specs.List.{range_with_len}
-use Rattle.jsonpath_base.specs.Slice.{down_from, picks_rising, picks_falling, clamped, normalized, slice_by, slice_of}
-use Rattle.jsonpath_base.specs.SliceSteps.{is_risen, is_fallen, rising_places, falling_places, places_left}
-use Rattle.jsonpath_base.specs.inner.Picked.{picked_of}
+use Rattle.jsonpath_base.specs.Slice.{down_from, picks_rising, picks_falling}
+use Rattle.jsonpath_base.specs.SliceSteps.{is_risen, is_fallen, rising_places, falling_places}
 use Rattle.jsonpath_base.specs.declared.slice.SlicePlaces.{SlicePlaces}
 
 -- ---- filters of ranges

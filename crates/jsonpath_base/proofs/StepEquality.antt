@@ -5,11 +5,9 @@ use Rattle.std.specs.Bool.{Decides}
 use Rattle.std.specs.List.{starts_with}
 use Rattle.jsonpath_parser.proofs.Deciding.{under, differ, string_same}
 use Rattle.jsonpath_parser.specs.Location as location
-use Rattle.jsonpath_parser.specs.Location.{Begins}
-use Rattle.jsonpath_base.specs.Steps.{owned_step, location_view}
+use Rattle.jsonpath_base.specs.Prelude.{Begins, Index, location_view, Name, owned_step}
 use Rattle.jsonpath_base.specs.contracts.step.StepPartialEq.TheImpl as step_eq
 use Rattle.jsonpath_base.specs.declared.step.Step.{Step}
-use Rattle.jsonpath_base.specs.declared.step.Step.TheVariants.{Name, Index}
 
 pub step_same : (a b : Step) → Decides (step_eq.eq-value.it a b) (owned_step a ≡ owned_step b)
 step_same (Name a) (Name b) = under location.name (λ s t h. cc) (string_same a b) refl refl refl

@@ -2,7 +2,7 @@
 use Rattle.std.proofs.Common.{◌≡◌, ℕ, ◌+◌, ◌<◌, ◌≤◌, List, below_more, length, get_or, bit_or, arith, sym, ap, slice_index}
 use Rattle.std.proofs.lemmas.Nat.{le_or_l, le_or_r}
 use Rattle.std.proofs.lemmas.Str.{chars-IsAscii}
-use Rattle.std.specs.Str.{chars}
+use Rattle.jsonpath_base.specs.Prelude.{chars}
 
 -- no byte has a bit that the union has not
 pub bounded_more : (bs : List ℕ) (n b u : ℕ) → b ≡ get_or bs n 0 → ((i : ℕ) → i < n → get_or bs i 0 ≤ u) → (i : ℕ) → i < n + 1 → get_or bs i 0 ≤ bit_or u b

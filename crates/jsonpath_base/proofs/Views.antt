@@ -3,19 +3,11 @@ use Rattle.std.proofs.Common.{Ordering, Less, Equal, Greater, ◌≡◌, ℤ, �
 use Rattle.std.proofs.lemmas.Bool.{and_parts, and_from}
 use Rattle.std.proofs.lemmas.List.Elements.{All-nil, All-cons, All-head, All-tail}
 use Rattle.std.proofs.lemmas.Map.Text.{is_eq-slice_cmp}
-use Rattle.std.specs.Cmp.Lexicographic.{slice_cmp}
-use Rattle.std.specs.List.{AllByRecursion, list_any}
-use Rattle.std.specs.List.Sorted.{IsStrictlySortedBy}
-use Rattle.std.specs.Map.{keys_of}
-use Rattle.std.specs.Ordering.{nat_cmp, match_ordering, is_eq}
+use Rattle.jsonpath_base.specs.Prelude.{AllByRecursion, are_distinct, as_list, Data, elements, find, has_distinct_names, has_whole_numbers, is_eq, IsStrictlySortedBy, items_view, items_whole, keys_of, list_any, match_ordering, members_distinct, members_of, members_view, members_whole, nat_cmp, pairs, slice_cmp, Tree, tree_of, tree_of_number, trees_distinct, trees_of, Value, value_is_whole, value_tree, view}
 use Rattle.serde_json.specs.Data as json
-use Rattle.serde_json.specs.Data.{Data}
 use Rattle.serde_json.specs.Find as json_find
-use Rattle.serde_json.specs.View.{view, items_view, members_view}
-use Rattle.serde_json.specs.declared.value.Value.{Value}
 use Rattle.serde_json.proofs.Views.{Entry}
-use Rattle.jsonpath_base.specs.Tree.{Tree, find, get, as_list, elements, pairs, are_distinct, has_distinct_names, trees_distinct, members_distinct}
-use Rattle.jsonpath_base.specs.Values.{tree_of, tree_of_number, trees_of, members_of, has_whole_numbers, items_whole, members_whole, value_tree, value_is_whole}
+use Rattle.jsonpath_base.specs.Tree.{get}
 
 -- ---- names are distinct
 

@@ -3,12 +3,8 @@ use Rattle.std.proofs.Common.{◌≡◌, ℕ, zero, suc, ◌+◌, ◌<◌, ◌�
 use Rattle.std.proofs.Math.Seq.{take-append_seam, take-length, get_or-append_seam}
 use Rattle.std.proofs.lemmas.List.{length-append, take-append-le, take_more, get_or_append_left}
 use Rattle.std.proofs.lemmas.Str.{IsCharBoundary-before_ascii}
-use Rattle.std.specs.String.Boundary.{IsSplitPoint}
-use Rattle.jsonpath_parser.specs.Location.{Step, name, index}
-use Rattle.jsonpath_parser.specs.Normal.{step_text}
-use Rattle.jsonpath_base.specs.Steps.{lent_step}
-use Rattle.jsonpath_base.specs.inner.Way.{spelled, IsSpelled}
-use Rattle.jsonpath_base.specs.declared.step.StepRef.{StepRef}
+use Rattle.jsonpath_base.specs.Prelude.{index, IsSpelled, IsSplitPoint, lent_step, name, Step, step_text, StepRef}
+use Rattle.jsonpath_base.specs.inner.Way.{spelled}
 
 spelled-append : (ss ts : List StepRef) → spelled (ss ++ ts) ≡ spelled ss ++ spelled ts
 spelled-append [] ts = refl

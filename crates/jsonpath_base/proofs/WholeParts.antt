@@ -2,14 +2,9 @@
 use Rattle.std.proofs.Common.{◌≡◌, ℕ, zero, suc, ◌<◌, List, length, get_or, true, IsTrue, Option, Some, IfSome, option_map, Bor, Vec, BTreeMap, String, Global, sym, subst}
 use Rattle.std.proofs.lemmas.List.Elements.{All-get_or}
 use Rattle.std.proofs.lemmas.Map.Entries.{All-lookup}
-use Rattle.std.specs.Map.{lookup}
+use Rattle.jsonpath_base.specs.Prelude.{Data, is_entry, items_view, lookup, members_view, Value, value_is_whole, view}
 use Rattle.serde_json.specs.Data as json
-use Rattle.serde_json.specs.Data.{Data}
 use Rattle.serde_json.specs.Find as json_find
-use Rattle.serde_json.specs.View.{view, items_view, members_view}
-use Rattle.serde_json.specs.declared.value.Value.{Value}
-use Rattle.jsonpath_base.specs.Values.{value_is_whole}
-use Rattle.jsonpath_base.specs.inner.Lent.{is_entry}
 use Rattle.jsonpath_base.proofs.Views.{data_whole, items_are_whole, first_item_whole, more_items_whole, all_items_whole, array_whole, as_members_whole, found_whole}
 
 abbrev IsWhole : Value → Type 0

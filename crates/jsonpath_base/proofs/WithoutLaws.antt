@@ -1,8 +1,8 @@
 -- Laws of a set of locations, and of a tree without one.
 use Rattle.std.proofs.Common.{◌≡◌, ℕ, suc, [], true, false, Contains, refl, ap, ap₂, subst, ◌∙◌}
 use Rattle.std.proofs.lemmas.List.Folds.{Any-from_list_any, list_any_at}
-use Rattle.jsonpath_base.specs.Tree.{Tree, null, truth, number, text, list, object, Trees, no_trees, tree, Members, no_members, member}
-use Rattle.jsonpath_base.specs.Without.{is_location, is_among, AmongIsListed, thinned, elements_thinned, members_thinned, without}
+use Rattle.jsonpath_base.specs.Prelude.{AmongIsListed, elements_thinned, is_among, is_location, list, member, Members, no_members, no_trees, null, number, object, text, thinned, Tree, tree, Trees, truth, without}
+use Rattle.jsonpath_base.specs.Without.{members_thinned}
 use Rattle.jsonpath_base.proofs.Removed.{same_location, location_itself, without_alike}
 
 pub among_is_listed : AmongIsListed

@@ -19,6 +19,7 @@ pub mod SetFunctions
 pub mod Slice
 pub mod SliceSteps
 pub mod Texts
+pub mod Prelude
 pub mod inner
 -- What the public contracts of this crate cite of jsonpath_parser, so that a caller names it here and lists this crate alone.
 pub use Rattle.jsonpath_parser.specs.Errors

@@ -1,12 +1,6 @@
 //! A new value in an object or a list of another value (RFC 6902, 4.1).
 ghost use Rattle.std.specs.Prelude.{◌≡◌, IfErr, IfOk, IsTrue, OnErr, OnOk, if◌then◌else◌, insert, is_ok, length, nat_le, string_cmp, true, false, unwrap_or};
-ghost use Rattle.std.specs.BTreeMap.{IsOrdered, insert_entry};
-ghost use Rattle.std.specs.Result.{result_ok};
-ghost use Rattle.serde_json.specs.View.{view};
-ghost use Rattle.jsonpath_base.specs.Added.{added, takes, takes_at, with_new};
-ghost use Rattle.jsonpath_base.specs.Steps.{location_view, owned_step};
-ghost use Rattle.jsonpath_base.specs.Values.{value_tree, value_is_whole};
-ghost use Rattle.jsonpath_base.specs.inner.Adding.{Adds};
+ghost use Rattle.jsonpath_base.specs.Prelude.{added, Adds, insert_entry, IsOrdered, location_view, owned_step, result_ok, takes, takes_at, value_is_whole, value_tree, view, with_new};
 
 use crate::step::Step;
 use jsonpath_parser::errors::{JsonPathError, Parsed};

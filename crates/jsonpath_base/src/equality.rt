@@ -1,9 +1,6 @@
 //! When two values of `serde_json` are the same (RFC 9535, 2.3.5.2.2).
 ghost use Rattle.std.specs.Prelude.{◌≡◌, IsTrue, All};
-ghost use Rattle.serde_json.specs.View.{items_view, members_view};
-ghost use Rattle.jsonpath_base.specs.Same.{same, same_trees};
-ghost use Rattle.jsonpath_base.specs.Tree.{object};
-ghost use Rattle.jsonpath_base.specs.Values.{value_tree, value_is_whole, trees_of, members_of};
+ghost use Rattle.jsonpath_base.specs.Prelude.{items_view, members_of, members_view, object, same, same_trees, trees_of, value_is_whole, value_tree};
 
 use serde_json::{Map, Value};
 

@@ -1,13 +1,6 @@
 //! Laws of what is written, added, replaced and removed and of what is the same. Each function states laws and does nothing.
 ghost use Rattle.jsonpath_parser.specs.Equality.{IsEqualityOf};
-ghost use Rattle.jsonpath_base.specs.Added.{AddedIndexMovesLater, AddedIsThere, AddedLeavesTheRest, AddedNameLeavesSiblings};
-ghost use Rattle.jsonpath_base.specs.Overwritten.{OverwrittenAtOneIsPut, OverwrittenForgets, OverwrittenIsSeen, OverwrittenLeavesTheRest};
-ghost use Rattle.jsonpath_base.specs.Pointer.{PointerFindsItsPlace, PointerLeadsAsFound, PointerLeadsToWhatIs, PointerReadsBack};
-ghost use Rattle.jsonpath_base.specs.Put.{PutIsSeenAbove, PutIsThere, PutLeavesTheRest, PutNowhere};
-ghost use Rattle.jsonpath_base.specs.Remaining.{RemovedMemberIsGone, StayingKeepsIndexes, WithoutIsSeen, WithoutLeavesTheRest, WithoutNowhere};
-ghost use Rattle.jsonpath_base.specs.Same.{SameIsAnEquivalence};
-ghost use Rattle.jsonpath_base.specs.Steps.{owned_step};
-ghost use Rattle.jsonpath_base.specs.Without.{AmongIsListed};
+ghost use Rattle.jsonpath_base.specs.Prelude.{AddedIndexMovesLater, AddedIsThere, AddedLeavesTheRest, AddedNameLeavesSiblings, AmongIsListed, OverwrittenAtOneIsPut, OverwrittenForgets, OverwrittenIsSeen, OverwrittenLeavesTheRest, owned_step, PointerFindsItsPlace, PointerLeadsAsFound, PointerLeadsToWhatIs, PointerReadsBack, PutIsSeenAbove, PutIsThere, PutLeavesTheRest, PutNowhere, RemovedMemberIsGone, SameIsAnEquivalence, StayingKeepsIndexes, WithoutIsSeen, WithoutLeavesTheRest, WithoutNowhere};
 ghost use Rattle.jsonpath_base.specs.contracts.step.StepPartialEq.TheImpl as step;
 
 /// Where something was, what was written stands there, with all its parts; above the location stands what was there, with the

@@ -1,13 +1,10 @@
 //! The value at a location, lent for writing. All that is asked comes first, so that the functions that lend cannot fail: they
 //! go straight down, and count the steps that are left.
 ghost use Rattle.std.specs.Prelude.{◌≡◌, ◌<◌, ◌≤◌, IfSome, IsSome, IsTrue, Some, is_some, length, option_map};
-ghost use Rattle.std.specs.Borrow.{sem};
-ghost use Rattle.std.specs.Map.{lookup};
+ghost use Rattle.jsonpath_base.specs.Prelude.{is_entry, location_view, lookup, name_in, next, rest, sem, value_is_whole, value_tree};
 ghost use Rattle.jsonpath_base.specs.Lending.{LendsAt};
 ghost use Rattle.jsonpath_base.specs.Places as places;
-ghost use Rattle.jsonpath_base.specs.Steps.{location_view};
-ghost use Rattle.jsonpath_base.specs.Values.{value_tree, value_is_whole};
-ghost use Rattle.jsonpath_base.specs.inner.Lent.{LendsFound, LendsRest, is_entry, name_in, next, rest};
+ghost use Rattle.jsonpath_base.specs.inner.Lent.{LendsFound, LendsRest};
 
 mod parts;
 

@@ -1,12 +1,11 @@
 //! Locations as values: whether one begins another, the Normalized Path of each (RFC 9535, 2.7), and the one at the front of a
 //! query.
 ghost use Rattle.std.specs.Prelude.{◌≡◌, ◌↔◌, ◌++◌, IfErr, IfOk, IsTrue, OnOk, map, option_map, string_bytes};
-ghost use Rattle.jsonpath_parser.specs.Location.{Begins};
-ghost use Rattle.jsonpath_parser.specs.Normal.{IsNormal, step_text};
+ghost use Rattle.jsonpath_base.specs.Prelude.{Begins, fixed_part, location_view, owned_step, segment_view, segments_of, step_text};
+ghost use Rattle.jsonpath_parser.specs.Normal.{IsNormal};
 ghost use Rattle.jsonpath_parser.specs.tree.Syntax as syntax;
-ghost use Rattle.jsonpath_parser.specs.tree.View.{query_view, segment_view, segments_of, selector_view};
-ghost use Rattle.jsonpath_base.specs.FixedPart.{fixed_part, fixed_step};
-ghost use Rattle.jsonpath_base.specs.Steps.{location_view, owned_step};
+ghost use Rattle.jsonpath_parser.specs.tree.View.{query_view, selector_view};
+ghost use Rattle.jsonpath_base.specs.FixedPart.{fixed_step};
 
 use crate::step::{Step, add_index, add_name};
 use jsonpath_parser::errors::{JsonPathError, Parsed};

@@ -1,9 +1,8 @@
 //! Sets of locations, in the order in which these were added.
 ghost use Rattle.std.specs.Prelude.{◌≡◌, ℕ, ◌-◌, OnOk, ◌∷◌, [], length, take, slice_index_or, IsTrue, String, string_bytes};
 ghost use Rattle.jsonpath_parser.specs.Location as location;
-ghost use Rattle.jsonpath_base.specs.Steps.{lent_location};
-ghost use Rattle.jsonpath_base.specs.inner.Marks.{to_member, listed, marks_count, EndsWith, LevelEnds, Adds, AddsIn};
-ghost use Rattle.jsonpath_base.specs.declared.marks.Marks.{Marks};
+ghost use Rattle.jsonpath_base.specs.Prelude.{AddsIn, EndsWith, lent_location, LevelEnds, listed, Marks, marks_count, to_member};
+ghost use Rattle.jsonpath_base.specs.inner.Marks.{Adds};
 ghost use Rattle.std.specs.Global.{Global};
 
 use crate::step::StepRef;

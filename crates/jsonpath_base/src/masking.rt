@@ -1,12 +1,9 @@
 //! What replaces values at marked locations: copies, which are all made first, and the walk that moves them in.
 ghost use Rattle.std.specs.Prelude.{◌≡◌, ◌<◌, ◌≤◌, ◌+◌, IfOk, IsTrue, string_cmp};
-ghost use Rattle.std.specs.Ordering.{nat_cmp};
+ghost use Rattle.jsonpath_base.specs.Prelude.{AreAll, Data, data_overwritten, in_order, items_overwritten, items_view, level_in_order, marked, marked_below, members_overwritten, members_view, nat_cmp, outermost_count, outermost_total, to_member, view};
 ghost use Rattle.std.specs.Vec.{vec_len};
-ghost use Rattle.serde_json.specs.Data.{Data};
-ghost use Rattle.serde_json.specs.View.{view, items_view, members_view};
 ghost use Rattle.jsonpath_parser.specs.Location as location;
-ghost use Rattle.jsonpath_base.specs.inner.Marks.{to_member, marked, marked_below, in_order, level_in_order};
-ghost use Rattle.jsonpath_base.specs.inner.Masking.{data_overwritten, items_overwritten, members_overwritten, AreAll, IsFilledAt, IsFilledBy, outermost_count, outermost_total};
+ghost use Rattle.jsonpath_base.specs.inner.Masking.{IsFilledAt, IsFilledBy};
 
 use crate::marks::Marks;
 use crate::ordering::sum;

@@ -1,11 +1,8 @@
 //! Marks in order: at each level the steps rise, and each stands once.
 ghost use Rattle.std.specs.Prelude.{◌≡◌, ◌≤◌, ◌+◌, true, if◌then◌else◌, IfOk, OnOk, IsTrue, string_cmp};
-ghost use Rattle.std.specs.List.Sorted.{IsStrictlySortedBy};
-ghost use Rattle.std.specs.Map.{keys_of};
-ghost use Rattle.std.specs.Ordering.{nat_cmp};
+ghost use Rattle.jsonpath_base.specs.Prelude.{distinct_count, HoldsAlso, in_order, IsJoined, IsSameSet, IsStrictlySortedBy, keys_of, level_in_order, listed, listed_in, marked, marked_in, marks_count, marks_total, nat_cmp, to_member};
 ghost use Rattle.jsonpath_parser.specs.Location as location;
-ghost use Rattle.jsonpath_base.specs.Without.{distinct_count};
-ghost use Rattle.jsonpath_base.specs.inner.Marks.{to_member, listed, listed_in, marked, marked_in, in_order, level_in_order, marks_count, marks_total, IsSameSet, IsJoined, HoldsAlso, HoldsSame};
+ghost use Rattle.jsonpath_base.specs.inner.Marks.{HoldsSame};
 
 use crate::marks::Marks;
 use std::alloc::{AllocError, Global};

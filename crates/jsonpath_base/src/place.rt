@@ -1,11 +1,7 @@
 //! The value at a location, to be read and to be written.
 ghost use Rattle.std.specs.Prelude.{◌≡◌, IfNone, IfSome, IsTrue, false, is_some, option_map};
-ghost use Rattle.serde_json.specs.View.{view};
+ghost use Rattle.jsonpath_base.specs.Prelude.{location_view, null, owned_step, put, value_is_whole, value_tree, view};
 ghost use Rattle.jsonpath_base.specs.Places as places;
-ghost use Rattle.jsonpath_base.specs.Put.{put};
-ghost use Rattle.jsonpath_base.specs.Steps.{location_view, owned_step};
-ghost use Rattle.jsonpath_base.specs.Tree.{null};
-ghost use Rattle.jsonpath_base.specs.Values.{value_tree, value_is_whole};
 
 use crate::step::Step;
 use serde_json::Value;

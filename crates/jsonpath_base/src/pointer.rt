@@ -1,13 +1,8 @@
 //! Locations as JSON Pointers (RFC 6901).
 ghost use Rattle.std.specs.Prelude.{◌≡◌, ◌≤◌, ◌∷◌, ◌++◌, IfErr, IfOk, MatchOption, None, OnOk, flat_map, length, option_and_then, option_map, string_bytes};
-ghost use Rattle.serde_json.specs.Find.{index_of, unescape};
-ghost use Rattle.jsonpath_parser.specs.Normal.{index_digits};
+ghost use Rattle.jsonpath_base.specs.Prelude.{escaped, GoesDown, index_digits, index_of, location_in, location_view, owned_step, pointer, step_in, tilde_escaped, unescape, value_tree};
 ghost use Rattle.jsonpath_base.specs.Places as places;
 ghost use Rattle.jsonpath_base.specs.Pointer as pointers;
-ghost use Rattle.jsonpath_base.specs.Pointer.{escaped, location_in, pointer, step_in};
-ghost use Rattle.jsonpath_base.specs.Steps.{location_view, owned_step};
-ghost use Rattle.jsonpath_base.specs.Values.{value_tree};
-ghost use Rattle.jsonpath_base.specs.inner.Pointing.{GoesDown, tilde_escaped};
 
 use crate::place::child;
 use crate::step::Step;

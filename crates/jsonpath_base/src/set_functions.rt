@@ -1,10 +1,7 @@
 //! The functions of sets that a filter can ask of values, an extension of RFC 9535, 2.4.
 ghost use Rattle.std.specs.Prelude.{◌≡◌, IsTrue, IfSome, All, map, option_map};
-ghost use Rattle.std.specs.List.{list_all, list_any};
-ghost use Rattle.jsonpath_base.specs.Same.{same};
-ghost use Rattle.jsonpath_base.specs.SetFunctions.{is_in, set_truth};
-ghost use Rattle.jsonpath_base.specs.Tree.{as_list};
-ghost use Rattle.jsonpath_base.specs.Values.{value_tree, value_is_whole};
+ghost use Rattle.jsonpath_base.specs.Prelude.{as_list, is_in, list_all, list_any, same, value_is_whole, value_tree};
+ghost use Rattle.jsonpath_base.specs.SetFunctions.{set_truth};
 
 use crate::equality::same;
 use serde_json::Value;

@@ -2,9 +2,7 @@
 ghost use Rattle.std.specs.Prelude.{◌≡◌, ◌<◌, ◌≤◌, suc, pos, negsuc, ◌+ℤ◌, ◌-ℤ◌, neg_ℤ, unwrap_or, length, All, Some, IfSome, IfOk, IfErr};
 ghost use Rattle.std.specs.Iterator.{UpTo, YieldsFirst, item_count};
 ghost use Rattle.std.specs.Iterator.SizeHint.{IsWithinCount};
-ghost use Rattle.jsonpath_base.specs.Slice.{slice_of, clamped, normalized};
-ghost use Rattle.jsonpath_base.specs.SliceSteps.{places_left};
-ghost use Rattle.jsonpath_base.specs.inner.Picked.{picked_of};
+ghost use Rattle.jsonpath_base.specs.Prelude.{clamped, normalized, picked_of, places_left, slice_of};
 
 use jsonpath_parser::errors::{JsonPathError, Parsed};
 use std::alloc::Global;

@@ -1,8 +1,6 @@
 //! Values of `serde_json` as documents.
 ghost use Rattle.std.specs.Prelude.{◌≡◌, ◌&&◌};
-ghost use Rattle.serde_json.specs.View.{view, items_view, members_view};
-ghost use Rattle.jsonpath_base.specs.Tree.{list, object, has_distinct_names};
-ghost use Rattle.jsonpath_base.specs.Values.{value_is_whole, has_whole_numbers, items_whole, members_whole, trees_of, members_of};
+ghost use Rattle.jsonpath_base.specs.Prelude.{has_distinct_names, has_whole_numbers, items_view, items_whole, list, members_of, members_view, members_whole, object, trees_of, value_is_whole, view};
 
 use serde_json::{Map, Value};
 

@@ -1,11 +1,8 @@
 //! The parts of a value, lent for writing, and the steps that lead to them. Of the steps of a location, the last `left` ones
 //! are still to be taken.
 ghost use Rattle.std.specs.Prelude.{◌≡◌, ◌<◌, ◌≤◌, IsSome, Some, length, option_map, slice_index_or, vec_len};
-ghost use Rattle.std.specs.Borrow.{sem};
-ghost use Rattle.std.specs.Map.{lookup};
-ghost use Rattle.jsonpath_base.specs.inner.Lent.{LendsItem, LendsList, LendsMap, LendsMember, has_index, index_in, is_entry, name_in, next};
-ghost use Rattle.serde_json.specs.Find.{as_array, as_object};
-ghost use Rattle.serde_json.specs.View.{view, items_view, members_view};
+ghost use Rattle.jsonpath_base.specs.Prelude.{as_array, as_object, has_index, index_in, is_entry, items_view, LendsMember, lookup, members_view, name_in, next, sem, view};
+ghost use Rattle.jsonpath_base.specs.inner.Lent.{LendsItem, LendsList, LendsMap};
 
 use crate::step::Step;
 use serde_json::{Map, Value};

@@ -1,7 +1,8 @@
 //! What asks patterns (RFC 9535, 2.4.6 and 2.4.7). One is built when it is first asked, unless an earlier call has built it, and
 //! is then kept with what asks it: one of the query at its number, those of the document in the order in which they come.
 ghost use Rattle.std.specs.Prelude.{◌≡◌, IfOk, IfErr, IfSome};
-ghost use Rattle.jsonpath_base.specs.Pattern.{is_entire, pattern_sought, found, IsUnbuilt};
+ghost use Rattle.jsonpath_base.specs.Prelude.{IsUnbuilt};
+ghost use Rattle.jsonpath_base.specs.Pattern.{is_entire, pattern_sought, found};
 
 use crate::pattern::cells::{Cells, LentCells, Origin};
 use crate::pattern::unbuilt::Built;

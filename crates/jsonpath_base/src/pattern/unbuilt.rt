@@ -1,8 +1,8 @@
 //! Why a pattern cannot be built. It becomes an error once, where a caller is told, so that nothing before carries a text.
 ghost use Rattle.std.specs.Prelude.{◌≡◌, Option};
-ghost use Rattle.regex.specs.Patterns.{Re};
+ghost use Rattle.jsonpath_base.specs.Prelude.{IsUnbuilt, Re};
 ghost use Rattle.jsonpath_parser.specs.declared.errors.JsonPathError.TheVariants as error;
-ghost use Rattle.jsonpath_base.specs.Pattern.{IsInvalid, IsPatternRefusal, IsUnbuilt};
+ghost use Rattle.jsonpath_base.specs.Pattern.{IsInvalid, IsPatternRefusal};
 ghost use Rattle.jsonpath_base.specs.declared.pattern.unbuilt.Unbuilt.TheVariants.{Memory};
 
 use jsonpath_parser::errors::JsonPathError;

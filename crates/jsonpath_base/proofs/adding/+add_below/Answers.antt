@@ -1,7 +1,5 @@
 use Rattle.std.proofs.Common.{◌≡◌, ◌∷◌, ◌<◌, length, true≢false, refl, sym, ap, ◌∙◌, arith}
-use Rattle.std.specs.Vec.{with_item}
-use Rattle.jsonpath_parser.specs.Location.{name, index}
-use Rattle.jsonpath_base.specs.Steps.{owned_step, location_view}
+use Rattle.jsonpath_base.specs.Prelude.{index, location_view, name, owned_step, with_item}
 use Rattle.jsonpath_base.proofs.AddedBelow.{at_location, below_element, past_elements, below_member, absent_members}
 use Rattle.jsonpath_base.proofs.adding.+add_below.Goals as goal
 

@@ -1,5 +1,5 @@
 use Rattle.std.proofs.Common.{ap}
-use Rattle.jsonpath_base.specs.Steps.{owned_step}
+use Rattle.jsonpath_base.specs.Prelude.{owned_step}
 use Rattle.jsonpath_base.proofs.AddedChildren.{at_step, in_list, in_object}
 use Rattle.jsonpath_base.proofs.adding.add_child.Goals as goal
 

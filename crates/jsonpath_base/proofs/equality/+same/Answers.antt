@@ -1,6 +1,6 @@
 use Rattle.std.proofs.Common.{rules, sym, ◌∙◌, inl, inr, ap, arith, length}
 use Rattle.jsonpath_base.proofs.SameWalks.{array_items_whole, object_entries_whole, array_weight, object_weight, item_lighter, entry_lighter, other_length, other_count, whole_of_items, items_differ, items_next, items_end, whole_of_entries, names_differ, entries_differ, entries_next, entries_end, items_first, entries_first, not_true, not_false}
-use Rattle.std.specs.Slice.Iter.{iter_rest}
+use Rattle.jsonpath_base.specs.Prelude.{iter_rest}
 use Rattle.jsonpath_base.proofs.equality.+same.Goals as goal
 use Rattle.jsonpath_base.proofs.equality.+same.Goals.{same_members-then-ne-via-then-ne, same_members-then-ne-via-else-ne+then-not-same}
 

@@ -1,5 +1,4 @@
-use Rattle.std.specs.Slice.Iter.{iter_rest}
-use Rattle.jsonpath_base.specs.Values.{value_tree}
+use Rattle.jsonpath_base.specs.Prelude.{iter_rest, value_tree}
 use Rattle.jsonpath_base.proofs.SameWalks.{LeftToCompare, EntriesToCompare, weight, trees_weight, members_weight, trees, members}
 use Rattle.jsonpath_base.proofs.equality.+same.Given as goal
 

@@ -4,25 +4,16 @@ use Rattle.jsonpath_base.proofs.Loans.{rest_index, rest_name, list_there, item_t
 use Rattle.jsonpath_base.proofs.Putting.{put_element, put_member}
 use Rattle.jsonpath_base.proofs.LoanWords.{MutBor, owned, peeks, shows, only, no_more, and_then, use3, uint_Makes, prop}
 use Rattle.std.proofs.Common.{◌^◌, ◌-◌, eqb→eq, IsSome, IsTrue, is_some, Some, Bool, true, false, length}
-use Rattle.std.specs.Vec.{with_item}
+use Rattle.jsonpath_base.specs.Prelude.{Array, as_array, as_object, at, has_index, index, index_in, is_entry, items_view, LendsMember, lookup, members_view, name, name_in, next, Object, put, rest, set_value, value_is_whole, value_tree, view, with_item}
 use Rattle.std.specs.Prelude.{⊤, vec_len, slice_index_or}
 use mathlib.Core.Option as maybe
 use denote.Follow.{follows_so}
 use denote.Triple.Call.{calls_from}
-use Rattle.serde_json.specs.declared.value.Value.{Array, Object}
 use Rattle.serde_json.specs.Rows.{list_row as L, map_row as K}
-use Rattle.serde_json.specs.View.{view, items_view, members_view}
-use Rattle.serde_json.specs.Find.{as_array, as_object}
-use Rattle.std.specs.Map.{lookup, set_value}
-use Rattle.jsonpath_parser.specs.Location.{name, index}
-use Rattle.jsonpath_base.specs.Places.{at}
-use Rattle.jsonpath_base.specs.Put.{put}
-use Rattle.jsonpath_base.specs.Values.{value_tree, value_is_whole}
 use Rattle.jsonpath_base.proofs.WholeParts.{item_whole, member_whole}
 use Rattle.std.specs.Option.{OnSome}
 use denote.Triple.Clauses.{Lasts}
 use denote.Builtin.{bool}
-use Rattle.jsonpath_base.specs.inner.Lent.{LendsMember, is_entry, has_index, index_in, name_in, next, rest}
 use Rattle.jsonpath_base.specs.contracts.step.Step.{the_row as S}
 use Rattle.jsonpath_base.proofs.step.Step.TheLaws.{the_row_laws}
 use Rattle.jsonpath_base.specs.contracts.lending.parts.is_index as g₀

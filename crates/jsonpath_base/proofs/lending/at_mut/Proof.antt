@@ -19,11 +19,7 @@ use denote.Follow.{follows_so}
 use mir.Val.{vptr, of_list}
 use mathlib.Core.Option as maybe
 use Rattle.serde_json.specs.contracts.value.Value.{the_row as R}
-use Rattle.jsonpath_base.specs.Places.{at}
-use Rattle.jsonpath_base.specs.Put.{put}
-use Rattle.jsonpath_base.specs.Steps.{location_view}
-use Rattle.jsonpath_base.specs.Values.{value_tree, value_is_whole}
-use Rattle.jsonpath_base.specs.inner.Lent.{rest}
+use Rattle.jsonpath_base.specs.Prelude.{at, location_view, put, rest, value_is_whole, value_tree}
 use Rattle.jsonpath_base.specs.contracts.lending.at_mut as f
 use Rattle.jsonpath_base.proofs.lending.at_mut.Statement.{statement}
 use Rattle.jsonpath_base.proofs.lending.at_mut.Code as code

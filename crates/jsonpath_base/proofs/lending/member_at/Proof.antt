@@ -16,7 +16,7 @@ use mir.Val.{Val, vptr, of_list}
 use Rattle.serde_json.specs.contracts.value.Value.{the_row as R}
 use Rattle.serde_json.specs.Rows.{map_row as K}
 use Rattle.jsonpath_base.specs.contracts.step.Step.{the_row as S}
-use Rattle.jsonpath_base.specs.inner.Lent.{LendsMember, is_entry, name_in, next}
+use Rattle.jsonpath_base.specs.Prelude.{is_entry, LendsMember, lookup, name_in, next}
 use Rattle.jsonpath_base.specs.contracts.lending.member_at as f
 use Rattle.jsonpath_base.proofs.lending.member_at.Statement.{statement}
 use Rattle.jsonpath_base.proofs.lending.member_at.Code as code
@@ -24,7 +24,6 @@ use Rattle.jsonpath_base.specs.contracts.lending.parts.member_by as g₁
 use Rattle.jsonpath_base.proofs.lending.parts.member_by.Met.{met as met₁}
 use Rattle.jsonpath_base.specs.contracts.lending.parts.take as g₂
 use Rattle.jsonpath_base.proofs.lending.parts.take.Met.{met as met₂}
-use Rattle.std.specs.Map.{lookup}
 
 abbrev stayed : Stays f.ended.signature.params f.ended.kept
 stayed = (stay_dropped (mut_ref_to (0 ∷ []) tt (plain (λ _. K))) no, (stay_dropped (SliceRefOf (1 ∷ []) tt (plain (λ _. S)) (λ _. tt)) yes, (stay_dropped (plain (λ _. usize)) yes, tt)))

@@ -1,7 +1,5 @@
 use Rattle.std.proofs.Common.{◌≡◌, ◌++◌, drop, map}
-use Rattle.jsonpath_parser.specs.tree.View.{segment_view, segments_of}
-use Rattle.jsonpath_base.specs.FixedPart.{fixed_part}
-use Rattle.jsonpath_base.specs.Steps.{location_view}
+use Rattle.jsonpath_base.specs.Prelude.{fixed_part, location_view, segment_view, segments_of}
 use Rattle.jsonpath_base.proofs.location.leading_steps.Given as goal
 
 -- the steps so far, and behind them those of the segments that are left, are those of all

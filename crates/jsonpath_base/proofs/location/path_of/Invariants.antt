@@ -1,6 +1,6 @@
 use Rattle.std.proofs.Common.{◌≡◌, ◌++◌, drop, string_bytes}
 use Rattle.jsonpath_parser.specs.Normal.{normal, steps_text}
-use Rattle.jsonpath_base.specs.Steps.{location_view}
+use Rattle.jsonpath_base.specs.Prelude.{location_view}
 use Rattle.jsonpath_base.proofs.location.path_of.Given as goal
 
 -- what is written, and then the steps that are left, are the path

@@ -1,8 +1,5 @@
 use Rattle.std.proofs.Common.{◌≡◌, ℕ, ◌+◌, ◌-◌, ◌++◌, [], ◌<◌, ◌∷◌, length, get_or, String, Global, string_bytes, ap, sym, ◌∙◌, refl, arith}
-use Rattle.jsonpath_parser.specs.Location.{name, index}
-use Rattle.jsonpath_base.specs.Steps.{lent_step, lent_location}
-use Rattle.jsonpath_base.specs.inner.Marks.{to_member}
-use Rattle.jsonpath_base.specs.declared.marks.Marks.{Marks}
+use Rattle.jsonpath_base.specs.Prelude.{index, lent_location, lent_step, Marks, name, to_member}
 use Rattle.jsonpath_base.proofs.Marking.{on_ok}
 use Rattle.jsonpath_base.proofs.LastMarks.{last_key, last_further, adds_set, adds_push, adds_here, adds_member, adds_element, at_members, at_elements}
 use Rattle.jsonpath_base.proofs.marks.+mark.Goals as goal

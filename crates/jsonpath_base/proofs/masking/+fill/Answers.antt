@@ -1,13 +1,7 @@
 use Rattle.std.proofs.Common.{◌≡◌, ◌<◌, ◌+◌, length, drop, true≢false, ◌∷◌, BTreeMap, String, Global, string_cmp, nat_cmp, refl, sym, ap, ◌∙◌, arith}
 use Rattle.std.proofs.lemmas.List.{drop_all}
-use Rattle.std.specs.Map.{lookup, set_value}
-use Rattle.serde_json.specs.declared.value.Value.{Value}
-use Rattle.serde_json.specs.View.{view, items_view, members_view}
+use Rattle.jsonpath_base.specs.Prelude.{index, items_overwritten, items_view, level_in_order, lookup, marked, marked_below, marks_total, members_overwritten, members_view, name, out-Marks, outermost_total, set_value, to_member, Value, view}
 use Rattle.serde_json.proofs.Views.{view-Array, view-Object}
-use Rattle.jsonpath_parser.specs.Location.{name, index}
-use Rattle.jsonpath_base.specs.inner.Marks.{to_member, marked, marked_below, marks_total, level_in_order}
-use Rattle.jsonpath_base.specs.inner.Masking.{items_overwritten, members_overwritten, outermost_total}
-use Rattle.jsonpath_base.specs.declared.marks.Marks.TheViews.{out-Marks}
 use Rattle.jsonpath_base.proofs.Filling.{put_here, gone_into, array_filled, object_filled, scalar_filled, element_filled, beyond_filled, items_end, absent_filled, member_filled, members_end, outermost_here, outermost_inside}
 use Rattle.jsonpath_base.proofs.InOrder.{level_sorted, turn}
 use Rattle.jsonpath_base.proofs.Marking.{count_out, marked_member, marked_element, name_test, index_test, are_keys}

@@ -1,9 +1,5 @@
 use Rattle.std.proofs.Common.{◌≡◌, ◌≤◌, ◌+◌, ◌*◌, drop, vec_len}
-use Rattle.serde_json.specs.Data.{Data}
-use Rattle.serde_json.specs.View.{items_view, members_view}
-use Rattle.jsonpath_parser.specs.Location.{index}
-use Rattle.jsonpath_base.specs.inner.Marks.{to_member, marked_below, marks_count, marks_total}
-use Rattle.jsonpath_base.specs.inner.Masking.{items_overwritten, members_overwritten, AreAll, outermost_total}
+use Rattle.jsonpath_base.specs.Prelude.{AreAll, Data, index, items_overwritten, items_view, marked_below, marks_count, marks_total, members_overwritten, members_view, outermost_total, to_member}
 use Rattle.jsonpath_base.proofs.masking.+fill.Given as goal
 
 -- With the marks that are left, what is there now is overwritten as with all what was there; and so many copies are left as these marks need.

@@ -1,8 +1,7 @@
 use Rattle.std.proofs.Common.{◌≡◌, ◌+◌, sym, ap, ap₂, ◌∙◌, arith}
 use Rattle.std.proofs.lemmas.List.{drop_all}
 use Rattle.std.proofs.lemmas.Result.{IfOk-weaker}
-use Rattle.jsonpath_base.specs.inner.Marks.{marks_total}
-use Rattle.jsonpath_base.specs.inner.Masking.{outermost_total}
+use Rattle.jsonpath_base.specs.Prelude.{marks_total, outermost_total}
 use Rattle.jsonpath_base.proofs.Filling.{outermost_here, outermost_inside, outermost_next, marks_at}
 use Rattle.jsonpath_base.proofs.Marking.{count_out}
 use Rattle.jsonpath_base.proofs.masking.+outermost.Goals as goal

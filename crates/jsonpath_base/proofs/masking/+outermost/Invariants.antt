@@ -1,6 +1,5 @@
 use Rattle.std.proofs.Common.{◌≡◌, ◌+◌, ◌*◌, drop}
-use Rattle.jsonpath_base.specs.inner.Marks.{marks_count, marks_total}
-use Rattle.jsonpath_base.specs.inner.Masking.{outermost_total}
+use Rattle.jsonpath_base.specs.Prelude.{marks_count, marks_total, outermost_total}
 use Rattle.jsonpath_base.proofs.masking.+outermost.Given as goal
 
 -- with those that are left, all are counted

@@ -1,7 +1,6 @@
 use Rattle.std.proofs.Common.{◌≡◌, sym, subst, arith}
 use Rattle.std.proofs.lemmas.List.Elements.{All-push}
-use Rattle.serde_json.specs.View.{view}
-use Rattle.jsonpath_base.specs.inner.Masking.{AreAll}
+use Rattle.jsonpath_base.specs.Prelude.{AreAll, view}
 use Rattle.jsonpath_base.proofs.masking.copies_for.Goals as goal
 
 pub loop-preserved : goal.loop-preserved

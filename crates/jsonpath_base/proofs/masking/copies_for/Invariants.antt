@@ -1,6 +1,5 @@
 use Rattle.std.proofs.Common.{◌≡◌, vec_len}
-use Rattle.serde_json.specs.View.{view}
-use Rattle.jsonpath_base.specs.inner.Masking.{AreAll}
+use Rattle.jsonpath_base.specs.Prelude.{AreAll, view}
 use Rattle.jsonpath_base.proofs.masking.copies_for.Given as goal
 
 abbrev pub invariant-loop : goal.invariant-loop

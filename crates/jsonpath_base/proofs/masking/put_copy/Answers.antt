@@ -1,6 +1,6 @@
 use Rattle.std.proofs.Common.{◌≡◌, Some, true≢false, sym}
 use Rattle.std.proofs.lemmas.List.Elements.{All-pop}
-use Rattle.serde_json.specs.View.{view}
+use Rattle.jsonpath_base.specs.Prelude.{view}
 use Rattle.jsonpath_base.proofs.masking.put_copy.Goals as goal
 
 pub returns-in-Some-clause-put : goal.returns-in-Some-clause-put

@@ -1,9 +1,6 @@
 use Rattle.std.proofs.Common.{◌≡◌, if◌then◌else◌, ◌+◌, ◌<◌, length, string_cmp, nat_cmp, sym, ap, ◌∙◌, subst, arith}
 use Rattle.std.proofs.lemmas.Result.{IfOk-weaker}
-use Rattle.jsonpath_parser.specs.Location.{index}
-use Rattle.jsonpath_base.specs.Without.{distinct_count}
-use Rattle.jsonpath_base.specs.inner.Marks.{to_member, listed, marked, marked_in, in_order, marks_total, IsSameSet}
-use Rattle.jsonpath_base.specs.declared.marks.Marks.TheViews.{out-Marks}
+use Rattle.jsonpath_base.specs.Prelude.{distinct_count, in_order, index, IsSameSet, listed, marked, marked_in, marks_total, out-Marks, to_member}
 use Rattle.jsonpath_base.proofs.Marking.{count_out, name_test, index_test, rolled}
 use Rattle.jsonpath_base.proofs.InOrder.{out_here, out_names, out_indexes, rolled_as, same_rolled, order_rolled, count_of_rolled, ok_given, sofar_at, sofar_next, sofar_ordered, sofar_counted, same_then}
 use Rattle.jsonpath_base.proofs.ordering.+order.Goals as goal

@@ -1,6 +1,5 @@
 use Rattle.std.proofs.Common.{◌+◌, ◌*◌}
-use Rattle.jsonpath_parser.specs.Location.{index}
-use Rattle.jsonpath_base.specs.inner.Marks.{to_member, marks_count, marks_total}
+use Rattle.jsonpath_base.specs.Prelude.{index, marks_count, marks_total, to_member}
 use Rattle.jsonpath_base.proofs.InOrder.{Sofar}
 use Rattle.jsonpath_base.proofs.ordering.+order.Given as goal
 

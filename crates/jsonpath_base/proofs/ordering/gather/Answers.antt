@@ -1,9 +1,6 @@
 use Rattle.std.proofs.Common.{◌≡◌, ◌≤◌, ◌+◌, ◌||◌, ap, sym, ◌∙◌, unwrap_or, subst}
-use Rattle.std.specs.BTreeMap.{is_at}
+use Rattle.jsonpath_base.specs.Prelude.{is_at, Location, lookup, marked, marked_by, marks_count}
 use Rattle.std.specs.BTreeMap.Entry.{entry_value}
-use Rattle.std.specs.Map.{lookup}
-use Rattle.jsonpath_parser.specs.Location.{Location}
-use Rattle.jsonpath_base.specs.inner.Marks.{marked, marked_by, marks_count}
 use Rattle.jsonpath_base.proofs.Marking.{on_ok, marked_or}
 use Rattle.jsonpath_base.proofs.InOrder.{inserted, inserted_total}
 use Rattle.jsonpath_base.proofs.ordering.gather.Goals as goal

@@ -1,5 +1,5 @@
 use Rattle.std.proofs.Common.{◌++◌, ap, ◌∙◌}
-use Rattle.jsonpath_base.specs.declared.marks.Marks.TheViews.{out-Marks}
+use Rattle.jsonpath_base.specs.Prelude.{out-Marks}
 use Rattle.jsonpath_base.proofs.InOrder.{joined_rolled, fewer_rolled, out_here, out_names, out_indexes}
 use Rattle.jsonpath_base.proofs.ordering.join.Goals as goal
 

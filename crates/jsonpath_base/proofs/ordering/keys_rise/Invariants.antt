@@ -1,5 +1,5 @@
 use Rattle.std.proofs.Common.{◌≡◌, ℕ, ◌+◌, ◌<◌, Less, get_or}
-use Rattle.std.specs.Map.{keys_of}
+use Rattle.jsonpath_base.specs.Prelude.{keys_of}
 use Rattle.jsonpath_base.proofs.ordering.keys_rise.Given as goal
 
 abbrev pub invariant-loop-i : goal.invariant-loop-i

@@ -3,7 +3,7 @@ use Rattle.std.proofs.lemmas.Iterator.{YieldsList-from_chars}
 use Rattle.std.proofs.lemmas.List.{at_drop_all, length_push}
 use Rattle.std.proofs.lemmas.Iterator.Consumers.{YieldsList-turn, YieldsList-end}
 use Rattle.std.proofs.lemmas.Str.{chars_from_encodes, IsUtf8-string_bytes}
-use Rattle.std.specs.Str.{chars}
+use Rattle.jsonpath_base.specs.Prelude.{chars}
 use Rattle.jsonpath_base.proofs.PatternText.{left, left-drop, left-nil, left-start}
 use Rattle.jsonpath_base.proofs.pattern.translate.Goals as goal
 

@@ -1,5 +1,5 @@
 use Rattle.std.proofs.Common.{◌≡◌, ◌++◌, length, drop, false, string_bytes}
-use Rattle.std.specs.Str.{chars}
+use Rattle.jsonpath_base.specs.Prelude.{chars}
 use Rattle.jsonpath_base.proofs.PatternText.{left}
 use Rattle.jsonpath_base.proofs.pattern.translate.Given as goal
 

@@ -1,6 +1,6 @@
 use Rattle.std.proofs.Common.{◌++◌, codes, ap, ◌∙◌, string_bytes}
 use Rattle.std.proofs.lemmas.Str.{IsUtf8-string_bytes}
-use Rattle.std.specs.Str.{chars, IsUtf8}
+use Rattle.jsonpath_base.specs.Prelude.{chars, IsUtf8}
 use Rattle.jsonpath_base.proofs.PatternText.{chars-wrapped}
 use Rattle.jsonpath_base.proofs.pattern.wrap.Goals as goal
 

@@ -1,7 +1,6 @@
 use Rattle.std.proofs.Common.{◌≡◌, arith}
 use Rattle.std.proofs.lemmas.Bool.Decides.{nat_tests}
-use Rattle.fast_float.specs.Text.{scan}
-use Rattle.serde_json.specs.Find.{index_of}
+use Rattle.jsonpath_base.specs.Prelude.{index_of, scan}
 use Rattle.jsonpath_base.proofs.pointer.index_by.Goals as goal
 
 pub returns-in_err-index : goal.returns-in_err-index

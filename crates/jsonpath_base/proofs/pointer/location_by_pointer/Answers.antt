@@ -1,7 +1,6 @@
 use Rattle.std.proofs.Common.{[], arith, rules}
 use Rattle.std.proofs.lemmas.Str.Pattern.{strip_prefix_char, split_parts}
-use Rattle.jsonpath_base.specs.Pointer.{tokens_from}
-use Rattle.jsonpath_base.specs.Values.{value_tree}
+use Rattle.jsonpath_base.specs.Prelude.{tokens_from, value_tree}
 use Rattle.jsonpath_base.proofs.PointerWays.{first_token, only_token, leads_from, leads_down, leads_nowhere, leads_there, no_pointer}
 use Rattle.jsonpath_base.proofs.pointer.location_by_pointer.Goals as goal
 

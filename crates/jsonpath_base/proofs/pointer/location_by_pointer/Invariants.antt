@@ -1,7 +1,7 @@
 use Rattle.std.proofs.Common.{[], length}
 use denote.Shadow.{shadow}
 use denote.Text.{Utf8}
-use Rattle.jsonpath_base.specs.Pointer.{tokens_from}
+use Rattle.jsonpath_base.specs.Prelude.{tokens_from}
 use Rattle.jsonpath_base.proofs.PointerWays.{LeadsOn}
 use Rattle.jsonpath_base.proofs.pointer.location_by_pointer.Given as goal
 

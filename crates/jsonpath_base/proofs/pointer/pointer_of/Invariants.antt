@@ -1,6 +1,5 @@
 use Rattle.std.proofs.Common.{◌≡◌, ◌++◌, drop, string_bytes}
-use Rattle.jsonpath_base.specs.Pointer.{pointer}
-use Rattle.jsonpath_base.specs.Steps.{location_view}
+use Rattle.jsonpath_base.specs.Prelude.{location_view, pointer}
 use Rattle.jsonpath_base.proofs.pointer.pointer_of.Given as goal
 
 -- what is written, and then the steps that are left, are the pointer

@@ -1,7 +1,7 @@
 use Rattle.std.proofs.Common.{◌≡◌, ◌++◌, flat_map, length, string_bytes}
 use denote.Shadow.{shadow}
 use denote.Text.{Utf8}
-use Rattle.jsonpath_base.specs.Pointer.{escaped}
+use Rattle.jsonpath_base.specs.Prelude.{escaped}
 use Rattle.jsonpath_base.proofs.pointer.push_name.Given as goal
 
 -- what is written, and then the rest escaped, is what was there and the name escaped

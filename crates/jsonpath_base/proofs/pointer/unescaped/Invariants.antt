@@ -1,7 +1,7 @@
 use Rattle.std.proofs.Common.{◌≡◌, ◌++◌, length, string_bytes}
 use denote.Shadow.{shadow}
 use denote.Text.{Utf8}
-use Rattle.serde_json.specs.Find.{unescape}
+use Rattle.jsonpath_base.specs.Prelude.{unescape}
 use Rattle.jsonpath_base.proofs.pointer.unescaped.Given as goal
 
 -- what is written, and then the rest unescaped, is the part unescaped

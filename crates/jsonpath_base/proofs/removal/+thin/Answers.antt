@@ -1,13 +1,7 @@
 use Rattle.std.proofs.Common.{◌<◌, ◌+◌, length, drop, true≢false, ◌∷◌, BTreeMap, String, Global, string_bytes, string_cmp, nat_cmp, refl, sym, ap, ◌∙◌, arith}
 use Rattle.std.proofs.lemmas.List.{drop_all}
-use Rattle.std.specs.Map.{lookup, set_value, remove_entry}
-use Rattle.serde_json.specs.declared.value.Value.{Value}
-use Rattle.serde_json.specs.View.{view, items_view, members_view}
+use Rattle.jsonpath_base.specs.Prelude.{index, items_view, level_in_order, lookup, marked, marked_below, marks_total, members_thinned, members_view, name, out-Marks, remove_entry, set_value, thinned_below, to_member, Value, view}
 use Rattle.serde_json.proofs.Views.{view-Array, view-Object}
-use Rattle.jsonpath_parser.specs.Location.{name, index}
-use Rattle.jsonpath_base.specs.inner.Marks.{to_member, marked, marked_below, marks_total, level_in_order}
-use Rattle.jsonpath_base.specs.inner.Thinning.{thinned_below, members_thinned}
-use Rattle.jsonpath_base.specs.declared.marks.Marks.TheViews.{out-Marks}
 use Rattle.jsonpath_base.proofs.Marking.{count_out, marked_here, marked_member, marked_element, name_test, index_test, are_keys}
 use Rattle.jsonpath_base.proofs.InOrder.{level_sorted, turn}
 use Rattle.jsonpath_base.proofs.OrderedMarks.{names_in_order, indexes_in_order}

@@ -1,7 +1,5 @@
 use Rattle.std.proofs.Common.{◌≡◌, ◌+◌, ◌*◌, drop}
-use Rattle.serde_json.specs.View.{items_view, members_view}
-use Rattle.jsonpath_base.specs.inner.Marks.{to_member, marked_below, marks_count, marks_total}
-use Rattle.jsonpath_base.specs.inner.Thinning.{members_thinned, thinned_below}
+use Rattle.jsonpath_base.specs.Prelude.{items_view, marked_below, marks_count, marks_total, members_thinned, members_view, thinned_below, to_member}
 use Rattle.jsonpath_base.proofs.removal.+thin.Given as goal
 
 -- with the marks that are left, what is there now is thinned as with all what was there

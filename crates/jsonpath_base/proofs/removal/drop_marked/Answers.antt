@@ -1,9 +1,6 @@
 use Rattle.std.proofs.Common.{◌≡◌, ◌≤◌, ◌<◌, ◌+◌, ◌-◌, ◌∷◌, [], false, nat_cmp, length, take, drop, subst, sym, ap, ◌∙◌, arith}
 use Rattle.std.proofs.lemmas.List.{length-take-le, length-drop, drop_all}
-use Rattle.serde_json.specs.View.{items_view}
-use Rattle.jsonpath_parser.specs.Location.{index}
-use Rattle.jsonpath_base.specs.inner.Marks.{marked}
-use Rattle.jsonpath_base.specs.inner.Thinning.{sieved}
+use Rattle.jsonpath_base.specs.Prelude.{index, items_view, marked, sieved}
 use Rattle.jsonpath_base.proofs.Marking.{marked_here, index_test, IsFrom, from_after, from_at_most, from_rest, none_before, none_held}
 use Rattle.jsonpath_base.proofs.InOrder.{turn, turn_sorted}
 use Rattle.jsonpath_base.proofs.Removing.{joined, run_moved, one_gone, unheld_sieved, none_left, drops_as}

@@ -1,5 +1,5 @@
 use Rattle.std.proofs.Common.{◌≡◌, take}
-use Rattle.jsonpath_base.specs.Steps.{location_view, lent_location}
+use Rattle.jsonpath_base.specs.Prelude.{lent_location, location_view}
 use Rattle.jsonpath_base.proofs.removal.lent_steps.Given as goal
 
 abbrev pub invariant-loop-step : goal.invariant-loop-step

@@ -1,6 +1,5 @@
 use Rattle.std.proofs.Common.{ap, ◌∙◌}
-use Rattle.jsonpath_base.specs.Values.{value_tree}
-use Rattle.jsonpath_base.specs.Without.{without}
+use Rattle.jsonpath_base.specs.Prelude.{value_tree, without}
 use Rattle.jsonpath_base.proofs.removal.remove_all.Goals as goal
 
 pub returns-clause-removed : goal.returns-clause-removed

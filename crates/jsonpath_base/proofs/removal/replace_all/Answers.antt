@@ -1,6 +1,5 @@
 use Rattle.std.proofs.Common.{ap, ◌∙◌}
-use Rattle.jsonpath_base.specs.Overwritten.{overwritten}
-use Rattle.jsonpath_base.specs.Values.{value_tree}
+use Rattle.jsonpath_base.specs.Prelude.{overwritten, value_tree}
 use Rattle.jsonpath_base.proofs.removal.replace_all.Goals as goal
 
 pub returns-clause-replaced : goal.returns-clause-replaced

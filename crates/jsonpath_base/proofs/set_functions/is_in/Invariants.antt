@@ -1,7 +1,5 @@
 use Rattle.std.proofs.Common.{◌≡◌, drop, map}
-use Rattle.std.specs.List.{list_any}
-use Rattle.jsonpath_base.specs.Same.{same}
-use Rattle.jsonpath_base.specs.Values.{value_tree}
+use Rattle.jsonpath_base.specs.Prelude.{list_any, same, value_tree}
 use Rattle.jsonpath_base.proofs.set_functions.is_in.Given as goal
 
 -- the answer for all is the answer for those that are left

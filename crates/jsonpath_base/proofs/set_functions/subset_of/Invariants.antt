@@ -1,7 +1,5 @@
 use Rattle.std.proofs.Common.{◌≡◌, drop, map}
-use Rattle.std.specs.List.{list_all}
-use Rattle.jsonpath_base.specs.SetFunctions.{is_in}
-use Rattle.jsonpath_base.specs.Values.{value_tree}
+use Rattle.jsonpath_base.specs.Prelude.{is_in, list_all, value_tree}
 use Rattle.jsonpath_base.proofs.set_functions.subset_of.Given as goal
 
 -- the answer for all is the answer for those that are left

@@ -1,5 +1,5 @@
 use Rattle.std.proofs.Common.{ap, arith}
-use Rattle.jsonpath_base.specs.inner.Marks.{marks_total}
+use Rattle.jsonpath_base.specs.Prelude.{marks_total}
 use Rattle.jsonpath_base.proofs.Filling.{marks_at}
 use Rattle.jsonpath_base.proofs.Marking.{count_out}
 use Rattle.jsonpath_base.proofs.size.+size.Goals as goal

@@ -1,5 +1,5 @@
 use Rattle.std.proofs.Common.{◌+◌, ◌*◌}
-use Rattle.jsonpath_base.specs.inner.Marks.{marks_count, marks_total}
+use Rattle.jsonpath_base.specs.Prelude.{marks_count, marks_total}
 use Rattle.jsonpath_base.proofs.size.+size.Given as goal
 
 abbrev pub decreases-marks_size : goal.decreases-marks_size

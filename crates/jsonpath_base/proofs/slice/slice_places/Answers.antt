@@ -1,9 +1,7 @@
 use Rattle.std.proofs.Common.{arith, rules, ◌≡◌, ◌∙◌, sym, ap, pos, ◌-◌, ◌<ℤ◌, suc, w64}
 use mir.Val.{SFits}
-use Rattle.std.specs.Int.RustNames.{unsigned_abs}
+use Rattle.jsonpath_base.specs.Prelude.{places_left, slice_by, slice_of, unsigned_abs}
 use Rattle.std.proofs.lemmas.Int.{ints, to_z-of_z}
-use Rattle.jsonpath_base.specs.Slice.{slice_of, slice_by}
-use Rattle.jsonpath_base.specs.SliceSteps.{places_left}
 use Rattle.jsonpath_base.proofs.SliceLemmas.{rising_slice, falling_slice, rising_none, slice_below}
 use Rattle.jsonpath_base.proofs.slice.slice_places.Goals as goal
 

@@ -1,5 +1,5 @@
 use Rattle.std.proofs.Common.{◌≡◌, [], ◌∷◌, ◌++◌, ap, ◌∙◌, append_assoc, arith, string_bytes}
-use Rattle.jsonpath_parser.specs.Normal.{index_digits}
+use Rattle.jsonpath_base.specs.Prelude.{index_digits}
 use Rattle.jsonpath_parser.proofs.laws.words.Quoting.{decimal_index}
 use Rattle.jsonpath_base.proofs.step.push_index.Goals as goal
 

@@ -1,7 +1,5 @@
 use Rattle.std.proofs.Common.{◌≡◌, drop}
-use Rattle.serde_json.specs.View.{items_view, members_view}
-use Rattle.jsonpath_base.specs.Tree.{trees_distinct, members_distinct}
-use Rattle.jsonpath_base.specs.Values.{items_whole, members_whole, trees_of, members_of}
+use Rattle.jsonpath_base.specs.Prelude.{items_view, items_whole, members_distinct, members_of, members_view, members_whole, trees_distinct, trees_of}
 use Rattle.jsonpath_base.proofs.value.+whole.Given as goal
 
 -- the answer for all is the answer for those that are left

@@ -1,5 +1,5 @@
 use Rattle.std.proofs.Common.{◌-◌, length, string_bytes}
-use Rattle.jsonpath_base.specs.inner.Way.{IsSpelled}
+use Rattle.jsonpath_base.specs.Prelude.{IsSpelled}
 use Rattle.jsonpath_base.proofs.way.spell.Given as goal
 
 -- what is spelled so far is spelled right

@@ -1,5 +1,5 @@
 use Rattle.std.proofs.Common.{refl, ap, ◌∙◌, slice_index_or}
-use Rattle.std.specs.Vec.{with_item}
+use Rattle.jsonpath_base.specs.Prelude.{with_item}
 use Rattle.jsonpath_base.proofs.lending.parts.item_at.Goals as goal
 
 pub returns : goal.returns

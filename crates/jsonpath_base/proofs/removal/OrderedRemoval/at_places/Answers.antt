@@ -1,11 +1,8 @@
 use Rattle.std.proofs.Common.{◌≡◌, ◌+◌, ◌∷◌, drop, map, Vec, Global, sym, ap, ◌∙◌}
 use Rattle.std.proofs.lemmas.List.{drop_more, drop_all}
 use Rattle.std.proofs.lemmas.Result.{IfOk-weaker}
-use Rattle.jsonpath_parser.specs.Location.{Location}
+use Rattle.jsonpath_base.specs.Prelude.{distinct_count, lent_location, listed, Location, location_view, marked, set_with}
 use Rattle.jsonpath_base.specs.RemovalViews.{ordered_set, ordered_count}
-use Rattle.jsonpath_base.specs.Steps.{location_view, lent_location}
-use Rattle.jsonpath_base.specs.Without.{distinct_count}
-use Rattle.jsonpath_base.specs.inner.Marks.{listed, marked, set_with}
 use Rattle.jsonpath_base.specs.declared.step.Step.{Step}
 use Rattle.jsonpath_base.proofs.Removed.{set_begun, marks_next}
 use Rattle.jsonpath_base.proofs.removal.OrderedRemoval.at_places.Goals as goal

@@ -1,7 +1,5 @@
 use Rattle.std.proofs.Common.{◌≡◌, drop, map}
-use Rattle.jsonpath_base.specs.Steps.{location_view}
-use Rattle.jsonpath_base.specs.Without.{is_among, distinct_count}
-use Rattle.jsonpath_base.specs.inner.Marks.{listed, marked, set_with}
+use Rattle.jsonpath_base.specs.Prelude.{distinct_count, is_among, listed, location_view, marked, set_with}
 use Rattle.jsonpath_base.proofs.removal.OrderedRemoval.at_places.Given as goal
 
 -- with the places that are left, the removal is of all

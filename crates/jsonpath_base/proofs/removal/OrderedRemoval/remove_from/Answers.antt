@@ -1,7 +1,5 @@
 use Rattle.std.proofs.Common.{ap, ◌∙◌}
-use Rattle.serde_json.specs.View.{view}
-use Rattle.jsonpath_base.specs.inner.Marks.{marked}
-use Rattle.jsonpath_base.specs.Values.{tree_of, value_tree}
+use Rattle.jsonpath_base.specs.Prelude.{marked, tree_of, value_tree, view}
 use Rattle.jsonpath_base.proofs.Views.{data_whole}
 use Rattle.jsonpath_base.proofs.Marking.{marked_here}
 use Rattle.jsonpath_base.proofs.Removed.{whole_thinned, root_stays, root_goes, null_tree}

@@ -1,7 +1,5 @@
 use Rattle.std.proofs.Common.{ap, ◌∙◌, arith}
-use Rattle.serde_json.specs.View.{view}
-use Rattle.jsonpath_base.specs.Values.{tree_of}
-use Rattle.jsonpath_base.specs.inner.Marks.{marked}
+use Rattle.jsonpath_base.specs.Prelude.{marked, tree_of, view}
 use Rattle.jsonpath_base.proofs.Filled.{tree_filled, whole_filled}
 use Rattle.jsonpath_base.proofs.Views.{data_whole}
 use Rattle.jsonpath_base.proofs.removal.OrderedRemoval.replace_in.Goals as goal

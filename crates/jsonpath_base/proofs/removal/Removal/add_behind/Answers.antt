@@ -1,8 +1,5 @@
 use Rattle.std.proofs.Common.{Bool, ◌||◌, ap, ◌∙◌}
-use Rattle.jsonpath_parser.specs.Location.{Location}
-use Rattle.jsonpath_base.specs.Steps.{lent_location}
-use Rattle.jsonpath_base.specs.Without.{is_location, HasAlso}
-use Rattle.jsonpath_base.specs.inner.Marks.{listed, IsSameSet}
+use Rattle.jsonpath_base.specs.Prelude.{HasAlso, is_location, IsSameSet, lent_location, listed, Location}
 use Rattle.jsonpath_base.proofs.Counting.{also_counted}
 use Rattle.jsonpath_base.proofs.removal.Removal.add_behind.Goals as goal
 

@@ -1,5 +1,5 @@
 use Rattle.std.proofs.Common.{◌∙◌}
-use Rattle.jsonpath_base.specs.inner.Marks.{listed}
+use Rattle.jsonpath_base.specs.Prelude.{listed}
 use Rattle.jsonpath_base.proofs.Counting.{same_count}
 use Rattle.jsonpath_base.proofs.removal.Removal.ordered.Goals as goal
 

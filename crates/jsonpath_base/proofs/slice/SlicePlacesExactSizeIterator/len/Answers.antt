@@ -1,5 +1,5 @@
 use Rattle.std.proofs.Common.{◌∙◌, sym, ap, suc}
-use Rattle.jsonpath_base.specs.inner.Picked.{picked_of}
+use Rattle.jsonpath_base.specs.Prelude.{picked_of}
 use Rattle.jsonpath_base.proofs.SliceLemmas.{count_rising, count_falling}
 use Rattle.jsonpath_base.proofs.slice.SlicePlacesExactSizeIterator.len.Goals as goal
 

@@ -1,6 +1,5 @@
 use Rattle.std.proofs.Common.{◌≡◌, take}
-use Rattle.jsonpath_base.specs.Steps.{location_view}
-use Rattle.jsonpath_base.specs.Steps.{lent_location}
+use Rattle.jsonpath_base.specs.Prelude.{lent_location, location_view}
 use Rattle.jsonpath_base.proofs.way.Way.location.Given as goal
 
 -- the first steps stand there

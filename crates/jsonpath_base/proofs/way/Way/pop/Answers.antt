@@ -1,5 +1,5 @@
 use Rattle.std.proofs.Common.{◌<◌, length, arith, subst, sym}
-use Rattle.jsonpath_base.specs.inner.Way.{IsSpelled}
+use Rattle.jsonpath_base.specs.Prelude.{IsSpelled}
 use Rattle.jsonpath_base.proofs.WayLaws.{may_cut, spelled_back, at_most_one}
 use Rattle.jsonpath_base.proofs.way.Way.pop.Goals as goal
 
