@@ -23,6 +23,11 @@ const TOGETHER: usize = 60;
 
 const CASES: usize = 700;
 
+/// `regex` looks for runs of literals from so many parts on, each as far as it has no more literals than this.
+const MOST_RUNS: usize = 256;
+
+const MOST_IN_RUN: usize = 250;
+
 /// The length of a pattern whose comments are not told from the rest.
 const VERBOSE: usize = 1 << 20;
 
@@ -72,6 +77,11 @@ pub struct Scale {
     /// Whether the pattern may be a choice among literals, and how many of these are copied if it is.
     is_choice: bool,
     copied: usize,
+    /// Whether the last atom is a character to which the next one is joined; how many runs begin before it, and the literals of
+    /// one that goes on.
+    is_text: bool,
+    runs: usize,
+    in_run: usize,
     /// What else it costs to read it.
     more: usize,
 }
@@ -92,6 +102,9 @@ impl Scale {
             groups: 0,
             is_choice: true,
             copied: 0,
+            is_text: false,
+            runs: 0,
+            in_run: 1,
             more: 0,
         };
         for c in pattern.chars() {
@@ -148,6 +161,8 @@ impl Scale {
 
     /// Reads a character behind nothing that gives it another meaning.
     fn put_free(&mut self, c: char) -> Result<(), AllocError> {
+        let is_joined = self.is_text;
+        self.is_text = false;
         match c {
             '\\' => self.place = Place::Escaped,
             '[' => self.open_class()?,
@@ -158,15 +173,28 @@ impl Scale {
             '|' => self.end_branch(),
             '{' => self.place = Place::Count { most: 1, number: 0 },
             '*' | '+' => {
-                self.is_choice = false;
+                self.be_no_choice();
                 self.atom.length = self.atom.length.saturating_add(1);
             }
-            '?' => self.atom = self.atom.or(Part::maybe(1)),
+            '?' => self.repeat(self.atom.or(Part::maybe(1))),
             '.' => self.add(Part::other(ALL_BUT_FEW)),
             '^' | '$' => self.add(Part::other(1)),
-            _ => self.add_character(c),
+            _ => self.put_text(c, is_joined),
         }
         Ok(())
+    }
+
+    /// Reads a character that stands for itself. One behind another is joined to it.
+    fn put_text(&mut self, c: char, is_joined: bool) {
+        if is_joined {
+            self.put_atom(Part::new(c.len_utf8(), 1));
+        } else {
+            self.add_character(c);
+        }
+        if !is_joined && !self.has_cases {
+            self.begin_run();
+        }
+        self.is_text = !self.has_cases;
     }
 
     /// Reads what stands behind a backslash. A property may have few members, and so may a range that an escape ends.
@@ -189,9 +217,13 @@ impl Scale {
     /// Reads a character of a counted repetition. One whose last number is 0, or left out, is taken to have no bound.
     fn put_count(&mut self, c: char, most: usize, number: usize) {
         if c == '}' {
-            self.is_choice &= most <= MOST_ROUNDS && number > 0;
-            self.atom = self.atom.repeated(most);
-            self.count();
+            let part = self.atom.repeated(most);
+            if most > MOST_ROUNDS || number == 0 {
+                self.be_no_choice();
+                self.atom = Part::new(part.length, 1);
+            } else {
+                self.repeat(part);
+            }
             return;
         }
         let number = match c.to_digit(10) {
@@ -258,19 +290,49 @@ impl Scale {
             self.ended = self.ended.or(part);
             return;
         }
-        self.is_choice &= part.least <= FEW;
-        self.before = self.before.then(self.atom);
-        self.atom = part;
+        if part.least > FEW {
+            self.be_no_choice();
+            self.put_atom(Part::new(part.length, 1));
+        } else {
+            self.put_atom(part);
+        }
         self.count();
     }
 
-    /// Counts the literals that are copied for the last atom.
+    fn put_atom(&mut self, part: Part) {
+        self.before = self.before.then(self.atom);
+        self.atom = part;
+    }
+
+    fn be_no_choice(&mut self) {
+        self.is_choice = false;
+        self.in_run = 1;
+    }
+
+    /// The last atom becomes this part, which repeats it or is a group.
+    fn repeat(&mut self, part: Part) {
+        self.atom = part;
+        self.count();
+        self.begin_run();
+    }
+
+    fn begin_run(&mut self) {
+        self.runs = self.runs.saturating_add(1).min(MOST_RUNS);
+    }
+
+    /// Counts the literals that are copied for the last atom: those of the branch, unless they are too many, and those of half
+    /// of the runs.
     fn count(&mut self) {
         let both = self.before.then(self.atom);
         self.is_choice &= both.least <= MOST_LITERALS;
         if both.most > 1 {
             self.copied = self.copied.saturating_add(both.most);
         }
+        let in_run = self.in_run.saturating_mul(self.atom.most).min(MOST_IN_RUN);
+        self.in_run = if in_run < MOST_IN_RUN { in_run } else { 1 };
+        self.more = self
+            .more
+            .saturating_add(in_run.saturating_mul(self.runs) / 2);
     }
 
     /// The group at hand is one that is found again, by a number or a name.
@@ -317,8 +379,8 @@ impl Scale {
     }
 
     fn close_group(&mut self) {
-        self.atom = self.close();
-        self.count();
+        let group = self.close();
+        self.repeat(group);
     }
 
     fn close_class(&mut self) {
