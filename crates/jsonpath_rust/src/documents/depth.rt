@@ -7,8 +7,8 @@ use crate::documents::queryable::Queryable;
 use std::alloc::Global;
 
 /// Whether lists and objects stand in one another more than `levels` deep, the value itself
-/// counted. Each value that is looked at takes one of `looks`. Where these run out the answer is
-/// that of what was looked at.
+/// counted. Each value inside takes one of `looks`: an element when it is looked at, the members of
+/// an object before they are listed. Where these run out the answer is that of what was looked at.
 #[cycle(depth)]
 pub fn is_deeper<T: Queryable>(
     alloc: Global,
@@ -18,15 +18,22 @@ pub fn is_deeper<T: Queryable>(
 ) -> Walked<bool>
     ensures { IfErr result (λ h. h ≡ Memory) }
 {
-    if *looks == 0 {
-        return Ok(false);
-    }
-    *looks -= 1;
     if let Some(items) = value.as_array() {
         return is_list_deeper(alloc, items, levels, looks);
     }
+    let Some(count) = value.member_count(alloc)? else {
+        return Ok(false);
+    };
+    if levels == 0 {
+        return Ok(true);
+    }
+    if count > *looks {
+        *looks = 0;
+        return Ok(false);
+    }
+    *looks -= count;
     match value.as_object(alloc)? {
-        Some(members) => is_object_deeper(alloc, &members, levels, looks),
+        Some(members) => is_member_deeper(alloc, &members, levels - 1, looks),
         None => Ok(false),
     }
 }
@@ -45,6 +52,10 @@ fn is_list_deeper<T: Queryable>(
         return Ok(true);
     }
     for item in items {
+        if *looks == 0 {
+            return Ok(false);
+        }
+        *looks -= 1;
         if is_deeper(alloc, item, levels - 1, looks)? {
             return Ok(true);
         }
@@ -52,9 +63,9 @@ fn is_list_deeper<T: Queryable>(
     Ok(false)
 }
 
-/// The same of an object of these members.
+/// The same of one of these members, at least.
 #[cycle(depth)]
-fn is_object_deeper<T: Queryable>(
+fn is_member_deeper<T: Queryable>(
     alloc: Global,
     members: &Vec<(&str, &T)>,
     levels: usize,
@@ -62,11 +73,8 @@ fn is_object_deeper<T: Queryable>(
 ) -> Walked<bool>
     ensures { IfErr result (λ h. h ≡ Memory) }
 {
-    if levels == 0 {
-        return Ok(true);
-    }
     for member in members {
-        if is_deeper(alloc, member.1, levels - 1, looks)? {
+        if is_deeper(alloc, member.1, levels, looks)? {
             return Ok(true);
         }
     }

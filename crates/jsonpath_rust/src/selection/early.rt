@@ -15,11 +15,16 @@ use crate::selection::walk::Task;
 use jsonpath_base::engine::Way;
 
 /// How many levels of a document the walks that are on their way at once may stand on, all
-/// together: as many as three take in a document of 127 levels.
-const MOST_LEVELS: usize = 405;
+/// together: as many as five take in a document of 127 levels. A level takes 1.4 KB of stack at
+/// most, so they take 0.9 MB at most.
+const MOST_LEVELS: usize = 650;
 
 /// What each of them takes beside the document, in levels.
-const LEVELS_BESIDE: usize = 8;
+const LEVELS_BESIDE: usize = 3;
+
+/// What each of them may stand on in any case: in a document without nesting they take no more
+/// stack than reading the query's text does.
+const LEAST_LEVELS: usize = 1;
 
 impl<'a: 's, 's, T: Queryable> Task<'a, 's, T> {
     /// Begins a walk at the root, with room for what the constants give. Where queries from the
@@ -57,20 +62,18 @@ impl<'a: 's, 's, T: Queryable> Task<'a, 's, T> {
 
     /// Whether queries from the root that are asked in one another's walks could stand on more than
     /// `MOST_LEVELS` levels of the document, all together. The document is looked at only where at
-    /// least `MOST_AT_ONCE` stand in one another, for a unit a value.
+    /// least `MOST_AT_ONCE` stand in one another, for a unit a value; where units run out it counts
+    /// as far as it was looked at, and nothing is left for the walk.
     fn stands_deep(&self, budget: &mut Budget) -> Walked<bool>
         ensures { IfErr result (IsHalt self.now.limit [] (document self.now)) }
     {
         if self.plan.nesting < MOST_AT_ONCE {
             return Ok(false);
         }
-        let levels = MOST_LEVELS / self.plan.nesting.saturating_add(1);
-        if levels < LEVELS_BESIDE {
-            return Ok(true);
-        }
+        let share = MOST_LEVELS / self.plan.nesting.saturating_add(1);
+        let levels = share.saturating_sub(LEVELS_BESIDE).max(LEAST_LEVELS);
         let most = budget.left();
-        let mut looks = most;
-        let levels = levels - LEVELS_BESIDE;
+        let mut looks = most.saturating_sub(1);
         let deep = is_deeper(self.alloc, self.root.value, levels, &mut looks)?;
         budget.spend(self.limit, most.saturating_sub(looks))?;
         Ok(deep)

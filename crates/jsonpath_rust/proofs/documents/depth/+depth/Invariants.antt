@@ -7,5 +7,5 @@ decreases-is_deeper g l = 2 * l.levels + 1
 abbrev pub decreases-is_list_deeper : goal.decreases-is_list_deeper
 decreases-is_list_deeper g l = 2 * l.levels
 
-abbrev pub decreases-is_object_deeper : goal.decreases-is_object_deeper
-decreases-is_object_deeper g l = 2 * l.levels
+abbrev pub decreases-is_member_deeper : goal.decreases-is_member_deeper
+decreases-is_member_deeper g l = 2 * l.levels + 2
