@@ -10,7 +10,7 @@ root, comes behind. So do runs of `jpath delete`, also with the memory at its pe
 less than that of this script, some 25: the like has a short name, or selects each node once. The second table has the least stack of
 `jpath nodes`, in KB, to within 64. The third has, for several sizes of query or document, the least units that are enough
 for `js_path_limited`, and nanoseconds a unit: the least of three runs with one unit less, and less the time of a run with
-none.
+none; behind these, of calls with as many units each, whether they are enough, milliseconds and the most memory.
 """
 
 import json
@@ -115,6 +115,19 @@ def nest_of_lists(size):
     return json.loads("[" * size + "]" * size)
 
 
+def arguments(count):
+    """So many arguments of one function, each all numbers."""
+    return f"$[?f({','.join(['$.l[*]'] * count)})]", {"l": numbers(10**5)}
+
+
+def chain(length, members):
+    """Objects in one another, each with so many numbers behind the next."""
+    value = 0
+    for _ in range(length):
+        value = {"a": value} | named(members)
+    return value
+
+
 def below_a_name(letters):
     """A function of a count: so many numbers below one name, which has so many letters for each of them."""
 
@@ -166,7 +179,7 @@ ROWS = [
     ("nests of 123 filters side by side", TOWERS, of_current_nodes(TOWERS), [60, 125, 250]),
     ("equal nests", EQUAL, of_current_nodes(EQUAL), [60, 125, 250]),
     ("calls in one another", calls("1"), calls("@"), [30, 60, 120]),
-    ("a guard", guarded, with_query(guarded, "$.none[?count($..*..*..*..*..*[?$[?@.x]])>9]"), [30, 60, 90]),
+    ("a guard", guarded, with_query(guarded, "$.none[?count($..*..*..*..*..*[?$[?@.x]])>9]"), [30, 60, 90, 120]),
     ("699 tests of a list", members, with_query(members, f"$.l[?{ored(f'@==-{i}' for i in range(1, 700))}]"), [2000, 4000, 8000]),
 ]
 # The same of deletions.
@@ -249,6 +262,7 @@ STACKS = [
     ("`$` and 124 `[0]`, a filter with the like, and so on", queries("[0]" * 124), [120], []),
     ("`.*` in their place", queries(".*" * 124), [120], []),
     ("50 `.*`", queries(".*" * 50), [], [990]),
+    ("`$` and 124 `.*`, five queries in one another", queries(".*" * 124), [5], [5]),
     ("`$[?@[?@[?@..`", filters, [125], [996]),
     ("parentheses", parentheses, [124], [995]),
 ]
@@ -304,6 +318,7 @@ UNITS = [
     ("lists compared", lambda size: ("$[" + "0," * 199 + "0][?@==$[1]]", [[numbers(size)], numbers(size)]), [1000, 10000, 100000]),
     ("objects compared", lambda size: ("$[" + "0," * 199 + "0][?@==$[1]]", [[named(size)], named(size)]), [1000, 10000]),
     ("a list on the left of an object", lambda size: ("$.l[?$.o==@]", {"l": numbers(size), "o": named(size)}), [1000, 4000, 16000]),
+    ("a list on the left of a chain of objects", lambda size: ("$.l[?$.o==@]", {"l": [[0] * 1000] * size, "o": chain(110, 850)}), [50, 200]),
     ("a nodelist spliced", lambda size: ("$.l[?f(@,$.l[*])]", {"l": numbers(size)}), [1000, 2000, 4000]),
     ("a long name compared", lambda size: ("$[" + "0," * 299 + "0][?@==$[1]]", [[{"a" * size: 1}], {"a" * size: 1}]), [10**5, 10**6]),
     ("patterns of the query", lambda size: (f"$[?{ored(f'search(@,{chr(39)}(a{{1000}}){{500}}{i}{chr(39)})' for i in range(size))}]", ["b"]), [1, 10, 40]),
@@ -312,6 +327,14 @@ UNITS = [
     ("a third query in a nest", lambda size: ("$.l[?@.x&&count($..*..*..*[?$[?$[?@.x]]])>9]", {"l": [1, 2], "m": nest_of_lists(size)}), [30, 60, 120]),
     ("sets", lambda size: ("$[?subset_of(@.a,@.b)]", subsets_like(size)[1]), [200, 400, 800]),
     ("paths of a long name", lambda size: ("$.*[*]", {"a" * size: numbers(100)}), [10**4, 10**5, 10**6]),
+]
+
+
+# What is asked with so many units: a call that spends them takes time and memory for as many, whatever the size.
+BOUNDED = [
+    ("arguments of a function", arguments, [1, 10, 50, 200], 250000),
+    ("objects in one another looked at for depth", lambda size: ("$.z[?$[?$[?$[?$[?$[?@.x]]]]]]", chain(118, size)), [10, 1000, 5000], 100),
+    ("a guard on lists in one another", lambda size: ("$.none[?count($..*..*..*..*[?$[?$[?@.x]]])>9]", nest_of_lists(size)), [92, 94, 120], 10**6),
 ]
 
 
@@ -352,6 +375,24 @@ def units(program):
             counts.append(count)
             times.append(f"{(taken - without) / count:.0f}")
         print(f"| {name}, {'/'.join(map(str, sizes))} | {'/'.join(map(str, counts))} | {'/'.join(times)} |", flush=True)
+    for name, row, sizes, given in BOUNDED:
+        answers = [bounded(program, given, *row(size)) for size in sizes]
+        print(f"| {name}, {'/'.join(map(str, sizes))}, {given} units | {' '.join(answers)} |", flush=True)
+
+
+def bounded(program, given, query, document):
+    """Whether so many units are enough, milliseconds, and the most memory in MB: less those of a run with no unit."""
+    text = query + "\n" + json.dumps(document) + "\n"
+    enough, taken = asked(program, text, given)
+    _, without = asked(program, text, 0)
+    return f"{'enough' if enough else 'spent'} {(taken - without) / 1e6:.1f} ms {peak(program, text, given) - peak(program, text, 0):.0f} MB"
+
+
+def peak(program, text, given):
+    """The most memory of a run, in MB."""
+    code = "import resource, subprocess, sys; subprocess.run(sys.argv[1:], stdout=subprocess.DEVNULL); print(resource.getrusage(resource.RUSAGE_CHILDREN).ru_maxrss)"
+    run = subprocess.run([sys.executable, "-c", code, program, "units", str(given)], input=text, capture_output=True, check=True, text=True)
+    return int(run.stdout) / 1024
 
 
 if __name__ == "__main__":

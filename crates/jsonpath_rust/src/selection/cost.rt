@@ -1,7 +1,7 @@
 //! What work is spent for values: where a walk is limited, comparisons, functions and patterns cost
 //! what they look at.
-ghost use Rattle.std.specs.Prelude.{◌-◌, ◌≡◌, ◌≤◌, IfErr, IfOk, length, map, min, None, option_map};
-ghost use Rattle.jsonpath_rust.specs.Prelude.Documents.{arg_trees, as_list, as_text, Memory, tree_of};
+ghost use Rattle.std.specs.Prelude.{◌-◌, ◌≡◌, ◌≤◌, IfErr, IfOk, length, map, min, option_map};
+ghost use Rattle.jsonpath_rust.specs.Prelude.Documents.{arg_trees, Memory, tree_of};
 ghost use Rattle.jsonpath_rust.specs.Prelude.Selection.{compared_cost, cost, elements_cost, IsSpent, Limited, pairs_cost, smaller_cost, valued};
 
 use crate::documents::args::Args;
@@ -21,6 +21,9 @@ const BYTES: usize = 16;
 
 /// How many bytes of names are copied for one unit.
 const COPIED: usize = 64;
+
+/// How many steps of a location are copied for one unit.
+const STEPS: usize = 16;
 
 impl Limit {
     /// What `length` costs: a unit for each byte of a text and for each member of an object, of the
@@ -140,13 +143,14 @@ impl Budget {
 }
 
 /// What it costs to give a node to a sink: where that keeps a path or a location, a unit for each
-/// few bytes of names in it; where it marks one, a unit for each step that is not settled, and for
-/// each few bytes of its name.
+/// few bytes of names in it, and for each few steps of a location, each of which is a copy of its
+/// own; where it marks one, a unit for each step that is not settled, and for each few bytes of its
+/// name.
 fn path_cost<T: Queryable>(sink: &Sink<'_, T>, way: &Way<'_>) -> usize {
     match sink {
         Sink::Nodes(_) => name_bytes(way) / COPIED,
         Sink::Paths(_) => name_bytes(way) / COPIED,
-        Sink::Locations(_) => name_bytes(way) / COPIED,
+        Sink::Locations(_) => { (name_bytes(way) / COPIED).saturating_add(way.steps.len() / STEPS) }
         Sink::First(_) => name_bytes(way) / COPIED,
         Sink::Removal(_) => way.unsettled_size(),
         _ => 0,
@@ -269,16 +273,38 @@ fn size_within<T: Queryable>(alloc: Global, value: WholeRef<'_, T>, most: usize)
     if most <= 1 {
         return Ok(most);
     }
+    let inside = inside_size(alloc, value, most - 1)?;
+    Ok(inside.saturating_add(1))
+}
+
+/// The size of a value without the one for itself, or `most` where that is less. Where `most` is 0
+/// the value is not looked at, and where an object has so many members, they are not listed.
+#[cycle(size)]
+fn inside_size<T: Queryable>(alloc: Global, value: WholeRef<'_, T>, most: usize) -> Walked<usize>
+    ensures size { IfOk result (λ n. n ≡ min (cost (tree_of value.entry) - 1) most) }
+    ensures memory { IfErr result (λ h. h ≡ Memory) }
+{
+    if most == 0 {
+        return Ok(0);
+    }
     if let Some(text) = value.as_str() {
-        return Ok((text.len() / BYTES).saturating_add(1).min(most));
+        return Ok((text.len() / BYTES).min(most));
     }
     if let Some(items) = value.elements() {
         let items = WholeElements { list: items };
-        let inside = elements_size(alloc, &items, most - 1)?;
-        return Ok(inside.saturating_add(1));
+        return elements_size(alloc, &items, most);
     }
-    let inside = inside_size(alloc, value, most - 1)?;
-    Ok(inside.saturating_add(1))
+    let count = value.member_count(alloc)?.unwrap_or(0);
+    if count >= most {
+        return Ok(most);
+    }
+    match value.members(alloc)? {
+        Some(listed) => {
+            let members = WholeMembers { list: &listed };
+            members_size(alloc, &members, most)
+        }
+        None => Ok(0),
+    }
 }
 
 /// The sizes of these elements together, or `most` where that is less.
@@ -301,29 +327,9 @@ fn elements_size<T: Queryable>(
     Ok(size)
 }
 
-/// The sizes of the members of a value together, with their names, or `most` where that is less.
-/// Where an object has so many members, they are not listed.
-#[cycle(size)]
-fn inside_size<T: Queryable>(alloc: Global, value: WholeRef<'_, T>, most: usize) -> Walked<usize>
-    requires text { None ≡ as_text (tree_of value) }
-    requires list { None ≡ as_list (tree_of value) }
-    ensures size { IfOk result (λ n. n ≡ min (cost (tree_of value.entry) - 1) most) }
-    ensures memory { IfErr result (λ h. h ≡ Memory) }
-{
-    let count = value.member_count(alloc)?.unwrap_or(0);
-    if count >= most {
-        return Ok(most);
-    }
-    match value.members(alloc)? {
-        Some(listed) => {
-            let members = WholeMembers { list: &listed };
-            members_size(alloc, &members, most)
-        }
-        None => Ok(0),
-    }
-}
-
-/// The sizes of these members together, with their names, or `most` where that is less.
+/// The sizes of these members together, with their names, or `most` where that is less. Each counts
+/// one from the beginning, for it is listed: so all the lists that are made of objects in one
+/// another have fewer than `most` members.
 #[cycle(size)]
 fn members_size<T: Queryable>(
     alloc: Global,
@@ -333,13 +339,13 @@ fn members_size<T: Queryable>(
     ensures size { IfOk result (λ n. n ≡ min (pairs_cost (map (λ m. (m.0.now, T.tree m.1.now)) members.now.list.now)) most) }
     ensures memory { IfErr result (λ h. h ≡ Memory) }
 {
-    let mut size: usize = 0;
+    let mut size = members.list.len().min(most);
     for member in members.list {
         size = size.saturating_add(member.0.len() / BYTES);
         if size >= most {
             return Ok(most);
         }
-        size = size.saturating_add(size_within(alloc, WholeRef { value: member.1 }, most - size)?);
+        size = size.saturating_add(inside_size(alloc, WholeRef { value: member.1 }, most - size)?);
     }
     Ok(size)
 }

@@ -39,16 +39,17 @@ use std::fmt::{Debug, Formatter, Write};
 /// - for each byte of a text that is searched, one for each eight of these characters, where a class such as `\w` has eight;
 /// - one for each value that a custom function is given, and the product of their sizes, counted so; `count` and `value` spend
 ///   what their walks spend;
-/// - one for each 64 bytes of the names in a path or a location that is returned;
+/// - one for each 64 bytes of the names in a path or a location that is returned, and for each 16 steps of such a location;
 /// - one for each step of a location that is deleted or replaced, and for each 16 bytes of that step's name; none for the first
 ///   steps that the location before it has too;
 /// - where three queries from the root stand in one another, one for each value of the document that is looked at to see how
-///   deep it is.
+///   deep it is, for the members of an object before they are listed.
 ///
 /// Names and indexes cost nothing by themselves, so a unit takes longer where the query is longer.
 /// How long it takes is measured, and no clause says it. What is spent at once is counted first, as
 /// far as units are left; so a call that returns `Spent` may have listed the members of one object,
-/// and counted some times as many values as it had units.
+/// and counted some times as many values as it had units. A type that leaves `member_count` to its
+/// default also lists an object each time that its size is asked for in a comparison, for a unit.
 #[derive(Drop)]
 pub struct Limited<'p> {
     runner: Runner<'p>,

@@ -1,5 +1,5 @@
 -- What a value costs, by its kind, and what a loop over its parts finds.
-use Rattle.std.proofs.Common.{◌≡◌, ℕ, ◌+◌, ◌-◌, ◌/◌, ◌≤◌, List, [], ◌∷◌, length, refl, sym, ◌∙◌, ap, arith, Option, Some, None, option_map, unwrap_or}
+use Rattle.std.proofs.Common.{◌≡◌, ℕ, suc, min, ◌+◌, ◌-◌, ◌/◌, ◌<◌, ◌≤◌, map, get_or, drop, drop-cons, add-one, List, [], ◌∷◌, length, refl, sym, ◌∙◌, ap, arith, Option, Some, None, option_map, unwrap_or}
 use Rattle.jsonpath_rust.specs.Prelude.Documents.{as_list, as_members, elements, list, member, Members, no_members, no_trees, null, number, object, pairs, text, Tree, tree, Trees, truth}
 use Rattle.jsonpath_rust.specs.Prelude.Selection.{cost, elements_cost, members_cost, pairs_cost, trees_cost}
 
@@ -55,3 +55,24 @@ inside_many t o e = by_members (as_members t) refl
     by_members : (m : Option (List (List ℕ × Tree))) → m ≡ as_members t → unwrap_or o 0 ≤ cost t - 1
     by_members None h = omega (arith, ap (λ x. unwrap_or x 0) (e ∙ ap (option_map (λ ms. length ms)) (sym h)))
     by_members (Some ms) h = omega (arith, ap (λ x. unwrap_or x 0) (e ∙ ap (option_map (λ ns. length ns)) (sym h)), object_cost t ms h, many_pairs ms)
+
+pub many_mapped : {X : Type 0} (pair : X → List ℕ × Tree) (xs : List X) → length xs ≤ pairs_cost (map pair xs)
+many_mapped pair [] = omega arith
+many_mapped pair (x ∷ xs) = omega (arith, many_mapped pair xs, some_cost (pair x).1)
+
+-- the cost of the members from a place on
+pub pairs_from : {X : Type 0} (pair : X → List ℕ × Tree) (xs : List X) (i : ℕ) (x : X) → i < length xs → x ≡ get_or xs i x → pairs_cost (map pair (drop i xs)) ≡ length (pair x).0 / 16 + (cost (pair x).1 + pairs_cost (map pair (drop (i + 1) xs)))
+pairs_from pair xs i x h e = ap (λ ys. pairs_cost (map pair ys)) (drop-cons xs i x h) ∙ ap (λ y. pairs_cost (map pair (y ∷ drop (suc i) xs))) (sym e) ∙ ap (λ j. pairs_cost (map pair (x ∷ drop j xs))) (sym (add-one i))
+
+-- where each member counts one from the beginning: at first, and a member further
+pub counted_first : (pairs size listed most : ℕ) → size ≡ min listed most → listed ≤ pairs → min (size + pairs) (most + listed) ≡ min (pairs + listed) (most + listed)
+counted_first pairs size listed most e h = omega (arith, e, h)
+
+pub counted_next : (pairs rest all listed left size with_name name value inside most new : ℕ) → min (size + pairs) (most + listed) ≡ min (all + listed) (most + listed) → pairs ≡ name + (value + rest) → listed ≡ left + 1 → left ≤ rest → 1 ≤ value → with_name ≡ size + name → with_name < most → inside ≡ min (value - 1) (most - with_name) → new ≡ with_name + inside → min (new + rest) (most + left) ≡ min (all + left) (most + left)
+counted_next pairs rest all listed left size with_name name value inside most new sum p l m v w b i n = omega (arith, sum, p, l, m, v, w, b, i, n)
+
+pub counted_enough : (pairs rest all listed left size name value most : ℕ) → min (size + pairs) (most + listed) ≡ min (all + listed) (most + listed) → pairs ≡ name + (value + rest) → listed ≡ left + 1 → left ≤ rest → 1 ≤ value → most ≤ size + name → most ≡ min all most
+counted_enough pairs rest all listed left size name value most sum p l m v b = omega (arith, sum, p, l, m, v, b)
+
+pub counted_all : (pairs all listed size most : ℕ) → min (size + pairs) (most + listed) ≡ min (all + listed) (most + listed) → pairs ≡ 0 → listed ≡ 0 → size ≤ most → size ≡ min all most
+counted_all pairs all listed size most sum p l w = omega (arith, sum, p, l, w)

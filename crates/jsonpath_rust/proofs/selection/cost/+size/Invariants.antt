@@ -1,4 +1,4 @@
-use Rattle.std.proofs.Common.{◌≡◌, ◌+◌, ◌*◌, ◌≤◌, min, map, drop}
+use Rattle.std.proofs.Common.{◌≡◌, ◌+◌, ◌*◌, ◌≤◌, min, map, drop, length}
 use Rattle.jsonpath_rust.specs.Prelude.Selection.{elements_cost, pairs_cost}
 use Rattle.jsonpath_rust.proofs.selection.cost.+size.Given as goal
 
@@ -23,10 +23,12 @@ invariant-elements_size-loop-item g l =
       sum : min (l.size + elements_cost (map tree (drop l.item-index l.item-items))) l.most ≡ min (elements_cost (map tree l.item-items)) l.most;
     }
 
+-- of the members that are left one each is counted
 abbrev pub invariant-members_size-loop-member : goal.invariant-members_size-loop-member
 invariant-members_size-loop-member g l =
     let tree = g.T.Queryable.tree in
     record {
       within : l.size ≤ l.most;
-      sum : min (l.size + pairs_cost (map (λ m. (m.0.now, tree m.1.now)) (drop l.member-index l.member-items))) l.most ≡ min (pairs_cost (map (λ m. (m.0.now, tree m.1.now)) l.member-items)) l.most;
+      listed : min (length l.member-items) l.most ≤ l.size;
+      sum : min (l.size + pairs_cost (map (λ m. (m.0.now, tree m.1.now)) (drop l.member-index l.member-items))) (l.most + length (drop l.member-index l.member-items)) ≡ min (pairs_cost (map (λ m. (m.0.now, tree m.1.now)) l.member-items) + length (drop l.member-index l.member-items)) (l.most + length (drop l.member-index l.member-items));
     }
