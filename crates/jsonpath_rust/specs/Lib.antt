@@ -21,6 +21,7 @@ pub use Rattle.jsonpath_rust.specs.documents.Referring
 pub use Rattle.jsonpath_rust.specs.documents.Lending
 pub use Rattle.jsonpath_rust.specs.documents.Locating
 pub use Rattle.jsonpath_rust.specs.documents.Confining
+pub use Rattle.jsonpath_rust.specs.documents.Masking
 pub use Rattle.jsonpath_rust.specs.selection.Only
 pub use Rattle.jsonpath_rust.specs.selection.Prepared
 pub use Rattle.jsonpath_rust.specs.selection.Within

@@ -10,4 +10,5 @@ pub mod Referring
 pub mod Lending
 pub mod Locating
 pub mod Confining
+pub mod Masking
 pub mod inner

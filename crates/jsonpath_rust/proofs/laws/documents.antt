@@ -4,7 +4,10 @@ pub mod Following
 pub mod LendingLaws
 pub mod Locating
 pub mod Made
+pub mod MaskedNodes
+pub mod Masking
 pub mod MemberCounts
+pub mod NamedBelow
 pub mod NodesAt
 pub mod NormalSteps
 pub mod Parts
@@ -15,6 +18,8 @@ pub use Rattle.jsonpath_rust.proofs.laws.documents.Confining.{local_is_confined,
 pub use Rattle.jsonpath_rust.proofs.laws.documents.Following.{element_none, element_some, means_referent, member_none, member_some, stands_there}
 pub use Rattle.jsonpath_rust.proofs.laws.documents.LendingLaws.{Answer, answer_laws, Lent, lent_laws, lent_same, Means, no_place, referred_there, refused_so, tie_told, whole_there}
 pub use Rattle.jsonpath_rust.proofs.laws.documents.Locating.{no_location, normalized_path_derives_its_steps, only_location, own_location, selected_is_there, steps_select_their_location, whole_location}
+pub use Rattle.jsonpath_rust.proofs.laws.documents.Masking.{masking_all_tells_nothing, masking_tells_nothing}
+pub use Rattle.jsonpath_rust.proofs.laws.documents.NamedBelow.{named_below, named_is_masked}
 pub use Rattle.jsonpath_rust.proofs.laws.documents.NodesAt.{at-append, at-below, each-append, each-filter, each-flat_map, each_at, member_there, nodes_at, Stands, stands-indexed, stands-picks, stands-subtree}
 pub use Rattle.jsonpath_rust.proofs.laws.documents.NormalSteps.{normal_answered, normal_put, normal_reference, selected-steps}
 pub use Rattle.jsonpath_rust.proofs.laws.documents.Parts.{all_more, contains_part, differs, each_failed, each_next, err_so, filter_more, fold_next, get_or-self, joined_end, joined_next, kept_false, kept_true, ok_through, pairs_apart, part_of, parts_end, passed_on, some_found, some_next}

@@ -49,6 +49,7 @@ pub use Rattle.jsonpath_rust.specs.documents.Document.{Document, document_of, va
 pub use Rattle.jsonpath_rust.specs.documents.Functions.{as_nodes, as_trees, as_truth, as_value, count_of, count_value, Evaluated, greatest_count, is_matched, is_true, length_of, of_nodes, of_value, only_value}
 pub use Rattle.jsonpath_rust.specs.documents.Lending.{LendsReferred, lent_in}
 pub use Rattle.jsonpath_rust.specs.documents.Locating.{IsLocationByPath, IsLocationOf, NormalizedPathDerivesItsSteps, SelectedIsThere, StepsSelectTheirLocation}
+pub use Rattle.jsonpath_rust.specs.documents.Masking.{AgreeBut, all_selected, are_no_filters, ends_in, has_no_filter, is_no_filter, MaskingAllTellsNothing, MaskingTellsNothing, named_anywhere, NamedBelow, NamedIsMasked, segment_has_no_filter}
 pub use Rattle.jsonpath_rust.specs.documents.Meaning.{all_applied, all_pick, all_trees, answer, argued, each_holds, element, element_of, holds, indexed, literal_tree, named, negated, nodelist, picks, replaced, selected, sliced, some_holds, tested}
 pub use Rattle.jsonpath_rust.specs.documents.Node.{below, children, children_at, element_nodes, has_node, member_nodes, member_subtrees, Node, root_node, subtree, subtree_at, subtrees_at}
 pub use Rattle.jsonpath_rust.specs.documents.Patterns.{argument_patterns, arguments_patterns, AsksPattern, call_patterns, filter_patterns, filters_patterns, IsPattern, IsQueryRefusal, IsStop, segment_patterns, segments_patterns, selector_patterns, selectors_patterns, test_patterns}

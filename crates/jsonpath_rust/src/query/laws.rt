@@ -1,7 +1,7 @@
 //! Laws that proofs of callers cite: of query texts and trees, of locations, of what a query can
 //! reach, of both evaluators, of deletion and masking, and of what is written. Each function states
 //! laws and does nothing.
-ghost use Rattle.jsonpath_rust.specs.Prelude.Documents.{AsManyAreListed, LocalIsConfined, NormalizedPathDerivesItsSteps, SelectedBeginsWithFixedPart, SelectedIsThere, SingularSelectsOneAtMost, StepsSelectTheirLocation};
+ghost use Rattle.jsonpath_rust.specs.Prelude.Documents.{AsManyAreListed, LocalIsConfined, MaskingAllTellsNothing, MaskingTellsNothing, NamedBelow, NamedIsMasked, NormalizedPathDerivesItsSteps, SelectedBeginsWithFixedPart, SelectedIsThere, SingularSelectsOneAtMost, StepsSelectTheirLocation};
 ghost use Rattle.jsonpath_rust.specs.Prelude.States.{ProcessGivesTheNodelist};
 ghost use Rattle.jsonpath_rust.specs.Prelude.Calls.{NothingSelectedDeletesNothing};
 
@@ -63,6 +63,22 @@ pub fn selected_begins_with_fixed_part()
 /// [`is_local`]: jsonpath_parser::is_local
 pub fn local_is_confined()
     ensures { LocalIsConfined }
+{}
+
+/// Masking tells nothing of what it masks: of a query without a filter, documents that agree but for
+/// what it selects in one of them are one document once that is masked in each. The same holds of
+/// several queries at once. How many locations are masked may differ, where some lie inside others.
+pub fn masking_tells_nothing()
+    ensures one { MaskingTellsNothing }
+    ensures all { MaskingAllTellsNothing }
+{}
+
+/// The query `$..name` selects exactly the locations whose last step is that name and where something
+/// is. So where all of them are masked by a text, nothing of that name is then anything but the mask. It
+/// holds of documents whose objects have distinct names, as those of whole values.
+pub fn named_below()
+    ensures selected { NamedBelow }
+    ensures masked { NamedIsMasked }
 {}
 
 /// A deletion by a query that selects nothing leaves the document's tree, and returns 0.
