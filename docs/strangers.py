@@ -3,6 +3,7 @@
     python3 docs/strangers.py times crates/jpath/out/jpath
     python3 docs/strangers.py stack crates/jpath/out/jpath
     python3 docs/strangers.py units crates/bench/out/bench
+    python3 docs/strangers.py patterns crates/jpath/out/jpath
 
 Each row of the first table is a query with its document, in several sizes: the least of three runs of `jpath values`, in
 processor seconds, a slash between the sizes. Its like, which looks at the current node where the query looks at the
@@ -10,11 +11,13 @@ root, comes behind. So do runs of `jpath delete`, also with the memory at its pe
 less than that of this script, some 25: the like has a short name, or selects each node once. The second table has the least stack of
 `jpath nodes`, in KB, to within 64. The third has, for several sizes of query or document, the least units that are enough
 for `js_path_limited`, and nanoseconds a unit: the least of three runs with one unit less, and less the time of a run with
-none; behind these, of calls with as many units each, whether they are enough, milliseconds and the most memory.
+none; behind these, of calls with as many units each, whether they are enough, milliseconds and the most memory. The
+fourth has, for patterns in several sizes, processor seconds and MB of `jpath values`.
 """
 
 import json
 import os
+import random
 import resource
 import subprocess
 import sys
@@ -312,6 +315,21 @@ def stack(program):
         print(f"| {name}, {columns[0]} and {columns[1]} | {found[0]} | {found[1]} |", flush=True)
 
 
+def texts(patterns):
+    """A query that searches for each pattern of the document."""
+    return "$[?search('b',@)]", patterns
+
+
+def spelling(number):
+    """Eight branches that spell 2,048 literals each, and 70 groups behind."""
+    groups = "".join(f"({chr(97 + i % 26)})" for i in range(70))
+    return "|".join(f"{chr(97 + i)}{number}[ab]{{11}}{groups}" for i in range(8))
+
+
+def named_groups(count):
+    return "".join(f"(?<n{i}>b)" for i in range(count))
+
+
 # What is asked under a limit, and in which sizes.
 UNITS = [
     ("a name below all", lambda size: ("$..x", [{"k": {str(i): i for i in range(10)}} for _ in range(size)]), [1000, 10000]),
@@ -326,6 +344,11 @@ UNITS = [
     ("a large pattern on a text", lambda size: ("$[?search(@,'(a|b)*a(a|b){400}c')]", ["ab" * size]), [1000, 10000]),
     ("a third query in a nest", lambda size: ("$.l[?@.x&&count($..*..*..*[?$[?$[?@.x]]])>9]", {"l": [1, 2], "m": nest_of_lists(size)}), [30, 60, 120]),
     ("sets", lambda size: ("$[?subset_of(@.a,@.b)]", subsets_like(size)[1]), [200, 400, 800]),
+    ("literals that patterns spell", lambda size: texts([spelling(i) for i in range(size)]), [1, 10, 40]),
+    ("wide classes in both cases", lambda size: texts(["(?i)" + "[!-\U0010ffff]" * size]), [10, 100, 1000]),
+    ("empty groups", lambda size: texts(["()" * size]), [100, 1000, 2000]),
+    ("named groups", lambda size: texts([named_groups(size)]), [100, 500, 1000]),
+    ("groups", lambda size: texts(["(a)" * size]), [100, 1000, 2000]),
     ("paths of a long name", lambda size: ("$.*[*]", {"a" * size: numbers(100)}), [10**4, 10**5, 10**6]),
 ]
 
@@ -395,8 +418,36 @@ def peak(program, text, given):
     return int(run.stdout) / 1024
 
 
+def searches(count):
+    """So many patterns, each searched for in 60 kB of letters at random, for which it works out some 10 MB."""
+    letters = random.Random(1).choices("ab", k=60000)
+    asked = (f"search(@,'a[ab]{{12}}[^ab{chr(0x4E00 + i)}]')" for i in range(count))
+    return f"$[?{ored(asked)}]", ["".join(letters)]
+
+
+# Patterns that take much of `regex`.
+PATTERNS = [
+    ("literals that patterns spell", lambda size: texts([spelling(i) for i in range(size)]), [1, 10, 40]),
+    ("wide classes in both cases", lambda size: texts(["(?i)" + "[!-\U0010ffff]" * size]), [10, 100, 1000]),
+    ("empty groups", lambda size: texts(["()" * size]), [1000, 2000, 10000]),
+    ("named groups", lambda size: texts([named_groups(size)]), [500, 1000, 16000]),
+    ("groups", lambda size: texts(["(a)" * size]), [1000, 2000, 20000]),
+    ("patterns on one text", searches, [1, 24, 200]),
+]
+
+
+def patterns_tried(program):
+    for name, row, sizes in PATTERNS:
+        tried = []
+        for size in sizes:
+            query, document = row(size)
+            tried.append(used(program, "values", query, json.dumps(document).encode()))
+        seconds_taken = "/".join(f"{taken:.3f}" for taken, _ in tried)
+        print(f"| {name}, {'/'.join(map(str, sizes))} | {seconds_taken} | {'/'.join(f'{most:.0f}' for _, most in tried)} |", flush=True)
+
+
 if __name__ == "__main__":
-    tables = {"times": times, "stack": stack, "units": units}
+    tables = {"times": times, "stack": stack, "units": units, "patterns": patterns_tried}
     if len(sys.argv) != 3 or sys.argv[1] not in tables:
         sys.exit(__doc__)
     tables[sys.argv[1]](sys.argv[2])
