@@ -1,5 +1,6 @@
 //! How much a pattern takes of `regex`: estimates, from its text alone. Each is one pass over the text: `scale` reads it, `part` is
-//! what it puts together.
+//! what it puts together, `literals` what is copied for the parts.
+mod literals;
 mod part;
 mod scale;
 

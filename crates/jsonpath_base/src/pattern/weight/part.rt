@@ -14,7 +14,9 @@ pub const MOST_LITERALS: usize = 3_000;
 pub struct Part {
     /// How many characters it has where its counted repetitions are written out.
     pub length: usize,
-    /// How many literals it spells at least and at most, if it is a choice among them.
+    /// How many bytes of text it spells, if any.
+    pub text: usize,
+    /// How many literals it spells at least and at most, if it is a choice among them; `usize::MAX` at least if it is none.
     pub least: usize,
     pub most: usize,
 }
@@ -22,6 +24,7 @@ pub struct Part {
 /// The empty text.
 pub const EMPTY: Part = Part {
     length: 0,
+    text: 0,
     least: 1,
     most: 1,
 };
@@ -29,25 +32,28 @@ pub const EMPTY: Part = Part {
 /// A choice with no branch.
 pub const NOTHING: Part = Part {
     length: 0,
+    text: 0,
     least: 0,
     most: 0,
 };
 
 impl Part {
-    /// Of so many characters, and so many literals.
-    pub fn new(length: usize, literals: usize) -> Part {
+    /// A character or a member of a class, which stands for so many.
+    pub fn one(length: usize, literals: usize) -> Part {
         Part {
             length,
+            text: length,
             least: literals,
             most: literals,
         }
     }
 
-    /// Of so many characters, and some literals, if these are few.
-    pub fn some(length: usize) -> Part {
+    /// Of so many characters, and so many literals, or more if they are few.
+    pub fn some(length: usize, least: usize) -> Part {
         Part {
             length,
-            least: 1,
+            text: length,
+            least,
             most: FEW,
         }
     }
@@ -56,21 +62,38 @@ impl Part {
     pub fn maybe(length: usize) -> Part {
         Part {
             length,
+            text: 0,
             least: 0,
             most: 1,
         }
     }
 
-    /// Of so many characters, and more literals than a class has that is written out.
+    /// Of so many characters, and no choice among literals.
     pub fn other(length: usize) -> Part {
-        Part::new(length, FEW + 1)
+        Part {
+            length,
+            text: length,
+            least: usize::MAX,
+            most: 1,
+        }
+    }
+
+    /// Whether it is a choice among literals, as far as is known.
+    pub fn is_choice(self) -> bool {
+        self.least < usize::MAX
     }
 
     /// This one and then the other.
     pub fn then(self, other: Part) -> Part {
+        let least = self.least.saturating_mul(other.least);
         Part {
             length: self.length.saturating_add(other.length),
-            least: self.least.saturating_mul(other.least),
+            text: self.text.saturating_add(other.text),
+            least: if least > MOST_LITERALS {
+                usize::MAX
+            } else {
+                least
+            },
             most: self.most.saturating_mul(other.most).min(MOST_LITERALS),
         }
     }
@@ -79,9 +102,21 @@ impl Part {
     pub fn or(self, other: Part) -> Part {
         Part {
             length: self.length.saturating_add(other.length),
+            text: self.text.saturating_add(other.text),
             least: self.least.saturating_add(other.least),
             most: self.most.saturating_add(other.most),
         }
+    }
+
+    /// This one any number of times, with so many characters more. Of the empty text that is the empty text.
+    pub fn unbounded(self, length: usize) -> Part {
+        let mut all = self;
+        all.length = self.length.saturating_add(length);
+        if self.text > 0 {
+            all.least = usize::MAX;
+            all.most = 1;
+        }
+        all
     }
 
     /// This one, so often at most.
@@ -92,6 +127,7 @@ impl Part {
         }
         Part {
             length: self.length.saturating_mul(rounds),
+            text: self.text.saturating_mul(rounds),
             least: all.least,
             // Where it may be repeated less often, there are twice as many, or one more for each round.
             most: all.most.saturating_mul(2).saturating_add(MOST_ROUNDS),

@@ -1,6 +1,7 @@
 //! Reads a pattern, character by character, for what it takes of `regex`.
 
-use crate::pattern::weight::part::{EMPTY, FEW, MOST_LITERALS, MOST_ROUNDS, NOTHING, Part};
+use crate::pattern::weight::literals::Literals;
+use crate::pattern::weight::part::{EMPTY, FEW, MOST_ROUNDS, NOTHING, Part};
 use std::alloc::{AllocError, Global};
 
 /// The length of a class of all characters but a few, and of an escape by number.
@@ -23,10 +24,8 @@ const TOGETHER: usize = 60;
 
 const CASES: usize = 700;
 
-/// `regex` looks for runs of literals from so many parts on, each as far as it has no more literals than this.
-const MOST_RUNS: usize = 256;
-
-const MOST_IN_RUN: usize = 250;
+/// A class of all characters but so many may have few.
+const ALMOST_ALL: usize = 1_000_000;
 
 /// The length of a pattern whose comments are not told from the rest.
 const VERBOSE: usize = 1 << 20;
@@ -69,19 +68,18 @@ pub struct Scale {
     before: Part,
     /// The last atom, which a repetition multiplies.
     atom: Part,
-    /// The last character of a class.
+    /// The last character of a class; whether it is turned round, and whether it may have few members, or none, for all that is
+    /// known.
     last: usize,
-    /// Whether a letter stands for its other case too.
+    is_turned: bool,
+    is_unknown: bool,
+    /// Whether a letter stands for its other case too, and whether an escape may stand for those of ASCII alone.
     has_cases: bool,
+    has_bytes: bool,
     groups: usize,
-    /// Whether the pattern may be a choice among literals, and how many of these are copied if it is.
-    is_choice: bool,
-    copied: usize,
-    /// Whether the last atom is a character to which the next one is joined; how many runs begin before it, and the literals of
-    /// one that goes on.
+    literals: Literals,
+    /// Whether the last atom is a character to which the next one is joined.
     is_text: bool,
-    runs: usize,
-    in_run: usize,
     /// What else it costs to read it.
     more: usize,
 }
@@ -98,13 +96,13 @@ impl Scale {
             before: EMPTY,
             atom: EMPTY,
             last: 0,
+            is_turned: false,
+            is_unknown: false,
             has_cases: false,
+            has_bytes: false,
             groups: 0,
-            is_choice: true,
-            copied: 0,
+            literals: Literals::new(),
             is_text: false,
-            runs: 0,
-            in_run: 1,
             more: 0,
         };
         for c in pattern.chars() {
@@ -120,11 +118,8 @@ impl Scale {
 
     /// What reading it costs beside: its groups, its classes, and the literals that it is a choice among.
     pub fn beside(&self) -> usize {
-        if self.is_choice {
-            self.more.saturating_add(self.copied)
-        } else {
-            self.more
-        }
+        let copied = self.literals.copied(self.whole());
+        self.more.saturating_add(copied)
     }
 
     /// All of the innermost group or class that was read.
@@ -142,10 +137,7 @@ impl Scale {
             Place::Name if c != '}' => self.place = Place::Name,
             Place::Named | Place::Name => {}
             Place::Count { most, number } => self.put_count(c, most, number),
-            Place::Opened if c == '^' => {
-                self.add(Part::other(ALL_BUT_FEW));
-                self.place = Place::Turned;
-            }
+            Place::Opened if c == '^' => self.turn_class(),
             Place::Opened | Place::Turned if c == ']' => self.put_member(c),
             Place::Range if !matches!(c, ']' | '[' | '\\') => self.end_range(c),
             Place::Group if c == '?' => self.place = Place::Flags,
@@ -171,11 +163,8 @@ impl Scale {
             '(' => self.open(EMPTY, Place::Group)?,
             ')' => self.close_group(),
             '|' => self.end_branch(),
-            '{' => self.place = Place::Count { most: 1, number: 0 },
-            '*' | '+' => {
-                self.be_no_choice();
-                self.atom.length = self.atom.length.saturating_add(1);
-            }
+            '{' => self.place = Place::Count { most: 0, number: 0 },
+            '*' | '+' => self.put_other(self.atom.unbounded(1)),
             '?' => self.repeat(self.atom.or(Part::maybe(1))),
             '.' => self.add(Part::other(ALL_BUT_FEW)),
             '^' | '$' => self.add(Part::other(1)),
@@ -187,12 +176,12 @@ impl Scale {
     /// Reads a character that stands for itself. One behind another is joined to it.
     fn put_text(&mut self, c: char, is_joined: bool) {
         if is_joined {
-            self.put_atom(Part::new(c.len_utf8(), 1));
+            self.put_atom(Part::one(c.len_utf8(), 1));
         } else {
             self.add_character(c);
         }
         if !is_joined && !self.has_cases {
-            self.begin_run();
+            self.literals.begin();
         }
         self.is_text = !self.has_cases;
     }
@@ -203,28 +192,23 @@ impl Scale {
             self.place = Place::Named;
         }
         self.last = usize::MAX;
+        self.is_unknown |= self.is_turned;
         self.add(match c {
-            'p' | 'P' => Part::some(self.property),
+            'p' | 'P' => Part::some(self.property, 1),
+            'd' | 's' if self.has_bytes => Part::some(self.property / 10 + 1, 1),
             'w' | 'W' => Part::other(self.property),
             'd' | 'D' | 's' | 'S' => Part::other(self.property / 10 + 1),
-            'x' | 'u' | 'U' => Part::some(ALL_BUT_FEW),
+            'x' | 'u' | 'U' => Part::some(ALL_BUT_FEW, 1),
             'b' | 'B' | 'A' | 'z' => Part::other(1),
-            _ if self.brackets > 0 => Part::some(1),
-            _ => Part::new(1, 1),
+            _ if self.brackets > 0 => Part::some(1, 1),
+            _ => Part::one(1, 1),
         });
     }
 
-    /// Reads a character of a counted repetition. One whose last number is 0, or left out, is taken to have no bound.
+    /// Reads a character of a counted repetition.
     fn put_count(&mut self, c: char, most: usize, number: usize) {
         if c == '}' {
-            let part = self.atom.repeated(most);
-            if most > MOST_ROUNDS || number == 0 {
-                self.be_no_choice();
-                self.atom = Part::new(part.length, 1);
-            } else {
-                self.repeat(part);
-            }
-            return;
+            return self.put_rounds(most, number);
         }
         let number = match c.to_digit(10) {
             Some(digit) => number.saturating_mul(10).saturating_add(digit as usize),
@@ -232,6 +216,29 @@ impl Scale {
         };
         let most = most.max(number);
         self.place = Place::Count { most, number };
+    }
+
+    /// Reads the end of a counted repetition. One whose last number is 0, or left out, is taken to have no bound; where it has
+    /// no other, nothing may be left of the atom.
+    fn put_rounds(&mut self, most: usize, last: usize) {
+        let part = self.atom.repeated(most.max(1));
+        if most == 0 {
+            self.atom = EMPTY;
+            self.atom.length = part.length;
+            self.literals.go_on();
+        } else if most > MOST_ROUNDS || last == 0 {
+            self.put_other(part.unbounded(0));
+        } else {
+            self.repeat(part);
+        }
+    }
+
+    /// The last atom becomes this part, at which a run may end.
+    fn put_other(&mut self, part: Part) {
+        self.atom = part;
+        if !part.is_choice() {
+            self.literals.end();
+        }
     }
 
     /// Reads a character behind the `(?` of a group.
@@ -244,6 +251,7 @@ impl Scale {
                 return self.add_group();
             }
             'i' => self.has_cases = true,
+            'u' => self.has_bytes = true,
             'x' => self.before.length = VERBOSE,
             _ => {}
         }
@@ -259,7 +267,7 @@ impl Scale {
         }
         let code = c as usize;
         if code == self.last && matches!(c, '&' | '~') {
-            self.more = self.more.saturating_add(TOGETHER);
+            self.put_together();
         }
         self.last = code;
         self.add_character(c);
@@ -267,11 +275,19 @@ impl Scale {
 
     /// Reads the end of a range, or what takes a class away.
     fn end_range(&mut self, c: char) {
-        let cost = if self.has_cases { CASES } else { 0 };
-        let cost = if c == '-' { TOGETHER } else { cost };
-        self.more = self.more.saturating_add(cost);
+        if c == '-' {
+            self.put_together();
+        } else if self.has_cases {
+            self.more = self.more.saturating_add(CASES);
+        }
         let members = (c as usize).saturating_sub(self.last);
-        self.add(Part::new(c.len_utf8(), members));
+        self.add(Part::one(c.len_utf8(), members));
+    }
+
+    /// Reads what puts two classes together.
+    fn put_together(&mut self) {
+        self.is_unknown = true;
+        self.more = self.more.saturating_add(TOGETHER);
     }
 
     /// Adds a character that stands for itself.
@@ -281,7 +297,7 @@ impl Scale {
             literals = 2;
             self.more = self.more.saturating_add(1);
         }
-        self.add(Part::new(c.len_utf8(), literals));
+        self.add(Part::one(c.len_utf8(), literals));
     }
 
     /// Adds a member of a class, or else an atom.
@@ -290,13 +306,9 @@ impl Scale {
             self.ended = self.ended.or(part);
             return;
         }
-        if part.least > FEW {
-            self.be_no_choice();
-            self.put_atom(Part::new(part.length, 1));
-        } else {
-            self.put_atom(part);
-        }
-        self.count();
+        self.put_atom(part);
+        self.put_other(part);
+        self.literals.count(self.before, self.atom);
     }
 
     fn put_atom(&mut self, part: Part) {
@@ -304,35 +316,11 @@ impl Scale {
         self.atom = part;
     }
 
-    fn be_no_choice(&mut self) {
-        self.is_choice = false;
-        self.in_run = 1;
-    }
-
     /// The last atom becomes this part, which repeats it or is a group.
     fn repeat(&mut self, part: Part) {
         self.atom = part;
-        self.count();
-        self.begin_run();
-    }
-
-    fn begin_run(&mut self) {
-        self.runs = self.runs.saturating_add(1).min(MOST_RUNS);
-    }
-
-    /// Counts the literals that are copied for the last atom: those of the branch, unless they are too many, and those of half
-    /// of the runs.
-    fn count(&mut self) {
-        let both = self.before.then(self.atom);
-        self.is_choice &= both.least <= MOST_LITERALS;
-        if both.most > 1 {
-            self.copied = self.copied.saturating_add(both.most);
-        }
-        let in_run = self.in_run.saturating_mul(self.atom.most).min(MOST_IN_RUN);
-        self.in_run = if in_run < MOST_IN_RUN { in_run } else { 1 };
-        self.more = self
-            .more
-            .saturating_add(in_run.saturating_mul(self.runs) / 2);
+        self.literals.count(self.before, self.atom);
+        self.literals.begin();
     }
 
     /// The group at hand is one that is found again, by a number or a name.
@@ -348,9 +336,17 @@ impl Scale {
     }
 
     fn open_class(&mut self) -> Result<(), AllocError> {
+        self.is_unknown = self.brackets > 0;
+        self.is_turned = false;
         self.brackets = self.brackets.saturating_add(1);
         self.last = usize::MAX;
         self.open(NOTHING, Place::Opened)
+    }
+
+    fn turn_class(&mut self) {
+        self.is_turned = true;
+        self.add(Part::some(ALL_BUT_FEW, 0));
+        self.place = Place::Turned;
     }
 
     fn open(&mut self, before: Part, place: Place) -> Result<(), AllocError> {
@@ -363,7 +359,8 @@ impl Scale {
     }
 
     fn end_branch(&mut self) {
-        self.ended = self.whole().or(Part::new(1, 0));
+        self.ended = self.whole();
+        self.ended.length = self.ended.length.saturating_add(1);
         self.before = EMPTY;
         self.atom = EMPTY;
     }
@@ -385,10 +382,18 @@ impl Scale {
 
     fn close_class(&mut self) {
         self.brackets = self.brackets.saturating_sub(1);
-        let mut members = self.close();
-        if self.has_cases {
-            members.most = FEW;
-        }
-        self.add(members);
+        let members = self.close();
+        let length = members.length;
+        self.add(if self.brackets > 0 {
+            members
+        } else if self.is_unknown || (self.is_turned && members.most > ALMOST_ALL) {
+            Part::some(length, 0)
+        } else if self.is_turned || members.least > FEW {
+            Part::other(length)
+        } else if self.has_cases {
+            Part::some(length, members.least)
+        } else {
+            members
+        });
     }
 }

@@ -1,0 +1,68 @@
+//! The literals that `regex` copies before it builds a pattern: those that a choice is written out as, and those of runs. It looks
+//! for runs from so many parts on, each as far as it has no more literals than this.
+use crate::pattern::weight::part::Part;
+
+const MOST_RUNS: usize = 256;
+
+const MOST_IN_RUN: usize = 250;
+
+/// How many literals are copied for what was read of a pattern.
+#[derive(Clone, Copy)]
+pub struct Literals {
+    /// To write it out, if it is a choice among literals.
+    written: usize,
+    /// For runs.
+    found: usize,
+    /// How many runs begin before the next atom, and the literals of one that goes on to it.
+    runs: usize,
+    in_run: usize,
+}
+
+impl Literals {
+    /// Of an empty pattern.
+    pub fn new() -> Self {
+        Literals {
+            written: 0,
+            found: 0,
+            runs: 0,
+            in_run: 1,
+        }
+    }
+
+    /// How many there are, for a pattern that is this part.
+    pub fn copied(self, whole: Part) -> usize {
+        if whole.is_choice() {
+            self.found.saturating_add(self.written)
+        } else {
+            self.found
+        }
+    }
+
+    /// Counts those for an atom behind the rest of its branch: half of the runs go on to it.
+    pub fn count(&mut self, before: Part, atom: Part) {
+        let both = before.then(atom);
+        if both.most > 1 {
+            self.written = self.written.saturating_add(both.most);
+        }
+        let in_run = self.in_run.saturating_mul(atom.most).min(MOST_IN_RUN);
+        self.in_run = if in_run < MOST_IN_RUN { in_run } else { 1 };
+        self.found = self
+            .found
+            .saturating_add(in_run.saturating_mul(self.runs) / 2);
+    }
+
+    /// A run begins at the last atom.
+    pub fn begin(&mut self) {
+        self.runs = self.runs.saturating_add(1).min(MOST_RUNS);
+    }
+
+    /// Runs end at the last atom.
+    pub fn end(&mut self) {
+        self.in_run = 1;
+    }
+
+    /// The last atom, at which runs may have ended, is none after all.
+    pub fn go_on(&mut self) {
+        self.in_run = MOST_IN_RUN - 1;
+    }
+}
