@@ -10,12 +10,15 @@ use std::alloc::Global;
 /// A value of whole numbers.
 type Lent<'v> = WholeRef<'v, Value>;
 
-/// The least number of units that is enough, if that is below 2^16. Each step halves where it may lie.
+/// More units than a row needs.
+const MOST: usize = 65535;
+
+/// The least number of units that is enough, if that is at most [`MOST`]. Each step halves where it may lie.
 fn least<F: Fn(usize) -> Given<bool>>(is_enough: F) -> Given<usize>
     requires { F.IsAlwaysCallable is_enough }
 {
     let mut least = 0usize;
-    let mut most = 65535usize;
+    let mut most = MOST;
     for _ in 0..16 {
         let middle = least.saturating_add(most.saturating_sub(least) / 2);
         if is_enough(middle)? {
@@ -38,8 +41,8 @@ fn done<T: Drop>(answer: Queried<Within<T>>) -> Given<bool> {
     }
 }
 
-/// The least number of units with which `js_path_limited` returns nodes. With them each call of a `Limited` has to return something too,
-/// and with one less its `nodes` nothing.
+/// The least number of units with which `js_path_limited` returns nodes. With them each query of a `Limited` has to return something
+/// too, and with one less its `nodes` nothing. What changes a document spends more, for steps: with [`MOST`] it has to return something.
 pub fn enough(alloc: Global, query: &Value, document: &Value) -> Given<Value> {
     let (query, document) = (spelled(alloc, query)?, given(WholeRef::new(document))?);
     let units = least(|units| done(js_path_limited(alloc, &query, units, document.get())))?;
@@ -54,10 +57,18 @@ fn is_least(alloc: Global, prepared: &Prepared, units: usize, document: Lent<'_>
     let is_spent = units == 0 || !done(runner.nodes(alloc, document.get()))?;
     drop(runner);
     let mut runner = prepared.runner(alloc).limited(units);
-    Ok(is_spent && is_enough(alloc, &mut runner, document)?)
+    let is_enough = is_enough(alloc, &mut runner, document);
+    drop(runner);
+    let mut runner = prepared.runner(alloc).limited(MOST);
+    Ok(
+        is_spent
+            && is_enough?
+            && changes(alloc, &mut runner, document, false)?
+            && changes(alloc, &mut runner, document, true)?,
+    )
 }
 
-/// Whether each call of the runner returns something.
+/// Whether each query of the runner returns something.
 fn is_enough(alloc: Global, runner: &mut Limited<'_>, document: Lent<'_>) -> Given<bool> {
     let asked = document.get();
     Ok(
@@ -68,9 +79,7 @@ fn is_enough(alloc: Global, runner: &mut Limited<'_>, document: Lent<'_>) -> Giv
             && done(runner.first(alloc, asked))?
             && done(runner.only(alloc, asked))?
             && done(runner.count(alloc, asked))?
-            && done(runner.has_node(alloc, asked))?
-            && changes(alloc, runner, document, false)?
-            && changes(alloc, runner, document, true)?,
+            && done(runner.has_node(alloc, asked))?,
     )
 }
 
