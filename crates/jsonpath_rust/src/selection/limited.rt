@@ -35,7 +35,8 @@ use std::fmt::{Debug, Formatter, Write};
 ///   of an object that `length` counts;
 /// - for a pattern that is not kept 256, and one for each of its characters where counted repetitions are written out, but
 ///   2^20 at most: what is larger `regex` refuses. A class such as `\w` or `\p{L}` counts as 700, one such as `\d` as 71, and a
-///   pattern with the flag `x` as the largest;
+///   pattern with the flag `x` as the largest. Beside these 100 for each group, 700 for each range behind the flag `i`, and
+///   one for each literal that `regex` copies to write out a choice of few, or to look for a run of them;
 /// - for each byte of a text that is searched, one for each eight of these characters, where a class such as `\w` has eight;
 /// - one for each value that a custom function is given, and the product of their sizes, counted so; `count` and `value` spend
 ///   what their walks spend;
