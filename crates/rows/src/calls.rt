@@ -38,6 +38,7 @@ fn of_documents(alloc: Global, name: &str, asked: &[Value]) -> Given<Value> {
             "Condition::holds" | "Condition::enough" => {
                 limits::condition(alloc, name, [first, second, third])
             }
+            "Limited::enough" => limits::enough_for(alloc, first, second, third),
             "reference_mut" | "replace_by_path" => types::changed(alloc, name, asked),
             _ => of_types(alloc, name, asked),
         },

@@ -96,6 +96,37 @@ fn changes(alloc: Global, runner: &mut Limited<'_>, document: Lent<'_>, puts: bo
     unchanged(answer, is_kept)
 }
 
+/// The least number of units with which that call of a `Limited` returns something.
+pub fn enough_for(alloc: Global, call: &Value, query: &Value, document: &Value) -> Given<Value> {
+    let (query, document) = (spelled(alloc, query)?, given(WholeRef::new(document))?);
+    let call = text(call)?;
+    let prepared = Prepared::read(alloc, &query)?;
+    let units = least(|units| is_returned(alloc, call, &prepared, units, document));
+    drop(prepared);
+    Ok(Value::from(units?))
+}
+
+fn is_returned(
+    alloc: Global,
+    call: &str,
+    prepared: &Prepared,
+    units: usize,
+    document: Lent<'_>,
+) -> Given<bool> {
+    let mut runner = prepared.runner(alloc).limited(units);
+    let asked = document.get();
+    match call {
+        "nodes" => done(runner.nodes(alloc, asked)),
+        "locations" => done(runner.locations(alloc, asked)),
+        "first" => done(runner.first(alloc, asked)),
+        "only" => done(runner.only(alloc, asked)),
+        "has_node" => done(runner.has_node(alloc, asked)),
+        "delete" => changes(alloc, &mut runner, document, false),
+        "replace" => changes(alloc, &mut runner, document, true),
+        _ => Err(Refusal::NoAnswer),
+    }
+}
+
 /// What the call of that name answers of a text and a depth, and of a document: `Condition::read`, which takes no document, the `Debug`
 /// text; `Condition::holds`, whether it holds; `Condition::enough`, that, and the least number of units with which a runner tells it.
 pub fn condition(alloc: Global, name: &str, asked: [&Value; 3]) -> Given<Value> {
