@@ -7,6 +7,7 @@
 //! (`cache`, `constants`, `early`) and of patterns (`engine` of `jsonpath_base`). The nodes go to a
 //! sink (`sink`) with the way that leads to them (`Way` there).
 mod action;
+mod arguments;
 mod budget;
 mod cache;
 mod children;

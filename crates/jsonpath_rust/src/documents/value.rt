@@ -1,5 +1,5 @@
 //! Values inside the evaluator: the sides of a comparison, and what functions take and return.
-ghost use Rattle.std.specs.Prelude.{◌++◌, ◌≡◌, IfErr, IfOk, OnOk, option_and_then, option_map, option_to_list, Some};
+ghost use Rattle.std.specs.Prelude.{◌++◌, ◌≡◌, IfErr, IfOk, length, OnOk, option_and_then, option_map, option_to_list, Some};
 ghost use Rattle.jsonpath_rust.specs.Prelude.Documents.{arg_trees, as_int, as_text, count_value, is_true, length_of, literal_tree, literal_view, Memory, operand_tree, own_tree, scalar_tree, side_tree, tree_of};
 
 use crate::documents::args::Args;
@@ -190,6 +190,16 @@ impl<'a, 's, T: Queryable> Operand<'a, 's, T> {
         match self {
             Operand::Side(side) => *side,
             Operand::Made(value) => Side::Lent(value.lent()),
+        }
+    }
+
+    /// How many values it is: none where it is absent, and else one.
+    pub fn count(&self) -> usize
+        ensures { result ≡ length (option_to_list (operand_tree self.now)) }
+    {
+        match self {
+            Operand::Side(Side::Absent) => 0,
+            _ => 1,
         }
     }
 

@@ -44,6 +44,16 @@ impl<'a, 's, T: Queryable> Given<'a, 's, T> {
         }
     }
 
+    /// How many values of nodes were given.
+    pub fn count(&self) -> usize
+        ensures { result ≡ length (given_values (Some (gave self.now))) }
+    {
+        match self {
+            Given::Values(values) => values.list.len(),
+            _ => 0,
+        }
+    }
+
     /// Adds the values to the arguments of a custom function, where these are given.
     pub fn push_to(&self, args: &mut Args<'a, T>) -> Walked<()>
         ensures value { OnOk result (arg_trees args.new ≡ arg_trees args.old ++ given_values (Some (gave self.now))) }
@@ -112,18 +122,6 @@ impl<'a, 's, T: Queryable> Cache<'a, 's, T> {
         match self.get(number) {
             Some(Given::Value(value)) => value.try_clone(alloc),
             _ => Ok(Operand::Side(Side::Absent)),
-        }
-    }
-
-    /// Adds the values that the constant of this number gave to the arguments of a custom function,
-    /// where it gave these.
-    pub fn push_to(&self, number: usize, args: &mut Args<'a, T>) -> Walked<()>
-        ensures value { OnOk result (arg_trees args.new ≡ arg_trees args.old ++ given_values (slot_at (slots_of self.now) number)) }
-        ensures memory { IfErr result (λ h. h ≡ Memory) }
-    {
-        match self.get(number) {
-            Some(given) => given.push_to(args),
-            None => Ok(()),
         }
     }
 

@@ -1,7 +1,7 @@
 //! What work is spent for values: where a walk is limited, comparisons, functions and patterns cost
 //! what they look at.
-ghost use Rattle.std.specs.Prelude.{◌-◌, ◌≡◌, ◌≤◌, IfErr, IfOk, length, map, min, option_map};
-ghost use Rattle.jsonpath_rust.specs.Prelude.Documents.{arg_trees, Memory, tree_of};
+ghost use Rattle.std.specs.Prelude.{◌-◌, ◌≡◌, ◌≤◌, IfErr, IfOk, map, min, option_map};
+ghost use Rattle.jsonpath_rust.specs.Prelude.Documents.{Memory, tree_of};
 ghost use Rattle.jsonpath_rust.specs.Prelude.Selection.{compared_cost, cost, elements_cost, IsSpent, Limited, pairs_cost, smaller_cost, valued};
 
 use crate::documents::args::Args;
@@ -78,8 +78,8 @@ impl Limit {
         }
     }
 
-    /// What a custom function costs: one for each value that it is given, and the product of their
-    /// sizes; or at least `most`, where no more of them is looked at.
+    /// What a custom function costs beside the unit that each value is added for: the product of
+    /// their sizes, or at least `most`, where no more of them is looked at.
     #[inline(always)]
     pub fn custom_cost<T: Queryable>(
         self,
@@ -87,7 +87,6 @@ impl Limit {
         args: &Args<'_, T>,
         most: usize,
     ) -> Walked<usize>
-        ensures each { IfOk result (λ n. self ≡ Limited → min (length (arg_trees args.now)) most ≤ n) }
         ensures memory { IfErr result (λ h. h ≡ Memory) }
     {
         match self {
@@ -241,16 +240,10 @@ fn bound_of_smaller<T: Queryable>(
     Ok(most)
 }
 
-/// How many these values are, and the product of their sizes; or at least `most`, where no more of
-/// them is looked at.
+/// The product of the sizes of these values, or at least `most`, where no more of them is looked at.
 fn size_of_arguments<T: Queryable>(alloc: Global, args: &Args<'_, T>, most: usize) -> Walked<usize>
-    ensures each { IfOk result (λ n. min (length (arg_trees args.now)) most ≤ n) }
     ensures memory { IfErr result (λ h. h ≡ Memory) }
 {
-    let count = args.list.len();
-    if count >= most {
-        return Ok(count);
-    }
     let mut product: usize = 1;
     for arg in &args.list {
         if product >= most {
@@ -259,7 +252,7 @@ fn size_of_arguments<T: Queryable>(alloc: Global, args: &Args<'_, T>, most: usiz
         let size = size_within(alloc, WholeRef { value: arg.get() }, most)?;
         product = product.saturating_mul(size);
     }
-    Ok(product.saturating_add(count))
+    Ok(product)
 }
 
 /// The size of a value, or `most` where that is less: one for each value in it, and for each few

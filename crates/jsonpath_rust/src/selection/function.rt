@@ -122,7 +122,7 @@ impl<'a: 's, 's, T: Queryable> Task<'a, 's, T> {
     }
 
     /// Adds an argument to those of a custom function: each value of a node of a query is one, as in
-    /// the Rust crate; else the value is one, if it is not absent.
+    /// the Rust crate; else the value is one, if it is not absent. A unit is spent for each.
     #[cycle(walk)]
     fn push_argument(
         &self,
@@ -141,7 +141,7 @@ impl<'a: 's, 's, T: Queryable> Task<'a, 's, T> {
             Some(nodes) => self.push_nodes(nodes, at, trail, args),
             None => {
                 let value = self.value(arg, at, trail)?;
-                value.push_to(self.alloc, args)?;
+                self.push_value(value, &mut trail.budget, args)?;
                 Ok(())
             }
         }

@@ -38,8 +38,8 @@ use std::fmt::{Debug, Formatter, Write};
 ///   pattern with the flag `x` as the largest. Beside these 100 for each group, 700 for each range behind the flag `i`, and
 ///   one for each literal that `regex` copies to write out a choice of few, or to look for a run of them;
 /// - for each byte of a text that is searched, one for each eight of these characters, where a class such as `\w` has eight;
-/// - one for each value that a custom function is given, and the product of their sizes, counted so; `count` and `value` spend
-///   what their walks spend;
+/// - one for each value that a custom function is given, before it is, and the product of their sizes, counted so; `count` and
+///   `value` spend what their walks spend;
 /// - one for each 64 bytes of the names in a path or a location that is returned, and for each 16 steps of such a location;
 /// - one for each step of a location that is deleted or replaced, and for each 16 bytes of that step's name; none for the first
 ///   steps that the location before it has too;

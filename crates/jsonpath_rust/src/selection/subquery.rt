@@ -51,7 +51,7 @@ impl<'a: 's, 's, T: Queryable> Task<'a, 's, T> {
     }
 
     /// Adds the values of the nodes of a query to the arguments of a custom function, each as one,
-    /// as in the Rust crate.
+    /// as in the Rust crate, and for a unit each.
     #[cycle(walk)]
     #[tactic(auto, using(crate::proofs::laws::selection::PlanEquations::plan_equations))]
     pub fn push_nodes(
@@ -70,18 +70,19 @@ impl<'a: 's, 's, T: Queryable> Task<'a, 's, T> {
         match nodes {
             Nodes::Lookup(steps) => {
                 let value = Operand::lent(value_at(steps, at));
-                value.push_to(self.alloc, args)?;
+                self.push_value(value, &mut trail.budget, args)?;
                 Ok(())
             }
             Nodes::Walk(segments) => {
                 let given = self.gather(segments, Wanted::Values, at, trail)?;
-                given.push_to(args)?;
+                self.push_given(&given, &mut trail.budget, args)?;
                 Ok(())
             }
             Nodes::Constant(number) => {
                 if self.keep_nodes(*number, Wanted::Values, trail)? {
-                    trail.cache.push_to(*number, args)?;
+                    self.push_kept(*number, &trail.cache, &mut trail.budget, args)?;
                 } else {
+                    trail.budget.spend(self.limit, 1)?;
                     args.push_lent(self.root)?;
                 }
                 Ok(())

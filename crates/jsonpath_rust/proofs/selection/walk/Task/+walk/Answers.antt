@@ -707,13 +707,13 @@ push_argument-returns-in-Some-clause-comes g t c =
     let kept = kept_of c.args.self.now in
     comes_as _ c.push_nodes.ensures.comes (λ h. asked_as argument_patterns _ _ (c.in-Some.ensures.nodes kept Values) h)
 
-pub push_argument-returns-in_ok-push_to-in-None-clause-value : goal.push_argument-returns-in_ok-push_to-in-None-clause-value
-push_argument-returns-in_ok-push_to-in-None-clause-value g t c =
+pub push_argument-returns-in_ok-push_value-in-None-clause-value : goal.push_argument-returns-in_ok-push_value-in-None-clause-value
+push_argument-returns-in_ok-push_value-in-None-clause-value g t c =
     let h = hand c.args.self.now c.args.trail.now c.args.at in
     let is = c.in-None.ensures.value h.kept in
     let value = c.in_ok-value-in-None.ensures.value ∙ ap (λ a. as_value (argued a h.d h.n)) (is.same Only Values) in
     let trees = ap option_to_list value ∙ sym (ap as_trees (is.alone Values h.d h.n)) in
-    c.in_ok-push_to-in-None.ensures.value ∙ ap (λ ts. arg_trees c.args.args.now ++ ts) trees
+    c.in_ok-push_value-in-None.ensures.value ∙ ap (λ ts. arg_trees c.args.args.now ++ ts) trees
 
 pub push_argument-returns-in_err-value-in-None-clause-comes : goal.push_argument-returns-in_err-value-in-None-clause-comes
 push_argument-returns-in_err-value-in-None-clause-comes g t c =
@@ -755,21 +755,21 @@ nodes-returns-in-Lookup-clause-value g t c =
     let there = c.value_at.ensures ∙ ap (λ (ss : List SingularQuerySegment). value_at (map step_view ss) h.n.tree) c.deref.ensures.value in
     c.of.ensures ∙ wanted_found w _ c.in-Lookup.steps.items h.d h.n there ∙ sym (ap (λ q. wanted_of w (tested q h.d h.n)) e)
 
-pub push_nodes-returns-in_ok-push_to-in-Walk-clause-value : goal.push_nodes-returns-in_ok-push_to-in-Walk-clause-value
-push_nodes-returns-in_ok-push_to-in-Walk-clause-value g t c =
+pub push_nodes-returns-in_ok-push_given-in-Walk-clause-value : goal.push_nodes-returns-in_ok-push_given-in-Walk-clause-value
+push_nodes-returns-in_ok-push_given-in-Walk-clause-value g t c =
     let h = hand c.args.self.now c.args.trail.now c.args.at in
     let e = ap (λ ns. nodes_view h.kept ns Values) c.in-Walk.is ∙ nodes_view-Walk h.kept c.in-Walk.segments Values in
     let ns = ap (λ (gs : List Segment). through (segments_meant h.kept gs) h.d h.n) c.deref-in-Walk.ensures.value ∙ through-applied (segments_meant h.kept c.in-Walk.segments.items) h.d h.n in
     let trees = ap (λ x. given_values (Some x)) (c.in_ok-given-in-Walk.ensures.given ∙ ap (λ ms. given_of Values (of_nodes ms)) ns) ∙ sym (ap (λ q. as_trees (tested q h.d h.n)) e) in
-    c.in_ok-push_to-in-Walk.ensures.value ∙ ap (λ ts. arg_trees c.args.args.now ++ ts) trees
+    c.in_ok-push_given-in-Walk.ensures.value ∙ ap (λ ts. arg_trees c.args.args.now ++ ts) trees
 
-pub push_nodes-returns-in_ok-push_to-in-Lookup-clause-value : goal.push_nodes-returns-in_ok-push_to-in-Lookup-clause-value
-push_nodes-returns-in_ok-push_to-in-Lookup-clause-value g t c =
+pub push_nodes-returns-in_ok-push_value-in-Lookup-clause-value : goal.push_nodes-returns-in_ok-push_value-in-Lookup-clause-value
+push_nodes-returns-in_ok-push_value-in-Lookup-clause-value g t c =
     let h = hand c.args.self.now c.args.trail.now c.args.at in
     let e = ap (λ ns. nodes_view h.kept ns Values) c.in-Lookup.is ∙ nodes_view-Lookup h.kept c.in-Lookup.steps Values in
     let there = c.lent-value.ensures ∙ c.value_at.ensures ∙ ap (λ (ss : List SingularQuerySegment). value_at (map step_view ss) h.n.tree) c.deref.ensures.value in
     let trees = trees_found _ c.in-Lookup.steps.items h.d h.n there ∙ sym (ap (λ q. as_trees (tested q h.d h.n)) e) in
-    c.in_ok-push_to-in-Lookup.ensures.value ∙ ap (λ ts. arg_trees c.args.args.now ++ ts) trees
+    c.in_ok-push_value-in-Lookup.ensures.value ∙ ap (λ ts. arg_trees c.args.args.now ++ ts) trees
 
 pub gather-returns-clause-given : goal.gather-returns-clause-given
 gather-returns-clause-given g t c =

@@ -1,0 +1,63 @@
+//! The arguments of a custom function: each is paid for before it is added.
+ghost use Rattle.std.specs.Prelude.{◌+◌, ◌++◌, ◌≡◌, [], IfErr, length, OnOk, option_to_list, Some};
+ghost use Rattle.jsonpath_rust.specs.Prelude.Documents.{arg_trees, operand_tree};
+ghost use Rattle.jsonpath_rust.specs.Prelude.Selection.{document, gave, given_values, IsHalt, Limited, slot_at, slots_of};
+
+use crate::documents::args::Args;
+use crate::documents::halt::Walked;
+use crate::documents::queryable::Queryable;
+use crate::documents::value::Operand;
+use crate::selection::budget::Budget;
+use crate::selection::cache::{Cache, Given};
+use crate::selection::walk::Task;
+
+impl<'a: 's, 's, T: Queryable> Task<'a, 's, T> {
+    /// Adds a value, if it is not absent, for a unit.
+    pub fn push_value(
+        &self,
+        value: Operand<'a, 's, T>,
+        budget: &mut Budget,
+        args: &mut Args<'a, T>,
+    ) -> Walked<()>
+        ensures value { OnOk result (arg_trees args.new ≡ arg_trees args.old ++ option_to_list (operand_tree value.entry)) }
+        ensures paid { OnOk result (self.now.limit ≡ Limited →
+            budget.new.left + length (option_to_list (operand_tree value.entry)) ≡ budget.old.left) }
+        ensures halts { IfErr result (IsHalt self.now.limit [] (document self.now)) }
+    {
+        budget.spend(self.limit, value.count())?;
+        value.push_to(self.alloc, args)
+    }
+
+    /// Adds the values of nodes, a unit each, where these are given.
+    pub fn push_given(
+        &self,
+        given: &Given<'a, 's, T>,
+        budget: &mut Budget,
+        args: &mut Args<'a, T>,
+    ) -> Walked<()>
+        ensures value { OnOk result (arg_trees args.new ≡ arg_trees args.old ++ given_values (Some (gave given.now))) }
+        ensures paid { OnOk result (self.now.limit ≡ Limited →
+            budget.new.left + length (given_values (Some (gave given.now))) ≡ budget.old.left) }
+        ensures halts { IfErr result (IsHalt self.now.limit [] (document self.now)) }
+    {
+        budget.spend(self.limit, given.count())?;
+        given.push_to(args)
+    }
+
+    /// The same of what the constant of this number gave.
+    pub fn push_kept(
+        &self,
+        number: usize,
+        cache: &Cache<'a, 's, T>,
+        budget: &mut Budget,
+        args: &mut Args<'a, T>,
+    ) -> Walked<()>
+        ensures value { OnOk result (arg_trees args.new ≡ arg_trees args.old ++ given_values (slot_at (slots_of cache.now) number)) }
+        ensures halts { IfErr result (IsHalt self.now.limit [] (document self.now)) }
+    {
+        match cache.get(number) {
+            Some(given) => self.push_given(given, budget, args),
+            None => Ok(()),
+        }
+    }
+}
