@@ -10,7 +10,7 @@ processor seconds, a slash between the sizes. Its like, which looks at the curre
 root, comes behind. So do runs of `jpath delete`, also with the memory at its peak, in MB, which is told as no
 less than that of this script, some 25: the like has a short name, or selects each node once. The second table has the least stack of
 `jpath nodes`, in KB, to within 64. The third has, for several sizes of query or document, the least units that are enough
-for `js_path_limited`, and nanoseconds a unit: the least of three runs with one unit less, and less the time of a run with
+for `nodes` of a `Limited`, and nanoseconds a unit: the least of three runs with one unit less, and less the time of a run with
 none; behind these, of calls with as many units each, whether they are enough, milliseconds and the most memory. The
 fourth has, for patterns in several sizes, processor seconds and MB of `jpath values`.
 """
@@ -128,6 +128,14 @@ def chain(length, members):
     value = 0
     for _ in range(length):
         value = {"a": value} | named(members)
+    return value
+
+
+def below_names(count, size):
+    """So many numbers below so many short names in one another."""
+    value = numbers(size)
+    for _ in range(count):
+        value = {"a": value}
     return value
 
 
@@ -358,6 +366,8 @@ BOUNDED = [
     ("arguments of a function", arguments, [1, 10, 50, 200], 250000),
     ("objects in one another looked at for depth", lambda size: ("$.z[?$[?$[?$[?$[?$[?@.x]]]]]]", chain(118, size)), [10, 1000, 5000], 100),
     ("a guard on lists in one another", lambda size: ("$.none[?count($..*..*..*..*[?$[?$[?@.x]]])>9]", nest_of_lists(size)), [92, 94, 120], 10**6),
+    ("the first of many elements", lambda size: ("$[*]", numbers(size), "first"), [2000, 10**5], 1000),
+    ("locations below 63 names", lambda size: ("$" + ".a" * 63 + "[*]", below_names(63, size), "locations"), [10**4, 10**5], 25000),
 ]
 
 
@@ -403,9 +413,9 @@ def units(program):
         print(f"| {name}, {'/'.join(map(str, sizes))}, {given} units | {' '.join(answers)} |", flush=True)
 
 
-def bounded(program, given, query, document):
+def bounded(program, given, query, document, call="nodes"):
     """Whether so many units are enough, milliseconds, and the most memory in MB: less those of a run with no unit."""
-    text = query + "\n" + json.dumps(document) + "\n"
+    text = query + "\n" + json.dumps(document) + "\n" + call + "\n"
     enough, taken = asked(program, text, given)
     _, without = asked(program, text, 0)
     return f"{'enough' if enough else 'spent'} {(taken - without) / 1e6:.1f} ms {peak(program, text, given) - peak(program, text, 0):.0f} MB"

@@ -7,7 +7,7 @@
 //! - `calls COUNT`: nanoseconds for each call on a tiny document, by text and by tree, query.
 //! - `delete BYTES`: locations deleted, nanoseconds for each of these, and for each where they are masked, query.
 //! - `units COUNT`: whether so many units of work are enough for the query that is the first line of standard input on the document
-//!   that is the second one, and nanoseconds.
+//!   that is the second one, and nanoseconds; a third line, `first` or `locations`, names another call than `nodes`.
 //! - `document BYTES`, `messages COUNT`: what was asked; before the messages stand the queries of the table.
 #![tactic(auto)]
 

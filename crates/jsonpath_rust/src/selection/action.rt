@@ -6,6 +6,7 @@ ghost use Rattle.jsonpath_rust.specs.Prelude.Selection.{acted, Constants, GoesTo
 use crate::documents::queryable::Queryable;
 use crate::documents::whole::WholeRef;
 use crate::selection::plan::{Filter, Segment, Selector};
+use crate::selection::sink::Sink;
 
 /// What is done at a value: at a child, and of `Below` also where the descent begins.
 #[derive(Clone, Copy)]
@@ -36,6 +37,21 @@ pub fn visit_cost(action: Action<'_>, count: usize) -> usize {
     match action {
         Action::If(_filter) => count.saturating_mul(2),
         _ => count,
+    }
+}
+
+/// What a look at so many elements costs: what is spent before the first, and what at each. Where the
+/// walk may end at any node each is paid for when it is looked at, for the others may never be.
+#[inline(always)]
+pub fn element_costs<T: Queryable>(
+    action: Action<'_>,
+    count: usize,
+    sink: &Sink<'_, T>,
+) -> (usize, usize) {
+    if sink.may_end() {
+        (0, visit_cost(action, 1))
+    } else {
+        (visit_cost(action, count), 0)
     }
 }
 

@@ -69,4 +69,15 @@ impl Budget {
             }
         }
     }
+
+    /// The same, where it is often none: nothing is looked at for that.
+    #[inline(always)]
+    pub fn spend_some(&mut self, limit: Limit, units: usize) -> Walked<()>
+        ensures refused { IfErr result (IsSpent limit) }
+    {
+        if units == 0 {
+            return Ok(());
+        }
+        self.spend(limit, units)
+    }
 }

@@ -6,7 +6,7 @@ ghost use Rattle.jsonpath_rust.specs.Prelude.Selection.{acted, action_patterns, 
 use crate::documents::halt::Walked;
 use crate::documents::queryable::Queryable;
 use crate::documents::whole::WholeRef;
-use crate::selection::action::{Action, is_idle, of_each_child, visit_cost};
+use crate::selection::action::{Action, element_costs, is_idle, of_each_child, visit_cost};
 use crate::selection::onward::Onward;
 use crate::selection::plan::Segment;
 use crate::selection::sink::Sink;
@@ -47,9 +47,10 @@ impl<'a: 's, 's, T: Queryable> Task<'a, 's, T> {
             (action_patterns (kept_of self.now) onward.entry.next ++ rest_patterns self.now onward.entry) result }
     {
         if let Some(items) = at.elements() {
-            let cost = visit_cost(onward.next, items.len());
-            trail.budget.spend(self.limit, cost)?;
+            let (all, each) = element_costs(onward.next, items.len(), sink);
+            trail.budget.spend(self.limit, all)?;
             for (i, value) in items.iter().enumerate() {
+                trail.budget.spend_some(self.limit, each)?;
                 let step = StepRef::Index(i);
                 let value = WholeRef { value };
                 if !self.at_child(onward, Child { step, value }, trail, sink)? {

@@ -28,7 +28,8 @@ use std::fmt::{Debug, Formatter, Write};
 /// 9535, 2.3.5.1), looks up no more than the names and indexes that it has: it spends nothing, and
 /// no call returns `Spent` for it. For other queries these are spent:
 ///
-/// - one for each child that a `*`, a slice or `..` looks at, and two for each that a filter is tried on;
+/// - one for each child that a `*`, a slice or `..` looks at, and two for each that a filter is tried on: all members of an
+///   object, and all elements of a list, but those that `first`, `only`, `has_node` and existence tests do not look at;
 /// - one for each selector of several in one segment, and for each operand of `&&` and `||`;
 /// - one for each value in the smaller side of a comparison, and for each 16 bytes of its texts and names;
 /// - one for each byte of a text, or of a pattern of the document, that `length`, `match` or `search` reads, and for each member

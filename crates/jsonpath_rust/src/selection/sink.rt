@@ -126,6 +126,15 @@ impl<'a, T: Queryable> Sink<'a, T> {
         }
     }
 
+    /// Whether the walk may end before its last node.
+    #[inline(always)]
+    pub fn may_end(&self) -> bool {
+        match self {
+            Sink::Any(_) | Sink::Only(_) | Sink::First(_) => true,
+            _ => false,
+        }
+    }
+
     /// What was wanted of the nodes that it was given. The sink is freed.
     #[inline(always)]
     pub fn finish<'s>(self) -> Given<'a, 's, T>

@@ -206,7 +206,7 @@ each_child-loop-i-preserved g t c =
     let act = acted h.kept c.args.onward.next h.d in
     let inv = c.loop-i.invariant in
     let k = along_as _ _ _ _ _ (ap (λ q. flat_map h.rest (act (below (lent_location q) (index c.loop-i.i) (tree c.value-item.result)))) inv.returns.same) c.in_ok-at_child.ensures.gave in
-    record { returns = on inv.returns c.in_ok-at_child.ensures.comes.back; given = goes_on _ _ (element_turns tree h.n.location h.rest act) c.deref-value-items.result.now c.loop-i.i c.value-item.result _ _ _ _ _ c.loop-i-test.true c.value-item.is k inv.given }
+    record { returns = record { same = c.in_ok-at_child.ensures.comes.back.same ∙ inv.returns.same; ready = c.in_ok-at_child.ensures.comes.back.ready }; given = goes_on _ _ (element_turns tree h.n.location h.rest act) c.deref-value-items.result.now c.loop-i.i c.value-item.result _ _ _ _ _ c.loop-i-test.true c.value-item.is k inv.given }
 
 pub each_child-each_member-requires : goal.each_child-each_member-requires
 each_child-each_member-requires g t c κs within =
