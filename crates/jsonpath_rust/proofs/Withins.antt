@@ -1,7 +1,7 @@
 -- What a call under a limit of work answers.
-use Rattle.std.proofs.Common.{◌≡◌, ℕ, List, [], Result, Ok, Err, IfOk, IfErr, OnOk, IsTrue, MatchResult, inr, refl, sym, ap, ◌∙◌, subst, arith}
-use Rattle.jsonpath_rust.specs.Prelude.Documents.{AllZip, AsksPattern, Contains, Derives, descendant, Document, filter, Halt, is_singular, IsInvalid, IsNodeAt, IsNormal, IsQueryRefusal, IsStop, JsonPathError, Lists, Location, no_segments, node_there, one, OutOfMemory, Query, segment, segments_patterns, selected, several, slice, steps_query, Tree, wildcard}
-use Rattle.jsonpath_rust.specs.Prelude.Selection.{IfDone, IfSpent, IsHalt, Limit}
+use Rattle.std.proofs.Common.{◌≡◌, ℕ, List, [], ◌++◌, Result, Ok, Err, IfOk, IfErr, OnOk, IsTrue, MatchResult, inr, refl, sym, ap, ◌∙◌, subst, arith}
+use Rattle.jsonpath_rust.specs.Prelude.Documents.{absolute, AllZip, and, AsksPattern, call, compare, Contains, Derives, descendant, Document, Filter, filter, group, Halt, is_singular, IsInvalid, IsNodeAt, IsNormal, IsQueryRefusal, IsStop, JsonPathError, Lists, Location, no_segments, node_there, one, or, OutOfMemory, Query, relative, segment, segments_patterns, selected, several, slice, steps_query, test, Tree, wildcard}
+use Rattle.jsonpath_rust.specs.Prelude.Selection.{filter_query, IfDone, IfSpent, IsHalt, Limit, tests_singular}
 use Rattle.jsonpath_rust.proofs.laws.selection.{stop_is_memory}
 use Rattle.jsonpath_parser.specs.tree.Syntax.{name, index}
 use Rattle.jsonpath_rust.specs.declared.documents.halt.Halt.TheVariants as halt
@@ -65,16 +65,31 @@ singular_patterns (segment (one (filter f)) gs) h = absurd cc
 singular_patterns (segment (several ss) gs) h = absurd cc
 singular_patterns (segment (descendant g) gs) h = absurd cc
 
--- so its work, which is not limited, never runs out
-pub never_spent : {X E : Type 0} (limit : Limit) (q : Query) (doc : Document) (cause : Halt) (r : Result (Within X) E) → (IsTrue (is_singular q) → limit ≡ limits.Unlimited) → IsHalt limit (segments_patterns q) doc cause → OnOk r (cause ≡ halt.Spent)
-    → IsTrue (is_singular q) → IfOk r (λ w. IfSpent w ⊥)
-never_spent limit q doc cause (Ok (Done x)) rule h spent singular = tt
-never_spent limit q doc cause (Err e) rule h spent singular = tt
-never_spent limit q doc cause (Ok Spent) rule h spent singular =
-    nothing_asked (h (λ memory. let both : halt.Spent ≡ halt.Memory = sym spent ∙ memory in cc) (λ s. let both : limits.Unlimited ≡ limits.Limited = sym (rule singular) ∙ s.1 in cc))
+-- so none has a test of one (2.3.5.1)
+pub singular_test_patterns : (f : Filter) → IsTrue (tests_singular f) → segments_patterns (filter_query f) ≡ []
+singular_test_patterns (test t (relative gs)) h = ap (λ ps. ps ++ []) (singular_patterns gs h)
+singular_test_patterns (test t (absolute gs)) h = ap (λ ps. ps ++ []) (singular_patterns gs h)
+singular_test_patterns (test t (call f)) h = absurd cc
+singular_test_patterns (or fs) h = absurd cc
+singular_test_patterns (and fs) h = absurd cc
+singular_test_patterns (group t f) h = absurd cc
+singular_test_patterns (compare op a b) h = absurd cc
+
+-- without patterns, work that is not limited never runs out
+pub unlimited_never_spent : {X E : Type 0} (limit : Limit) (q : Query) (doc : Document) (cause : Halt) (r : Result (Within X) E) → segments_patterns q ≡ [] → limit ≡ limits.Unlimited → IsHalt limit (segments_patterns q) doc cause → OnOk r (cause ≡ halt.Spent)
+    → IfOk r (λ w. IfSpent w ⊥)
+unlimited_never_spent limit q doc cause (Ok (Done x)) none free h spent = tt
+unlimited_never_spent limit q doc cause (Err e) none free h spent = tt
+unlimited_never_spent limit q doc cause (Ok Spent) none free h spent =
+    nothing_asked (h (λ memory. let both : halt.Spent ≡ halt.Memory = sym spent ∙ memory in cc) (λ s. let both : limits.Unlimited ≡ limits.Limited = sym free ∙ s.1 in cc))
   where
     nothing_asked : AsksPattern (segments_patterns q) doc → ⊥
-    nothing_asked asks = omega (arith, (subst (λ ps. Contains ps (asks.entire, asks.pattern)) (singular_patterns q singular) asks.stands).1)
+    nothing_asked asks = omega (arith, (subst (λ ps. Contains ps (asks.entire, asks.pattern)) none asks.stands).1)
+
+-- so that of a singular query never does
+pub never_spent : {X E : Type 0} (limit : Limit) (q : Query) (doc : Document) (cause : Halt) (r : Result (Within X) E) → (IsTrue (is_singular q) → limit ≡ limits.Unlimited) → IsHalt limit (segments_patterns q) doc cause → OnOk r (cause ≡ halt.Spent)
+    → IsTrue (is_singular q) → IfOk r (λ w. IfSpent w ⊥)
+never_spent limit q doc cause r rule h spent singular = unlimited_never_spent limit q doc cause r (singular_patterns q singular) (rule singular) h spent
 
 -- so no call that is passed what was done is spent
 pub of_spent : {X : Type 0} (w : Within X) → w ≡ Spent → IfSpent w ⊥ → ⊥

@@ -32,6 +32,7 @@ mod prepared;
 mod runner;
 mod sides;
 mod singular;
+mod singular_test;
 mod sink;
 mod subquery;
 mod trail;

@@ -15,7 +15,7 @@ pub use Rattle.jsonpath_rust.specs.declared.selection.sink.Wanted.{Wanted}
 pub use Rattle.jsonpath_rust.specs.declared.selection.sink.Wanted.TheVariants.{Any, Count, Only, Values}
 pub use Rattle.jsonpath_rust.specs.declared.selection.trail.Trail.{Trail}
 pub use Rattle.jsonpath_rust.specs.declared.selection.walk.Task.{Task}
-pub use Rattle.jsonpath_rust.specs.selection.Condition.{condition_runner_view, condition_view, expression_of, filter_of, filter_query, in_filter, IsConditionRefusal, limited_condition_view, segment_filter}
+pub use Rattle.jsonpath_rust.specs.selection.Condition.{condition_runner_view, condition_view, expression_of, filter_of, filter_query, in_filter, IsConditionRefusal, limited_condition_view, segment_filter, tests_singular}
 pub use Rattle.jsonpath_rust.specs.selection.Only.{IsOnly, node_count, sole_value}
 pub use Rattle.jsonpath_rust.specs.selection.Prepared.{IsFirstNode, limited_view, prepared_view, runner_view}
 pub use Rattle.jsonpath_rust.specs.selection.Within.{IfDone, IfSpent}

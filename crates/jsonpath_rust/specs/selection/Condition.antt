@@ -1,9 +1,11 @@
 -- A condition on a document itself: a logical expression (RFC 9535, 2.3.5), in which `@` and `$` both are the root.
-use Rattle.std.specs.Prelude.{ℕ, List, ◌++◌, Option, Some, None, ⊤, unwrap_or, codes}
+use Rattle.std.specs.Prelude.{◌≤◌, ℕ, List, ◌++◌, Bool, false, Option, Some, None, ⊤, unwrap_or, codes}
 use Rattle.std.specs.Str.{IsCharBoundary}
 use Rattle.jsonpath_parser.specs.Derives.{SpellsTyped, IsRefusal}
 use Rattle.jsonpath_parser.specs.tree.Syntax as syntax
-use Rattle.jsonpath_parser.specs.tree.Syntax.{Segment, one, no_segments, segment, Filter, or, no_filters, Query}
+use Rattle.jsonpath_parser.specs.tree.Syntax.{Segment, one, no_segments, segment, Filter, or, test, no_filters, Query}
+use Rattle.jsonpath_parser.specs.tree.Typing.{is_singular_test}
+use Rattle.jsonpath_parser.specs.words.Depth.{depth}
 use Rattle.jsonpath_parser.specs.declared.errors.JsonPathError.{JsonPathError}
 use Rattle.jsonpath_parser.specs.declared.errors.JsonPathError.TheVariants.{PestError, OutOfMemory}
 use Rattle.jsonpath_rust.specs.selection.Prepared.{prepared_view}
@@ -32,6 +34,11 @@ filter_of _ = None
 abbrev pub expression_of : Query → Filter
 expression_of q = unwrap_or (filter_of q) (or no_filters)
 
+-- a test of a singular query, also behind `!`: no more is looked up than the names and indexes that the query has
+abbrev pub tests_singular : Filter → Bool
+tests_singular (test negated t) = is_singular_test t
+tests_singular _ = false
+
 -- the expression that a condition asks; each is of a query `$[?e]`
 abbrev pub condition_view : Condition → Filter
 condition_view c = expression_of (prepared_view c.prepared)
@@ -42,9 +49,9 @@ condition_runner_view r = condition_view r.condition.now
 abbrev pub limited_condition_view : LimitedCondition → Filter
 limited_condition_view l = condition_runner_view l.runner
 
--- The refusals of a text, each with what it means: it is no one expression, and the place stands between two characters of it or at an end of it; memory ran
--- out; all others are those of the query text `$[?e]`.
+-- The refusals of a text, each with what it means: it nests no deeper than the limit and is no one expression, and the place stands between two characters of it
+-- or at an end of it; memory ran out; all others are those of the query text `$[?e]`.
 abbrev pub IsConditionRefusal : ℕ → List ℕ → JsonPathError → Type 0
-IsConditionRefusal limit text (PestError place) = IsCharBoundary text place × ((f : Filter) → SpellsTyped (in_filter text) (filter_query f) → ⊥)
+IsConditionRefusal limit text (PestError place) = (depth (in_filter text) ≤ limit) × IsCharBoundary text place × ((f : Filter) → SpellsTyped (in_filter text) (filter_query f) → ⊥)
 IsConditionRefusal limit text OutOfMemory = ⊤
 IsConditionRefusal limit text e = IsRefusal limit (in_filter text) e

@@ -6,4 +6,4 @@ use Rattle.jsonpath_rust.proofs.selection.condition.refusal.Goals as goal
 pub returns-in-PestError-clause-refused : goal.returns-in-PestError-clause-refused
 returns-in-PestError-clause-refused c limit h =
     let refused = subst (IsRefusal limit (in_filter c.args.text.now)) c.in-PestError.is h in
-    (c.place_in.ensures, λ f. refused.2 (filter_query f))
+    (refused.0, c.place_in.ensures, λ f. refused.2 (filter_query f))

@@ -1,8 +1,9 @@
-use Rattle.std.proofs.Common.{◌≡◌, sym, ◌∙◌, subst}
+use Rattle.std.proofs.Common.{◌≡◌, ◌≤◌, sym, ◌∙◌, subst}
 use Rattle.jsonpath_rust.specs.Prelude.Documents.{Derives, IsRefusal, query_view}
 use Rattle.jsonpath_rust.specs.Prelude.Selection.{filter_query, in_filter, prepared_view}
 use Rattle.jsonpath_rust.proofs.laws.selection.{expression_back, never_none}
 use Rattle.jsonpath_parser.specs.Grammar.{Spells}
+use Rattle.jsonpath_parser.specs.words.Depth.{depth}
 use Rattle.jsonpath_parser.specs.words.Numbers.{SpellsNumber}
 use Rattle.jsonpath_rust.proofs.selection.condition.Condition.read.Goals as goal
 
@@ -25,7 +26,7 @@ returns-then-not-is_one_filter-clause-only c f derived =
 pub returns-then-not-is_one_filter-clause-refused : goal.returns-then-not-is_one_filter-clause-refused
 returns-then-not-is_one_filter-clause-refused c =
     let text : c.as_str.result.now ≡ in_filter c.args.text.now = c.as_str.ensures.value ∙ c.in_ok-whole.ensures.text in
-    (c.place_in.ensures, λ f spelled. never_none f (query_view c.in-Ok.query) (c.in-Ok.ensures.one_tree (filter_query f) (subst (Spells SpellsNumber (filter_query f)) (sym text) spelled.0)) (sym c.is_one_filter.ensures ∙ c.if-not-is_one_filter.true))
+    (subst (λ s. depth s ≤ c.args.depth) text c.in-Ok.ensures.derived.within, c.place_in.ensures, λ f spelled. never_none f (query_view c.in-Ok.query) (c.in-Ok.ensures.one_tree (filter_query f) (subst (Spells SpellsNumber (filter_query f)) (sym text) spelled.0)) (sym c.is_one_filter.ensures ∙ c.if-not-is_one_filter.true))
 
 pub returns-clause-only : goal.returns-clause-only
 returns-clause-only c f derived =
