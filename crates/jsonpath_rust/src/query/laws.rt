@@ -1,7 +1,10 @@
 //! Laws that proofs of callers cite: of query texts and trees, of locations, of what a query can
 //! reach, of both evaluators, of deletion and masking, and of what is written. Each function states
 //! laws and does nothing.
-ghost use Rattle.jsonpath_rust.specs.Prelude.Documents.{AsManyAreListed, LocalIsConfined, MaskingAllTellsNothing, MaskingTellsNothing, NamedBelow, NamedIsMasked, NormalizedPathDerivesItsSteps, SelectedBeginsWithFixedPart, SelectedIsThere, SingularSelectsOneAtMost, StepsSelectTheirLocation};
+ghost use Rattle.std.specs.Prelude.{IfSome, map};
+ghost use Rattle.std.specs.List.Sorted.{IsStrictlySortedBy};
+ghost use Rattle.std.specs.Ordering.{nat_cmp};
+ghost use Rattle.jsonpath_rust.specs.Prelude.Documents.{as_members, AsManyAreListed, LocalIsConfined, MaskingAllTellsNothing, MaskingTellsNothing, NamedBelow, NamedIsMasked, NormalizedPathDerivesItsSteps, SelectedBeginsWithFixedPart, SelectedIsThere, SingularSelectsOneAtMost, slice_cmp, StepsSelectTheirLocation, value_tree};
 ghost use Rattle.jsonpath_rust.specs.Prelude.States.{ProcessGivesTheNodelist};
 ghost use Rattle.jsonpath_rust.specs.Prelude.Calls.{NothingSelectedDeletesNothing};
 
@@ -16,6 +19,7 @@ pub use jsonpath_parser::{
     each_text_of_a_tree_derives_it, equal_errors_hold_the_same, equal_parts_are_one_tree,
     no_text_derives_two_trees, no_text_spells_two_trees,
 };
+use serde_json::Value;
 
 /// The Normalized Path of a location derives the query of its steps, where each index lies below
 /// 2^53, as in a query (RFC 9535, 2.1 and 2.7).
@@ -40,6 +44,16 @@ pub fn selected_is_there()
 pub fn as_many_are_listed<T: Queryable>()
     ensures { AsManyAreListed T.tree }
 {}
+
+/// The members of an object stand in the order of their names' bytes, each name once. It is cited for
+/// a `Value` at hand.
+pub fn members_are_ordered(value: &Value)
+    ensures { IfSome (as_members (value_tree value.now)) (λ ms. IsStrictlySortedBy (slice_cmp nat_cmp) (map (λ m. m.0) ms)) }
+{
+    if let Some(members) = value.as_object() {
+        let _members = members.iter();
+    }
+}
 
 /// A singular query, as [`is_singular`] tells it, selects nothing or one location (RFC 9535,
 /// 2.3.5.1).
