@@ -1,7 +1,7 @@
 -- What masking tells of a document: what queries without a filter select is masked so that nothing is told of what stood there.
 use Rattle.std.specs.Prelude.{◌≡◌, ℕ, List, [], ◌∷◌, Bool, true, false, ◌&&◌, IsTrue, IsSome, IfSome, is_some}
 use Rattle.std.specs.List.{flat_map, list_all}
-use Rattle.jsonpath_parser.specs.Location.{Step, name, Location}
+use Rattle.jsonpath_parser.specs.Location.{name, Location}
 use Rattle.jsonpath_parser.specs.tree.Syntax as syntax
 use Rattle.jsonpath_parser.specs.tree.Syntax.{Selector, filter, Selectors, no_selectors, selector, Segment, one, several, descendant, no_segments, segment, Query}
 use Rattle.jsonpath_base.specs.Overwritten.{overwritten}

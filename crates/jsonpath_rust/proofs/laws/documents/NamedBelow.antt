@@ -8,12 +8,12 @@ use Rattle.std.proofs.lemmas.Slice.Eq.{bytes_eq-Decides}
 use Rattle.jsonpath_rust.specs.Prelude.Documents.{AllByRecursion, as_text, at, below, bytes_eq, child, Document, ends_in, find, flat_map, index, is_among, item_at, list, Location, member_subtrees, Members, name, named, named_anywhere, NamedBelow, NamedIsMasked, no_members, no_trees, Node, nodelist, null, number, object, overwritten, pairs, root_node, selected, Step, subtree, subtree_at, subtrees_at, text, Tree, Trees, truth}
 use Rattle.jsonpath_base.specs.Overwritten.{overwritten_below}
 use Rattle.jsonpath_base.specs.Tree as base
-use Rattle.jsonpath_base.specs.Without.{is_location, is_same_step}
+use Rattle.jsonpath_base.specs.Without.{is_location}
 use Rattle.jsonpath_base.proofs.Marking.{same_step}
 use Rattle.jsonpath_base.proofs.Removed.{location_itself, same_location}
 use Rattle.jsonpath_rust.proofs.laws.documents.Following.{node_at}
 use Rattle.jsonpath_rust.proofs.laws.documents.MaskedNodes.{child_overwritten}
-use Rattle.jsonpath_rust.proofs.laws.documents.NodesAt.{at-append, each-append, each-flat_map, nodes_at}
+use Rattle.jsonpath_rust.proofs.laws.documents.NodesAt.{each-append, each-flat_map, nodes_at}
 
 -- ---- the last step
 
