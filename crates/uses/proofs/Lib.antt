@@ -7,3 +7,4 @@ pub mod Splitting
 pub mod Patching
 pub mod Taking
 pub mod Agreeing
+pub mod Redacting

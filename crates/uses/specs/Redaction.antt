@@ -1,15 +1,14 @@
 -- What is left of a document in which values are masked.
-use Rattle.std.specs.Prelude.{◌≡◌, List, IsTrue}
-use Rattle.std.specs.List.{Contains, flat_map}
+use Rattle.std.specs.Prelude.{◌≡◌, List, Bool, IsTrue}
+use Rattle.std.specs.List.{Contains, flat_map, list_all}
 use Rattle.jsonpath_rust.specs.Location.{Location, Begins}
 use Rattle.jsonpath_rust.specs.View.{query_view}
 use Rattle.jsonpath_rust.specs.JsonPathError.{JsonPathError}
 use Rattle.jsonpath_rust.specs.JsonPathError.TheVariants.{OutOfMemory}
 use Rattle.jsonpath_rust.specs.JpQuery.{JpQuery}
-use Rattle.jsonpath_rust.specs.Overwritten.{overwritten}
-use Rattle.jsonpath_rust.specs.Tree.{Tree, null}
 use Rattle.jsonpath_rust.specs.Without.{is_among}
 use Rattle.jsonpath_rust.specs.Document.{Document}
+use Rattle.jsonpath_rust.specs.Masking.{has_no_filter}
 use Rattle.jsonpath_rust.specs.Meaning.{selected}
 use Rattle.jsonpath_rust.specs.Patterns.{IsStop}
 
@@ -17,9 +16,9 @@ use Rattle.jsonpath_rust.specs.Patterns.{IsStop}
 abbrev pub all_selected : List JpQuery → Document → List Location
 all_selected queries doc = flat_map (λ q. selected (query_view q) doc) queries
 
--- The two are one tree but for what stands at the locations: with null there they are the same.
-abbrev pub AgreeBut : List Location → Tree → Tree → Type 0
-AgreeBut ls t other = overwritten (is_among ls) null t ≡ overwritten (is_among ls) null other
+-- none of the queries has a filter
+abbrev pub have_no_filter : List JpQuery → Bool
+have_no_filter queries = list_all (λ q. has_no_filter (query_view q)) queries
 
 -- The location lies neither at one of these, nor inside one, nor above one.
 abbrev pub IsApart : List Location → Location → Type 0

@@ -1,18 +1,24 @@
 //! Redaction: what queries select in a document is masked.
-ghost use Rattle.std.specs.Prelude.{◌≡◌, IfOk, IfErr, OnOk, OnErr, map};
-ghost use Rattle.jsonpath_rust.specs.Document.{value_document};
+ghost use Rattle.std.specs.Prelude.{◌≡◌, ℕ, List, IfOk, IfErr, IfSome, IsSome, IsTrue, OnOk, OnErr, map};
+ghost use Rattle.jsonpath_rust.specs.Document.{Document, value_document};
 ghost use Rattle.jsonpath_rust.specs.Location.{Location};
+ghost use Rattle.jsonpath_rust.specs.Masking.{AgreeBut, ends_in, named_anywhere};
 ghost use Rattle.jsonpath_rust.specs.Overwritten.{overwritten};
 ghost use Rattle.jsonpath_rust.specs.Places.{at};
-ghost use Rattle.jsonpath_rust.specs.Tree.{Tree};
+ghost use Rattle.jsonpath_rust.specs.Tree.{Tree, as_text};
+ghost use Rattle.jsonpath_rust.specs.JpQuery.{JpQuery};
+ghost use Rattle.jsonpath_rust.specs.View.{query_view};
+ghost use Rattle.std.specs.List.{Contains};
 ghost use Rattle.jsonpath_rust.specs.Without.{is_among, distinct_count};
 ghost use Rattle.jsonpath_rust.specs.base.Steps.{location_view};
 ghost use Rattle.jsonpath_rust.specs.base.Values.{value_tree};
-ghost use Rattle.uses.specs.Redaction.{all_selected, AgreeBut, IsApart, IsRefusalOf, IsStopOf};
+ghost use Rattle.uses.specs.Redaction.{all_selected, have_no_filter, IsApart, IsRefusalOf, IsStopOf};
 
 use jsonpath_rust::Whole;
 use jsonpath_rust::parser::model::JpQuery;
-use jsonpath_rust::query::laws::{overwritten_forgets, overwritten_is_seen};
+use jsonpath_rust::query::laws::{
+    masking_tells_nothing, named_below, overwritten_forgets, overwritten_is_seen,
+};
 use jsonpath_rust::query::{Queried, Step, selected_locations};
 use serde_json::Value;
 use std::alloc::Global;
@@ -36,9 +42,19 @@ pub fn redact(
     ensures redacted { OnOk result (value_tree document.new.value ≡ overwritten (is_among (all_selected rules.now (value_document document.old.value))) (value_tree mask.now.value) (value_tree document.old.value)) }
     ensures count { IfOk result (λ n. n ≡ distinct_count (all_selected rules.now (value_document document.old.value))) }
 
-    // The result tells nothing of what was masked: it is that of every document which differs from this one there alone.
-    ensures hidden { OnOk result ((other : Tree) → AgreeBut (all_selected rules.now (value_document document.old.value)) (value_tree document.old.value) other
+    // What stood at these locations is forgotten: every document that differs from this one there alone is left as the same one, once that
+    // is masked there.
+    ensures forgotten { OnOk result ((other : Tree) → AgreeBut (all_selected rules.now (value_document document.old.value)) (value_tree document.old.value) other
         → value_tree document.new.value ≡ overwritten (is_among (all_selected rules.now (value_document document.old.value))) (value_tree mask.now.value) other) }
+
+    // Where no query has a filter, the result tells nothing of what was masked: every document that differs from this one there alone is
+    // redacted to the same one.
+    ensures hidden { OnOk result (IsTrue (have_no_filter rules.now) → (other : Document) → AgreeBut (all_selected rules.now (value_document document.old.value)) (value_tree document.old.value) other.root
+        → value_tree document.new.value ≡ overwritten (is_among (all_selected rules.now other)) (value_tree mask.now.value) other.root) }
+
+    // Where a query is `$..name` and the mask a text, nothing of that name is then anything but the mask.
+    ensures named { OnOk result ((q : JpQuery) (k : List ℕ) → Contains rules.now q → query_view q ≡ named_anywhere k → IsSome (as_text (value_tree mask.now.value)) → (l : Location) → IsTrue (ends_in k l)
+        → IfSome (at l (value_tree document.new.value)) (λ t. t ≡ value_tree mask.now.value)) }
 
     // What lies neither inside nor above a location that was selected is as it was.
     ensures rest { OnOk result ((m : Location) → IsApart (all_selected rules.now (value_document document.old.value)) m → at m (value_tree document.new.value) ≡ at m (value_tree document.old.value)) }
@@ -48,9 +64,11 @@ pub fn redact(
     let places = all_places(alloc, rules, document)?;
     let count = document.replace_all(alloc, &places, mask)?;
 
-    // The laws of a replacement, which the proof cites.
+    // The laws of a replacement and of masking, which the proof cites.
     overwritten_is_seen();
     overwritten_forgets();
+    masking_tells_nothing();
+    named_below();
     Ok(count)
 }
 
