@@ -15,8 +15,8 @@ use crate::selection::walk::Task;
 use jsonpath_base::engine::Way;
 
 /// How many levels of a document the walks that are on their way at once may stand on, all
-/// together: as many as five take in a document of 127 levels. A level takes 1.4 KB of stack at
-/// most, so they take 0.9 MB at most.
+/// together: as many as five take in a document of 127 levels. A level took 1.4 KB of stack where it
+/// was measured; by that they take 0.9 MB.
 const MOST_LEVELS: usize = 650;
 
 /// What each of them takes beside the document, in levels.
