@@ -1,25 +1,36 @@
--- What a call says of a query, said of the query's text.
-use Rattle.std.proofs.Common.{◌≡◌, ℕ, List, Result, Ok, Err, IfOk, IfErr, MatchResult, ap, sym, ◌∙◌, subst}
-use Rattle.jsonpath_rust.specs.Prelude.Documents.{Derives, Document, IsRefusal, IsStop, JsonPathError, Location, OutOfMemory, Query, segments_patterns, steps_query}
+-- What a call says of a query, said of the query's text, and what has the query that was read of a text.
+use Rattle.std.proofs.Common.{◌≡◌, ◌≤◌, ℕ, List, Result, Ok, Err, IfOk, IfErr, MatchResult, inl, inr, ap, sym, ◌∙◌, subst}
+use Rattle.jsonpath_rust.specs.Prelude.Documents.{Derives, Document, HasIndexesInRange, IsNormal, IsRefusal, IsStop, JsonPathError, Location, OutOfMemory, Query, segments_patterns, steps_query}
 use Rattle.jsonpath_rust.specs.Prelude.Calls.{ByText}
 use Rattle.jsonpath_rust.proofs.laws.selection.{stop_is_memory}
 use Rattle.jsonpath_rust.proofs.NormalPaths.{steps_patterns}
 
-pub by_text : {X : Type 0} (IsSo : Query → X → Type 0) (limit : ℕ) (text : List ℕ) (q : Query) (r : Result X JsonPathError) → Derives limit text q → IfOk r (λ x. IsSo q x) → IfOk r (λ x. ByText limit text (λ t. IsSo t x))
-by_text IsSo limit text q (Ok x) derived h = record { query = q; derived = derived; so = h }
-by_text IsSo limit text q (Err e) derived h = tt
+-- of the query that was read, which is the one that is asked
+pub by_text : {X : Type 0} (limit : ℕ) (text : List ℕ) (p q : Query) (doc : Document) (Is : Document → Query → X → Type 0) (IsAt : Document → List ℕ → Location → X → Type 0) (r : Result X JsonPathError) → q ≡ p
+    → Derives limit text p → ((t : Query) → Derives limit text t → p ≡ t) → ((l : Location) → IsNormal l text → HasIndexesInRange l → 1 ≤ limit → p ≡ steps_query l)
+    → ((l : Location) (x : X) → IsNormal l text → q ≡ steps_query l → Is doc q x → IsAt doc text l x) → IfOk r (Is doc q) → IfErr r (IsStop q doc) → ByText limit text doc Is IsAt r
+by_text limit text p q doc Is IsAt (Ok x) asked derived only normal there told refused = record {
+  answered = record { query = p; derived = derived; told = subst (λ s. Is doc s x) asked told };
+  only = λ t d. subst (λ s. Is doc s x) (asked ∙ only t d) told;
+  normal = λ l is small deep. there l x is (asked ∙ normal l is small deep) told;
+  refused = tt;
+}
+by_text limit text p q doc Is IsAt (Err e) asked derived only normal there told refused = record {
+  answered = tt;
+  only = λ t d. subst (λ s. IsStop s doc e) (asked ∙ only t d) refused;
+  normal = λ l is small deep. stop_is_memory q doc e (ap segments_patterns (asked ∙ normal l is small deep) ∙ steps_patterns l) refused;
+  refused = inr (p, derived, subst (λ s. IsStop s doc e) asked refused);
+}
 
--- of a query that is this one
-pub so_or_stop : {X : Type 0} (IsSo : Query → X → Type 0) (q t : Query) (doc : Document) (r : Result X JsonPathError) → q ≡ t → IfOk r (λ x. IsSo q x) → IfErr r (IsStop q doc) → MatchResult r (λ x. IsSo t x) (IsStop t doc)
-so_or_stop IsSo q t doc (Ok x) same h refused = subst (λ s. IsSo s x) same h
-so_or_stop IsSo q t doc (Err e) same h refused = subst (λ s. IsStop s doc e) same refused
-
--- of the query of a location's steps, in which no pattern stands
-pub so_or_memory : {X : Type 0} (IsSo : Query → X → Type 0) (l : Location) (q : Query) (doc : Document) (r : Result X JsonPathError) → q ≡ steps_query l → IfOk r (λ x. IsSo q x) → IfErr r (IsStop q doc) → MatchResult r (λ x. IsSo (steps_query l) x) (λ e. e ≡ OutOfMemory)
-so_or_memory IsSo l q doc (Ok x) same h refused = subst (λ s. IsSo s x) same h
-so_or_memory IsSo l q doc (Err e) same h refused = stop_is_memory q doc e (ap segments_patterns same ∙ steps_patterns l) refused
-
--- ---- what has the query that was read of a text
+-- of a text that was refused
+pub by_refusal : {X : Type 0} (limit : ℕ) (text : List ℕ) (doc : Document) (Is : Document → Query → X → Type 0) (IsAt : Document → List ℕ → Location → X → Type 0) (e : JsonPathError)
+    → ((t : Query) → Derives limit text t → e ≡ OutOfMemory) → ((l : Location) → IsNormal l text → HasIndexesInRange l → 1 ≤ limit → e ≡ OutOfMemory) → IsRefusal limit text e → ByText limit text doc Is IsAt (Err e)
+by_refusal limit text doc Is IsAt e only normal refused = record {
+  answered = tt;
+  only = λ t d other. absurd (other (only t d));
+  normal = normal;
+  refused = inl refused;
+}
 
 pub read_derives : {X : Type 0} (view : X → Query) (limit : ℕ) (text : List ℕ) (q : Query) (r : Result X JsonPathError) → Derives limit text q → IfOk r (λ x. view x ≡ q) → IfOk r (λ x. Derives limit text (view x))
 read_derives view limit text q (Ok x) derived same = subst (λ s. Derives limit text s) (sym same) derived

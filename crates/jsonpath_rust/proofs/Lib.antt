@@ -1,8 +1,7 @@
 pub mod laws
 pub mod Deleting
 pub mod ByText
-pub mod First
 pub mod Listed
 pub mod NormalPaths
 pub mod NormalChanges
-pub mod Withins
+pub mod Stops

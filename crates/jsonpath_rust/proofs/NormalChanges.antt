@@ -1,14 +1,12 @@
 -- What the Normalized Path of a location deletes, and what it puts another tree in the place of.
-use Rattle.std.proofs.Common.{◌≡◌, ℕ, [], ◌∷◌, map, Option, Some, None, is_some, option_to_list, if◌then◌else◌, IsTrue, Result, Ok, Err, IfOk, IfErr, OnOk, MatchResult, true≢false, refl, sym, ap, ◌∙◌}
-use Rattle.jsonpath_rust.specs.Prelude.Documents.{at, distinct_count, Document, has_distinct_names, is_among, IsStop, JsonPathError, Location, OutOfMemory, overwritten, put, Query, segments_patterns, selected, steps_query, Tree, without}
-use Rattle.jsonpath_rust.specs.Prelude.Calls.{count_at, IsDeletionAt, IsReplacementAt}
+use Rattle.std.proofs.Common.{◌≡◌, ℕ, [], ◌∷◌, map, Option, Some, None, is_some, option_to_list, if◌then◌else◌, IsTrue, true≢false, refl, sym, ap, ◌∙◌}
+use Rattle.jsonpath_rust.specs.Prelude.Documents.{at, distinct_count, Document, has_distinct_names, is_among, Location, overwritten, put, Query, selected, steps_query, Tree, without}
+use Rattle.jsonpath_rust.specs.Prelude.Calls.{count_at, IsDeletion, IsDeletionAt, IsReplacement, IsReplacementAt}
 use Rattle.jsonpath_rust.proofs.laws.documents.{selected-steps}
-use Rattle.jsonpath_rust.proofs.laws.selection.{stop_is_memory}
 use Rattle.jsonpath_base.proofs.Nowhere.{without_nowhere}
 use Rattle.jsonpath_base.proofs.OverwrittenLaws.{at_one_is_put, leaves_the_rest}
 use Rattle.jsonpath_base.proofs.PutLaws.{put_nowhere}
 use Rattle.jsonpath_base.proofs.WithoutLaws.{without_none}
-use Rattle.jsonpath_rust.proofs.NormalPaths.{steps_patterns}
 
 -- the query of a location's steps selects it where something is there
 selected_there : (l : Location) (q : Query) (doc : Document) (o : Option Tree) → q ≡ steps_query l → at l doc.root ≡ o → selected q doc ≡ map (λ t. l) (option_to_list o)
@@ -31,10 +29,8 @@ deleted_at l q doc left distinct same removed = by_value (at l doc.root) refl
         removed ∙ ap (λ ls. without (is_among ls) doc.root) (selected_there l q doc None same there) ∙ without_none doc.root ∙ sym (without_nowhere l doc.root distinct there)
     by_value (Some t) there = removed ∙ ap (λ ls. without (is_among ls) doc.root) (selected_there l q doc (Some t) same there)
 
-pub normal_deleted : (l : Location) (q : Query) (doc : Document) (left : Tree) (r : Result ℕ JsonPathError) → IsTrue (has_distinct_names doc.root) → q ≡ steps_query l
-    → OnOk r (left ≡ without (is_among (selected q doc)) doc.root) → IfOk r (λ n. n ≡ distinct_count (selected q doc)) → IfErr r (IsStop q doc) → MatchResult r (λ n. IsDeletionAt l doc.root left n) (λ e. e ≡ OutOfMemory)
-normal_deleted l q doc left (Ok n) distinct same removed counted refused = record { removed = deleted_at l q doc left distinct same removed; counted = counted_at l q doc n same counted }
-normal_deleted l q doc left (Err e) distinct same removed counted refused = stop_is_memory q doc e (ap segments_patterns same ∙ steps_patterns l) refused
+pub normal_deleted : (l : Location) (q : Query) (doc : Document) (left : Tree) (n : ℕ) → IsTrue (has_distinct_names doc.root) → q ≡ steps_query l → IsDeletion q doc left n → IsDeletionAt l doc.root left n
+normal_deleted l q doc left n distinct same h = record { removed = deleted_at l q doc left distinct same h.removed; counted = counted_at l q doc n same h.counted }
 
 -- ---- replacement
 
@@ -51,7 +47,5 @@ replaced_at l q doc u left distinct same replaced = by_value (at l doc.root) ref
     by_value (Some t) there =
         replaced ∙ ap (λ ls. overwritten (is_among ls) u doc.root) (selected_there l q doc (Some t) same there) ∙ at_one_is_put l u doc.root distinct
 
-pub normal_replaced : (l : Location) (q : Query) (doc : Document) (u left : Tree) (r : Result ℕ JsonPathError) → IsTrue (has_distinct_names doc.root) → q ≡ steps_query l
-    → OnOk r (left ≡ overwritten (is_among (selected q doc)) u doc.root) → IfOk r (λ n. n ≡ distinct_count (selected q doc)) → IfErr r (IsStop q doc) → MatchResult r (λ n. IsReplacementAt l u doc.root left n) (λ e. e ≡ OutOfMemory)
-normal_replaced l q doc u left (Ok n) distinct same replaced counted refused = record { replaced = replaced_at l q doc u left distinct same replaced; counted = counted_at l q doc n same counted }
-normal_replaced l q doc u left (Err e) distinct same replaced counted refused = stop_is_memory q doc e (ap segments_patterns same ∙ steps_patterns l) refused
+pub normal_replaced : (l : Location) (q : Query) (doc : Document) (u left : Tree) (n : ℕ) → IsTrue (has_distinct_names doc.root) → q ≡ steps_query l → IsReplacement q u doc left n → IsReplacementAt l u doc.root left n
+normal_replaced l q doc u left n distinct same h = record { replaced = replaced_at l q doc u left distinct same h.replaced; counted = counted_at l q doc n same h.counted }

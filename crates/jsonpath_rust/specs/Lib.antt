@@ -2,10 +2,9 @@
 pub mod documents
 pub mod selection
 pub mod states
+pub mod Calls
 pub mod Deleting
-pub mod ByText
 pub mod Replacing
-pub mod First
 pub mod Reading
 pub mod Defaults
 pub mod Prelude
@@ -24,7 +23,7 @@ pub use Rattle.jsonpath_rust.specs.documents.Confining
 pub use Rattle.jsonpath_rust.specs.documents.Masking
 pub use Rattle.jsonpath_rust.specs.selection.Only
 pub use Rattle.jsonpath_rust.specs.selection.Prepared
-pub use Rattle.jsonpath_rust.specs.selection.Within
+pub use Rattle.jsonpath_rust.specs.selection.Stop
 pub use Rattle.jsonpath_rust.specs.selection.Condition
 pub use Rattle.jsonpath_rust.specs.states.State
 pub use Rattle.jsonpath_rust.specs.states.Process

@@ -17,7 +17,8 @@ pub use crate::documents::whole::{Whole, WholeRef};
 pub use crate::json_path::JsonPath;
 pub use crate::query::queryable::{Deletable, Queryable};
 pub use crate::query::{
-    Condition, ConditionRunner, Limited, LimitedCondition, Only, Prepared, Runner, Step, Within,
+    Condition, ConditionRunner, Limits, Only, Prepared, PreparedRef, Runner, Step, Stop, Units,
+    Unlimited,
 };
 pub use crate::whole::ReadError;
 pub use jsonpath_build as build;

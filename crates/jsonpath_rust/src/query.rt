@@ -1,33 +1,25 @@
 //! Queries on a document.
-ghost use Rattle.std.specs.Prelude.{◌≡◌, ◌≤◌, All, IfErr, IfOk, IsFalse, IsTrue, map, MatchResult};
-ghost use Rattle.jsonpath_rust.specs.Prelude.Documents.{AllZip, Derives, document_of, HasIndexesInRange, IsNodeAt, IsNormal, IsPathAt, IsQueryRefusal, IsStop, IsValueAt, Lists, Location, node_there, OutOfMemory, paths_of, Query, query_view, segments_patterns, selected, shown};
-ghost use Rattle.jsonpath_rust.specs.Prelude.Selection.{IfDone, IfSpent};
+ghost use Rattle.std.specs.Prelude.{◌≡◌, All, IfErr, IfOk, IsFalse, IsTrue, map};
+ghost use Rattle.jsonpath_rust.specs.Prelude.Documents.{AreNodes, ArePaths, AreValues, document_of, IsNodeThere, IsPathThere, IsStop, IsValueThere, query_view, segments_patterns, shown};
+ghost use Rattle.jsonpath_rust.specs.Prelude.Calls.{ByText};
 ghost use Rattle.jsonpath_rust.specs.Prelude.States.{IsProcessStop, processed, root_content};
 ghost use Rattle.jsonpath_parser.specs.tree.Typing as typing;
 
-mod count;
 mod deletion;
-mod first;
 pub mod laws;
 mod location;
 mod masking;
-mod only;
 pub mod queryable;
 
 use crate::documents::queryable::Queryable;
 pub use crate::documents::{
     Queried, QueryPath, QueryRef, not_a_reference, referred_location, replace_by_path,
 };
-pub use crate::query::count::js_path_count;
-pub use crate::query::deletion::{delete_selected, delete_within};
-pub use crate::query::first::js_path_first;
+pub use crate::query::deletion::delete_within;
 pub use crate::query::location::{location_by_path, location_of};
-pub use crate::query::masking::{replace_selected, replace_within};
-pub use crate::query::only::js_path_only;
+pub use crate::query::masking::{replace_all_by_path, replace_within};
 pub use crate::selection::{
-    Condition, ConditionRunner, Limited, LimitedCondition, Only, Prepared, Runner, Within,
-    selected_count, selected_first, selected_locations, selected_nodes, selected_only,
-    selected_paths, selected_values,
+    Condition, ConditionRunner, Limits, Only, Prepared, PreparedRef, Runner, Stop, Units, Unlimited,
 };
 pub use crate::states::{Query, apply, selector, state};
 use crate::states::{processed_nodes, processed_values};
@@ -36,9 +28,7 @@ pub use jsonpath_base::{
     put_at, remove_all, replace_all, step_by_token, take_at,
 };
 use jsonpath_parser::model::JpQuery;
-use jsonpath_parser::{
-    MAX_NESTING_DEPTH, is_typed, let_go, parse_json_path, parse_json_path_within,
-};
+use jsonpath_parser::{MAX_NESTING_DEPTH, is_typed};
 use std::alloc::Global;
 
 /// The nodes that a query text selects in a document, in order (RFC 9535, 2.1.2): their values and
@@ -56,23 +46,7 @@ pub fn js_path<'a, T: Queryable>(
     value: &'a T,
 ) -> Queried<Vec<QueryRef<'a, T>>>
     requires { IsTrue (T.is_whole value.now) }
-    ensures answered { IfOk result (λ v. Lists IsNodeAt MAX_NESTING_DEPTH path.now
-        (document_of T.tree T.custom value.now) (shown T.tree v.items)) }
-
-    // Whatever query the text derives, its nodes are returned, unless memory ran out or a pattern
-    // was refused.
-    ensures only { (q : Query) → Derives MAX_NESTING_DEPTH path.now q → MatchResult result
-        (λ v. AllZip (IsNodeAt (document_of T.tree T.custom value.now))
-        (selected q (document_of T.tree T.custom value.now)) (shown T.tree v.items))
-        (IsStop q (document_of T.tree T.custom value.now)) }
-
-    // A Normalized Path is refused by `OutOfMemory` alone. It gives the node at its location, or
-    // none where nothing is there.
-    ensures normal { (l : Location) → IsNormal l path.now → HasIndexesInRange l → MatchResult result
-        (λ v. shown T.tree v.items ≡ node_there (document_of T.tree T.custom value.now) l path.now)
-        (λ e. e ≡ OutOfMemory) }
-    ensures whole { IfOk result (λ v. All (λ r. IsTrue (T.is_whole r.val.now)) v.items) }
-    ensures refused { IfErr result (IsQueryRefusal MAX_NESTING_DEPTH path.now (document_of T.tree T.custom value.now)) }
+    ensures { ByText MAX_NESTING_DEPTH path.now (document_of T.tree T.custom value.now) (AreNodes T.Queryable.own) (IsNodeThere T.Queryable.own) result }
 {
     js_path_within(alloc, path, MAX_NESTING_DEPTH, value)
 }
@@ -91,67 +65,10 @@ pub fn js_path_within<'a, T: Queryable>(
     value: &'a T,
 ) -> Queried<Vec<QueryRef<'a, T>>>
     requires { IsTrue (T.is_whole value.now) }
-    ensures answered { IfOk result (λ v. Lists IsNodeAt depth path.now (document_of T.tree T.custom value.now) (shown T.tree v.items)) }
-
-    // Whatever query the text derives, its nodes are returned, unless memory ran out or a pattern
-    // was refused.
-    ensures only { (q : Query) → Derives depth path.now q → MatchResult result
-        (λ v. AllZip (IsNodeAt (document_of T.tree T.custom value.now))
-        (selected q (document_of T.tree T.custom value.now)) (shown T.tree v.items))
-        (IsStop q (document_of T.tree T.custom value.now)) }
-
-    // A Normalized Path is refused by `OutOfMemory` alone. It gives the node at its location, or
-    // none where nothing is there.
-    ensures normal { (l : Location) → IsNormal l path.now → HasIndexesInRange l → 1 ≤ depth → MatchResult result
-        (λ v. shown T.tree v.items ≡ node_there (document_of T.tree T.custom value.now) l path.now)
-        (λ e. e ≡ OutOfMemory) }
-    ensures whole { IfOk result (λ v. All (λ r. IsTrue (T.is_whole r.val.now)) v.items) }
-    ensures refused { IfErr result (IsQueryRefusal depth path.now (document_of T.tree T.custom value.now)) }
+    ensures { ByText depth path.now (document_of T.tree T.custom value.now) (AreNodes T.Queryable.own) (IsNodeThere T.Queryable.own) result }
 {
-    let query = parse_json_path_within(alloc, path, depth)?;
-    let nodes = selected_nodes(alloc, &query, value);
-    let_go(query);
-    nodes
-}
-
-/// The nodes that a query text selects in a document, as [`js_path`], or [`Within::Spent`] where so
-/// many units of work are not enough: for queries of strangers. What a unit is spent for stands at
-/// [`Limited`]; a singular query spends none.
-///
-/// # Errors
-///
-/// Those of [`js_path`].
-pub fn js_path_limited<'a, T: Queryable>(
-    alloc: Global,
-    path: &str,
-    units: usize,
-    value: &'a T,
-) -> Queried<Within<Vec<QueryRef<'a, T>>>>
-    requires { IsTrue (T.is_whole value.now) }
-    ensures answered { IfOk result (λ w. IfDone w (λ v. Lists IsNodeAt MAX_NESTING_DEPTH path.now
-        (document_of T.tree T.custom value.now) (shown T.tree v.items))) }
-
-    // Whatever query the text derives, its nodes are returned, unless the work, or memory, ran out
-    // or a pattern was refused.
-    ensures only { (q : Query) → Derives MAX_NESTING_DEPTH path.now q → MatchResult result
-        (λ w. IfDone w (λ v. AllZip (IsNodeAt (document_of T.tree T.custom value.now))
-        (selected q (document_of T.tree T.custom value.now)) (shown T.tree v.items)))
-        (IsStop q (document_of T.tree T.custom value.now)) }
-
-    // Any work is enough for a singular query.
-    ensures enough { (q : Query) → Derives MAX_NESTING_DEPTH path.now q → IsTrue (typing.is_singular q) → IfOk result (λ w. IfSpent w ⊥) }
-
-    // A Normalized Path is refused by `OutOfMemory` alone. Its node is given, or none where nothing
-    // is there; any work is enough.
-    ensures normal { (l : Location) → IsNormal l path.now → HasIndexesInRange l → MatchResult result
-        (λ w. IfDone w (λ v. shown T.tree v.items ≡ node_there (document_of T.tree T.custom value.now) l path.now))
-        (λ e. e ≡ OutOfMemory) }
-    ensures whole { IfOk result (λ w. IfDone w (λ v. All (λ r. IsTrue (T.is_whole r.val.now)) v.items)) }
-    ensures refused { IfErr result (IsQueryRefusal MAX_NESTING_DEPTH path.now (document_of T.tree T.custom value.now)) }
-{
-    let query = parse_json_path(alloc, path)?;
-    let prepared = Prepared::new(alloc, query)?;
-    prepared.runner(alloc).limited(units).nodes(alloc, value)
+    let query = Prepared::read_within(alloc, path, depth)?;
+    query.runner(alloc).nodes(alloc, value)
 }
 
 /// The values of the nodes that a query text selects in a document, in order. No path is made.
@@ -165,22 +82,10 @@ pub fn js_path_vals<'a, T: Queryable>(
     value: &'a T,
 ) -> Queried<Vec<&'a T>>
     requires { IsTrue (T.is_whole value.now) }
-    ensures answered { IfOk result (λ v. Lists IsValueAt MAX_NESTING_DEPTH path.now
-        (document_of T.tree T.custom value.now) (map (λ x. T.tree x.now) v.items)) }
-
-    // Whatever query the text derives, its nodes' values are returned, unless memory ran out or a
-    // pattern was refused.
-    ensures only { (q : Query) → Derives MAX_NESTING_DEPTH path.now q → MatchResult result
-        (λ v. AllZip (IsValueAt (document_of T.tree T.custom value.now))
-        (selected q (document_of T.tree T.custom value.now)) (map (λ x. T.tree x.now) v.items))
-        (IsStop q (document_of T.tree T.custom value.now)) }
-    ensures whole { IfOk result (λ v. All (λ x. IsTrue (T.is_whole x.now)) v.items) }
-    ensures refused { IfErr result (IsQueryRefusal MAX_NESTING_DEPTH path.now (document_of T.tree T.custom value.now)) }
+    ensures { ByText MAX_NESTING_DEPTH path.now (document_of T.tree T.custom value.now) (AreValues T.Queryable.own) (IsValueThere T.Queryable.own) result }
 {
-    let query = parse_json_path(alloc, path)?;
-    let values = selected_values(alloc, &query, value);
-    let_go(query);
-    values
+    let query = Prepared::read(alloc, path)?;
+    query.runner(alloc).values(alloc, value)
 }
 
 /// The Normalized Paths of the nodes that a query text selects in a document, in order.
@@ -190,21 +95,10 @@ pub fn js_path_vals<'a, T: Queryable>(
 /// Those of [`js_path`].
 pub fn js_path_path<T: Queryable>(alloc: Global, path: &str, value: &T) -> Queried<Vec<QueryPath>>
     requires { IsTrue (T.is_whole value.now) }
-    ensures answered { IfOk result (λ v. Lists IsPathAt MAX_NESTING_DEPTH path.now
-        (document_of T.tree T.custom value.now) (paths_of v.items)) }
-
-    // Whatever query the text derives, its nodes' paths are returned, unless memory ran out or a
-    // pattern was refused.
-    ensures only { (q : Query) → Derives MAX_NESTING_DEPTH path.now q → MatchResult result
-        (λ v. AllZip (IsPathAt (document_of T.tree T.custom value.now))
-        (selected q (document_of T.tree T.custom value.now)) (paths_of v.items))
-        (IsStop q (document_of T.tree T.custom value.now)) }
-    ensures refused { IfErr result (IsQueryRefusal MAX_NESTING_DEPTH path.now (document_of T.tree T.custom value.now)) }
+    ensures { ByText MAX_NESTING_DEPTH path.now (document_of T.tree T.custom value.now) ArePaths IsPathThere result }
 {
-    let query = parse_json_path(alloc, path)?;
-    let paths = selected_paths(alloc, &query, value);
-    let_go(query);
-    paths
+    let query = Prepared::read(alloc, path)?;
+    query.runner(alloc).paths(alloc, value)
 }
 
 /// The nodes that a query selects in a document, in order (RFC 9535, 2.1.2): their values and their
@@ -231,8 +125,7 @@ pub fn js_path_process<'a, T: Queryable>(
 ) -> Queried<Vec<QueryRef<'a, T>>>
     requires { IsTrue (T.is_whole value.now) }
     ensures nodes { IsTrue (typing.is_typed (query_view path.now)) →
-        IfOk result (λ v. AllZip (IsNodeAt (document_of T.tree T.custom value.now))
-        (selected (query_view path.now) (document_of T.tree T.custom value.now)) (shown T.tree v.items)) }
+        IfOk result (AreNodes T.Queryable.own (document_of T.tree T.custom value.now) (query_view path.now)) }
     ensures processed { IfOk result (λ v. shown T.tree v.items ≡ processed (query_view path.now) (document_of T.tree T.custom value.now)) }
     ensures whole { IfOk result (λ v. All (λ r. IsTrue (T.is_whole r.val.now)) v.items) }
     ensures refused { IsTrue (typing.is_typed (query_view path.now)) →
@@ -243,7 +136,8 @@ pub fn js_path_process<'a, T: Queryable>(
         (root_content (document_of T.tree T.custom value.now))) }
 {
     if is_typed(path) {
-        selected_nodes(alloc, path, value)
+        let prepared = Prepared::of(alloc, path)?;
+        prepared.runner(alloc).nodes(alloc, value)
     } else {
         processed_nodes(alloc, path, value)
     }
@@ -262,8 +156,7 @@ pub fn js_path_process_vals<'a, T: Queryable>(
 ) -> Queried<Vec<&'a T>>
     requires { IsTrue (T.is_whole value.now) }
     ensures values { IsTrue (typing.is_typed (query_view query.now)) →
-        IfOk result (λ v. AllZip (IsValueAt (document_of T.tree T.custom value.now))
-        (selected (query_view query.now) (document_of T.tree T.custom value.now)) (map (λ x. T.tree x.now) v.items)) }
+        IfOk result (AreValues T.Queryable.own (document_of T.tree T.custom value.now) (query_view query.now)) }
     ensures processed { IfOk result (λ v. map (λ x. T.tree x.now) v.items
         ≡ map (λ n. n.1) (processed (query_view query.now) (document_of T.tree T.custom value.now))) }
     ensures whole { IfOk result (λ v. All (λ x. IsTrue (T.is_whole x.now)) v.items) }
@@ -275,7 +168,8 @@ pub fn js_path_process_vals<'a, T: Queryable>(
         (root_content (document_of T.tree T.custom value.now))) }
 {
     if is_typed(query) {
-        selected_values(alloc, query, value)
+        let prepared = Prepared::of(alloc, query)?;
+        prepared.runner(alloc).values(alloc, value)
     } else {
         processed_values(alloc, query, value)
     }

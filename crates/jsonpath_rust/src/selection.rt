@@ -21,9 +21,7 @@ mod early;
 mod filter;
 mod function;
 mod give;
-mod limited;
-mod limited_condition;
-mod nodelist;
+mod limits;
 mod only;
 mod onward;
 mod plan;
@@ -34,19 +32,14 @@ mod sides;
 mod singular;
 mod singular_test;
 mod sink;
+mod stop;
 mod subquery;
 mod trail;
 mod walk;
-mod within;
 
 pub use crate::selection::condition::{Condition, ConditionRunner};
-pub use crate::selection::limited::Limited;
-pub use crate::selection::limited_condition::LimitedCondition;
-pub use crate::selection::nodelist::{
-    selected_count, selected_first, selected_locations, selected_nodes, selected_only,
-    selected_paths, selected_removal, selected_values,
-};
+pub use crate::selection::limits::{Limits, Units, Unlimited};
 pub use crate::selection::only::Only;
-pub use crate::selection::prepared::Prepared;
+pub use crate::selection::prepared::{Prepared, PreparedRef};
 pub use crate::selection::runner::Runner;
-pub use crate::selection::within::Within;
+pub use crate::selection::stop::Stop;

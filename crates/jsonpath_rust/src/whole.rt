@@ -5,7 +5,6 @@ ghost use Rattle.std.specs.Prelude.{◌≡◌, IfErr, IfOk, IsFalse, IsTrue};
 use crate::documents::queryable::Queryable;
 use crate::documents::whole::{Whole, WholeRef};
 
-mod asking;
 mod lent;
 mod read;
 mod runner;

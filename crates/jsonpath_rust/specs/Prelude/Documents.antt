@@ -42,7 +42,7 @@ pub use Rattle.jsonpath_rust.specs.declared.documents.halt.Halt.{Halt}
 pub use Rattle.jsonpath_rust.specs.declared.documents.halt.Halt.TheVariants.{Memory, Pattern, Spent}
 pub use Rattle.jsonpath_rust.specs.declared.documents.queryable.Queryable.{Ghosts}
 pub use Rattle.jsonpath_rust.specs.declared.documents.whole.WholeRef.{WholeRef}
-pub use Rattle.jsonpath_rust.specs.documents.Answer.{AsManyAreListed, IsNodeAt, IsPathAt, IsValueAt, Lists, node_there, paths_of, shown}
+pub use Rattle.jsonpath_rust.specs.documents.Answer.{AreLocations, AreNodes, ArePaths, AreValues, AsManyAreListed, IsNodeAt, IsNodeThere, IsPathAt, IsPathThere, IsValueAt, IsValueThere, node_there, paths_of, shown}
 pub use Rattle.jsonpath_rust.specs.documents.Comparing.{are_equal, compares, is_below}
 pub use Rattle.jsonpath_rust.specs.documents.Confining.{AgreeAt, LocalIsConfined, SelectedBeginsWithFixedPart, SingularSelectsOneAtMost}
 pub use Rattle.jsonpath_rust.specs.documents.Document.{Document, document_of, value_document}

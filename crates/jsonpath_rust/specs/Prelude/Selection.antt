@@ -15,13 +15,13 @@ pub use Rattle.jsonpath_rust.specs.declared.selection.sink.Wanted.{Wanted}
 pub use Rattle.jsonpath_rust.specs.declared.selection.sink.Wanted.TheVariants.{Any, Count, Only, Values}
 pub use Rattle.jsonpath_rust.specs.declared.selection.trail.Trail.{Trail}
 pub use Rattle.jsonpath_rust.specs.declared.selection.walk.Task.{Task}
-pub use Rattle.jsonpath_rust.specs.selection.Condition.{condition_runner_view, condition_view, expression_of, filter_of, filter_query, in_filter, IsConditionRefusal, limited_condition_view, segment_filter, tests_singular}
-pub use Rattle.jsonpath_rust.specs.selection.Only.{IsOnly, node_count, sole_value}
-pub use Rattle.jsonpath_rust.specs.selection.Prepared.{IsFirstNode, limited_view, prepared_view, runner_view}
-pub use Rattle.jsonpath_rust.specs.selection.Within.{IfDone, IfSpent}
+pub use Rattle.jsonpath_rust.specs.selection.Condition.{expression_of, filter_of, filter_query, in_filter, IsConditionRefusal, segment_filter, tests_singular}
+pub use Rattle.jsonpath_rust.specs.selection.Only.{IsCount, IsFirst, IsOnly, IsOnlyNode, node_count, sole_value, TellsWhether}
+pub use Rattle.jsonpath_rust.specs.selection.Prepared.{condition_runner_view, condition_view, IsFirstNode, planned_view, prepared_ref_view, prepared_view, runner_view}
+pub use Rattle.jsonpath_rust.specs.selection.Stop.{IsConditionStop, IsStopOf, StopsUnits}
 pub use Rattle.jsonpath_rust.specs.selection.inner.AtHand.{here, node_at, onward_from, rest_patterns, StandsAt}
 pub use Rattle.jsonpath_rust.specs.selection.inner.Costs.{compared_cost, cost, elements_cost, members_cost, pairs_cost, smaller_cost, trees_cost, valued}
-pub use Rattle.jsonpath_rust.specs.selection.inner.Halting.{IsHalt, IsSpent}
+pub use Rattle.jsonpath_rust.specs.selection.inner.Halting.{IsHalt, IsSpent, limit_of}
 pub use Rattle.jsonpath_rust.specs.selection.inner.Keeping.{AreEmpty, document, given_by, IsGiven, IsReady, Keeps, kept_of, part_patterns, slot_at, slots_of, value_by}
 pub use Rattle.jsonpath_rust.specs.selection.inner.Only.{only_seen, only_told}
 pub use Rattle.jsonpath_rust.specs.selection.inner.Passing.{action_effort, GoesToEachChild}

@@ -1,16 +1,18 @@
 -- What a query answers.
-use Rattle.std.specs.Prelude.{◌≡◌, ℕ, List, map, length, Some, option_to_list, string_bytes, String}
+use Rattle.std.specs.Prelude.{◌≡◌, ℕ, List, All, IsTrue, map, length, Some, option_to_list, string_bytes, String, Vec}
 use Rattle.std.specs.Borrow.{Bor}
 use Rattle.std.specs.List.{AllZip}
 use Rattle.jsonpath_parser.specs.Location.{Location}
 use Rattle.jsonpath_parser.specs.Normal.{IsNormal, IsOnlyPath}
 use Rattle.jsonpath_parser.specs.tree.Syntax.{Query}
-use Rattle.jsonpath_parser.specs.Derives.{Derives}
+use Rattle.jsonpath_base.specs.Steps.{location_view}
 use Rattle.jsonpath_base.specs.Tree.{Tree}
 use Rattle.jsonpath_base.specs.Places.{at}
 use Rattle.jsonpath_rust.specs.documents.Document.{Document}
 use Rattle.jsonpath_rust.specs.documents.Meaning.{selected}
+use Rattle.jsonpath_base.specs.declared.step.Step.{Step}
 use Rattle.jsonpath_rust.specs.declared.documents.node.QueryRef.{QueryRef}
+use Rattle.jsonpath_rust.specs.declared.documents.queryable.Queryable.{Ghosts}
 use Rattle.std.specs.declared.alloc.Global.{Global}
 
 -- the path of each answered node, and the tree of its value
@@ -36,12 +38,32 @@ IsNodeAt doc l shown = IsPathAt doc l shown.0 × IsValueAt doc l shown.1
 abbrev pub node_there : Document → Location → List ℕ → List (List ℕ × Tree)
 node_there doc l path = map (λ t. (path, t)) (option_to_list (at l doc.root))
 
--- The text is a query, no deeper than the limit, and the list has what is shown of each of its nodes in the document, in order: a path, a
--- value, or both.
-pub record Lists {A : Type 0} (IsShownAt : Document → Location → A → Type 0) (limit : ℕ) (text : List ℕ) (doc : Document) (answer : List A) : Type 0 where
-  pub query : Query
-  pub derived : Derives limit text query
-  pub nodes : AllZip (IsShownAt doc) (selected query doc) answer
+-- ---- what a call returns of a query, in order; `r` is what the type of the document is
+
+pub record AreNodes {A : Type 0} (r : Ghosts A) (doc : Document) (q : Query) (v : Vec (QueryRef A) Global) : Type 0 where
+  pub nodes : AllZip (IsNodeAt doc) (selected q doc) (shown r.tree v.items)
+  pub whole : All (λ n. IsTrue (r.is_whole n.val.now)) v.items
+
+pub record AreValues {A : Type 0} (r : Ghosts A) (doc : Document) (q : Query) (v : Vec (Bor A) Global) : Type 0 where
+  pub values : AllZip (IsValueAt doc) (selected q doc) (map (λ x. r.tree x.now) v.items)
+  pub whole : All (λ x. IsTrue (r.is_whole x.now)) v.items
+
+abbrev pub ArePaths : Document → Query → Vec (String Global) Global → Type 0
+ArePaths doc q v = AllZip (IsPathAt doc) (selected q doc) (paths_of v.items)
+
+abbrev pub AreLocations : Document → Query → Vec (Vec Step Global) Global → Type 0
+AreLocations doc q v = map (λ l. location_view l.items) v.items ≡ selected q doc
+
+-- ---- of the one location whose Normalized Path the text is
+
+abbrev pub IsNodeThere : {A : Type 0} → Ghosts A → Document → List ℕ → Location → Vec (QueryRef A) Global → Type 0
+IsNodeThere r doc text l v = shown r.tree v.items ≡ node_there doc l text
+
+abbrev pub IsValueThere : {A : Type 0} → Ghosts A → Document → List ℕ → Location → Vec (Bor A) Global → Type 0
+IsValueThere r doc text l v = map (λ x. r.tree x.now) v.items ≡ option_to_list (at l doc.root)
+
+abbrev pub IsPathThere : Document → List ℕ → Location → Vec (String Global) Global → Type 0
+IsPathThere doc text l v = paths_of v.items ≡ map (λ t. text) (option_to_list (at l doc.root))
 
 -- Where a list has what is shown of each of these locations, as of those that a query selects, it has as many items: nodes, values or paths.
 pub record AsManyAreListed {A : Type 0} (tree : A → Tree) : Type 0 where

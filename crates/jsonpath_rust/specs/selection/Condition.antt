@@ -8,10 +8,6 @@ use Rattle.jsonpath_parser.specs.tree.Typing.{is_singular_test}
 use Rattle.jsonpath_parser.specs.words.Depth.{depth}
 use Rattle.jsonpath_parser.specs.declared.errors.JsonPathError.{JsonPathError}
 use Rattle.jsonpath_parser.specs.declared.errors.JsonPathError.TheVariants.{PestError, OutOfMemory}
-use Rattle.jsonpath_rust.specs.selection.Prepared.{prepared_view}
-use Rattle.jsonpath_rust.specs.declared.selection.condition.Condition.{Condition}
-use Rattle.jsonpath_rust.specs.declared.selection.condition.ConditionRunner.{ConditionRunner}
-use Rattle.jsonpath_rust.specs.declared.selection.limited_condition.LimitedCondition.{LimitedCondition}
 
 -- the query `$[?e]`
 abbrev pub filter_query : Filter → Query
@@ -38,16 +34,6 @@ expression_of q = unwrap_or (filter_of q) (or no_filters)
 abbrev pub tests_singular : Filter → Bool
 tests_singular (test negated t) = is_singular_test t
 tests_singular _ = false
-
--- the expression that a condition asks; each is of a query `$[?e]`
-abbrev pub condition_view : Condition → Filter
-condition_view c = expression_of (prepared_view c.prepared)
-
-abbrev pub condition_runner_view : ConditionRunner → Filter
-condition_runner_view r = condition_view r.condition.now
-
-abbrev pub limited_condition_view : LimitedCondition → Filter
-limited_condition_view l = condition_runner_view l.runner
 
 -- The refusals of a text, each with what it means: it nests no deeper than the limit and is no one expression, and the place stands between two characters of it
 -- or at an end of it; memory ran out; all others are those of the query text `$[?e]`.

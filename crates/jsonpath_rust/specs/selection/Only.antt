@@ -1,5 +1,5 @@
--- The only node of a query, and how many nodes it has.
-use Rattle.std.specs.Prelude.{◌≡◌, ℕ, min, List, [], ◌∷◌, length, Option, Some, None}
+-- The first node of a query and the only one, how many nodes it has, and whether there is one.
+use Rattle.std.specs.Prelude.{◌≡◌, ◌↔◌, ℕ, min, List, [], ◌∷◌, length, Option, Some, None, IfSome, IfNone, Bool, IsFalse, IsTrue, string_bytes}
 use Rattle.jsonpath_parser.specs.Location.{Location}
 use Rattle.jsonpath_parser.specs.tree.Syntax.{Query}
 use Rattle.jsonpath_base.specs.Tree.{Tree}
@@ -7,6 +7,9 @@ use Rattle.jsonpath_rust.specs.documents.Answer.{IsValueAt}
 use Rattle.jsonpath_rust.specs.documents.Document.{Document}
 use Rattle.jsonpath_rust.specs.documents.Functions.{greatest_count}
 use Rattle.jsonpath_rust.specs.documents.Meaning.{selected}
+use Rattle.jsonpath_rust.specs.selection.Prepared.{IsFirstNode}
+use Rattle.jsonpath_rust.specs.declared.documents.node.QueryRef.{QueryRef}
+use Rattle.jsonpath_rust.specs.declared.documents.queryable.Queryable.{Ghosts}
 use Rattle.jsonpath_rust.specs.declared.selection.only.Only.{Only}
 use Rattle.jsonpath_rust.specs.declared.selection.only.Only.TheVariants.{Nothing, One, Several}
 
@@ -25,3 +28,20 @@ sole_value _ = None
 -- how many nodes the query selects, up to the greatest whole number of 64 bits
 abbrev pub node_count : Query → Document → ℕ
 node_count q doc = min (length (selected q doc)) greatest_count
+
+-- ---- what a call returns of a query; `r` is what the type of the document is
+
+pub record IsFirst {A : Type 0} (r : Ghosts A) (doc : Document) (q : Query) (o : Option (QueryRef A)) : Type 0 where
+  pub first : IfSome o (λ n. IsFirstNode q doc (string_bytes n.path, r.tree n.val.now))
+  pub none : IfNone o (selected q doc ≡ [])
+  pub whole : IfSome o (λ n. IsTrue (r.is_whole n.val.now))
+
+pub record IsOnlyNode {A : Type 0} (r : Ghosts A) (doc : Document) (q : Query) (o : Only A) : Type 0 where
+  pub only : IsOnly r.tree q doc o
+  pub whole : IfSome (sole_value o) (λ x. IsTrue (r.is_whole x))
+
+abbrev pub IsCount : Document → Query → ℕ → Type 0
+IsCount doc q n = n ≡ node_count q doc
+
+abbrev pub TellsWhether : Document → Query → Bool → Type 0
+TellsWhether doc q b = IsFalse b ↔ (selected q doc ≡ [])

@@ -23,7 +23,7 @@ pub enum Halt {
 pub type Walked<T> = Result<T, Halt>;
 
 impl Halt {
-    /// What a caller is told of a walk that may take any amount of work; it never halts by `Spent`.
+    /// What a caller is told of a walk that halted; not of one that halted by `Spent`.
     pub fn told(self, alloc: Global) -> JsonPathError
         ensures memory { self ≡ Memory → result ≡ error.OutOfMemory }
         ensures pattern { (result ≡ error.OutOfMemory → ⊥) → IsInvalid result }

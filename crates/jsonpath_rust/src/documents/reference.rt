@@ -30,10 +30,10 @@ struct Referent<'v> {
     value: &'v Value,
 }
 
-/// Puts a value at the one location that a path of names and indexes means, such as a Normalized
-/// Path, in the place of the one there, and returns true. Where the text means no location, as each
-/// other text does, it returns false and nothing is changed. It refuses by `OutOfMemory` alone, and
-/// then nothing is changed.
+/// Puts a value at one place, not at all that a query selects. The path, such as a Normalized Path,
+/// is of names and indexes alone, and the value there goes for the new one; then it returns true.
+/// Where the text means no location, as each other text does, it returns false and nothing is
+/// changed. It refuses by `OutOfMemory` alone, and then nothing is changed.
 ///
 /// The time is linear in the length of the path, with a search by name in each object on the way.
 pub fn replace_by_path(alloc: Global, value: &mut Value, path: &str, new: Value) -> Queried<bool>

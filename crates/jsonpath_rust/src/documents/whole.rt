@@ -1,8 +1,9 @@
 //! Values that are whole. A type says so, so that no function that is given one asks for it.
-ghost use Rattle.std.specs.Prelude.{IsTrue};
+ghost use Rattle.std.specs.Prelude.{◌≡◌, IsTrue};
 
 use crate::documents::queryable::Queryable;
 use std::alloc::AllocError;
+use std::ops::Deref;
 
 mod reading;
 
@@ -27,3 +28,26 @@ impl<'a, T: Queryable> Clone for WholeRef<'a, T> {
 }
 
 impl<'a, T: Queryable> Copy for WholeRef<'a, T> {}
+
+/// Its calls are those of the value, which is whole.
+impl<T: Queryable> Deref for Whole<T> {
+    type Target = T;
+
+    ghost deref_gives = { λ w x. (x ≡ w.value) × IsTrue (T.is_whole x) };
+
+    fn deref(&self) -> &T {
+        &self.value
+    }
+}
+
+/// What a call borrows from the value lives no longer than this; of what [`WholeRef::get`] returns
+/// it lives as long as the value.
+impl<'a, T: Queryable> Deref for WholeRef<'a, T> {
+    type Target = T;
+
+    ghost deref_gives = { λ w x. (x ≡ w.value.now) × IsTrue (T.is_whole x) };
+
+    fn deref(&self) -> &T {
+        self.value
+    }
+}

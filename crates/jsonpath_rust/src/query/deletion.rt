@@ -1,17 +1,16 @@
 //! Deletion of what a query selects.
-ghost use Rattle.std.specs.Prelude.{◌≡◌, ◌≤◌, Bool, false, IfErr, IfOk, IsTrue, MatchResult, OnErr, OnOk, true};
-ghost use Rattle.jsonpath_rust.specs.Prelude.Documents.{Derives, distinct_count, HasIndexesInRange, is_among, IsErrAnd, IsNormal, IsQueryRefusal, IsStop, Location, OutOfMemory, Query, query_view, selected, value_document, value_is_whole, value_tree, without};
-ghost use Rattle.jsonpath_rust.specs.Prelude.Selection.{IfDone, IfSpent, limited_view, runner_view};
-ghost use Rattle.jsonpath_parser.specs.tree.Typing as typing;
+ghost use Rattle.std.specs.Prelude.{◌≡◌, Bool, false, IsTrue, OnErr, true};
+ghost use Rattle.jsonpath_rust.specs.Prelude.Documents.{IsErrAnd, value_document, value_is_whole, value_tree};
+ghost use Rattle.jsonpath_rust.specs.Prelude.Selection.{runner_view};
+ghost use Rattle.jsonpath_rust.specs.Calls.{ByText, Runs};
 ghost use Rattle.jsonpath_rust.specs.Defaults.{IsUnsupported};
-ghost use Rattle.jsonpath_rust.specs.Deleting.{IsDeletion, IsDeletionAt, Deletes};
+ghost use Rattle.jsonpath_rust.specs.Deleting.{Deletion, DeletionAt};
 
 use crate::documents::Queried;
 use crate::documents::queryable::Queryable;
-use crate::selection::{Limited, Runner, Within, selected_removal};
+use crate::selection::{Limits, Prepared, Runner};
+use jsonpath_parser::MAX_NESTING_DEPTH;
 use jsonpath_parser::errors::JsonPathError;
-use jsonpath_parser::model::JpQuery;
-use jsonpath_parser::{MAX_NESTING_DEPTH, let_go, parse_json_path_within};
 use serde_json::Value;
 use std::alloc::Global;
 
@@ -40,22 +39,10 @@ impl Deletable for Value {
     /// depth of 128.
     fn delete_by_path(&mut self, alloc: Global, path: &str) -> Queried<usize>
         requires { IsTrue (value_is_whole self.old) }
-        ensures deleted { IfOk result (Deletes MAX_NESTING_DEPTH path.now (value_document self.old) (value_tree self.new)) }
-
-        // Whatever query the text derives, what it selects is removed, unless memory ran out or a
-        // pattern was refused.
-        ensures only { (q : Query) → Derives MAX_NESTING_DEPTH path.now q → MatchResult result
-            (IsDeletion q (value_document self.old) (value_tree self.new))
-            (IsStop q (value_document self.old)) }
-
-        // A Normalized Path is refused by `OutOfMemory` alone. Its location is removed, and nothing
-        // where nothing is there.
-        ensures normal { (l : Location) → IsNormal l path.now → HasIndexesInRange l → MatchResult result
-            (IsDeletionAt l (value_tree self.old) (value_tree self.new))
-            (λ e. e ≡ OutOfMemory) }
+        ensures deleted { ByText MAX_NESTING_DEPTH path.now (value_document self.old) (Deletion (value_tree self.new))
+            (DeletionAt (value_tree self.new)) result }
         ensures kept { OnErr result (self.new ≡ self.old) }
         ensures whole { IsTrue (value_is_whole self.new) }
-        ensures refused { IfErr result (IsQueryRefusal MAX_NESTING_DEPTH path.now (value_document self.old)) }
     {
         delete_within(alloc, self, path, MAX_NESTING_DEPTH)
     }
@@ -77,103 +64,31 @@ impl Deletable for Value {
 /// [`js_path_within`]: crate::query::js_path_within
 pub fn delete_within(alloc: Global, value: &mut Value, path: &str, depth: usize) -> Queried<usize>
     requires { IsTrue (value_is_whole value.old) }
-    ensures deleted { IfOk result (Deletes depth path.now (value_document value.old) (value_tree value.new)) }
-
-    // Whatever query the text derives, what it selects is removed, unless memory ran out or a
-    // pattern was refused.
-    ensures only { (q : Query) → Derives depth path.now q → MatchResult result
-        (IsDeletion q (value_document value.old) (value_tree value.new))
-        (IsStop q (value_document value.old)) }
-
-    // A Normalized Path is refused by `OutOfMemory` alone. Its location is removed, and nothing
-    // where nothing is there.
-    ensures normal { (l : Location) → IsNormal l path.now → HasIndexesInRange l → 1 ≤ depth → MatchResult result
-        (IsDeletionAt l (value_tree value.old) (value_tree value.new))
-        (λ e. e ≡ OutOfMemory) }
+    ensures deleted { ByText depth path.now (value_document value.old) (Deletion (value_tree value.new))
+        (DeletionAt (value_tree value.new)) result }
     ensures kept { OnErr result (value.new ≡ value.old) }
     ensures whole { IsTrue (value_is_whole value.new) }
-    ensures refused { IfErr result (IsQueryRefusal depth path.now (value_document value.old)) }
 {
-    let query = parse_json_path_within(alloc, path, depth)?;
-    let deleted = delete_selected(alloc, value, &query);
-    let_go(query);
-    deleted
+    let query = Prepared::read_within(alloc, path, depth)?;
+    query.runner(alloc).delete(alloc, value)
 }
 
-/// Removes all locations that a query selects in a document, and returns how many distinct ones
-/// there are, as [`delete_within`] does. A tree that is not well-typed is evaluated in the same way
-/// here, and not by `process`.
-///
-/// # Errors
-///
-/// Those of [`js_path_process`] of a tree that is well-typed; after any of them the document is as
-/// it was.
-///
-/// [`js_path_process`]: crate::query::js_path_process
-pub fn delete_selected(alloc: Global, value: &mut Value, query: &JpQuery) -> Queried<usize>
-    requires { IsTrue (value_is_whole value.old) }
-    ensures removed { OnOk result (value_tree value.new
-        ≡ without (is_among (selected (query_view query.now) (value_document value.old)))
-        (value_tree value.old)) }
-    ensures count { IfOk result (λ n. n ≡ distinct_count (selected (query_view query.now) (value_document value.old))) }
-    ensures kept { OnErr result (value.new ≡ value.old) }
-    ensures whole { IsTrue (value_is_whole value.new) }
-    ensures refused { IfErr result (IsStop (query_view query.now) (value_document value.old)) }
-{
-    let removal = selected_removal(alloc, query, value)?.ordered(alloc)?;
-    removal.remove_from(value);
-    Ok(removal.count())
-}
-
-impl<'p> Runner<'p> {
+impl<'p, L: Limits> Runner<'p, L> {
     /// Removes all locations that the query selects in a document, and returns how many distinct
-    /// ones there are, as [`delete_selected`] does.
+    /// ones there are, as [`delete_within`] does.
     ///
     /// # Errors
     ///
-    /// Those of [`delete_selected`]; after any of them the document is as it was.
-    pub fn delete(&mut self, alloc: Global, value: &mut Value) -> Queried<usize>
+    /// Those of each call of a [`Runner`]; after any of them the document is as it was.
+    pub fn delete(&mut self, alloc: Global, value: &mut Value) -> Result<usize, L::Stop>
         requires { IsTrue (value_is_whole value.old) }
-        ensures removed { OnOk result (value_tree value.new
-            ≡ without (is_among (selected (runner_view self.old) (value_document value.old)))
-            (value_tree value.old)) }
-        ensures count { IfOk result (λ n. n ≡ distinct_count (selected (runner_view self.old) (value_document value.old))) }
+        ensures deleted { Runs L.stops (runner_view self.old) (runner_view self.new) (value_document value.old)
+            (Deletion (value_tree value.new)) result }
         ensures kept { OnErr result (value.new ≡ value.old) }
         ensures whole { IsTrue (value_is_whole value.new) }
-        ensures same { runner_view self.new ≡ runner_view self.old }
-        ensures refused { IfErr result (IsStop (runner_view self.old) (value_document value.old)) }
     {
-        let ordered = self.removal(alloc, value)?.ordered(alloc)?;
-        ordered.remove_from(value);
-        Ok(ordered.count())
-    }
-}
-
-impl<'p> Limited<'p> {
-    /// The same as [`Runner::delete`]. Where the units are not enough, the document is as it was.
-    ///
-    /// # Errors
-    ///
-    /// Those of [`delete_selected`]; after any of them the document is as it was.
-    pub fn delete(&mut self, alloc: Global, value: &mut Value) -> Queried<Within<usize>>
-        requires { IsTrue (value_is_whole value.old) }
-        ensures deleted { IfOk result (λ w. IfDone w (λ n. IsDeletion (limited_view self.old)
-            (value_document value.old) (value_tree value.new) n)) }
-        ensures spent { IfOk result (λ w. IfSpent w (value.new ≡ value.old)) }
-        ensures kept { OnErr result (value.new ≡ value.old) }
-        ensures whole { IsTrue (value_is_whole value.new) }
-        ensures enough { IsTrue (typing.is_singular (limited_view self.old)) → IfOk result (λ w. IfSpent w ⊥) }
-        ensures same { limited_view self.new ≡ limited_view self.old }
-        ensures refused { IfErr result (IsStop (limited_view self.old) (value_document value.old)) }
-    {
-        let within = self.removal(alloc, value)?;
-        match within {
-            Within::Done(removal) => {
-                let marked = removal.ordered(alloc)?;
-                marked.remove_from(value);
-                Ok(Within::Done(marked.count()))
-            }
-            Within::Spent => Ok(Within::Spent),
-        }
+        let marked = self.marked(alloc, value)?;
+        marked.remove_from(value);
+        Ok(marked.count())
     }
 }

@@ -1,24 +1,21 @@
 //! Conditions on a document itself.
 ghost use Rattle.std.specs.Prelude.{◌++◌, ◌≡◌, codes, IfErr, IfOk, is_some, IsTrue, MatchResult, Some, string_bytes, ℕ};
-ghost use Rattle.jsonpath_rust.specs.Prelude.Documents.{Derives, document_at, document_of, filter_view, holds, IsCharBoundary, IsRefusal, IsStop, OutOfMemory, query_shown, query_view, root_node, segment_view, segments_patterns, tree_of};
-ghost use Rattle.jsonpath_rust.specs.Prelude.Selection.{condition_runner_view, condition_view, filter_of, filter_query, in_filter, IsConditionRefusal, IsHalt, limited_condition_view, prepared_view, segment_filter};
+ghost use Rattle.jsonpath_rust.specs.Prelude.Documents.{Derives, document_of, filter_view, holds, IsCharBoundary, IsRefusal, IsStop, OutOfMemory, query_shown, query_view, root_node, segment_view};
+ghost use Rattle.jsonpath_rust.specs.Prelude.Selection.{condition_runner_view, condition_view, filter_of, filter_query, in_filter, IsConditionRefusal, IsConditionStop, prepared_view, runner_view, segment_filter};
 ghost use Rattle.jsonpath_parser.specs.tree.Syntax as syntax;
 
 use crate::documents::Queried;
-use crate::documents::halt::Walked;
 use crate::documents::queryable::Queryable;
 use crate::documents::whole::WholeRef;
-use crate::selection::budget::Budget;
-use crate::selection::deciding::decide;
-use crate::selection::limited_condition::LimitedCondition;
+use crate::selection::limits::{Limits, Units, Unlimited};
 use crate::selection::prepared::Prepared;
-use jsonpath_base::engine::KeptFinders;
+use crate::selection::runner::Runner;
 use jsonpath_parser::errors::{JsonPathError, Parsed};
 use jsonpath_parser::model::{Filter, JpQuery, Segment, Selector};
 use jsonpath_parser::{let_go, parse_json_path_within};
 use std::alloc::Global;
+use std::fmt;
 use std::fmt::{Debug, Formatter, Write};
-use std::{fmt, mem};
 
 /// What stands before a filter in a query.
 const OPENING: &str = "$[?";
@@ -79,8 +76,7 @@ impl Condition {
     ///
     /// # Errors
     ///
-    /// Those of [`selected_nodes`](crate::query::selected_nodes) for the query `$[?..]` of the
-    /// expression.
+    /// Those of a [`Runner`] of the query `$[?..]` of the expression.
     pub fn holds<T: Queryable>(&self, alloc: Global, value: &T) -> Queried<bool>
         requires { IsTrue (T.is_whole value.now) }
         ensures holds { IfOk result (λ b. b
@@ -97,8 +93,7 @@ impl Condition {
         ensures { condition_runner_view result ≡ condition_view self.now }
     {
         ConditionRunner {
-            condition: self,
-            finders: self.prepared.finders(alloc),
+            runner: self.prepared.runner(alloc),
         }
     }
 }
@@ -112,76 +107,54 @@ impl Debug for Condition {
     }
 }
 
-/// What asks a [`Condition`] of one document after another.
+/// What asks a [`Condition`] of one document after another, under a limit of work or none.
 ///
 /// For conditions of strangers the work of each call can be limited, by
 /// [`ConditionRunner::limited`].
 #[derive(Drop)]
-pub struct ConditionRunner<'c> {
-    condition: &'c Condition,
-    finders: KeptFinders<'c>,
+pub struct ConditionRunner<'c, L: Limits = Unlimited> {
+    runner: Runner<'c, L>,
 }
 
-impl<'c> ConditionRunner<'c> {
+impl<'c, L: Limits> ConditionRunner<'c, L> {
     /// The runner, with a limit: each of its calls may take so many units of work. What these are
-    /// spent for stands at [`Limited`](crate::selection::Limited).
-    pub fn limited(self, units: usize) -> LimitedCondition<'c>
-        ensures { limited_condition_view result ≡ condition_runner_view self.entry }
+    /// spent for stands at [`Units`].
+    pub fn limited(self, units: usize) -> ConditionRunner<'c, Units>
+        ensures { condition_runner_view result ≡ condition_runner_view self.entry }
     {
-        LimitedCondition::new(self, units)
+        ConditionRunner {
+            runner: self.runner.limited(units),
+        }
+    }
+
+    /// The runner, with no limit.
+    pub fn unlimited(self) -> ConditionRunner<'c>
+        ensures { condition_runner_view result ≡ condition_runner_view self.entry }
+    {
+        ConditionRunner {
+            runner: self.runner.unlimited(),
+        }
     }
 
     /// Whether the condition holds of a document, as [`Condition::holds`].
-    pub fn holds<T: Queryable>(&mut self, alloc: Global, value: &T) -> Queried<bool>
+    pub fn holds<T: Queryable>(&mut self, alloc: Global, value: &T) -> Result<bool, L::Stop>
         requires { IsTrue (T.is_whole value.now) }
         ensures holds { IfOk result (λ b. b
             ≡ holds (condition_runner_view self.old) (document_of T.tree T.custom value.now)
             (root_node (T.tree value.now))) }
         ensures same { condition_runner_view self.new ≡ condition_runner_view self.old }
-        ensures refused { IfErr result (IsStop (filter_query (condition_runner_view self.old)) (document_of T.tree T.custom value.now)) }
+        ensures refused { IfErr result (IsConditionStop L.stops (condition_runner_view self.old) (document_of T.tree T.custom value.now)) }
     {
-        match self.decided(alloc, Budget::unlimited(), WholeRef { value }) {
-            Ok(held) => Ok(held),
-            Err(halt) => Err(halt.told(alloc)),
-        }
-    }
-
-    /// The query `$[?..]` of the condition.
-    pub(crate) fn query(&self) -> &JpQuery
-        ensures { query_view result.now ≡ prepared_view self.now.condition.now.prepared }
-    {
-        self.condition.prepared.query()
-    }
-
-    /// Whether it holds, for this work. What asks the patterns is lent, and comes back.
-    pub(crate) fn decided<T: Queryable>(
-        &mut self,
-        alloc: Global,
-        budget: Budget,
-        value: WholeRef<'_, T>,
-    ) -> Walked<bool>
-        ensures holds { IfOk result (λ b. b
-            ≡ holds (condition_runner_view self.old) (document_at value.entry) (root_node
-            (tree_of value.entry))) }
-        ensures same { condition_runner_view self.new ≡ condition_runner_view self.old }
-        ensures refused { IfErr result (IsHalt budget.limit
-            (segments_patterns (filter_query (condition_runner_view self.old)))
-            (document_at value.entry)) }
-    {
-        let condition = self.condition;
-        let finders = mem::replace(&mut self.finders, condition.prepared.finders(alloc));
-        let (held, finders) = decide(alloc, condition.prepared.request(finders, budget), value);
-        self.finders = finders;
-        held
+        self.runner.decided(alloc, WholeRef { value })
     }
 }
 
 /// `ConditionRunner` and its query between parentheses, as that is shown.
-impl<'c> Debug for ConditionRunner<'c> {
-    ghost debug_output = { λ r. Some (codes "ConditionRunner(" ++ query_shown (prepared_view r.condition.now.prepared) ++ codes ")") };
+impl<'c, L: Limits> Debug for ConditionRunner<'c, L> {
+    ghost debug_output = { λ r. Some (codes "ConditionRunner(" ++ query_shown (runner_view r.runner) ++ codes ")") };
 
     fn fmt<W: Write>(&self, f: &mut Formatter<W>) -> fmt::Result {
-        write!(f, "ConditionRunner({})", self.query())
+        write!(f, "ConditionRunner({})", self.runner.query())
     }
 }
 

@@ -1,17 +1,15 @@
 //! A query that is prepared once, to be asked of many documents.
 ghost use Rattle.std.specs.Prelude.{◌++◌, ◌≡◌, ◌≤◌, codes, IfErr, IfOk, MatchResult, Some};
 ghost use Rattle.jsonpath_rust.specs.Prelude.Documents.{Derives, HasIndexesInRange, IsNormal, IsRefusal, Location, OutOfMemory, Query, query_shown, query_view, steps_query};
-ghost use Rattle.jsonpath_rust.specs.Prelude.Selection.{plan_view, prepared_view, runner_view};
-ghost use Rattle.jsonpath_base.specs.Engine.{finder_count};
+ghost use Rattle.jsonpath_rust.specs.selection.inner.Planned.{IsPlanOf, IsPlanOf-prop, plan_view};
 
 use crate::documents::Queried;
-use crate::selection::budget::Budget;
-use crate::selection::give::Request;
+use crate::selection::plan::{Plan, plan_of, release};
 use crate::selection::planned::Planned;
 use crate::selection::runner::Runner;
-use jsonpath_base::engine::{Cells, KeptFinders};
+use jsonpath_base::engine::Cells;
 use jsonpath_parser::model::JpQuery;
-use jsonpath_parser::{MAX_NESTING_DEPTH, parse_json_path_within};
+use jsonpath_parser::{MAX_NESTING_DEPTH, let_go, parse_json_path_within};
 use std::alloc::Global;
 use std::fmt;
 use std::fmt::{Debug, Formatter, Write};
@@ -24,26 +22,51 @@ use std::fmt::{Debug, Formatter, Write};
 /// Nothing of a document outlasts a call.
 #[derive(Drop)]
 pub struct Prepared {
-    planned: Planned,
+    query: JpQuery,
+    plan: Plan,
     /// Where its patterns are built.
     cells: Cells,
+    ghost same: { IsPlanOf (query_view query) plan } by { IsPlanOf-prop (query_view query) plan },
+}
+
+/// The same of a query that is borrowed, which [`Prepared::of`] makes.
+#[derive(Drop)]
+pub struct PreparedRef<'q> {
+    query: &'q JpQuery,
+    plan: Plan,
+    /// Where its patterns are built.
+    cells: Cells,
+    ghost same: { IsPlanOf (query_view query.now) plan } by { IsPlanOf-prop (query_view query.now) plan },
 }
 
 impl Prepared {
+    ghost use Rattle.jsonpath_rust.specs.Prelude.Selection.{planned_view, prepared_ref_view, prepared_view, runner_view};
+
     /// Prepares a query. No pattern is built yet: the cost is linear in the query. It refuses by
     /// `OutOfMemory` alone, and lets the query go then.
     pub fn new(alloc: Global, query: JpQuery) -> Queried<Self>
         ensures query { IfOk result (λ p. prepared_view p ≡ query_view query) }
         ensures memory { IfErr result (λ e. e ≡ OutOfMemory) }
     {
-        let planned = Planned::new(alloc, query)?;
-        match Cells::new(alloc, planned.plan.pattern_count) {
-            Ok(cells) => Ok(Prepared { planned, cells }),
+        match plan_with_cells(alloc, &query) {
+            Ok((plan, cells)) => Ok(Prepared { query, plan, cells }),
             Err(error) => {
-                planned.release();
-                Err(error.into())
+                let_go(query);
+                Err(error)
             }
         }
+    }
+
+    /// Prepares a query that stays with its owner. The cost is linear in the query. It refuses by
+    /// `OutOfMemory` alone.
+    ///
+    /// A tree that is not well-typed is evaluated in the same way here, and not by `process`.
+    pub fn of(alloc: Global, query: &JpQuery) -> Queried<PreparedRef<'_>>
+        ensures query { IfOk result (λ p. prepared_ref_view p ≡ query_view query.now) }
+        ensures memory { IfErr result (λ e. e ≡ OutOfMemory) }
+    {
+        let (plan, cells) = plan_with_cells(alloc, query)?;
+        Ok(PreparedRef { query, plan, cells })
     }
 
     /// Reads a query text, in which no more than 128 brackets stand open, and prepares it.
@@ -90,7 +113,7 @@ impl Prepared {
     pub fn query(&self) -> &JpQuery
         ensures { query_view result.now ≡ prepared_view self.now }
     {
-        &self.planned.query
+        &self.query
     }
 
     /// What asks the query of one document after another, and keeps what searches for its patterns.
@@ -98,34 +121,70 @@ impl Prepared {
     pub fn runner(&self, alloc: Global) -> Runner<'_>
         ensures { runner_view result ≡ prepared_view self.now }
     {
-        Runner::new(alloc, self)
+        Runner::new(alloc, self.planned())
     }
 
-    /// What asks its patterns, with none asked yet.
-    pub(crate) fn finders(&self, alloc: Global) -> KeptFinders<'_>
-        ensures { finder_count result ≡ 0 }
+    /// The query beside its plan.
+    pub(crate) fn planned(&self) -> Planned<'_>
+        ensures { planned_view result ≡ prepared_view self.now }
     {
-        KeptFinders::new(alloc, &self.cells)
-    }
-
-    /// What is asked of a document, for this work.
-    pub(crate) fn request<'p>(&'p self, finders: KeptFinders<'p>, budget: Budget) -> Request<'p, 'p>
-        ensures plan { plan_view result.plan.now ≡ prepared_view self.now }
-        ensures budget { result.budget ≡ budget }
-    {
-        Request {
-            plan: &self.planned.plan,
-            finders,
-            budget,
+        Planned {
+            query: &self.query,
+            plan: &self.plan,
+            cells: &self.cells,
         }
+    }
+}
+
+impl<'q> PreparedRef<'q> {
+    ghost use Rattle.jsonpath_rust.specs.Prelude.Selection.{prepared_ref_view, runner_view};
+
+    /// What asks the query of one document after another, as [`Prepared::runner`].
+    pub fn runner(&self, alloc: Global) -> Runner<'_>
+        ensures { runner_view result ≡ prepared_ref_view self.now }
+    {
+        let planned = Planned {
+            query: self.query,
+            plan: &self.plan,
+            cells: &self.cells,
+        };
+        Runner::new(alloc, planned)
     }
 }
 
 /// `Prepared` and its query between parentheses, as that is shown.
 impl Debug for Prepared {
+    ghost use Rattle.jsonpath_rust.specs.Prelude.Selection.{prepared_view};
+
     ghost debug_output = { λ p. Some (codes "Prepared(" ++ query_shown (prepared_view p) ++ codes ")") };
 
     fn fmt<W: Write>(&self, f: &mut Formatter<W>) -> fmt::Result {
         write!(f, "Prepared({})", self.query())
+    }
+}
+
+/// `PreparedRef` and its query between parentheses, as that is shown.
+impl<'q> Debug for PreparedRef<'q> {
+    ghost use Rattle.jsonpath_rust.specs.Prelude.Selection.{prepared_ref_view};
+
+    ghost debug_output = { λ p. Some (codes "PreparedRef(" ++ query_shown (prepared_ref_view p) ++ codes ")") };
+
+    fn fmt<W: Write>(&self, f: &mut Formatter<W>) -> fmt::Result {
+        write!(f, "PreparedRef({})", self.query)
+    }
+}
+
+/// The plan of a query, and where its patterns are built.
+fn plan_with_cells(alloc: Global, query: &JpQuery) -> Queried<(Plan, Cells)>
+    ensures plan { IfOk result (λ p. plan_view p.0 ≡ query_view query.now) }
+    ensures memory { IfErr result (λ e. e ≡ OutOfMemory) }
+{
+    let plan = plan_of(alloc, query)?;
+    match Cells::new(alloc, plan.pattern_count) {
+        Ok(cells) => Ok((plan, cells)),
+        Err(error) => {
+            release(plan);
+            Err(error.into())
+        }
     }
 }

@@ -1,67 +1,97 @@
-//! A prepared query that is asked of one document after another.
-ghost use Rattle.std.specs.Prelude.{◌++◌, ◌↔◌, ◌≡◌, [], All, codes, IfErr, IfNone, IfOk, IfSome, IsFalse, IsTrue, map, Some, string_bytes};
-ghost use Rattle.jsonpath_rust.specs.Prelude.Documents.{AllZip, document_at, document_of, IsNodeAt, IsPathAt, IsStop, IsValueAt, location_view, nodelist, paths_of, query_shown, query_view, segments_patterns, selected, shown};
-ghost use Rattle.jsonpath_rust.specs.Prelude.Selection.{give, IsFirstNode, IsHalt, IsOnly, IsRemovalOf, limited_view, node_count, prepared_view, runner_view, seen, sole_value, Takes};
+//! A prepared query that is asked of one document after another, under a limit of work or none.
+ghost use Rattle.std.specs.Prelude.{◌++◌, ◌≡◌, codes, IfErr, IfOk, IsTrue, Some};
+ghost use Rattle.jsonpath_rust.specs.Prelude.Documents.{AreLocations, AreNodes, ArePaths, AreValues, distinct_count, document_at, document_of, holds, is_among, nodelist, query_shown, query_view, root_node, selected, tree_of};
+ghost use Rattle.jsonpath_rust.specs.Prelude.Selection.{expression_of, give, IsConditionStop, IsCount, IsFirst, IsOnlyNode, IsRemovalOf, IsStopOf, plan_view, planned_view, runner_view, seen, TellsWhether};
+ghost use Rattle.jsonpath_rust.specs.Prelude.Calls.{Runs};
+ghost use Rattle.jsonpath_base.specs.RemovalViews.{ordered_count, ordered_set};
 
-use crate::documents::halt::Walked;
+use crate::documents::halt::Halt;
 use crate::documents::nodes::{WholeNode, WholeNodes, WholeOnly, WholeValues};
 use crate::documents::queryable::Queryable;
 use crate::documents::whole::WholeRef;
-use crate::documents::{Queried, QueryPath, QueryRef};
+use crate::documents::{QueryPath, QueryRef};
 use crate::selection::budget::Budget;
-use crate::selection::give::give_requested;
-use crate::selection::limited::Limited;
+use crate::selection::deciding::decide;
+use crate::selection::give::{Request, give_requested};
+use crate::selection::limits::{Limits, Units, Unlimited, condition_budget, query_budget};
 use crate::selection::only::Only;
-use crate::selection::prepared::Prepared;
+use crate::selection::planned::Planned;
 use crate::selection::sink::Sink;
 use jsonpath_base::Step;
-use jsonpath_base::engine::{KeptFinders, Removal};
+use jsonpath_base::engine::{KeptFinders, OrderedRemoval, Removal};
 use jsonpath_parser::model::JpQuery;
 use std::alloc::Global;
 use std::fmt::{Debug, Formatter, Write};
 use std::{fmt, mem};
 
-/// What runs a [`Prepared`] query on one document after another. Beside what `Prepared` keeps, what
-/// searches for its patterns stays from one call to the next, so that only the first call makes it.
+/// What runs a prepared query on one document after another, under a limit of work or none.
+/// Beside what [`Prepared`] keeps, what searches for its patterns stays from one call to the next, so
+/// that only the first call makes it.
 ///
 /// For queries of strangers the work of each call can be limited, by [`Runner::limited`].
 ///
 /// # Errors
 ///
-/// Each call has those of [`selected_nodes`]: `InvalidJsonPath` where `regex` refuses a pattern for
-/// its size, and `OutOfMemory`. The query can be run again after that.
+/// - `InvalidJsonPath` where `regex` refuses a pattern for its size: one that stands in the query, in a call of `match` or
+///   `search`, and whose value at some node of the document is a text that `regex` reads.
+/// - `OutOfMemory` where memory ran out.
 ///
-/// [`selected_nodes`]: crate::selection::selected_nodes
+/// Under a limit these are [`Stop::Refused`], and [`Stop::Spent`] says that the units were not
+/// enough. The query can be run again after each.
+///
+/// [`Prepared`]: crate::selection::Prepared
+/// [`Stop::Refused`]: crate::selection::Stop::Refused
+/// [`Stop::Spent`]: crate::selection::Stop::Spent
 #[derive(Drop)]
-pub struct Runner<'p> {
-    prepared: &'p Prepared,
+pub struct Runner<'p, L: Limits = Unlimited> {
+    planned: Planned<'p>,
     finders: KeptFinders<'p>,
+    limits: L,
 }
 
 impl<'p> Runner<'p> {
-    /// A runner of this query. Nothing is allocated yet.
-    pub fn new(alloc: Global, prepared: &'p Prepared) -> Self
-        ensures { runner_view result ≡ prepared_view prepared.now }
+    /// A runner of this query, with no limit.
+    pub(crate) fn new(alloc: Global, planned: Planned<'p>) -> Self
+        ensures { runner_view result ≡ planned_view planned.entry }
     {
+        let finders = KeptFinders::new(alloc, planned.cells);
         Runner {
-            prepared,
-            finders: prepared.finders(alloc),
+            planned,
+            finders,
+            limits: Unlimited,
         }
     }
+}
 
+impl<'p, L: Limits> Runner<'p, L> {
     /// The query.
     pub fn query(&self) -> &JpQuery
         ensures { query_view result.now ≡ runner_view self.now }
     {
-        self.prepared.query()
+        self.planned.query
     }
 
     /// The runner, with a limit: each of its calls may take so many units of work. What these are
-    /// spent for stands at [`Limited`].
-    pub fn limited(self, units: usize) -> Limited<'p>
-        ensures { limited_view result ≡ runner_view self.entry }
+    /// spent for stands at [`Units`].
+    pub fn limited(self, units: usize) -> Runner<'p, Units>
+        ensures { runner_view result ≡ runner_view self.entry }
     {
-        Limited::new(self, units)
+        Runner {
+            planned: self.planned,
+            finders: self.finders,
+            limits: Units::new(units),
+        }
+    }
+
+    /// The runner, with no limit.
+    pub fn unlimited(self) -> Runner<'p>
+        ensures { runner_view result ≡ runner_view self.entry }
+    {
+        Runner {
+            planned: self.planned,
+            finders: self.finders,
+            limits: Unlimited,
+        }
     }
 
     /// The nodes that the query selects in a document, in order (RFC 9535, 2.1.2).
@@ -69,13 +99,9 @@ impl<'p> Runner<'p> {
         &mut self,
         alloc: Global,
         value: &'a T,
-    ) -> Queried<Vec<QueryRef<'a, T>>>
+    ) -> Result<Vec<QueryRef<'a, T>>, L::Stop>
         requires { IsTrue (T.is_whole value.now) }
-        ensures nodes { IfOk result (λ v. AllZip (IsNodeAt (document_of T.tree T.custom value.now))
-            (selected (runner_view self.old) (document_of T.tree T.custom value.now)) (shown T.tree v.items)) }
-        ensures whole { IfOk result (λ v. All (λ r. IsTrue (T.is_whole r.val.now)) v.items) }
-        ensures same { runner_view self.new ≡ runner_view self.old }
-        ensures refused { IfErr result (IsStop (runner_view self.old) (document_of T.tree T.custom value.now)) }
+        ensures { Runs L.stops (runner_view self.old) (runner_view self.new) (document_of T.tree T.custom value.now) (AreNodes T.Queryable.own) result }
     {
         let begun = Sink::Nodes(WholeNodes::new(alloc));
         let sink = self.give_all(alloc, WholeRef { value }, begun)?;
@@ -83,13 +109,13 @@ impl<'p> Runner<'p> {
     }
 
     /// The values of these nodes, in order. No path is made.
-    pub fn values<'a, T: Queryable>(&mut self, alloc: Global, value: &'a T) -> Queried<Vec<&'a T>>
+    pub fn values<'a, T: Queryable>(
+        &mut self,
+        alloc: Global,
+        value: &'a T,
+    ) -> Result<Vec<&'a T>, L::Stop>
         requires { IsTrue (T.is_whole value.now) }
-        ensures values { IfOk result (λ v. AllZip (IsValueAt (document_of T.tree T.custom value.now))
-            (selected (runner_view self.old) (document_of T.tree T.custom value.now)) (map (λ x. T.tree x.now) v.items)) }
-        ensures whole { IfOk result (λ v. All (λ x. IsTrue (T.is_whole x.now)) v.items) }
-        ensures same { runner_view self.new ≡ runner_view self.old }
-        ensures refused { IfErr result (IsStop (runner_view self.old) (document_of T.tree T.custom value.now)) }
+        ensures { Runs L.stops (runner_view self.old) (runner_view self.new) (document_of T.tree T.custom value.now) (AreValues T.Queryable.own) result }
     {
         let begun = Sink::Values(WholeValues::new(alloc));
         let sink = self.give_all(alloc, WholeRef { value }, begun)?;
@@ -97,24 +123,26 @@ impl<'p> Runner<'p> {
     }
 
     /// The Normalized Paths of these nodes (RFC 9535, 2.7), in order.
-    pub fn paths<T: Queryable>(&mut self, alloc: Global, value: &T) -> Queried<Vec<QueryPath>>
+    pub fn paths<T: Queryable>(
+        &mut self,
+        alloc: Global,
+        value: &T,
+    ) -> Result<Vec<QueryPath>, L::Stop>
         requires { IsTrue (T.is_whole value.now) }
-        ensures paths { IfOk result (λ v. AllZip (IsPathAt (document_of T.tree T.custom value.now))
-            (selected (runner_view self.old) (document_of T.tree T.custom value.now)) (paths_of v.items)) }
-        ensures same { runner_view self.new ≡ runner_view self.old }
-        ensures refused { IfErr result (IsStop (runner_view self.old) (document_of T.tree T.custom value.now)) }
+        ensures { Runs L.stops (runner_view self.old) (runner_view self.new) (document_of T.tree T.custom value.now) ArePaths result }
     {
         let sink = self.give_all(alloc, WholeRef { value }, Sink::Paths(Vec::new(alloc)))?;
         Ok(sink.into_paths(alloc))
     }
 
     /// The locations of these nodes, in order.
-    pub fn locations<T: Queryable>(&mut self, alloc: Global, value: &T) -> Queried<Vec<Vec<Step>>>
+    pub fn locations<T: Queryable>(
+        &mut self,
+        alloc: Global,
+        value: &T,
+    ) -> Result<Vec<Vec<Step>>, L::Stop>
         requires { IsTrue (T.is_whole value.now) }
-        ensures locations { IfOk result (λ v. map (λ l. location_view l.items) v.items
-            ≡ selected (runner_view self.old) (document_of T.tree T.custom value.now)) }
-        ensures same { runner_view self.new ≡ runner_view self.old }
-        ensures refused { IfErr result (IsStop (runner_view self.old) (document_of T.tree T.custom value.now)) }
+        ensures { Runs L.stops (runner_view self.old) (runner_view self.new) (document_of T.tree T.custom value.now) AreLocations result }
     {
         let begun = Sink::Locations(Vec::new(alloc));
         let sink = self.give_all(alloc, WholeRef { value }, begun)?;
@@ -127,14 +155,9 @@ impl<'p> Runner<'p> {
         &mut self,
         alloc: Global,
         value: &'a T,
-    ) -> Queried<Option<QueryRef<'a, T>>>
+    ) -> Result<Option<QueryRef<'a, T>>, L::Stop>
         requires { IsTrue (T.is_whole value.now) }
-        ensures first { IfOk result (λ o. IfSome o (λ r. IsFirstNode (runner_view self.old)
-            (document_of T.tree T.custom value.now) (string_bytes r.path, T.tree r.val.now))) }
-        ensures none { IfOk result (λ o. IfNone o (selected (runner_view self.old) (document_of T.tree T.custom value.now) ≡ [])) }
-        ensures whole { IfOk result (λ o. IfSome o (λ r. IsTrue (T.is_whole r.val.now))) }
-        ensures same { runner_view self.new ≡ runner_view self.old }
-        ensures refused { IfErr result (IsStop (runner_view self.old) (document_of T.tree T.custom value.now)) }
+        ensures { Runs L.stops (runner_view self.old) (runner_view self.new) (document_of T.tree T.custom value.now) (IsFirst T.Queryable.own) result }
     {
         let sink = self.give_all(alloc, WholeRef { value }, Sink::First(None))?;
         Ok(WholeNode::told(sink.into_first()))
@@ -142,12 +165,13 @@ impl<'p> Runner<'p> {
 
     /// The value of the only one of these nodes, or that there is none, or several. The document is
     /// walked no further than to the second node, and no path is made.
-    pub fn only<'a, T: Queryable>(&mut self, alloc: Global, value: &'a T) -> Queried<Only<'a, T>>
+    pub fn only<'a, T: Queryable>(
+        &mut self,
+        alloc: Global,
+        value: &'a T,
+    ) -> Result<Only<'a, T>, L::Stop>
         requires { IsTrue (T.is_whole value.now) }
-        ensures only { IfOk result (λ o. IsOnly T.tree (runner_view self.old) (document_of T.tree T.custom value.now) o) }
-        ensures whole { IfOk result (λ o. IfSome (sole_value o) (λ x. IsTrue (T.is_whole x))) }
-        ensures same { runner_view self.new ≡ runner_view self.old }
-        ensures refused { IfErr result (IsStop (runner_view self.old) (document_of T.tree T.custom value.now)) }
+        ensures { Runs L.stops (runner_view self.old) (runner_view self.new) (document_of T.tree T.custom value.now) (IsOnlyNode T.Queryable.own) result }
     {
         let begun = Sink::Only(WholeOnly::Nothing);
         let sink = self.give_all(alloc, WholeRef { value }, begun)?;
@@ -155,11 +179,9 @@ impl<'p> Runner<'p> {
     }
 
     /// How many these nodes are, up to 2^63 - 1. No path and no list is made.
-    pub fn count<T: Queryable>(&mut self, alloc: Global, value: &T) -> Queried<usize>
+    pub fn count<T: Queryable>(&mut self, alloc: Global, value: &T) -> Result<usize, L::Stop>
         requires { IsTrue (T.is_whole value.now) }
-        ensures count { IfOk result (λ n. n ≡ node_count (runner_view self.old) (document_of T.tree T.custom value.now)) }
-        ensures same { runner_view self.new ≡ runner_view self.old }
-        ensures refused { IfErr result (IsStop (runner_view self.old) (document_of T.tree T.custom value.now)) }
+        ensures { Runs L.stops (runner_view self.old) (runner_view self.new) (document_of T.tree T.custom value.now) IsCount result }
     {
         let sink = self.give_all(alloc, WholeRef { value }, Sink::Count(0))?;
         Ok(sink.into_count())
@@ -167,24 +189,44 @@ impl<'p> Runner<'p> {
 
     /// Whether the query selects a node. The document is walked no further than to the first, and
     /// no path is made.
-    pub fn has_node<T: Queryable>(&mut self, alloc: Global, value: &T) -> Queried<bool>
+    pub fn has_node<T: Queryable>(&mut self, alloc: Global, value: &T) -> Result<bool, L::Stop>
         requires { IsTrue (T.is_whole value.now) }
-        ensures none { IfOk result (λ b. IsFalse b ↔ (selected (runner_view self.old) (document_of T.tree T.custom value.now) ≡ [])) }
-        ensures same { runner_view self.new ≡ runner_view self.old }
-        ensures refused { IfErr result (IsStop (runner_view self.old) (document_of T.tree T.custom value.now)) }
+        ensures { Runs L.stops (runner_view self.old) (runner_view self.new) (document_of T.tree T.custom value.now) TellsWhether result }
     {
         let sink = self.give_all(alloc, WholeRef { value }, Sink::Any(false))?;
         Ok(sink.into_any())
     }
 
-    /// The locations of these nodes, to be removed.
-    pub(crate) fn removal<T: Queryable>(&mut self, alloc: Global, value: &T) -> Queried<Removal>
+    /// The locations of these nodes, in order, to be removed or replaced.
+    pub(crate) fn marked<T: Queryable>(
+        &mut self,
+        alloc: Global,
+        value: &T,
+    ) -> Result<OrderedRemoval, L::Stop>
+        requires { IsTrue (T.is_whole value.now) }
+        ensures set { IfOk result (λ r. ordered_set r ≡ is_among (selected (runner_view self.old) (document_of T.tree T.custom value.now))) }
+        ensures count { IfOk result (λ r. ordered_count r ≡ distinct_count (selected (runner_view self.old) (document_of T.tree T.custom value.now))) }
+        ensures same { runner_view self.new ≡ runner_view self.old }
+        ensures refused { IfErr result (IsStopOf L.stops (runner_view self.old) (document_of T.tree T.custom value.now)) }
+    {
+        let removal = self.removal(alloc, value)?;
+        match removal.ordered(alloc) {
+            Ok(marked) => Ok(marked),
+            Err(_memory) => Err(L::stop(alloc, Halt::Memory)),
+        }
+    }
+
+    /// These locations, as they come.
+    fn removal<T: Queryable>(&mut self, alloc: Global, value: &T) -> Result<Removal, L::Stop>
         requires { IsTrue (T.is_whole value.now) }
         ensures removal { IfOk result (λ r. IsRemovalOf r (selected (runner_view self.old) (document_of T.tree T.custom value.now))) }
         ensures same { runner_view self.new ≡ runner_view self.old }
-        ensures refused { IfErr result (IsStop (runner_view self.old) (document_of T.tree T.custom value.now)) }
+        ensures refused { IfErr result (IsStopOf L.stops (runner_view self.old) (document_of T.tree T.custom value.now)) }
     {
-        let begun = Sink::Removal(Box::new(alloc, Removal::new(alloc))?);
+        let begun = match Box::new(alloc, Removal::new(alloc)) {
+            Ok(removal) => Sink::Removal(removal),
+            Err(_memory) => return Err(L::stop(alloc, Halt::Memory)),
+        };
         let sink = self.give_all(alloc, WholeRef { value }, begun)?;
         match sink.into_removal() {
             Some(removal) => Ok(Box::into_inner(removal)),
@@ -192,53 +234,69 @@ impl<'p> Runner<'p> {
         }
     }
 
-    /// The sink, given the nodes, for any amount of work.
+    /// The sink, given the nodes.
     fn give_all<'a, T: Queryable>(
         &mut self,
         alloc: Global,
         value: WholeRef<'a, T>,
         mut sink: Sink<'a, T>,
-    ) -> Queried<Sink<'a, T>>
+    ) -> Result<Sink<'a, T>, L::Stop>
         ensures gave { IfOk result (λ s. seen s ≡ give (seen sink.entry) (nodelist (runner_view self.old) (document_at value.entry))) }
         ensures same { runner_view self.new ≡ runner_view self.old }
-        ensures refused { IfErr result (IsStop (runner_view self.old) (document_at value.entry)) }
+        ensures refused { IfErr result (IsStopOf L.stops (runner_view self.old) (document_at value.entry)) }
     {
-        match self.give(alloc, Budget::unlimited(), value, &mut sink) {
+        let budget = query_budget(&self.limits, self.planned.query);
+        let request = self.lend(alloc, budget);
+        let (given, finders) = give_requested(alloc, request, value, &mut sink);
+        self.finders = finders;
+        match given {
             Ok(_goes_on) => Ok(sink),
             Err(halt) => {
                 drop(sink);
-                Err(halt.told(alloc))
+                Err(L::stop(alloc, halt))
             }
         }
     }
 
-    /// Gives the nodes to the sink. What asks the patterns is lent to the walk, and comes back.
-    pub(crate) fn give<'a, T: Queryable>(
+    /// Whether the one filter holds that the query is of, at the root of a document.
+    pub(crate) fn decided<T: Queryable>(
         &mut self,
         alloc: Global,
-        budget: Budget,
-        value: WholeRef<'a, T>,
-        sink: &mut Sink<'a, T>,
-    ) -> Walked<bool>
-        ensures gave { Takes sink.old sink.new (nodelist (runner_view self.old) (document_at value.entry)) result }
+        value: WholeRef<'_, T>,
+    ) -> Result<bool, L::Stop>
+        ensures holds { IfOk result (λ b. b
+            ≡ holds (expression_of (runner_view self.old)) (document_at value.entry) (root_node
+            (tree_of value.entry))) }
         ensures same { runner_view self.new ≡ runner_view self.old }
-        ensures refused { IfErr result (IsHalt budget.limit (segments_patterns (runner_view self.old)) (document_at value.entry)) }
+        ensures refused { IfErr result (IsConditionStop L.stops (expression_of (runner_view self.old)) (document_at value.entry)) }
     {
-        let prepared = self.prepared;
-        let finders = mem::replace(&mut self.finders, prepared.finders(alloc));
-        let (given, finders) = give_requested(
-            alloc,
-            prepared.request(finders, budget),
-            value,
-            sink,
-        );
+        let budget = condition_budget(&self.limits, self.planned.query);
+        let request = self.lend(alloc, budget);
+        let (held, finders) = decide(alloc, request, value);
         self.finders = finders;
-        given
+        match held {
+            Ok(held) => Ok(held),
+            Err(halt) => Err(L::stop(alloc, halt)),
+        }
+    }
+
+    /// What is asked of a document, for this work. What asks the patterns is lent, to be put back.
+    fn lend(&mut self, alloc: Global, budget: Budget) -> Request<'p, 'p>
+        ensures plan { plan_view result.plan.now ≡ runner_view self.old }
+        ensures budget { result.budget ≡ budget }
+        ensures same { runner_view self.new ≡ runner_view self.old }
+    {
+        let finders = KeptFinders::new(alloc, self.planned.cells);
+        Request {
+            plan: self.planned.plan,
+            finders: mem::replace(&mut self.finders, finders),
+            budget,
+        }
     }
 }
 
 /// `Runner` and its query between parentheses, as that is shown.
-impl<'p> Debug for Runner<'p> {
+impl<'p, L: Limits> Debug for Runner<'p, L> {
     ghost debug_output = { λ r. Some (codes "Runner(" ++ query_shown (runner_view r) ++ codes ")") };
 
     fn fmt<W: Write>(&self, f: &mut Formatter<W>) -> fmt::Result {

@@ -17,6 +17,14 @@ impl<'a, T: Queryable> WholeRef<'a, T> {
         }
     }
 
+    /// A value that is known to be whole.
+    pub fn of(value: &'a T) -> Self
+        requires { IsTrue (T.is_whole value.now) }
+        ensures { result.value.now ≡ value.now }
+    {
+        WholeRef { value }
+    }
+
     /// The value.
     pub fn get(self) -> &'a T
         ensures same { result.now ≡ self.entry.value.now }

@@ -1,38 +1,19 @@
-//! What is asked of a whole `Value` alone, and changed in it.
-ghost use Rattle.std.specs.Prelude.{◌≡◌, ◌≤◌, false, IfErr, IfOk, IfSome, is_some, IsTrue, map, MatchResult, OnErr, OnOk, option_map};
-ghost use Rattle.jsonpath_rust.specs.Prelude.Documents.{Derives, distinct_count, HasIndexesInRange, is_among, IsNormal, IsPut, IsQueryRefusal, IsReferred, IsReplaced, IsStop, Location, location_view, null, OutOfMemory, overwritten, owned_step, put, Query, query_view, selected, value_document, value_is_whole, value_tree, view, without};
-ghost use Rattle.jsonpath_rust.specs.Prelude.Calls.{Deletes, IsDeletion, IsDeletionAt, IsReplacement, IsReplacementAt, Replaces};
+//! What is changed in a whole `Value`.
+ghost use Rattle.std.specs.Prelude.{◌≡◌, false, IfErr, IfOk, is_some, map, OnErr, OnOk, option_map};
+ghost use Rattle.jsonpath_rust.specs.Prelude.Documents.{distinct_count, HasIndexesInRange, is_among, IsNormal, IsPut, IsReplaced, Location, location_view, null, OutOfMemory, overwritten, owned_step, put, value_document, value_tree, view, without};
+ghost use Rattle.jsonpath_rust.specs.Prelude.Calls.{ByText, Deletion, DeletionAt, Replacement, ReplacementAt};
 ghost use Rattle.jsonpath_base.specs.Added.{added, takes_at};
 ghost use Rattle.jsonpath_base.specs.Places as places;
 
 use crate::documents::Queried;
-use crate::documents::queryable::Queryable;
 use crate::documents::whole::Whole;
-use crate::query::{
-    delete_selected, delete_within, replace_by_path, replace_selected, replace_within,
-};
+use crate::query::{delete_within, replace_all_by_path, replace_by_path, replace_within};
 use jsonpath_base::{Step, add_at, put_at, remove_all, replace_all, take_at};
 use jsonpath_parser::MAX_NESTING_DEPTH;
-use jsonpath_parser::model::JpQuery;
 use serde_json::Value;
 use std::alloc::Global;
 
 impl Whole<Value> {
-    /// The value at the one location that a path of names and indexes means, as
-    /// [`Queryable::reference`]. It refuses by `OutOfMemory` alone.
-    pub fn reference(&self, alloc: Global, path: &str) -> Queried<Option<&Value>>
-        ensures value { IfOk result (λ o. IsReferred path.now (value_document self.now.value) (option_map (λ v. value_tree v.now) o)) }
-
-        // The Normalized Path of a location gives what stands there.
-        ensures normal { (l : Location) → IsNormal l path.now → HasIndexesInRange l →
-            IfOk result (λ o. option_map (λ v. value_tree v.now) o
-            ≡ places.at l (value_tree self.now.value)) }
-        ensures whole { IfOk result (λ o. IfSome o (λ v. IsTrue (value_is_whole v.now))) }
-        ensures memory { IfErr result (λ e. e ≡ OutOfMemory) }
-    {
-        self.value.reference(alloc, path)
-    }
-
     /// Puts a value at the one location that a path of names and indexes means, as
     /// [`replace_by_path`].
     pub fn replace_by_path(&mut self, alloc: Global, path: &str, new: Whole<Value>) -> Queried<bool>
@@ -90,56 +71,20 @@ impl Whole<Value> {
     /// Removes all locations that a query text selects, at once, as [`delete_within`] at a depth of
     /// 128.
     pub fn delete_by_path(&mut self, alloc: Global, path: &str) -> Queried<usize>
-        ensures deleted { IfOk result (Deletes MAX_NESTING_DEPTH path.now (value_document self.old.value) (value_tree self.new.value)) }
-
-        // Whatever query the text derives, what it selects is removed, unless memory ran out or a
-        // pattern was refused.
-        ensures only { (q : Query) → Derives MAX_NESTING_DEPTH path.now q → MatchResult result
-            (IsDeletion q (value_document self.old.value) (value_tree self.new.value))
-            (IsStop q (value_document self.old.value)) }
-
-        // A Normalized Path is refused by `OutOfMemory` alone. Its location is removed, and nothing
-        // where nothing is there.
-        ensures normal { (l : Location) → IsNormal l path.now → HasIndexesInRange l → MatchResult result
-            (IsDeletionAt l (value_tree self.old.value) (value_tree self.new.value))
-            (λ e. e ≡ OutOfMemory) }
+        ensures deleted { ByText MAX_NESTING_DEPTH path.now (value_document self.old.value) (Deletion (value_tree self.new.value))
+            (DeletionAt (value_tree self.new.value)) result }
         ensures kept { OnErr result (self.new.value ≡ self.old.value) }
-        ensures refused { IfErr result (IsQueryRefusal MAX_NESTING_DEPTH path.now (value_document self.old.value)) }
     {
         delete_within(alloc, &mut self.value, path, MAX_NESTING_DEPTH)
     }
 
     /// Removes all locations that a query text selects, at once, as [`delete_within`].
     pub fn delete_within(&mut self, alloc: Global, path: &str, depth: usize) -> Queried<usize>
-        ensures deleted { IfOk result (Deletes depth path.now (value_document self.old.value) (value_tree self.new.value)) }
-
-        // Whatever query the text derives, what it selects is removed, unless memory ran out or a
-        // pattern was refused.
-        ensures only { (q : Query) → Derives depth path.now q → MatchResult result
-            (IsDeletion q (value_document self.old.value) (value_tree self.new.value))
-            (IsStop q (value_document self.old.value)) }
-
-        // A Normalized Path is refused by `OutOfMemory` alone. Its location is removed, and nothing
-        // where nothing is there.
-        ensures normal { (l : Location) → IsNormal l path.now → HasIndexesInRange l → 1 ≤ depth → MatchResult result
-            (IsDeletionAt l (value_tree self.old.value) (value_tree self.new.value))
-            (λ e. e ≡ OutOfMemory) }
+        ensures deleted { ByText depth path.now (value_document self.old.value) (Deletion (value_tree self.new.value))
+            (DeletionAt (value_tree self.new.value)) result }
         ensures kept { OnErr result (self.new.value ≡ self.old.value) }
-        ensures refused { IfErr result (IsQueryRefusal depth path.now (value_document self.old.value)) }
     {
         delete_within(alloc, &mut self.value, path, depth)
-    }
-
-    /// Removes all locations that a query selects, as [`delete_selected`].
-    pub fn delete_selected(&mut self, alloc: Global, query: &JpQuery) -> Queried<usize>
-        ensures removed { OnOk result (value_tree self.new.value
-            ≡ without (is_among (selected (query_view query.now) (value_document self.old.value)))
-            (value_tree self.old.value)) }
-        ensures count { IfOk result (λ n. n ≡ distinct_count (selected (query_view query.now) (value_document self.old.value))) }
-        ensures kept { OnErr result (self.new.value ≡ self.old.value) }
-        ensures refused { IfErr result (IsStop (query_view query.now) (value_document self.old.value)) }
-    {
-        delete_selected(alloc, &mut self.value, query)
     }
 
     /// Removes all these locations, at once, as [`remove_all`].
@@ -163,42 +108,27 @@ impl Whole<Value> {
         depth: usize,
         new: &Whole<Value>,
     ) -> Queried<usize>
-        ensures replaced { IfOk result (Replaces depth path.now (value_tree new.now.value)
-            (value_document self.old.value) (value_tree self.new.value)) }
-
-        // Whatever query the text derives, what it selects is replaced, unless memory ran out or a
-        // pattern was refused.
-        ensures only { (q : Query) → Derives depth path.now q → MatchResult result
-            (IsReplacement q (value_tree new.now.value) (value_document self.old.value) (value_tree self.new.value))
-            (IsStop q (value_document self.old.value)) }
-
-        // A Normalized Path is refused by `OutOfMemory` alone. The copy stands at its location, and
-        // nowhere where nothing is there.
-        ensures normal { (l : Location) → IsNormal l path.now → HasIndexesInRange l → 1 ≤ depth → MatchResult result
-            (IsReplacementAt l (value_tree new.now.value) (value_tree self.old.value) (value_tree self.new.value))
-            (λ e. e ≡ OutOfMemory) }
+        ensures replaced { ByText depth path.now (value_document self.old.value)
+            (Replacement (value_tree new.now.value) (value_tree self.new.value))
+            (ReplacementAt (value_tree new.now.value) (value_tree self.new.value)) result }
         ensures kept { OnErr result (self.new.value ≡ self.old.value) }
-        ensures refused { IfErr result (IsQueryRefusal depth path.now (value_document self.old.value)) }
     {
         replace_within(alloc, &mut self.value, path, depth, &new.value)
     }
 
-    /// Puts a copy of `new` at all locations that a query selects, as [`replace_selected`].
-    pub fn replace_selected(
+    /// The same, as [`replace_all_by_path`], at a depth of 128.
+    pub fn replace_all_by_path(
         &mut self,
         alloc: Global,
-        query: &JpQuery,
+        path: &str,
         new: &Whole<Value>,
     ) -> Queried<usize>
-        ensures replaced { OnOk result (value_tree self.new.value
-            ≡ overwritten (is_among (selected (query_view query.now)
-            (value_document self.old.value))) (value_tree new.now.value)
-            (value_tree self.old.value)) }
-        ensures count { IfOk result (λ n. n ≡ distinct_count (selected (query_view query.now) (value_document self.old.value))) }
+        ensures replaced { ByText MAX_NESTING_DEPTH path.now (value_document self.old.value)
+            (Replacement (value_tree new.now.value) (value_tree self.new.value))
+            (ReplacementAt (value_tree new.now.value) (value_tree self.new.value)) result }
         ensures kept { OnErr result (self.new.value ≡ self.old.value) }
-        ensures refused { IfErr result (IsStop (query_view query.now) (value_document self.old.value)) }
     {
-        replace_selected(alloc, &mut self.value, query, &new.value)
+        replace_all_by_path(alloc, &mut self.value, path, &new.value)
     }
 
     /// Puts a copy of `new` at all these locations, at once, as [`replace_all`].

@@ -1,9 +1,14 @@
-use Rattle.std.proofs.Common.{sym, ◌∙◌}
-use Rattle.jsonpath_rust.specs.Prelude.Documents.{document_of, query_view, shown}
+use Rattle.std.proofs.Common.{IfOk, subst, sym, ◌∙◌}
+use Rattle.std.proofs.lemmas.Result.{IfOk-weaker}
+use Rattle.jsonpath_rust.specs.Prelude.Documents.{AllZip, AreNodes, document_of, IsNodeAt, query_view, selected, shown}
 use Rattle.jsonpath_rust.proofs.laws.states.{typed-nodes}
 use Rattle.jsonpath_rust.proofs.query.js_path_process.Goals as goal
 
-pub returns-then-is_typed-clause-processed : goal.returns-then-is_typed-clause-processed
-returns-then-is_typed-clause-processed g c =
+pub returns-in_ok-prepared-clause-processed : goal.returns-in_ok-prepared-clause-processed
+returns-in_ok-prepared-clause-processed g c =
     let tree = g.T.Queryable.tree in
-    typed-nodes (λ v. shown tree v.items) (query_view c.args.path.now) (document_of tree g.T.Queryable.custom c.args.value.now) c.selected_nodes.result (g.met.T.Queryable.distinct c.args.value.now c.requires) (sym c.is_typed.ensures ∙ c.if-is_typed.true) c.selected_nodes.ensures.nodes
+    let q = query_view c.args.path.now in
+    let doc = document_of tree g.T.Queryable.custom c.args.value.now in
+    let told = subst (λ s. IfOk c.nodes.result (AreNodes g.T.Queryable doc s)) (c.runner.ensures ∙ c.in_ok-prepared.ensures.query) c.nodes.ensures.told in
+    let nodes = IfOk-weaker c.nodes.result (AreNodes g.T.Queryable doc q) (λ v. AllZip (IsNodeAt doc) (selected q doc) (shown tree v.items)) (λ v h. h.nodes) told in
+    typed-nodes (λ v. shown tree v.items) q doc c.nodes.result (g.met.T.Queryable.distinct c.args.value.now c.requires) (sym c.is_typed.ensures ∙ c.if-is_typed.true) nodes

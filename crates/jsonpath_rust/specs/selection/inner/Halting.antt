@@ -1,12 +1,18 @@
 -- Why a walk halts, for the contracts of the walk alone: the definitions here are no part of what a query means.
-use Rattle.std.specs.Prelude.{◌≡◌, List, Bool}
+use Rattle.std.specs.Prelude.{◌≡◌, List, Bool, true, false}
 use Rattle.jsonpath_parser.specs.tree.Syntax.{Argument}
 use Rattle.jsonpath_rust.specs.documents.Document.{Document}
 use Rattle.jsonpath_rust.specs.documents.Patterns.{AsksPattern}
 use Rattle.jsonpath_rust.specs.declared.documents.halt.Halt.{Halt}
 use Rattle.jsonpath_rust.specs.declared.documents.halt.Halt.TheVariants.{Memory, Spent}
 use Rattle.jsonpath_rust.specs.declared.selection.budget.Limit.{Limit}
-use Rattle.jsonpath_rust.specs.declared.selection.budget.Limit.TheVariants.{Limited}
+use Rattle.jsonpath_rust.specs.declared.selection.budget.Limit.TheVariants.{Limited, Unlimited}
+
+-- units are counted where a limit counts them, but of a call that is free
+abbrev pub limit_of : Bool → Bool → Limit
+limit_of true false = Limited
+limit_of true true = Unlimited
+limit_of false free = Unlimited
 
 -- the work that a walk may take ran out, where it is limited
 abbrev pub IsSpent : Limit → Halt → Type 0

@@ -1,10 +1,8 @@
-use Rattle.std.proofs.Common.{ap, ◌∙◌}
+use Rattle.std.proofs.Common.{ap, ◌∙◌, rules}
 use Rattle.jsonpath_rust.specs.Prelude.Documents.{value_tree, without}
 use Rattle.jsonpath_rust.proofs.selection.runner.Runner.delete.Goals as goal
 
-pub returns-clause-removed : goal.returns-clause-removed
-returns-clause-removed c =
-    c.remove_from.ensures.removed ∙ ap (λ s. without s (value_tree c.args.value.now)) (c.in_ok-ordered.ensures.set ∙ c.in_ok-removal.ensures.removal.set)
-
-pub returns-clause-count : goal.returns-clause-count
-returns-clause-count c = c.count.ensures ∙ c.in_ok-ordered.ensures.count ∙ c.in_ok-removal.ensures.removal.count
+pub returns-clause-deleted : goal.returns-clause-deleted
+returns-clause-deleted g c =
+    let removed = c.remove_from.ensures.removed ∙ ap (λ s. without s (value_tree c.args.value.now)) c.in_ok-marked.ensures.set in
+    record { told = record { removed = removed; counted = c.count.ensures ∙ c.in_ok-marked.ensures.count }; refused = tt; same = search rules }

@@ -1,10 +1,14 @@
-use Rattle.std.proofs.Common.{ap, ◌∙◌}
-use Rattle.jsonpath_rust.specs.Prelude.Documents.{overwritten, value_tree}
+use Rattle.std.proofs.Common.{ap, ◌∙◌, rules}
+use Rattle.jsonpath_rust.specs.Prelude.Documents.{overwritten, value_document, value_tree}
+use Rattle.jsonpath_rust.specs.Prelude.Selection.{runner_view}
+use Rattle.jsonpath_rust.proofs.Stops.{memory_stops}
 use Rattle.jsonpath_rust.proofs.selection.runner.Runner.replace.Goals as goal
 
-pub returns-clause-replaced : goal.returns-clause-replaced
-returns-clause-replaced c =
-    c.in_ok-replace_in.ensures.replaced ∙ ap (λ s. overwritten s (value_tree c.args.new.now) (value_tree c.args.value.now)) (c.in_ok-ordered.ensures.set ∙ c.in_ok-removal.ensures.removal.set)
+pub returns-in-Ok-clause-replaced : goal.returns-in-Ok-clause-replaced
+returns-in-Ok-clause-replaced g c =
+    let replaced = c.in-Ok.ensures.replaced ∙ ap (λ s. overwritten s (value_tree c.args.new.now) (value_tree c.args.value.now)) c.in_ok-marked.ensures.set in
+    record { told = record { replaced = replaced; counted = c.count.ensures ∙ c.in_ok-marked.ensures.count }; refused = tt; same = search rules }
 
-pub returns-clause-count : goal.returns-clause-count
-returns-clause-count c = c.count.ensures ∙ c.in_ok-ordered.ensures.count ∙ c.in_ok-removal.ensures.removal.count
+pub returns-clause-replaced : goal.returns-clause-replaced
+returns-clause-replaced g c =
+    record { told = tt; refused = memory_stops g.L.Limits.counts g.L.Limits.stops (runner_view c.args.self.now) (value_document c.args.value.now) c.stop.result c.stop.ensures; same = search rules }

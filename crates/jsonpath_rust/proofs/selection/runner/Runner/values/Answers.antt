@@ -1,12 +1,13 @@
-use Rattle.std.proofs.Common.{◌∙◌}
+use Rattle.std.proofs.Common.{◌∙◌, rules}
 use Rattle.jsonpath_rust.specs.Prelude.Documents.{document_of, nodelist}
 use Rattle.jsonpath_rust.specs.Prelude.Selection.{runner_view}
 use Rattle.jsonpath_rust.proofs.laws.selection.{given_values, values_answered}
 use Rattle.jsonpath_rust.proofs.selection.runner.Runner.values.Goals as goal
 
-pub returns-clause-values : goal.returns-clause-values
-returns-clause-values g c =
+pub returns : goal.returns
+returns g c =
     let tree = g.T.Queryable.tree in
     let q = runner_view c.args.self.now in
     let doc = document_of tree g.T.Queryable.custom c.args.value.now in
-    values_answered q doc _ (g.met.T.Queryable.distinct c.args.value.now c.requires) (c.into_values.ensures ∙ given_values (λ x. tree x.now) c.new.result.list.items _ (nodelist q doc) c.new.ensures c.in_ok-sink.ensures.gave)
+    let values = values_answered q doc _ (g.met.T.Queryable.distinct c.args.value.now c.requires) (c.into_values.ensures ∙ given_values (λ x. tree x.now) c.new.result.list.items _ (nodelist q doc) c.new.ensures c.in_ok-sink.ensures.gave) in
+    record { told = record { values = values; whole = search rules }; refused = tt; same = search rules }

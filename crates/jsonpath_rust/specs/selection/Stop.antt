@@ -1,0 +1,22 @@
+-- Why a call of a runner, under whatever limit, has no result.
+use Rattle.std.specs.Prelude.{Bool, IsFalse}
+use Rattle.jsonpath_parser.specs.tree.Syntax.{Filter, Query}
+use Rattle.jsonpath_parser.specs.tree.Typing.{is_singular}
+use Rattle.jsonpath_rust.specs.documents.Document.{Document}
+use Rattle.jsonpath_rust.specs.documents.Patterns.{IsStop}
+use Rattle.jsonpath_rust.specs.selection.Condition.{filter_query, tests_singular}
+use Rattle.jsonpath_rust.specs.declared.selection.stop.Stop.{Stop}
+use Rattle.jsonpath_rust.specs.declared.selection.stop.Stop.TheVariants.{Spent, Refused}
+
+-- with so many units: they were not enough, of a call that is not free; or it is refused as one without a limit
+abbrev pub StopsUnits : Bool → Query → Document → Stop → Type 0
+StopsUnits free q doc Spent = IsFalse free
+StopsUnits free q doc (Refused e) = IsStop q doc e
+
+-- under a limit with these stops: of a query, which is free where it is singular (2.3.5.1)
+abbrev pub IsStopOf : {S : Type 0} → (Bool → Query → Document → S → Type 0) → Query → Document → S → Type 0
+IsStopOf stops q doc stop = stops (is_singular q) q doc stop
+
+-- and of a condition, which is free where it is a test of such a query
+abbrev pub IsConditionStop : {S : Type 0} → (Bool → Query → Document → S → Type 0) → Filter → Document → S → Type 0
+IsConditionStop stops f doc stop = stops (tests_singular f) (filter_query f) doc stop
