@@ -1,8 +1,9 @@
 //! Calls that are made many times, on a small document, and deletions and maskings.
 use crate::timing::refused;
-use jsonpath_rust::Whole;
+use jsonpath_rust::parser::model::JpQuery;
 use jsonpath_rust::parser::{let_go, parse_json_path};
-use jsonpath_rust::query::{Queried, js_path, selected_nodes};
+use jsonpath_rust::query::{Queried, js_path};
+use jsonpath_rust::{Prepared, Whole};
 use serde_json::Value;
 use std::alloc::Global;
 use std::io;
@@ -27,7 +28,7 @@ fn read_each(alloc: Global, text: &str, document: &Whole<Value>, count: usize) -
     Ok(())
 }
 
-/// How long so many calls of `selected_nodes` take, of a query that was read once.
+/// How long it takes so many times to prepare a query that was read once, and to ask it for nodes.
 pub fn walking_calls(
     rt: &(impl Clock + AllocGlobal),
     text: &str,
@@ -42,7 +43,8 @@ pub fn walking_calls(
 fn walk_each(alloc: Global, text: &str, document: &Whole<Value>, count: usize) -> Queried<()> {
     let query = parse_json_path(alloc, text)?;
     for _ in 0..count {
-        drop(selected_nodes(alloc, &query, document.get())?);
+        let prepared = Prepared::of(alloc, &query)?;
+        drop(prepared.runner(alloc).nodes(alloc, document.get())?);
     }
     let_go(query);
     Ok(())
@@ -56,12 +58,15 @@ pub fn deletion(
 ) -> io::Result<(usize, Duration)> {
     let query = parse_json_path(rt.alloc(), text).map_err(refused)?;
     let start = Instant::now(rt)?;
-    let deleted = document
-        .delete_selected(rt.alloc(), &query)
-        .map_err(refused);
+    let deleted = deleted(rt.alloc(), &query, document).map_err(refused);
     let taken = start.elapsed(rt)?;
     let_go(query);
     Ok((deleted?, taken))
+}
+
+fn deleted(alloc: Global, query: &JpQuery, document: &mut Whole<Value>) -> Queried<usize> {
+    let prepared = Prepared::of(alloc, query)?;
+    document.delete(alloc, &mut prepared.runner(alloc))
 }
 
 /// How many locations a query masks, and how long that takes.
@@ -73,10 +78,18 @@ pub fn masking(
 ) -> io::Result<(usize, Duration)> {
     let query = parse_json_path(rt.alloc(), text).map_err(refused)?;
     let start = Instant::now(rt)?;
-    let masked = document
-        .replace_selected(rt.alloc(), &query, mask)
-        .map_err(refused);
+    let masked = masked(rt.alloc(), &query, document, mask).map_err(refused);
     let taken = start.elapsed(rt)?;
     let_go(query);
     Ok((masked?, taken))
+}
+
+fn masked(
+    alloc: Global,
+    query: &JpQuery,
+    document: &mut Whole<Value>,
+    mask: &Whole<Value>,
+) -> Queried<usize> {
+    let prepared = Prepared::of(alloc, query)?;
+    document.replace(alloc, &mut prepared.runner(alloc), mask)
 }

@@ -4,10 +4,7 @@ use crate::documents::{bookstore, inbox, read};
 use crate::queries::{QUERIES, TABLE};
 use crate::routes::{counted, prepared};
 use crate::timing::refused;
-use jsonpath_rust::Whole;
-use jsonpath_rust::parser::model::JpQuery;
-use jsonpath_rust::parser::{let_go, parse_json_path};
-use jsonpath_rust::query::{selected_nodes, selected_values};
+use jsonpath_rust::{Prepared, Whole};
 use serde_json::Value;
 use std::alloc::Global;
 use std::io;
@@ -46,20 +43,21 @@ fn book_counts(alloc: Global, document: &Whole<Value>) -> io::Result<Vec<Count>>
 }
 
 fn selected_of(alloc: Global, text: &str, document: &Whole<Value>) -> io::Result<usize> {
-    let query = parse_json_path(alloc, text).map_err(refused)?;
+    let query = Prepared::read(alloc, text).map_err(refused)?;
     let selected = selected_both_ways(alloc, &query, document);
-    let_go(query);
+    drop(query);
     selected
 }
 
 /// How many nodes the query selects, by values alone and with paths.
 fn selected_both_ways(
     alloc: Global,
-    query: &JpQuery,
+    query: &Prepared,
     document: &Whole<Value>,
 ) -> io::Result<usize> {
-    let values = selected_values(alloc, query, document.get()).map_err(refused)?;
-    let nodes = selected_nodes(alloc, query, document.get()).map_err(refused)?;
+    let mut runner = query.runner(alloc);
+    let values = runner.values(alloc, document.get()).map_err(refused)?;
+    let nodes = runner.nodes(alloc, document.get()).map_err(refused)?;
     if values.len() == nodes.len() {
         Ok(nodes.len())
     } else {

@@ -1,11 +1,10 @@
 //! How long queries of one document take, the least of several rounds. What is given back to memory is not counted.
 ghost use Rattle.std.specs.Prelude.{◌≡◌};
 
-use jsonpath_rust::Whole;
 use jsonpath_rust::parser::errors::JsonPathError;
 use jsonpath_rust::parser::model::JpQuery;
 use jsonpath_rust::parser::{let_go, parse_json_path};
-use jsonpath_rust::query::{selected_nodes, selected_values};
+use jsonpath_rust::{Prepared, Whole};
 use serde_json::Value;
 use std::io;
 use std::io::ErrorKind;
@@ -64,12 +63,20 @@ fn one_round(
     document: &Whole<Value>,
 ) -> io::Result<Round> {
     let start = Instant::now(rt)?;
-    let values = selected_values(rt.alloc(), query, document.get()).map_err(refused)?;
+    let prepared = Prepared::of(rt.alloc(), query).map_err(refused)?;
+    let values = prepared
+        .runner(rt.alloc())
+        .values(rt.alloc(), document.get())
+        .map_err(refused)?;
     let lean = start.elapsed(rt)?;
     let count = values.len();
     drop(values);
     let start = Instant::now(rt)?;
-    let nodes = selected_nodes(rt.alloc(), query, document.get()).map_err(refused)?;
+    let prepared = Prepared::of(rt.alloc(), query).map_err(refused)?;
+    let nodes = prepared
+        .runner(rt.alloc())
+        .nodes(rt.alloc(), document.get())
+        .map_err(refused)?;
     let full = start.elapsed(rt)?;
     let selected = nodes.len();
     drop(nodes);

@@ -2,15 +2,15 @@
 
 use crate::documents::read;
 use crate::timing::refused;
-use jsonpath_rust::Whole;
-use jsonpath_rust::query::{Prepared, Queried, Within};
+use jsonpath_rust::{Prepared, Runner, Stop, Units, Whole};
 use serde_json::Value;
+use std::alloc::Global;
 use std::io;
 use std::io::ErrorKind;
 use std::time::{Clock, Duration, Instant};
 
 /// Whether so many units are enough for the query of the first line on the document of the second one, and how long it took. The call
-/// of a `Limited` is that of the third line, `first` or `locations`, and else `nodes`.
+/// of a runner is that of the third line, else `nodes`; `replace` puts null.
 pub fn limited(rt: &HostRuntime, units: usize) -> io::Result<()> {
     let input = io::read_to_string(rt.alloc(), rt.reader())?;
     let mut lines = input.lines();
@@ -18,8 +18,8 @@ pub fn limited(rt: &HostRuntime, units: usize) -> io::Result<()> {
         return Err(ErrorKind::InvalidInput.into());
     };
     let call = lines.next().unwrap_or("nodes");
-    let document = read(rt.alloc(), String::from_str(rt.alloc(), text)?)?;
-    let timed = one_query(rt, (query, call), units, &document);
+    let mut document = read(rt.alloc(), String::from_str(rt.alloc(), text)?)?;
+    let timed = one_query(rt, (query, call), units, &mut document);
     drop(document);
     let (enough, taken) = timed?;
     let nanoseconds = taken.as_nanos();
@@ -30,7 +30,7 @@ fn one_query(
     rt: &(impl Clock + AllocGlobal),
     asked: (&str, &str),
     units: usize,
-    document: &Whole<Value>,
+    document: &mut Whole<Value>,
 ) -> io::Result<(bool, Duration)> {
     let (query, call) = asked;
     let prepared = Prepared::read(rt.alloc(), query).map_err(refused)?;
@@ -44,28 +44,45 @@ fn one_call(
     prepared: &Prepared,
     call: &str,
     units: usize,
-    document: &Whole<Value>,
+    document: &mut Whole<Value>,
 ) -> io::Result<(bool, Duration)> {
     let start = Instant::now(rt)?;
     let mut runner = prepared.runner(rt.alloc()).limited(units);
-    let asked = document.get();
-    let enough = match call {
-        "first" => is_done(runner.first(rt.alloc(), asked)),
-        "locations" => is_done(runner.locations(rt.alloc(), asked)),
-        _ => is_done(runner.nodes(rt.alloc(), asked)),
-    };
+    let enough = is_enough(rt.alloc(), &mut runner, call, document);
     drop(runner);
     let taken = start.elapsed(rt)?;
     Ok((enough?, taken))
 }
 
+/// Whether that call returns something.
+fn is_enough(
+    alloc: Global,
+    runner: &mut Runner<'_, Units>,
+    call: &str,
+    document: &mut Whole<Value>,
+) -> io::Result<bool> {
+    match call {
+        "values" => is_done(runner.values(alloc, document.get())),
+        "paths" => is_done(runner.paths(alloc, document.get())),
+        "locations" => is_done(runner.locations(alloc, document.get())),
+        "first" => is_done(runner.first(alloc, document.get())),
+        "delete" => is_done(document.delete(alloc, runner)),
+        "replace" => match Whole::new(Value::Null) {
+            Ok(mask) => is_done(document.replace(alloc, runner, &mask)),
+            Err(_value) => Err(ErrorKind::InvalidData.into()),
+        },
+        _ => is_done(runner.nodes(alloc, document.get())),
+    }
+}
+
 /// Whether something was returned, and the work not spent before.
-fn is_done<T: Drop>(given: Queried<Within<T>>) -> io::Result<bool> {
-    match given.map_err(refused)? {
-        Within::Done(value) => {
+fn is_done<T: Drop>(given: Result<T, Stop>) -> io::Result<bool> {
+    match given {
+        Ok(value) => {
             drop(value);
             Ok(true)
         }
-        Within::Spent => Ok(false),
+        Err(Stop::Spent) => Ok(false),
+        Err(Stop::Refused(error)) => Err(refused(error)),
     }
 }

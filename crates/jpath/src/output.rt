@@ -14,7 +14,7 @@ use crate::fault::Fault;
 use crate::value::push_value;
 use crate::words::{Command, Listing};
 use jsonpath_parser::model::JpQuery;
-use jsonpath_rust::query::{QueryRef, delete_selected, selected_nodes, selected_values};
+use jsonpath_rust::query::{Prepared, QueryRef};
 use serde_json::Value;
 use std::alloc::{AllocError, Global};
 use std::fmt::Write;
@@ -48,7 +48,8 @@ fn nodes_printed(
     ensures text { IfOk result (λ text. string_bytes text ≡ listed listing (query_view query.now) (value_document document.now)) }
     ensures refused { IfErr result (IsNoAnswer (query_view query.now) (value_document document.now)) }
 {
-    let nodes = selected_nodes(alloc, query, document)?;
+    let prepared = Prepared::of(alloc, query)?;
+    let nodes = prepared.runner(alloc).nodes(alloc, document)?;
     Ok(nodes_text(alloc, listing, nodes.as_slice())?)
 }
 
@@ -58,7 +59,8 @@ fn values_printed(alloc: Global, query: &JpQuery, document: &Value) -> Result<St
     ensures text { IfOk result (λ text. string_bytes text ≡ listed Listing.Values (query_view query.now) (value_document document.now)) }
     ensures refused { IfErr result (IsNoAnswer (query_view query.now) (value_document document.now)) }
 {
-    let values = selected_values(alloc, query, document)?;
+    let prepared = Prepared::of(alloc, query)?;
+    let values = prepared.runner(alloc).values(alloc, document)?;
     Ok(values_text(alloc, values.as_slice())?)
 }
 
@@ -68,7 +70,8 @@ fn deletion_printed(alloc: Global, query: &JpQuery, document: &mut Value) -> Res
     ensures text { IfOk result (λ text. string_bytes text ≡ output.printed Command.Delete (query_view query.now) (value_document document.old)) }
     ensures refused { IfErr result (IsNoAnswer (query_view query.now) (value_document document.old)) }
 {
-    let count = delete_selected(alloc, document, query)?;
+    let prepared = Prepared::of(alloc, query)?;
+    let count = prepared.runner(alloc).delete(alloc, document)?;
     Ok(rest_text(alloc, count, document)?)
 }
 

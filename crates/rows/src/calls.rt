@@ -28,8 +28,8 @@ fn of_documents(alloc: Global, name: &str, asked: &[Value]) -> Given<Value> {
         },
         [first, second] => match name {
             "referred_location" => located(alloc, referred_location(alloc, first, text(second)?)?),
-            "js_path_only" => types::only(alloc, text(first)?, second),
-            "js_path_count" => types::count(alloc, text(first)?, second),
+            "Runner::only" => types::only(alloc, text(first)?, second),
+            "Runner::count" => types::count(alloc, text(first)?, second),
             "enough" => limits::enough(alloc, first, second),
             "Condition::read" => limits::condition(alloc, name, [first, second, &Value::Null]),
             _ => of_types(alloc, name, asked),
@@ -38,8 +38,10 @@ fn of_documents(alloc: Global, name: &str, asked: &[Value]) -> Given<Value> {
             "Condition::holds" | "Condition::enough" => {
                 limits::condition(alloc, name, [first, second, third])
             }
-            "Limited::enough" => limits::enough_for(alloc, first, second, third),
-            "reference_mut" | "replace_by_path" => types::changed(alloc, name, asked),
+            "Runner::enough" => limits::enough_for(alloc, first, second, third),
+            "reference_mut" | "replace_all_by_path" | "replace_by_path" => {
+                types::changed(alloc, name, asked)
+            }
             _ => of_types(alloc, name, asked),
         },
         _ if name == "replace_within" => types::changed(alloc, name, asked),

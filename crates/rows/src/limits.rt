@@ -1,6 +1,5 @@
 //! Conditions on a document, and how much work is just enough for a query or a condition.
-use jsonpath_rust::query::{Limited, Prepared, Queried, Within, js_path_limited};
-use jsonpath_rust::{Condition, Queryable, WholeRef};
+use jsonpath_rust::{Condition, Prepared, Queryable, Runner, Stop, Units, WholeRef};
 use rows_common::answers::{are_same, pair, unchanged};
 use rows_common::arguments::{given, given_if, size, spelled, text};
 use rows_common::{Given, Refusal};
@@ -9,6 +8,9 @@ use std::alloc::Global;
 
 /// A value of whole numbers.
 type Lent<'v> = WholeRef<'v, Value>;
+
+/// A runner with so many units of work for each call.
+type Bounded<'p> = Runner<'p, Units>;
 
 /// More units than a row needs.
 const MOST: usize = 65535;
@@ -31,25 +33,30 @@ fn least<F: Fn(usize) -> Given<bool>>(is_enough: F) -> Given<usize>
 }
 
 /// Whether something was returned, and the work not spent before.
-fn done<T: Drop>(answer: Queried<Within<T>>) -> Given<bool> {
-    match answer? {
-        Within::Done(value) => {
+fn done<T: Drop>(answer: Result<T, Stop>) -> Given<bool> {
+    match answer {
+        Ok(value) => {
             drop(value);
             Ok(true)
         }
-        Within::Spent => Ok(false),
+        Err(Stop::Spent) => Ok(false),
+        Err(Stop::Refused(error)) => Err(error.into()),
     }
 }
 
-/// The least number of units with which `js_path_limited` returns nodes. With them each query of a `Limited` has to return something
-/// too, and with one less its `nodes` nothing. What changes a document spends more, for steps: with [`MOST`] it has to return something.
+/// The least number of units with which a runner returns nodes. With them each of its queries has to return something too, and with
+/// one less its `nodes` nothing. What changes a document spends more, for steps: with [`MOST`] it has to return something.
 pub fn enough(alloc: Global, query: &Value, document: &Value) -> Given<Value> {
     let (query, document) = (spelled(alloc, query)?, given(WholeRef::new(document))?);
-    let units = least(|units| done(js_path_limited(alloc, &query, units, document.get())))?;
     let prepared = Prepared::read(alloc, &query)?;
-    let is_least = is_least(alloc, &prepared, units, document);
+    let units = all_enough(alloc, &prepared, document);
     drop(prepared);
-    given_if(is_least?, Value::from(units))
+    Ok(Value::from(units?))
+}
+
+fn all_enough(alloc: Global, prepared: &Prepared, document: Lent<'_>) -> Given<usize> {
+    let units = least(|units| is_returned(alloc, "nodes", prepared, units, document))?;
+    given_if(is_least(alloc, prepared, units, document)?, units)
 }
 
 fn is_least(alloc: Global, prepared: &Prepared, units: usize, document: Lent<'_>) -> Given<bool> {
@@ -69,7 +76,7 @@ fn is_least(alloc: Global, prepared: &Prepared, units: usize, document: Lent<'_>
 }
 
 /// Whether each query of the runner returns something.
-fn is_enough(alloc: Global, runner: &mut Limited<'_>, document: Lent<'_>) -> Given<bool> {
+fn is_enough(alloc: Global, runner: &mut Bounded<'_>, document: Lent<'_>) -> Given<bool> {
     let asked = document.get();
     Ok(
         done(runner.nodes(alloc, asked))?
@@ -84,7 +91,7 @@ fn is_enough(alloc: Global, runner: &mut Limited<'_>, document: Lent<'_>) -> Giv
 }
 
 /// Whether the runner deletes in a copy of the document, or puts the document there.
-fn changes(alloc: Global, runner: &mut Limited<'_>, document: Lent<'_>, puts: bool) -> Given<bool> {
+fn changes(alloc: Global, runner: &mut Bounded<'_>, document: Lent<'_>, puts: bool) -> Given<bool> {
     let mut copy = document.get().clone()?;
     let answer = match puts {
         _ if !copy.is_whole() => Err(Refusal::NoAnswer),
@@ -96,7 +103,7 @@ fn changes(alloc: Global, runner: &mut Limited<'_>, document: Lent<'_>, puts: bo
     unchanged(answer, is_kept)
 }
 
-/// The least number of units with which that call of a `Limited` returns something.
+/// The least number of units with which that call of a runner returns something.
 pub fn enough_for(alloc: Global, call: &Value, query: &Value, document: &Value) -> Given<Value> {
     let (query, document) = (spelled(alloc, query)?, given(WholeRef::new(document))?);
     let call = text(call)?;

@@ -5,10 +5,10 @@ ghost use Rattle.jsonpath_rust.specs.documents.Args.{arg_value};
 use crate::doc::document::{Document, document_of};
 use jsonpath_rust::query::queryable::{Arg, Deletable, Queryable};
 use jsonpath_rust::query::{
-    Queried, QueryRef, js_path, js_path_count, js_path_only, not_a_reference, replace_by_path,
+    Queried, QueryRef, js_path, not_a_reference, replace_all_by_path, replace_by_path,
     replace_within,
 };
-use jsonpath_rust::{Only, ReadError, Whole, WholeRef};
+use jsonpath_rust::{Only, Prepared, ReadError, Whole, WholeRef};
 use rows_common::answers::{self, list_of, member, pair, with_left};
 use rows_common::arguments::{self, each, exactly, given, size, spelled, text};
 use rows_common::{Cause, Given, Refusal};
@@ -37,16 +37,20 @@ pub fn found<T: Document>(alloc: Global, asked: &[Value]) -> Given<Value> {
 
 /// `"Nothing"`, `"Several"`, or `{"One": VALUE}`.
 pub fn only(alloc: Global, query: &str, document: &Value) -> Given<Value> {
-    match js_path_only(alloc, query, given(WholeRef::new(document))?.get())? {
+    let prepared = Prepared::read(alloc, query)?;
+    let document = given(WholeRef::new(document))?;
+    match prepared.runner(alloc).only(alloc, document.get())? {
         Only::Nothing => answers::text(alloc, "Nothing"),
         Only::One(value) => member(alloc, "One", value.clone()?),
         Only::Several => answers::text(alloc, "Several"),
     }
 }
 
-/// How many nodes `js_path_count` counts.
+/// How many nodes a runner counts.
 pub fn count(alloc: Global, query: &str, document: &Value) -> Given<Value> {
-    counted(js_path_count(alloc, query, given(WholeRef::new(document))?.get()))
+    let prepared = Prepared::read(alloc, query)?;
+    let document = given(WholeRef::new(document))?;
+    counted(prepared.runner(alloc).count(alloc, document.get()))
 }
 
 /// A list of the value that `reference` finds, empty for None.
@@ -101,13 +105,16 @@ fn replaced(alloc: Global, left: &mut Value, change: &[Value]) -> Given<Value> {
     Ok(Value::from(replace_by_path(alloc, left, text(path)?, new.clone()?)?))
 }
 
-/// How many locations `replace_within` puts the new value at. Both values have to be whole.
+/// How many locations `replace_all_by_path` puts the new value at or, with a depth, `replace_within`. Both values have to be whole.
 fn masked(alloc: Global, left: &mut Value, change: &[Value]) -> Given<Value> {
-    let [query, depth, new] = exactly::<3>(change)?;
-    if left.is_whole() && new.is_whole() {
-        counted(replace_within(alloc, left, text(query)?, size(depth)?, new))
-    } else {
-        Err(Refusal::NoAnswer)
+    match change {
+        [query, new] if left.is_whole() && new.is_whole() => {
+            counted(replace_all_by_path(alloc, left, text(query)?, new))
+        }
+        [query, depth, new] if left.is_whole() && new.is_whole() => {
+            counted(replace_within(alloc, left, text(query)?, size(depth)?, new))
+        }
+        _ => Err(Refusal::NoAnswer),
     }
 }
 

@@ -4,28 +4,16 @@ use Rattle.std.proofs.lemmas.Bool.{cond_above, cond_below}
 use Rattle.std.proofs.lemmas.List.{take_all}
 use Rattle.std.proofs.lemmas.List.Elements.{All-head, All-more, All-tail}
 use Rattle.std.proofs.lemmas.Option.{slice_get_read, slice_get_within}
-use Rattle.std.specs.List.{AllZip, position_or_len}
-use Rattle.jsonpath_rust.specs.Location.{Location}
+use Rattle.std.specs.List.{position_or_len}
+use Rattle.jsonpath_rust.specs.Prepared.{IsFirstNode}
 use Rattle.jsonpath_rust.specs.Syntax.{Query}
 use Rattle.jsonpath_rust.specs.Tree.{Tree}
-use Rattle.jsonpath_rust.specs.Answer.{IsNodeAt, shown}
 use Rattle.jsonpath_rust.specs.Document.{Document}
-use Rattle.jsonpath_rust.specs.Meaning.{selected}
-use Rattle.jsonpath_rust.specs.declared.documents.node.QueryRef.{QueryRef}
 use Rattle.uses.specs.First.{IsSilent, IsFirst, IsFirstPath}
 
 -- the first node has the path of the first location
-first_of : (doc : Document) (q : Query) (ls : List Location) (node : List ℕ × Tree) (more : List (List ℕ × Tree)) → selected q doc ≡ ls → AllZip (IsNodeAt doc) ls (node ∷ more) → IsFirstPath doc node.0 q
-first_of doc q [] node more is h = absurd h
-first_of doc q (l ∷ ls) node more is h = record { location = l; rest = ls; selects = is; normal = h.0.0 }
-
-pub first_shown : {A : Type 0} (tree : A → Tree) (doc : Document) (q : Query) (node : QueryRef A) (more : List (QueryRef A)) → AllZip (IsNodeAt doc) (selected q doc) (shown tree (node ∷ more)) → IsFirstPath doc (string_bytes node.path) q
-first_shown tree doc q node more h = first_of doc q (selected q doc) (string_bytes node.path, tree node.val.now) (shown tree more) refl h
-
--- where no place is shown, there is none
-pub none_there : {A B : Type 0} (P : A → B → Type 0) (xs : List A) → AllZip P xs [] → xs ≡ []
-none_there P [] h = refl
-none_there P (x ∷ xs) h = absurd h
+pub first_shown : (q : Query) (doc : Document) (node : List ℕ × Tree) → IsFirstNode q doc node → IsFirstPath doc node.0 q
+first_shown q doc node h = record { location = h.location; rest = h.rest; selects = h.selects; normal = h.node.0 }
 
 -- of an answer, which is the path of the first node, or None where there is none
 pub shown_so : (doc : Document) (q : Query) (o : Option (String Global)) → IfSome o (λ path. IsFirstPath doc (string_bytes path) q) → IfNone o (IsSilent doc q) → MatchOption (option_map string_bytes o) (IsSilent doc q) (λ path. IsFirstPath doc path q)

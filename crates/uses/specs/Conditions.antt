@@ -1,7 +1,8 @@
 -- Conditions that are asked of a document (RFC 9535, 2.3.5).
 use Rattle.std.specs.Prelude.{ℕ, List, Bool, IsFalse}
 use Rattle.jsonpath_rust.specs.JsonPathError.{JsonPathError}
-use Rattle.jsonpath_rust.specs.Condition.{condition_view, filter_query}
+use Rattle.jsonpath_rust.specs.Condition.{filter_query}
+use Rattle.jsonpath_rust.specs.Prepared.{condition_view}
 use Rattle.jsonpath_rust.specs.Document.{Document}
 use Rattle.jsonpath_rust.specs.Meaning.{holds}
 use Rattle.jsonpath_rust.specs.Node.{root_node}

@@ -4,7 +4,6 @@ pub mod Conditions
 pub mod Difference
 pub mod First
 pub mod Gateway
-pub mod Inbox
 pub mod Patch
 pub mod Policy
 pub mod Redaction

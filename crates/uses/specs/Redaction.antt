@@ -25,11 +25,11 @@ abbrev pub IsApart : List Location → Location → Type 0
 IsApart ls m = (l : Location) → IsTrue (is_among ls l) → (Begins l m → ⊥) × (Begins m l → ⊥)
 
 -- one of the queries is refused so
-pub record IsStopOf (queries : List JpQuery) (doc : Document) (e : JsonPathError) : Type 0 where
+pub record IsStopAmong (queries : List JpQuery) (doc : Document) (e : JsonPathError) : Type 0 where
   pub query : JpQuery
   pub among : Contains queries query
   pub stop : IsStop (query_view query) doc e
 
 -- memory ran out, or one of the queries is refused so
 abbrev pub IsRefusalOf : List JpQuery → Document → JsonPathError → Type 0
-IsRefusalOf queries doc e = (e ≡ OutOfMemory → ⊥) → IsStopOf queries doc e
+IsRefusalOf queries doc e = (e ≡ OutOfMemory → ⊥) → IsStopAmong queries doc e

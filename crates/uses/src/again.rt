@@ -8,9 +8,9 @@ ghost use Rattle.jsonpath_rust.specs.base.Values.{value_tree};
 ghost use Rattle.uses.specs.Again.{AreValuesIn, IsAtFirst};
 
 use crate::first::first_path;
-use jsonpath_rust::Whole;
 use jsonpath_rust::parser::model::JpQuery;
-use jsonpath_rust::query::{Queried, Step, at, selected_values};
+use jsonpath_rust::query::{Queried, Step, at};
+use jsonpath_rust::{Prepared, Queryable, Whole};
 use serde_json::Value;
 use std::alloc::Global;
 
@@ -18,9 +18,9 @@ use std::alloc::Global;
 ///
 /// # Errors
 ///
-/// Those of `selected_nodes`, and `OutOfMemory`.
+/// Those of [`first_path`], and `OutOfMemory`.
 ///
-/// The cost is that of `selected_nodes`, and of the way down to the node.
+/// The cost is that of [`first_path`], and of the way down to the node.
 pub fn first_again<'a>(
     alloc: Global,
     query: &JpQuery,
@@ -39,9 +39,9 @@ pub fn first_again<'a>(
 ///
 /// # Errors
 ///
-/// Those of `selected_values`.
+/// Those of a runner.
 ///
-/// The cost is that of the way down, and of `selected_values` of the part.
+/// The cost is that of the way down, and of the query of the part.
 pub fn values_below<'a>(
     alloc: Global,
     query: &JpQuery,
@@ -51,7 +51,10 @@ pub fn values_below<'a>(
     ensures values { IfOk result (λ v. AreValuesIn (query_view query.now) (places.at (location_view steps.now) (value_tree document.now.value)) (map (λ x. value_tree x.now) v.items)) }
 {
     match at(document.get(), steps) {
-        Some(part) => selected_values(alloc, query, part),
+        Some(part) => {
+            let prepared = Prepared::of(alloc, query)?;
+            prepared.runner(alloc).values(alloc, part)
+        }
         None => Ok(Vec::new(alloc)),
     }
 }

@@ -6,8 +6,8 @@ ghost use Rattle.jsonpath_rust.specs.Patterns.{IsStop};
 ghost use Rattle.uses.specs.Difference.{values_of, AreSame, IsFirstDifference};
 
 use jsonpath_rust::parser::model::JpQuery;
-use jsonpath_rust::query::{Queried, selected_values};
-use jsonpath_rust::{Queryable, WholeRef};
+use jsonpath_rust::query::Queried;
+use jsonpath_rust::{Prepared, Queryable, WholeRef};
 use std::alloc::Global;
 
 /// Which of two lists of values ends before an index.
@@ -32,9 +32,9 @@ pub struct Difference {
 ///
 /// # Errors
 ///
-/// Those of `selected_values`, for either query.
+/// Those of a runner, for either query.
 ///
-/// The cost is that of `selected_values` for both, and of comparing the values, which takes no memory.
+/// The cost is that of both queries, and of comparing the values, which takes no memory.
 pub fn difference_of<T: Queryable>(
     alloc: Global,
     query: &JpQuery,
@@ -47,8 +47,10 @@ pub fn difference_of<T: Queryable>(
     ensures only { AreSame (values_of query.now (document_of T.tree T.custom document.entry.value.now)) (values_of other_query.now (document_of T.tree T.custom other.entry.value.now)) → IfOk result (λ o. o ≡ None) }
     ensures refused { IfErr result (λ e. IsStop (query_view query.now) (document_of T.tree T.custom document.entry.value.now) e ⊎ IsStop (query_view other_query.now) (document_of T.tree T.custom other.entry.value.now) e) }
 {
-    let values = selected_values(alloc, query, document.get())?;
-    let others = selected_values(alloc, other_query, other.get())?;
+    let prepared = Prepared::of(alloc, query)?;
+    let values = prepared.runner(alloc).values(alloc, document.get())?;
+    let other_prepared = Prepared::of(alloc, other_query)?;
+    let others = other_prepared.runner(alloc).values(alloc, other.get())?;
     Ok(first_difference(&values, &others))
 }
 

@@ -6,13 +6,13 @@ ghost use Rattle.jsonpath_rust.specs.Patterns.{IsStop};
 ghost use Rattle.uses.specs.First.{IsSilent, IsFirstPath};
 
 use jsonpath_rust::parser::model::JpQuery;
-use jsonpath_rust::query::{Queried, QueryPath, selected_nodes};
-use jsonpath_rust::{Queryable, WholeRef};
+use jsonpath_rust::query::{Queried, QueryPath};
+use jsonpath_rust::{Prepared, Queryable, WholeRef};
 use std::alloc::Global;
 
 /// The Normalized Path of the first node that a query selects in a document, or None where it selects none.
 ///
-/// It refuses as [`selected_nodes`] does. All nodes are found, and all but the first let go.
+/// It refuses as a runner does. The document is walked no further than to that node.
 pub fn first_path<T: Queryable>(
     alloc: Global,
     query: &JpQuery,
@@ -22,8 +22,8 @@ pub fn first_path<T: Queryable>(
     ensures silent { IfOk result (λ o. IfNone o (IsSilent (document_of T.tree T.custom document.entry.value.now) (query_view query.now))) }
     ensures refused { IfErr result (IsStop (query_view query.now) (document_of T.tree T.custom document.entry.value.now)) }
 {
-    let nodes = selected_nodes(alloc, query, document.get())?;
-    match nodes.into_iter().next() {
+    let prepared = Prepared::of(alloc, query)?;
+    match prepared.runner(alloc).first(alloc, document.get())? {
         Some(node) => Ok(Some(node.path)),
         None => Ok(None),
     }

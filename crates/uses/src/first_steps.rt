@@ -7,7 +7,7 @@ ghost use Rattle.jsonpath_rust.specs.Document.{document_of};
 ghost use Rattle.jsonpath_rust.specs.SetFunctions.{set_function};
 ghost use Rattle.jsonpath_rust.specs.base.Values.{tree_of, value_tree};
 
-use jsonpath_rust::{Condition, JsonPathError, ReadError, Whole};
+use jsonpath_rust::{Condition, JsonPath, JsonPathError, Queryable, ReadError, Whole};
 use serde_json::Value;
 use std::alloc::Global;
 use thiserror::Error;

@@ -3,7 +3,7 @@ ghost use Rattle.std.specs.Prelude.{IfOk};
 ghost use Rattle.std.specs.List.{AllZip};
 ghost use Rattle.jsonpath_rust.specs.Document.{document_of};
 ghost use Rattle.jsonpath_rust.specs.Prepared.{prepared_view};
-ghost use Rattle.uses.specs.Inbox.{TellsWhether};
+ghost use Rattle.jsonpath_rust.specs.Only.{TellsWhether};
 
 use jsonpath_rust::query::{Prepared, Queried};
 use jsonpath_rust::{Queryable, Whole};
@@ -21,7 +21,7 @@ pub fn matching<T: Queryable>(
     query: &Prepared,
     documents: &[Whole<T>],
 ) -> Queried<Vec<bool>>
-    ensures { IfOk result (λ v. AllZip (λ w told. TellsWhether (prepared_view query.now) (document_of T.tree T.custom w.value) told) documents.now v.items) }
+    ensures { IfOk result (λ v. AllZip (λ w told. TellsWhether (document_of T.tree T.custom w.value) (prepared_view query.now) told) documents.now v.items) }
 {
     let mut runner = query.runner(alloc);
     let mut told = Vec::new(alloc);

@@ -30,10 +30,10 @@ pub struct Violation {
 ///
 /// # Errors
 ///
-/// Those of [`Condition::holds`], for a rule before which all are met, and those of `selected_nodes`, for the query of the rule
+/// Those of [`Condition::holds`], for a rule before which all are met, and those of [`first_path`], for the query of the rule
 /// that is told. The rules behind it are not asked.
 ///
-/// The cost is that of `holds` for each rule that is asked, and that of `selected_nodes` for the one that is told. The conditions
+/// The cost is that of `holds` for each rule that is asked, and that of [`first_path`] for the one that is told. The conditions
 /// stay prepared for the next document.
 pub fn first_violation<T: Queryable>(
     alloc: Global,

@@ -12,14 +12,14 @@ ghost use Rattle.std.specs.List.{Contains};
 ghost use Rattle.jsonpath_rust.specs.Without.{is_among, distinct_count};
 ghost use Rattle.jsonpath_rust.specs.base.Steps.{location_view};
 ghost use Rattle.jsonpath_rust.specs.base.Values.{value_tree};
-ghost use Rattle.uses.specs.Redaction.{all_selected, have_no_filter, IsApart, IsRefusalOf, IsStopOf};
+ghost use Rattle.uses.specs.Redaction.{all_selected, have_no_filter, IsApart, IsRefusalOf, IsStopAmong};
 
-use jsonpath_rust::Whole;
 use jsonpath_rust::parser::model::JpQuery;
 use jsonpath_rust::query::laws::{
     masking_tells_nothing, named_below, overwritten_forgets, overwritten_is_seen,
 };
-use jsonpath_rust::query::{Queried, Step, selected_locations};
+use jsonpath_rust::query::{Queried, Step};
+use jsonpath_rust::{Prepared, Whole};
 use serde_json::Value;
 use std::alloc::Global;
 
@@ -30,9 +30,9 @@ use std::alloc::Global;
 ///
 /// # Errors
 ///
-/// Those of `selected_locations`, for any of the queries. The document is as it was then.
+/// Those of a runner, for any of the queries. The document is as it was then.
 ///
-/// The cost is that of `selected_locations` for each query, and of [`Whole::replace_all`].
+/// The cost is that of each query, and of [`Whole::replace_all`].
 pub fn redact(
     alloc: Global,
     rules: &[JpQuery],
@@ -75,11 +75,12 @@ pub fn redact(
 /// The places that the queries select in a document.
 fn all_places(alloc: Global, rules: &[JpQuery], document: &Whole<Value>) -> Queried<Vec<Vec<Step>>>
     ensures places { IfOk result (λ v. map (λ p. location_view p.items) v.items ≡ all_selected rules.now (value_document document.now.value)) }
-    ensures refused { IfErr result (IsStopOf rules.now (value_document document.now.value)) }
+    ensures refused { IfErr result (IsStopAmong rules.now (value_document document.now.value)) }
 {
     let mut places = Vec::new(alloc);
     for query in rules {
-        let mut found = selected_locations(alloc, query, document.get())?;
+        let prepared = Prepared::of(alloc, query)?;
+        let mut found = prepared.runner(alloc).locations(alloc, document.get())?;
         places.append(&mut found)?;
     }
     Ok(places)

@@ -59,7 +59,7 @@ pub fn data_of<'d, T: Document>(ground: &'d Ground<'_, T>) -> Given<Data<'d, T>>
     let (kind, held) = given(members.iter().next())?;
     match kind.as_str() {
         _ if members.len() > 1 => Err(Refusal::NoAnswer),
-        "value" => Ok(Data::Value(document_of(ground.alloc, held)?.into_inner())),
+        "value" => Ok(Data::Value(document_of::<T>(ground.alloc, held)?.into_inner())),
         "ref" => Ok(Data::new_ref(given(pointers_of(ground)?.pop())?)),
         "refs" => Ok(Data::new_refs(pointers_of(ground)?)),
         _ => Err(Refusal::NoAnswer),

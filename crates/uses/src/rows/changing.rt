@@ -6,8 +6,7 @@ use crate::rows::asking::query_of;
 use crate::rows::whole_copy;
 use crate::script::{Edit, apply_edits};
 use jsonpath_rust::Whole;
-use jsonpath_rust::parser::{let_go, parse_json_path};
-use jsonpath_rust::query::{Prepared, Runner, Within, at, selected_locations};
+use jsonpath_rust::query::{Prepared, Runner, Stop, at};
 use rows_common::answers::{optional, pair, with_left};
 use rows_common::arguments::{each, exactly, given, list, size, steps, text, text_copy};
 use rows_common::{Cause, Given, Refusal};
@@ -85,7 +84,7 @@ fn added(alloc: Global, change: &[Value], left: &mut Whole<Value>) -> Given<Valu
     Ok(Value::from(left.add_at(alloc, &parent, step, whole_copy(new)?)?))
 }
 
-/// What the call of that name answers, by a runner of the query, which is its first argument.
+/// What the call of that name answers, by a runner of the query, which is its first argument; the units of a limit come next, if any.
 fn run(alloc: Global, name: &str, asked: &[Value], left: &mut Whole<Value>) -> Given<Value> {
     let (query, change) = given(asked.split_first())?;
     let query = Prepared::read(alloc, text(query)?)?;
@@ -101,42 +100,38 @@ fn run_by(
     change: &[Value],
     left: &mut Whole<Value>,
 ) -> Given<Value> {
-    match name {
-        "Whole::delete_by_runner" if change.is_empty() => {
-            Ok(Value::from(left.delete_by_runner(alloc, &mut runner)?))
-        }
-        "Whole::replace_by_runner" => {
-            let [new] = exactly::<1>(change)?;
-            Ok(Value::from(left.replace_by_runner(alloc, &mut runner, &whole_copy(new)?)?))
-        }
-        "Whole::delete_limited" => {
-            let [units] = exactly::<1>(change)?;
+    match (name, change) {
+        ("Whole::delete", []) => Ok(Value::from(left.delete(alloc, &mut runner)?)),
+        ("Whole::delete", [units]) => {
             let mut limited = runner.limited(size(units)?);
-            Ok(told(left.delete_limited(alloc, &mut limited)?))
+            told(left.delete(alloc, &mut limited))
         }
-        "Whole::replace_limited" => {
-            let [units, new] = exactly::<2>(change)?;
+        ("Whole::replace", [new]) => {
+            Ok(Value::from(left.replace(alloc, &mut runner, &whole_copy(new)?)?))
+        }
+        ("Whole::replace", [units, new]) => {
             let mut limited = runner.limited(size(units)?);
-            Ok(told(left.replace_limited(alloc, &mut limited, &whole_copy(new)?)?))
+            told(left.replace(alloc, &mut limited, &whole_copy(new)?))
         }
         _ => Err(Refusal::NoAnswer),
     }
 }
 
 /// How many, null where the units are not enough.
-fn told(count: Within<usize>) -> Value {
+fn told(count: Result<usize, Stop>) -> Given<Value> {
     match count {
-        Within::Done(count) => Value::from(count),
-        Within::Spent => Value::Null,
+        Ok(count) => Ok(Value::from(count)),
+        Err(Stop::Spent) => Ok(Value::Null),
+        Err(Stop::Refused(error)) => Err(error.into()),
     }
 }
 
 /// Adds one to each whole number that the query selects: the new values are put when all of them are made, of the old ones.
 fn one_added(alloc: Global, change: &[Value], document: &mut Whole<Value>) -> Given<Value> {
     let [query] = exactly::<1>(change)?;
-    let query = parse_json_path(alloc, text(query)?)?;
-    let places = selected_locations(alloc, &query, document.get());
-    let_go(query);
+    let query = Prepared::read(alloc, text(query)?)?;
+    let places = query.runner(alloc).locations(alloc, document.get());
+    drop(query);
     let mut changes = Vec::new(alloc);
     for place in places? {
         if let Some(value) = one_more(at(document.get(), &place)) {
