@@ -16,6 +16,8 @@ LINK = re.compile(r"\[`([^`\]]+)`\]\(([^)#]+)#L(\d+)\)")
 def heads_of(path, name):
     """The lines of a file at which an item of that name begins."""
     head = re.compile(rf"\s*(?:pub )?(?:const )?(?:fn|struct|enum|trait|type) {re.escape(name)}\b")
+    if not os.path.exists(os.path.join(HERE, path)):
+        return []
     with open(os.path.join(HERE, path), encoding="utf-8") as file:
         return [at for at, line in enumerate(file, 1) if head.match(line)]
 

@@ -10,7 +10,7 @@ processor seconds, a slash between the sizes. Its like, which looks at the curre
 root, comes behind. So do runs of `jpath delete`, also with the memory at its peak, in MB, which is told as no
 less than that of this script, some 25: the like has a short name, or selects each node once. The second table has the least stack of
 `jpath nodes`, in KB, to within 64. The third has, for several sizes of query or document, the least units that are enough
-for `nodes` of a `Limited`, and nanoseconds a unit: the least of three runs with one unit less, and less the time of a run with
+for `nodes` of a runner, and nanoseconds a unit: the least of three runs with one unit less, and less the time of a run with
 none; behind these, of calls with as many units each, whether they are enough, milliseconds and the most memory. The
 fourth has, for patterns in several sizes, processor seconds and MB of `jpath values`.
 """
@@ -361,6 +361,9 @@ UNITS = [
 ]
 
 
+# The calls of a runner whose results hold on to memory.
+CALLS = ["values", "nodes", "paths", "locations", "delete", "replace"]
+
 # What is asked with so many units: a call that spends them takes time and memory for as many, whatever the size.
 BOUNDED = [
     ("arguments of a function", arguments, [1, 10, 50, 200], 250000),
@@ -368,6 +371,8 @@ BOUNDED = [
     ("a guard on lists in one another", lambda size: ("$.none[?count($..*..*..*..*[?$[?$[?@.x]]])>9]", nest_of_lists(size)), [92, 94, 120], 10**6),
     ("the first of many elements", lambda size: ("$[*]", numbers(size), "first"), [2000, 10**5], 1000),
     ("locations below 63 names", lambda size: ("$" + ".a" * 63 + "[*]", below_names(63, size), "locations"), [10**4, 10**5], 25000),
+    *[(f"{call} of numbers", lambda size, call=call: ("$[*]", numbers(size), call), [10**5, 10**6], 4 * 10**6) for call in CALLS],
+    *[(f"{call} below {names} names", lambda size, call=call, names=names: ("$" + ".a" * names + "[*]", below_names(names, size), call), [10**4, 10**5], 10**6) for names in (14, 63) for call in CALLS],
 ]
 
 
