@@ -76,8 +76,8 @@ pub struct Unlimited;
 /// and counted some times as many values as it had units. A type that leaves `member_count` to its
 /// default also lists an object each time that its size is asked for in a comparison, for a unit.
 ///
-/// A unit holds on to a kilobyte of memory at most, as measured, of locations; patterns keep some
-/// hundred megabytes beside. The text of a query takes memory by its length, which no unit pays:
+/// A unit holds on to about a kilobyte of memory at the worst that was tried, of locations; patterns
+/// keep some hundred megabytes beside. The text of a query takes memory by its length, which no unit pays:
 /// bound that too. Where the system refuses a request, as under `ulimit -v`, a call is refused by
 /// `OutOfMemory`.
 #[derive(Debug, Drop)]
