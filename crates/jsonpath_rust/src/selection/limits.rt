@@ -77,9 +77,9 @@ pub struct Unlimited;
 /// default also lists an object each time that its size is asked for in a comparison, for a unit.
 ///
 /// A unit holds on to about a kilobyte of memory at the worst that was tried, of locations; patterns
-/// keep some hundred megabytes beside. The text of a query takes memory by its length, which no unit pays:
-/// bound that too. Where the system refuses a request, as under `ulimit -v`, a call is refused by
-/// `OutOfMemory`.
+/// keep some hundred megabytes beside. The text of a query takes memory by its length, which no unit
+/// pays: bound that too. Where the system refuses a request, as under `ulimit -v`, a call is refused
+/// by `OutOfMemory`.
 #[derive(Debug, Drop)]
 pub struct Units {
     count: usize,
