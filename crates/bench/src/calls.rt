@@ -44,7 +44,7 @@ fn walk_each(alloc: Global, text: &str, document: &Whole<Value>, count: usize) -
     let query = parse_json_path(alloc, text)?;
     for _ in 0..count {
         let prepared = Prepared::of(alloc, &query)?;
-        drop(prepared.runner(alloc).nodes(alloc, document.get())?);
+        drop(prepared.runner(alloc).nodes(alloc, document.as_ref())?);
     }
     let_go(query);
     Ok(())

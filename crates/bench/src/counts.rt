@@ -56,8 +56,8 @@ fn selected_both_ways(
     document: &Whole<Value>,
 ) -> io::Result<usize> {
     let mut runner = query.runner(alloc);
-    let values = runner.values(alloc, document.get()).map_err(refused)?;
-    let nodes = runner.nodes(alloc, document.get()).map_err(refused)?;
+    let values = runner.values(alloc, document.as_ref()).map_err(refused)?;
+    let nodes = runner.nodes(alloc, document.as_ref()).map_err(refused)?;
     if values.len() == nodes.len() {
         Ok(nodes.len())
     } else {

@@ -105,7 +105,7 @@ pub fn counted(alloc: Global, table: &[Prepared], messages: &[Whole<Value>]) -> 
 fn run(alloc: Global, runners: &mut Vec<Runner<'_>>, message: &Whole<Value>) -> Queried<usize> {
     let mut count = 0usize;
     for runner in runners.iter_mut() {
-        if runner.has_node(alloc, message.get())? {
+        if runner.has_node(alloc, message.as_ref())? {
             count = count.saturating_add(1);
         }
     }
@@ -116,7 +116,7 @@ fn run(alloc: Global, runners: &mut Vec<Runner<'_>>, message: &Whole<Value>) -> 
 fn found(alloc: Global, table: &[Prepared], message: &Whole<Value>) -> Queried<usize> {
     let mut count = 0usize;
     for query in table {
-        if query.runner(alloc).has_node(alloc, message.get())? {
+        if query.runner(alloc).has_node(alloc, message.as_ref())? {
             count = count.saturating_add(1);
         }
     }

@@ -66,7 +66,7 @@ fn one_round(
     let prepared = Prepared::of(rt.alloc(), query).map_err(refused)?;
     let values = prepared
         .runner(rt.alloc())
-        .values(rt.alloc(), document.get())
+        .values(rt.alloc(), document.as_ref())
         .map_err(refused)?;
     let lean = start.elapsed(rt)?;
     let count = values.len();
@@ -75,7 +75,7 @@ fn one_round(
     let prepared = Prepared::of(rt.alloc(), query).map_err(refused)?;
     let nodes = prepared
         .runner(rt.alloc())
-        .nodes(rt.alloc(), document.get())
+        .nodes(rt.alloc(), document.as_ref())
         .map_err(refused)?;
     let full = start.elapsed(rt)?;
     let selected = nodes.len();

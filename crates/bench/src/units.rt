@@ -62,16 +62,16 @@ fn is_enough(
     document: &mut Whole<Value>,
 ) -> io::Result<bool> {
     match call {
-        "values" => is_done(runner.values(alloc, document.get())),
-        "paths" => is_done(runner.paths(alloc, document.get())),
-        "locations" => is_done(runner.locations(alloc, document.get())),
-        "first" => is_done(runner.first(alloc, document.get())),
+        "values" => is_done(runner.values(alloc, document.as_ref())),
+        "paths" => is_done(runner.paths(alloc, document.as_ref())),
+        "locations" => is_done(runner.locations(alloc, document.as_ref())),
+        "first" => is_done(runner.first(alloc, document.as_ref())),
         "delete" => is_done(document.delete(alloc, runner)),
         "replace" => match Whole::new(Value::Null) {
             Ok(mask) => is_done(document.replace(alloc, runner, &mask)),
             Err(_value) => Err(ErrorKind::InvalidData.into()),
         },
-        _ => is_done(runner.nodes(alloc, document.get())),
+        _ => is_done(runner.nodes(alloc, document.as_ref())),
     }
 }
 

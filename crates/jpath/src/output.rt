@@ -15,6 +15,7 @@ use crate::value::push_value;
 use crate::words::{Command, Listing};
 use jsonpath_parser::model::JpQuery;
 use jsonpath_rust::query::{Prepared, QueryRef};
+use jsonpath_rust::{Whole, WholeRef};
 use serde_json::Value;
 use std::alloc::{AllocError, Global};
 use std::fmt::Write;
@@ -24,15 +25,14 @@ pub fn printed(
     alloc: Global,
     command: Command,
     query: &JpQuery,
-    document: &mut Value,
+    document: &mut Whole<Value>,
 ) -> Result<String, Fault>
-    requires { IsTrue (value_is_whole document.now) }
-    ensures text { IfOk result (λ text. string_bytes text ≡ output.printed command (query_view query.now) (value_document document.old)) }
-    ensures refused { IfErr result (IsNoAnswer (query_view query.now) (value_document document.old)) }
+    ensures text { IfOk result (λ text. string_bytes text ≡ output.printed command (query_view query.now) (value_document document.old.value)) }
+    ensures refused { IfErr result (IsNoAnswer (query_view query.now) (value_document document.old.value)) }
 {
     match command {
-        Command::Print(Listing::Values) => values_printed(alloc, query, document),
-        Command::Print(listing) => nodes_printed(alloc, listing, query, document),
+        Command::Print(Listing::Values) => values_printed(alloc, query, document.as_ref()),
+        Command::Print(listing) => nodes_printed(alloc, listing, query, document.as_ref()),
         Command::Delete => deletion_printed(alloc, query, document),
     }
 }
@@ -42,11 +42,10 @@ fn nodes_printed(
     alloc: Global,
     listing: Listing,
     query: &JpQuery,
-    document: &Value,
+    document: WholeRef<'_, Value>,
 ) -> Result<String, Fault>
-    requires { IsTrue (value_is_whole document.now) }
-    ensures text { IfOk result (λ text. string_bytes text ≡ listed listing (query_view query.now) (value_document document.now)) }
-    ensures refused { IfErr result (IsNoAnswer (query_view query.now) (value_document document.now)) }
+    ensures text { IfOk result (λ text. string_bytes text ≡ listed listing (query_view query.now) (value_document document.value.now)) }
+    ensures refused { IfErr result (IsNoAnswer (query_view query.now) (value_document document.value.now)) }
 {
     let prepared = Prepared::of(alloc, query)?;
     let nodes = prepared.runner(alloc).nodes(alloc, document)?;
@@ -54,10 +53,13 @@ fn nodes_printed(
 }
 
 /// The values alone, for which no path is made.
-fn values_printed(alloc: Global, query: &JpQuery, document: &Value) -> Result<String, Fault>
-    requires { IsTrue (value_is_whole document.now) }
-    ensures text { IfOk result (λ text. string_bytes text ≡ listed Listing.Values (query_view query.now) (value_document document.now)) }
-    ensures refused { IfErr result (IsNoAnswer (query_view query.now) (value_document document.now)) }
+fn values_printed(
+    alloc: Global,
+    query: &JpQuery,
+    document: WholeRef<'_, Value>,
+) -> Result<String, Fault>
+    ensures text { IfOk result (λ text. string_bytes text ≡ listed Listing.Values (query_view query.now) (value_document document.value.now)) }
+    ensures refused { IfErr result (IsNoAnswer (query_view query.now) (value_document document.value.now)) }
 {
     let prepared = Prepared::of(alloc, query)?;
     let values = prepared.runner(alloc).values(alloc, document)?;
@@ -65,14 +67,17 @@ fn values_printed(alloc: Global, query: &JpQuery, document: &Value) -> Result<St
 }
 
 /// How many locations were deleted, and the document that is left.
-fn deletion_printed(alloc: Global, query: &JpQuery, document: &mut Value) -> Result<String, Fault>
-    requires { IsTrue (value_is_whole document.now) }
-    ensures text { IfOk result (λ text. string_bytes text ≡ output.printed Command.Delete (query_view query.now) (value_document document.old)) }
-    ensures refused { IfErr result (IsNoAnswer (query_view query.now) (value_document document.old)) }
+fn deletion_printed(
+    alloc: Global,
+    query: &JpQuery,
+    document: &mut Whole<Value>,
+) -> Result<String, Fault>
+    ensures text { IfOk result (λ text. string_bytes text ≡ output.printed Command.Delete (query_view query.now) (value_document document.old.value)) }
+    ensures refused { IfErr result (IsNoAnswer (query_view query.now) (value_document document.old.value)) }
 {
     let prepared = Prepared::of(alloc, query)?;
-    let count = prepared.runner(alloc).delete(alloc, document)?;
-    Ok(rest_text(alloc, count, document)?)
+    let count = document.delete(alloc, &mut prepared.runner(alloc))?;
+    Ok(rest_text(alloc, count, document.get())?)
 }
 
 /// A line for a count, and one for a document.

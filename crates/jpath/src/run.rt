@@ -1,8 +1,7 @@
 //! One run: the words, the query, the document, what the query selects, the output.
-ghost use Rattle.std.specs.Prelude.{◌≡◌, ◌≢◌, ◌⊎◌, ◌↔◌, ℕ, ◌<◌, List, vec_len, Some, None, IsTrue, IfSome, IfOk, IfErr, OnOk, OnErr, IsErrOf, map, string_bytes};
+ghost use Rattle.std.specs.Prelude.{◌≡◌, ◌≢◌, ◌⊎◌, ◌↔◌, ℕ, ◌<◌, List, vec_len, Some, None, IfSome, IfOk, IfErr, OnOk, OnErr, IsErrOf, map, string_bytes};
 ghost use Rattle.std.specs.Io.KnownBytes.{Consumes, Appends, IsAtEnd};
 ghost use Rattle.serde_json.specs.View.{view};
-ghost use Rattle.jsonpath_base.specs.Values.{value_is_whole};
 ghost use Rattle.jpath.specs.Words.{asked_by};
 ghost use Rattle.jpath.specs.Output.{IsJson, IsNoDocument, IsOutput, AppendsFront, AsksQuery, IsFaultOf, IsOfWords, IsOfDocument};
 
@@ -10,6 +9,7 @@ use crate::fault::Fault;
 use crate::output::printed;
 use crate::words::request_of;
 use jsonpath_parser::{let_go, parse_json_path_within};
+use jsonpath_rust::Whole;
 use serde_json::Value;
 use std::alloc::{AllocError, Global};
 use std::io::{Read, Write};
@@ -65,9 +65,8 @@ pub fn run<R: Read, W: Write>(
 }
 
 /// The document that the reader gives to its end.
-fn read_document<R: Read>(alloc: Global, reader: &mut R) -> Result<Value, Fault>
-    ensures json { IfOk result (λ v. IfSome (R.remaining reader.old) (λ bytes. IsJson bytes (view v))) }
-    ensures whole { IfOk result (λ v. IsTrue (value_is_whole v)) }
+fn read_document<R: Read>(alloc: Global, reader: &mut R) -> Result<Whole<Value>, Fault>
+    ensures json { IfOk result (λ w. IfSome (R.remaining reader.old) (λ bytes. IsJson bytes (view w.value))) }
     ensures end { OnOk result (IsAtEnd (R.remaining reader.new)) }
     ensures fault { IfErr result (IsNoDocument (R.remaining reader.old)) }
     ensures read { IfErr result (λ f. IsOfDocument f → IsAtEnd (R.remaining reader.new)) }
@@ -106,9 +105,8 @@ fn read_buffer(alloc: Global) -> Result<Vec<u8>, AllocError>
 const BUFFER_SIZE: usize = 65536;
 
 /// The document of these bytes.
-fn document_of(alloc: Global, bytes: &[u8]) -> Result<Value, Fault>
-    ensures json { IfOk result (λ v. IsJson bytes.now (view v)) }
-    ensures whole { IfOk result (λ v. IsTrue (value_is_whole v)) }
+fn document_of(alloc: Global, bytes: &[u8]) -> Result<Whole<Value>, Fault>
+    ensures json { IfOk result (λ w. IsJson bytes.now (view w.value)) }
     ensures fault { IfErr result (IsNoDocument (Some bytes.now)) }
 {
     let value = match Value::from_slice(alloc, bytes) {
@@ -119,11 +117,7 @@ fn document_of(alloc: Global, bytes: &[u8]) -> Result<Value, Fault>
             Fault::NotJson
         }),
     };
-    if jsonpath_base::whole(&value) {
-        Ok(value)
-    } else {
-        Err(Fault::NotWhole)
-    }
+    Whole::new(value).map_err(|_| Fault::NotWhole)
 }
 
 /// Writes all bytes, and flushes once.

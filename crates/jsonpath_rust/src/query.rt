@@ -12,6 +12,7 @@ mod masking;
 pub mod queryable;
 
 use crate::documents::queryable::Queryable;
+use crate::documents::whole::WholeRef;
 pub use crate::documents::{
     Queried, QueryPath, QueryRef, not_a_reference, referred_location, replace_by_path,
 };
@@ -68,7 +69,7 @@ pub fn js_path_within<'a, T: Queryable>(
     ensures { ByText depth path.now (document_of T.tree T.custom value.now) (AreNodes T.Queryable.own) (IsNodeThere T.Queryable.own) result }
 {
     let query = Prepared::read_within(alloc, path, depth)?;
-    query.runner(alloc).nodes(alloc, value)
+    query.runner(alloc).nodes(alloc, WholeRef { value })
 }
 
 /// The values of the nodes that a query text selects in a document, in order. No path is made.
@@ -85,7 +86,7 @@ pub fn js_path_vals<'a, T: Queryable>(
     ensures { ByText MAX_NESTING_DEPTH path.now (document_of T.tree T.custom value.now) (AreValues T.Queryable.own) (IsValueThere T.Queryable.own) result }
 {
     let query = Prepared::read(alloc, path)?;
-    query.runner(alloc).values(alloc, value)
+    query.runner(alloc).values(alloc, WholeRef { value })
 }
 
 /// The Normalized Paths of the nodes that a query text selects in a document, in order.
@@ -98,7 +99,7 @@ pub fn js_path_path<T: Queryable>(alloc: Global, path: &str, value: &T) -> Queri
     ensures { ByText MAX_NESTING_DEPTH path.now (document_of T.tree T.custom value.now) ArePaths IsPathThere result }
 {
     let query = Prepared::read(alloc, path)?;
-    query.runner(alloc).paths(alloc, value)
+    query.runner(alloc).paths(alloc, WholeRef { value })
 }
 
 /// The nodes that a query selects in a document, in order (RFC 9535, 2.1.2): their values and their
@@ -137,7 +138,7 @@ pub fn js_path_process<'a, T: Queryable>(
 {
     if is_typed(path) {
         let prepared = Prepared::of(alloc, path)?;
-        prepared.runner(alloc).nodes(alloc, value)
+        prepared.runner(alloc).nodes(alloc, WholeRef { value })
     } else {
         processed_nodes(alloc, path, value)
     }
@@ -169,7 +170,7 @@ pub fn js_path_process_vals<'a, T: Queryable>(
 {
     if is_typed(query) {
         let prepared = Prepared::of(alloc, query)?;
-        prepared.runner(alloc).values(alloc, value)
+        prepared.runner(alloc).values(alloc, WholeRef { value })
     } else {
         processed_values(alloc, query, value)
     }

@@ -1,5 +1,5 @@
 //! Conditions on a document, and how much work is just enough for a query or a condition.
-use jsonpath_rust::{Condition, Prepared, Queryable, Runner, Stop, Units, WholeRef};
+use jsonpath_rust::{Condition, Prepared, Runner, Stop, Units, Whole, WholeRef};
 use rows_common::answers::{are_same, pair, unchanged};
 use rows_common::arguments::{given, given_if, size, spelled, text};
 use rows_common::{Given, Refusal};
@@ -14,6 +14,11 @@ type Bounded<'p> = Runner<'p, Units>;
 
 /// More units than a row needs.
 const MOST: usize = 65535;
+
+/// A copy of a document.
+fn whole_copy(value: &Value) -> Given<Whole<Value>> {
+    given(Whole::new(value.clone()?).ok())
+}
 
 /// The least number of units that is enough, if that is at most [`MOST`]. Each step halves where it may lie.
 fn least<F: Fn(usize) -> Given<bool>>(is_enough: F) -> Given<usize>
@@ -61,7 +66,7 @@ fn all_enough(alloc: Global, prepared: &Prepared, document: Lent<'_>) -> Given<u
 
 fn is_least(alloc: Global, prepared: &Prepared, units: usize, document: Lent<'_>) -> Given<bool> {
     let mut runner = prepared.runner(alloc).limited(units.saturating_sub(1));
-    let is_spent = units == 0 || !done(runner.nodes(alloc, document.get()))?;
+    let is_spent = units == 0 || !done(runner.nodes(alloc, document))?;
     drop(runner);
     let mut runner = prepared.runner(alloc).limited(units);
     let is_enough = is_enough(alloc, &mut runner, document);
@@ -77,29 +82,27 @@ fn is_least(alloc: Global, prepared: &Prepared, units: usize, document: Lent<'_>
 
 /// Whether each query of the runner returns something.
 fn is_enough(alloc: Global, runner: &mut Bounded<'_>, document: Lent<'_>) -> Given<bool> {
-    let asked = document.get();
     Ok(
-        done(runner.nodes(alloc, asked))?
-            && done(runner.values(alloc, asked))?
-            && done(runner.paths(alloc, asked))?
-            && done(runner.locations(alloc, asked))?
-            && done(runner.first(alloc, asked))?
-            && done(runner.only(alloc, asked))?
-            && done(runner.count(alloc, asked))?
-            && done(runner.has_node(alloc, asked))?,
+        done(runner.nodes(alloc, document))?
+            && done(runner.values(alloc, document))?
+            && done(runner.paths(alloc, document))?
+            && done(runner.locations(alloc, document))?
+            && done(runner.first(alloc, document))?
+            && done(runner.only(alloc, document))?
+            && done(runner.count(alloc, document))?
+            && done(runner.has_node(alloc, document))?,
     )
 }
 
 /// Whether the runner deletes in a copy of the document, or puts the document there.
 fn changes(alloc: Global, runner: &mut Bounded<'_>, document: Lent<'_>, puts: bool) -> Given<bool> {
-    let mut copy = document.get().clone()?;
-    let answer = match puts {
-        _ if !copy.is_whole() => Err(Refusal::NoAnswer),
-        true => done(runner.replace(alloc, &mut copy, document.get())),
-        false => done(runner.delete(alloc, &mut copy)),
+    let mut copy = whole_copy(document.get())?;
+    let answer = if puts {
+        done(copy.replace(alloc, runner, &whole_copy(document.get())?))
+    } else {
+        done(copy.delete(alloc, runner))
     };
-    let is_kept = are_same(&copy, document.get());
-    drop(copy);
+    let is_kept = are_same(copy.get(), document.get());
     unchanged(answer, is_kept)
 }
 
@@ -121,13 +124,12 @@ fn is_returned(
     document: Lent<'_>,
 ) -> Given<bool> {
     let mut runner = prepared.runner(alloc).limited(units);
-    let asked = document.get();
     match call {
-        "nodes" => done(runner.nodes(alloc, asked)),
-        "locations" => done(runner.locations(alloc, asked)),
-        "first" => done(runner.first(alloc, asked)),
-        "only" => done(runner.only(alloc, asked)),
-        "has_node" => done(runner.has_node(alloc, asked)),
+        "nodes" => done(runner.nodes(alloc, document)),
+        "locations" => done(runner.locations(alloc, document)),
+        "first" => done(runner.first(alloc, document)),
+        "only" => done(runner.only(alloc, document)),
+        "has_node" => done(runner.has_node(alloc, document)),
         "delete" => changes(alloc, &mut runner, document, false),
         "replace" => changes(alloc, &mut runner, document, true),
         _ => Err(Refusal::NoAnswer),
@@ -159,14 +161,14 @@ fn answer_of(alloc: Global, name: &str, condition: &Condition, document: Lent<'_
 
 /// Whether it holds, which a runner has to tell too.
 fn is_held(alloc: Global, condition: &Condition, document: Lent<'_>) -> Given<bool> {
-    let held = condition.holds(alloc, document.get())?;
+    let held = condition.holds(alloc, document)?;
     let mut runner = condition.runner(alloc);
-    let told = runner.holds(alloc, document.get());
+    let told = runner.holds(alloc, document);
     drop(runner);
     given_if(told? == held, held)
 }
 
 fn is_told(alloc: Global, condition: &Condition, document: Lent<'_>, units: usize) -> Given<bool> {
     let mut runner = condition.runner(alloc).limited(units);
-    done(runner.holds(alloc, document.get()))
+    done(runner.holds(alloc, document))
 }

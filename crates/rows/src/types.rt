@@ -35,13 +35,13 @@ pub fn found<T: Document>(alloc: Global, asked: &[Value]) -> Given<Value> {
     nodes(alloc, &js_path(alloc, &query, document.get())?)
 }
 
-/// `"Nothing"`, `"Several"`, or `{"One": VALUE}`.
+/// `"Nothing"`, `"Several"`, or `{"One": NODE}`.
 pub fn only(alloc: Global, query: &str, document: &Value) -> Given<Value> {
     let prepared = Prepared::read(alloc, query)?;
     let document = given(WholeRef::new(document))?;
-    match prepared.runner(alloc).only(alloc, document.get())? {
+    match prepared.runner(alloc).only(alloc, document)? {
         Only::Nothing => answers::text(alloc, "Nothing"),
-        Only::One(value) => member(alloc, "One", value.clone()?),
+        Only::One(found) => member(alloc, "One", node(alloc, &found.path, found.val)?),
         Only::Several => answers::text(alloc, "Several"),
     }
 }
@@ -50,7 +50,7 @@ pub fn only(alloc: Global, query: &str, document: &Value) -> Given<Value> {
 pub fn count(alloc: Global, query: &str, document: &Value) -> Given<Value> {
     let prepared = Prepared::read(alloc, query)?;
     let document = given(WholeRef::new(document))?;
-    counted(prepared.runner(alloc).count(alloc, document.get()))
+    counted(prepared.runner(alloc).count(alloc, document))
 }
 
 /// A list of the value that `reference` finds, empty for None.

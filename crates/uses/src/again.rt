@@ -10,7 +10,7 @@ ghost use Rattle.uses.specs.Again.{AreValuesIn, IsAtFirst};
 use crate::first::first_path;
 use jsonpath_rust::parser::model::JpQuery;
 use jsonpath_rust::query::{Queried, Step, at};
-use jsonpath_rust::{Prepared, Queryable, Whole};
+use jsonpath_rust::{Prepared, Queryable, Whole, WholeRef};
 use serde_json::Value;
 use std::alloc::Global;
 
@@ -53,7 +53,7 @@ pub fn values_below<'a>(
     match at(document.get(), steps) {
         Some(part) => {
             let prepared = Prepared::of(alloc, query)?;
-            prepared.runner(alloc).values(alloc, part)
+            prepared.runner(alloc).values(alloc, WholeRef::of(part))
         }
         None => Ok(Vec::new(alloc)),
     }

@@ -33,7 +33,7 @@ pub fn failures<'a, T: Queryable>(
 {
     let mut failed = Vec::new(alloc);
     for assertion in assertions {
-        if assertion.condition.holds(alloc, document.get())? {
+        if assertion.condition.holds(alloc, document)? {
             continue;
         }
         failed.push(assertion)?;

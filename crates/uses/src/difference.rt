@@ -48,9 +48,9 @@ pub fn difference_of<T: Queryable>(
     ensures refused { IfErr result (λ e. IsStop (query_view query.now) (document_of T.tree T.custom document.entry.value.now) e ⊎ IsStop (query_view other_query.now) (document_of T.tree T.custom other.entry.value.now) e) }
 {
     let prepared = Prepared::of(alloc, query)?;
-    let values = prepared.runner(alloc).values(alloc, document.get())?;
+    let values = prepared.runner(alloc).values(alloc, document)?;
     let other_prepared = Prepared::of(alloc, other_query)?;
-    let others = other_prepared.runner(alloc).values(alloc, other.get())?;
+    let others = other_prepared.runner(alloc).values(alloc, other)?;
     Ok(first_difference(&values, &others))
 }
 

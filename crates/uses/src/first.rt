@@ -23,7 +23,7 @@ pub fn first_path<T: Queryable>(
     ensures refused { IfErr result (IsStop (query_view query.now) (document_of T.tree T.custom document.entry.value.now)) }
 {
     let prepared = Prepared::of(alloc, query)?;
-    match prepared.runner(alloc).first(alloc, document.get())? {
+    match prepared.runner(alloc).first(alloc, document)? {
         Some(node) => Ok(Some(node.path)),
         None => Ok(None),
     }

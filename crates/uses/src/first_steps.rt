@@ -33,7 +33,7 @@ pub fn without_dear(alloc: Global, text: &str) -> Result<(Whole<Value>, usize), 
     let mut store = Whole::read(alloc, text)?;
 
     // A condition is asked of the document itself: `@` is its root. At 8, seven brackets may be open in its text.
-    let open = Condition::read(alloc, "@.book && !@.closed", 8)?.holds(alloc, store.get())?;
+    let open = Condition::read(alloc, "@.book && !@.closed", 8)?.holds(alloc, store.as_ref())?;
     if !open {
         return Err(StoreError::Closed);
     }

@@ -26,7 +26,7 @@ pub fn matching<T: Queryable>(
     let mut runner = query.runner(alloc);
     let mut told = Vec::new(alloc);
     for document in documents {
-        let found = runner.has_node(alloc, document.get())?;
+        let found = runner.has_node(alloc, document.as_ref())?;
         told.push(found)?;
     }
     Ok(told)

@@ -46,7 +46,7 @@ pub fn first_violation<T: Queryable>(
     ensures refused { IfErr result (IsUnjudged policy.now (document_of T.tree T.custom document.entry.value.now)) }
 {
     for (index, rule) in policy.iter().enumerate() {
-        if !rule.condition.holds(alloc, document.get())? {
+        if !rule.condition.holds(alloc, document)? {
             let path = first_path(alloc, &rule.shown, document)?;
             return Ok(Some(Violation { rule: index, path }));
         }

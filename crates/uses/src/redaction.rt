@@ -80,7 +80,7 @@ fn all_places(alloc: Global, rules: &[JpQuery], document: &Whole<Value>) -> Quer
     let mut places = Vec::new(alloc);
     for query in rules {
         let prepared = Prepared::of(alloc, query)?;
-        let mut found = prepared.runner(alloc).locations(alloc, document.get())?;
+        let mut found = prepared.runner(alloc).locations(alloc, document.as_ref())?;
         places.append(&mut found)?;
     }
     Ok(places)

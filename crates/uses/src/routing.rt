@@ -24,7 +24,7 @@ pub fn route<T: Queryable>(
     ensures refused { IfErr result (IsUnrouted table.now (document_of T.tree T.custom document.entry.value.now)) }
 {
     for (index, condition) in table.iter().enumerate() {
-        if condition.holds(alloc, document.get())? {
+        if condition.holds(alloc, document)? {
             return Ok(Some(index));
         }
     }

@@ -3,7 +3,7 @@ use Rattle.std.specs.Prelude.{◌≡◌, ◌↔◌, ℕ, min, List, [], ◌∷�
 use Rattle.jsonpath_parser.specs.Location.{Location}
 use Rattle.jsonpath_parser.specs.tree.Syntax.{Query}
 use Rattle.jsonpath_base.specs.Tree.{Tree}
-use Rattle.jsonpath_rust.specs.documents.Answer.{IsValueAt}
+use Rattle.jsonpath_rust.specs.documents.Answer.{IsNodeAt}
 use Rattle.jsonpath_rust.specs.documents.Document.{Document}
 use Rattle.jsonpath_rust.specs.documents.Functions.{greatest_count}
 use Rattle.jsonpath_rust.specs.documents.Meaning.{selected}
@@ -13,17 +13,17 @@ use Rattle.jsonpath_rust.specs.declared.documents.queryable.Queryable.{Ghosts}
 use Rattle.jsonpath_rust.specs.declared.selection.only.Only.{Only}
 use Rattle.jsonpath_rust.specs.declared.selection.only.Only.TheVariants.{Nothing, One, Several}
 
--- What is told of the only node: the query selects nothing; or one location alone, where this value stands; or several. A location that is
+-- What is told of the only node: the query selects nothing; or one location alone, whose node this is; or several. A location that is
 -- selected twice is two nodes (RFC 9535, 2.1.2).
 abbrev pub IsOnly : {A : Type 0} → (A → Tree) → Query → Document → Only A → Type 0
 IsOnly tree q doc Nothing = selected q doc ≡ []
-IsOnly tree q doc (One v) = (l : Location) × (selected q doc ≡ l ∷ []) × IsValueAt doc l (tree v.now)
+IsOnly tree q doc (One n) = (l : Location) × (selected q doc ≡ l ∷ []) × IsNodeAt doc l (string_bytes n.path, tree n.val.now)
 IsOnly tree q doc Several = (l m : Location) × (rest : List Location) × (selected q doc ≡ l ∷ m ∷ rest)
 
--- the value, where there is one node alone
-abbrev pub sole_value : {A : Type 0} → Only A → Option A
-sole_value (One v) = Some v.now
-sole_value _ = None
+-- the node, where there is one alone
+abbrev pub sole_node : {A : Type 0} → Only A → Option (QueryRef A)
+sole_node (One n) = Some n
+sole_node _ = None
 
 -- how many nodes the query selects, up to the greatest whole number of 64 bits
 abbrev pub node_count : Query → Document → ℕ
@@ -38,7 +38,7 @@ pub record IsFirst {A : Type 0} (r : Ghosts A) (doc : Document) (q : Query) (o :
 
 pub record IsOnlyNode {A : Type 0} (r : Ghosts A) (doc : Document) (q : Query) (o : Only A) : Type 0 where
   pub only : IsOnly r.tree q doc o
-  pub whole : IfSome (sole_value o) (λ x. IsTrue (r.is_whole x))
+  pub whole : IfSome (sole_node o) (λ n. IsTrue (r.is_whole n.val.now))
 
 abbrev pub IsCount : Document → Query → ℕ → Type 0
 IsCount doc q n = n ≡ node_count q doc

@@ -1,8 +1,7 @@
-//! Whole values and nodes of them: one, lists, and the only one. What they hold goes out as it is,
+//! Whole values and nodes of them: lists, and the only one. What they hold goes out as it is,
 //! with no copy.
 ghost use Rattle.std.proofs.Props.{props};
-ghost use Rattle.std.specs.Prelude.{◌≡◌, ◌++◌, ℕ, List, [], ◌∷◌, map, option_map, All, IsTrue, IfSome, OnOk, string_bytes};
-ghost use Rattle.jsonpath_base.specs.Tree.{Tree};
+ghost use Rattle.std.specs.Prelude.{◌≡◌, ◌++◌, [], ◌∷◌, map, All, IsTrue, OnOk, string_bytes};
 ghost use Rattle.jsonpath_rust.specs.documents.Answer.{shown};
 ghost use Rattle.jsonpath_rust.specs.documents.inner.Whole.{tree_of};
 
@@ -10,27 +9,6 @@ use crate::documents::queryable::Queryable;
 use crate::documents::whole::WholeRef;
 use crate::documents::{QueryPath, QueryRef};
 use std::alloc::{AllocError, Global};
-
-/// A node of a whole value.
-#[derive(Drop)]
-pub struct WholeNode<'a, T: Queryable> {
-    pub node: QueryRef<'a, T>,
-    ghost whole: { IsTrue (T.is_whole node.val.now) },
-}
-
-impl<'a, T: Queryable> WholeNode<'a, T> {
-    /// As a caller is told, if there is one.
-    pub fn told(found: Option<Self>) -> Option<QueryRef<'a, T>>
-        ensures node { option_map {U = List ℕ × Tree} (λ r. (string_bytes r.path, T.tree r.val.now)) result
-            ≡ option_map {U = List ℕ × Tree} (λ w. (string_bytes w.node.path, T.tree w.node.val.now)) found.entry }
-        ensures whole { IfSome result (λ r. IsTrue (T.is_whole r.val.now)) }
-    {
-        match found {
-            Some(found) => Some(found.node),
-            None => None,
-        }
-    }
-}
 
 /// What a walk found where the only node is wanted: none, one with this value, or several.
 #[derive(Clone, Copy)]

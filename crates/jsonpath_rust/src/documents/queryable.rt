@@ -6,6 +6,8 @@ ghost use Rattle.jsonpath_base.specs.Tree.{as_text, as_int, as_bool, has_distinc
 ghost use Rattle.jsonpath_base.specs.Same.{same};
 ghost use Rattle.jsonpath_parser.specs.declared.errors.JsonPathError.TheVariants.{OutOfMemory};
 ghost use Rattle.jsonpath_rust.specs.documents.Args.{arg_value};
+ghost use Rattle.jsonpath_rust.specs.documents.Document.{document_of};
+ghost use Rattle.jsonpath_rust.specs.documents.Referring.{IsReferred};
 
 use crate::documents::Queried;
 use std::alloc::Global;
@@ -149,6 +151,7 @@ pub trait Queryable: Sized + Debug + Drop {
     /// The value at the one location that a path means, such as a Normalized Path; by default None.
     /// It refuses by `OutOfMemory` alone.
     fn reference(&self, _alloc: Global, _path: &str) -> Queried<Option<&Self>>
+        ensures means { IfOk result (λ o. IfSome o (λ v. IsReferred _path.now (document_of tree custom self.now) (Some (tree v.now)))) }
         ensures whole { IsTrue (is_whole self.now) → IfOk result (λ o. IfSome o (λ v. IsTrue (is_whole v.now))) }
         ensures nowhere { refers ≡ false → IfOk result (λ o. o ≡ None) }
         ensures memory { IfErr result (λ e. e ≡ OutOfMemory) }
@@ -159,6 +162,8 @@ pub trait Queryable: Sized + Debug + Drop {
     /// The value at the one location that a path means, as [`Queryable::reference`], for writing;
     /// by default None. It refuses by `OutOfMemory` alone.
     fn reference_mut(&mut self, _alloc: Global, _path: &str) -> Queried<Option<&mut Self>>
+        ensures means { IfOk result (λ o. IfSome o (λ v. IsReferred _path.now (document_of tree custom self.old) (Some (tree v.now)))) }
+        ensures whole { IsTrue (is_whole self.old) → IfOk result (λ o. IfSome o (λ v. IsTrue (is_whole v.now))) }
         ensures nowhere { refers ≡ false → IfOk result (λ o. o ≡ None) }
         ensures memory { IfErr result (λ e. e ≡ OutOfMemory) }
     {

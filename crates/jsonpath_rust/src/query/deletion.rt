@@ -1,13 +1,14 @@
 //! Deletion of what a query selects.
-ghost use Rattle.std.specs.Prelude.{◌≡◌, Bool, false, IsTrue, OnErr, true};
-ghost use Rattle.jsonpath_rust.specs.Prelude.Documents.{IsErrAnd, value_document, value_is_whole, value_tree};
+ghost use Rattle.std.specs.Prelude.{◌≡◌, Bool, false, IfOk, IsTrue, OnErr, true};
+ghost use Rattle.jsonpath_rust.specs.Prelude.Documents.{document_of, IsErrAnd, value_document, value_is_whole, value_tree};
 ghost use Rattle.jsonpath_rust.specs.Prelude.Selection.{runner_view};
 ghost use Rattle.jsonpath_rust.specs.Calls.{ByText, Runs};
 ghost use Rattle.jsonpath_rust.specs.Defaults.{IsUnsupported};
-ghost use Rattle.jsonpath_rust.specs.Deleting.{Deletion, DeletionAt};
+ghost use Rattle.jsonpath_rust.specs.Deleting.{Deletes, Deletion, DeletionAt};
 
 use crate::documents::Queried;
 use crate::documents::queryable::Queryable;
+use crate::documents::whole::WholeRef;
 use crate::selection::{Limits, Prepared, Runner};
 use jsonpath_parser::MAX_NESTING_DEPTH;
 use jsonpath_parser::errors::JsonPathError;
@@ -26,6 +27,7 @@ pub trait Deletable: Queryable {
         requires { IsTrue (Self.is_whole self.old) }
         ensures kept { OnErr result (Self.tree self.new ≡ Self.tree self.old) }
         ensures whole { IsTrue (Self.is_whole self.new) }
+        ensures deleted { IfOk result (Deletes MAX_NESTING_DEPTH _path.now (document_of Self.tree Self.custom self.old) (Self.tree self.new)) }
         ensures refused { deletes ≡ false → IsErrAnd result IsUnsupported }
     {
         Err(JsonPathError::InvalidJsonPath(String::from_str(alloc, "Deletion not supported")?))
@@ -75,19 +77,15 @@ pub fn delete_within(alloc: Global, value: &mut Value, path: &str, depth: usize)
 
 impl<'p, L: Limits> Runner<'p, L> {
     /// Removes all locations that the query selects in a document, and returns how many distinct
-    /// ones there are, as [`delete_within`] does.
-    ///
-    /// # Errors
-    ///
-    /// Those of each call of a [`Runner`]; after any of them the document is as it was.
-    pub fn delete(&mut self, alloc: Global, value: &mut Value) -> Result<usize, L::Stop>
+    /// ones there are.
+    pub(crate) fn delete(&mut self, alloc: Global, value: &mut Value) -> Result<usize, L::Stop>
         requires { IsTrue (value_is_whole value.old) }
         ensures deleted { Runs L.stops (runner_view self.old) (runner_view self.new) (value_document value.old)
             (Deletion (value_tree value.new)) result }
         ensures kept { OnErr result (value.new ≡ value.old) }
         ensures whole { IsTrue (value_is_whole value.new) }
     {
-        let marked = self.marked(alloc, value)?;
+        let marked = self.marked(alloc, WholeRef { value })?;
         marked.remove_from(value);
         Ok(marked.count())
     }

@@ -6,6 +6,7 @@ ghost use Rattle.jsonpath_rust.specs.Prelude.Calls.{ByText, Replacement, Replace
 
 use crate::documents::Queried;
 use crate::documents::halt::Halt;
+use crate::documents::whole::WholeRef;
 use crate::selection::{Limits, Prepared, Runner};
 use jsonpath_parser::MAX_NESTING_DEPTH;
 use serde_json::Value;
@@ -63,13 +64,8 @@ pub fn replace_all_by_path(
 
 impl<'p, L: Limits> Runner<'p, L> {
     /// Puts a copy of `new` at all locations that the query selects in a document, and returns how
-    /// many distinct ones there are, as [`replace_within`] does. The size of the copies is not
-    /// limited.
-    ///
-    /// # Errors
-    ///
-    /// Those of each call of a [`Runner`]; after any of them the document is as it was.
-    pub fn replace(
+    /// many distinct ones there are.
+    pub(crate) fn replace(
         &mut self,
         alloc: Global,
         value: &mut Value,
@@ -82,7 +78,7 @@ impl<'p, L: Limits> Runner<'p, L> {
         ensures kept { OnErr result (value.new ≡ value.old) }
         ensures whole { IsTrue (value_is_whole value.new) }
     {
-        let marked = self.marked(alloc, value)?;
+        let marked = self.marked(alloc, WholeRef { value })?;
         match marked.replace_in(alloc, value, new) {
             Ok(()) => Ok(marked.count()),
             Err(_memory) => Err(L::stop(alloc, Halt::Memory)),

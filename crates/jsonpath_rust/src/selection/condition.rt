@@ -1,6 +1,6 @@
 //! Conditions on a document itself.
-ghost use Rattle.std.specs.Prelude.{◌++◌, ◌≡◌, codes, IfErr, IfOk, is_some, IsTrue, MatchResult, Some, string_bytes, ℕ};
-ghost use Rattle.jsonpath_rust.specs.Prelude.Documents.{Derives, document_of, filter_view, holds, IsCharBoundary, IsRefusal, IsStop, OutOfMemory, query_shown, query_view, root_node, segment_view};
+ghost use Rattle.std.specs.Prelude.{◌++◌, ◌≡◌, codes, IfErr, IfOk, is_some, MatchResult, Some, string_bytes, ℕ};
+ghost use Rattle.jsonpath_rust.specs.Prelude.Documents.{Derives, document_at, filter_view, holds, IsCharBoundary, IsRefusal, IsStop, OutOfMemory, query_shown, query_view, root_node, segment_view, tree_of};
 ghost use Rattle.jsonpath_rust.specs.Prelude.Selection.{condition_runner_view, condition_view, filter_of, filter_query, in_filter, IsConditionRefusal, IsConditionStop, prepared_view, runner_view, segment_filter};
 ghost use Rattle.jsonpath_parser.specs.tree.Syntax as syntax;
 
@@ -77,12 +77,11 @@ impl Condition {
     /// # Errors
     ///
     /// Those of a [`Runner`] of the query `$[?..]` of the expression.
-    pub fn holds<T: Queryable>(&self, alloc: Global, value: &T) -> Queried<bool>
-        requires { IsTrue (T.is_whole value.now) }
+    pub fn holds<T: Queryable>(&self, alloc: Global, value: WholeRef<'_, T>) -> Queried<bool>
         ensures holds { IfOk result (λ b. b
-            ≡ holds (condition_view self.now) (document_of T.tree T.custom value.now) (root_node
-            (T.tree value.now))) }
-        ensures refused { IfErr result (IsStop (filter_query (condition_view self.now)) (document_of T.tree T.custom value.now)) }
+            ≡ holds (condition_view self.now) (document_at value.entry) (root_node
+            (tree_of value.entry))) }
+        ensures refused { IfErr result (IsStop (filter_query (condition_view self.now)) (document_at value.entry)) }
     {
         self.runner(alloc).holds(alloc, value)
     }
@@ -127,25 +126,19 @@ impl<'c, L: Limits> ConditionRunner<'c, L> {
         }
     }
 
-    /// The runner, with no limit.
-    pub fn unlimited(self) -> ConditionRunner<'c>
-        ensures { condition_runner_view result ≡ condition_runner_view self.entry }
-    {
-        ConditionRunner {
-            runner: self.runner.unlimited(),
-        }
-    }
-
     /// Whether the condition holds of a document, as [`Condition::holds`].
-    pub fn holds<T: Queryable>(&mut self, alloc: Global, value: &T) -> Result<bool, L::Stop>
-        requires { IsTrue (T.is_whole value.now) }
+    pub fn holds<T: Queryable>(
+        &mut self,
+        alloc: Global,
+        value: WholeRef<'_, T>,
+    ) -> Result<bool, L::Stop>
         ensures holds { IfOk result (λ b. b
-            ≡ holds (condition_runner_view self.old) (document_of T.tree T.custom value.now)
-            (root_node (T.tree value.now))) }
+            ≡ holds (condition_runner_view self.old) (document_at value.entry)
+            (root_node (tree_of value.entry))) }
         ensures same { condition_runner_view self.new ≡ condition_runner_view self.old }
-        ensures refused { IfErr result (IsConditionStop L.stops (condition_runner_view self.old) (document_of T.tree T.custom value.now)) }
+        ensures refused { IfErr result (IsConditionStop L.stops (condition_runner_view self.old) (document_at value.entry)) }
     {
-        self.runner.decided(alloc, WholeRef { value })
+        self.runner.decided(alloc, value)
     }
 }
 

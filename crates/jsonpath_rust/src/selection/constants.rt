@@ -1,13 +1,14 @@
 //! Constants that are one value, an answer or a comparison: each is worked out when it is first
 //! asked, and then kept.
-ghost use Rattle.std.specs.Prelude.{◌≡◌, IfErr, IfOk, IfSome};
+ghost use Rattle.std.specs.Prelude.{◌≡◌, [], IfErr, IfOk, IfSome};
 ghost use Rattle.jsonpath_rust.specs.Prelude.Documents.{answer, call_patterns, filter_patterns, holds, Memory, Node, operand_tree, tree_of, value_at};
-ghost use Rattle.jsonpath_rust.specs.Prelude.Selection.{call_at, called_view, Comes, comparison_at, document, here, IsReady, kept_of, part_at, StandsAt, steps_at, value_by};
+ghost use Rattle.jsonpath_rust.specs.Prelude.Selection.{call_at, called_view, Comes, comparison_at, document, here, IsHalt, IsReady, kept_of, part_at, StandsAt, steps_at, value_by};
 
 use crate::documents::halt::Walked;
 use crate::documents::queryable::Queryable;
 use crate::documents::value::{Operand, Scalar, Side};
 use crate::documents::whole::WholeRef;
+use crate::selection::budget::Budget;
 use crate::selection::cache::{Cache, Given};
 use crate::selection::plan::Called;
 use crate::selection::singular::value_at;
@@ -32,6 +33,19 @@ impl<'a: 's, 's, T: Queryable> Task<'a, 's, T> {
             Some(Given::Value(value)) => Ok(Some(value.try_clone(self.alloc)?)),
             _ => Ok(None),
         }
+    }
+
+    /// Pays for a copy of what is kept of the constant of this number, where that is a value that a
+    /// custom function made.
+    fn pay_copy(&self, number: usize, cache: &Cache<'a, 's, T>, budget: &mut Budget) -> Walked<()>
+        ensures halts { IfErr result (IsHalt self.now.limit [] (document self.now)) }
+    {
+        if let Some(Given::Value(Operand::Made(made))) = cache.get(number) {
+            let most = budget.left().saturating_add(1);
+            let cost = self.limit.copy_cost(self.alloc, made.as_ref(), most)?;
+            budget.spend(self.limit, cost)?;
+        }
+        Ok(())
     }
 
     /// The value that the steps of this number lead to; the root where the plan has none.
@@ -91,6 +105,7 @@ impl<'a: 's, 's, T: Queryable> Task<'a, 's, T> {
         let Some(call) = self.plan.constant_call(number) else {
             return Ok(Operand::Side(Side::Absent));
         };
+        self.pay_copy(number, &trail.cache, &mut trail.budget)?;
         if let Some(value) = self.kept_value(number, &trail.cache)? {
             return Ok(value);
         }

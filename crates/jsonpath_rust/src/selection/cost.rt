@@ -94,6 +94,22 @@ impl Limit {
             Limit::Limited => size_of_arguments(alloc, args, most),
         }
     }
+
+    /// What a copy of a value costs: its size, or `most` where that is less. No more of it is looked
+    /// at.
+    pub fn copy_cost<T: Queryable>(
+        self,
+        alloc: Global,
+        value: WholeRef<'_, T>,
+        most: usize,
+    ) -> Walked<usize>
+        ensures memory { IfErr result (λ h. h ≡ Memory) }
+    {
+        match self {
+            Limit::Unlimited => Ok(0),
+            Limit::Limited => size_within(alloc, value, most),
+        }
+    }
 }
 
 /// How many bytes the text has, if it is one of the document or one that a custom function made;
@@ -150,7 +166,7 @@ fn path_cost<T: Queryable>(sink: &Sink<'_, T>, way: &Way<'_>) -> usize {
         Sink::Nodes(_) => name_bytes(way) / COPIED,
         Sink::Paths(_) => name_bytes(way) / COPIED,
         Sink::Locations(_) => { (name_bytes(way) / COPIED).saturating_add(way.steps.len() / STEPS) }
-        Sink::First(_) => name_bytes(way) / COPIED,
+        Sink::Few(_) => name_bytes(way) / COPIED,
         Sink::Removal(_) => way.unsettled_size(),
         _ => 0,
     }

@@ -1,8 +1,10 @@
 //! The only node of a query.
 ghost use Rattle.std.specs.Prelude.{◌≡◌, IfSome, IsTrue};
-ghost use Rattle.jsonpath_rust.specs.Prelude.Selection.{only_seen, only_told, seen_only, sole_value};
+ghost use Rattle.jsonpath_rust.specs.Prelude.Documents.{shown};
+ghost use Rattle.jsonpath_rust.specs.Prelude.Selection.{IsOnlyOf, sole_node};
 
-use crate::documents::nodes::WholeOnly;
+use crate::documents::QueryRef;
+use crate::documents::nodes::WholeNodes;
 use crate::documents::queryable::Queryable;
 
 /// What is told of the only node that a query selects, where only one is wanted.
@@ -13,22 +15,37 @@ use crate::documents::queryable::Queryable;
 pub enum Only<'a, T> {
     /// The query selects nothing.
     Nothing,
-    /// It selects one node alone, of this value.
-    One(&'a T),
+    /// It selects this node alone.
+    One(QueryRef<'a, T>),
     /// It selects more than one.
     Several,
 }
 
-impl<'a, T: Queryable> WholeOnly<'a, T> {
-    /// As a caller is told.
-    pub fn told(self) -> Only<'a, T>
-        ensures only { only_seen T.tree result ≡ only_told (seen_only self.entry) }
-        ensures whole { IfSome (sole_value result) (λ x. IsTrue (T.is_whole x)) }
+impl<'a, T: Queryable> Only<'a, T> {
+    /// The node, if there is one alone.
+    pub fn one(self) -> Option<QueryRef<'a, T>>
+        ensures { result ≡ sole_node self.entry }
     {
         match self {
-            WholeOnly::Nothing => Only::Nothing,
-            WholeOnly::One(value) => Only::One(value.value),
-            WholeOnly::Several => Only::Several,
+            Only::Nothing => None,
+            Only::One(node) => Some(node),
+            Only::Several => None,
+        }
+    }
+}
+
+impl<'a, T: Queryable> WholeNodes<'a, T> {
+    /// What a caller is told of these nodes, where only one is wanted.
+    pub fn told(self) -> Only<'a, T>
+        ensures only { IsOnlyOf T.tree (shown T.tree self.entry.list.items) result }
+        ensures whole { IfSome (sole_node result) (λ n. IsTrue (T.is_whole n.val.now)) }
+    {
+        let mut list = self.list;
+        let last = list.pop();
+        match (list.pop(), last) {
+            (None, None) => Only::Nothing,
+            (None, Some(node)) => Only::One(node),
+            (Some(_node), _) => Only::Several,
         }
     }
 }

@@ -1,12 +1,12 @@
 //! A prepared query that is asked of one document after another, under a limit of work or none.
-ghost use Rattle.std.specs.Prelude.{◌++◌, ◌≡◌, codes, IfErr, IfOk, IsTrue, Some};
-ghost use Rattle.jsonpath_rust.specs.Prelude.Documents.{AreLocations, AreNodes, ArePaths, AreValues, distinct_count, document_at, document_of, holds, is_among, nodelist, query_shown, query_view, root_node, selected, tree_of};
+ghost use Rattle.std.specs.Prelude.{◌++◌, ◌≡◌, codes, IfErr, IfOk, Some};
+ghost use Rattle.jsonpath_rust.specs.Prelude.Documents.{AreLocations, AreNodes, ArePaths, AreValues, distinct_count, document_at, holds, is_among, nodelist, query_shown, query_view, root_node, selected, tree_of};
 ghost use Rattle.jsonpath_rust.specs.Prelude.Selection.{expression_of, give, IsConditionStop, IsCount, IsFirst, IsOnlyNode, IsRemovalOf, IsStopOf, plan_view, planned_view, runner_view, seen, TellsWhether};
 ghost use Rattle.jsonpath_rust.specs.Prelude.Calls.{Runs};
 ghost use Rattle.jsonpath_base.specs.RemovalViews.{ordered_count, ordered_set};
 
 use crate::documents::halt::Halt;
-use crate::documents::nodes::{WholeNode, WholeNodes, WholeOnly, WholeValues};
+use crate::documents::nodes::{WholeNodes, WholeValues};
 use crate::documents::queryable::Queryable;
 use crate::documents::whole::WholeRef;
 use crate::documents::{QueryPath, QueryRef};
@@ -16,7 +16,7 @@ use crate::selection::give::{Request, give_requested};
 use crate::selection::limits::{Limits, Units, Unlimited, condition_budget, query_budget};
 use crate::selection::only::Only;
 use crate::selection::planned::Planned;
-use crate::selection::sink::Sink;
+use crate::selection::sink::{Sink, Wanted};
 use jsonpath_base::Step;
 use jsonpath_base::engine::{KeptFinders, OrderedRemoval, Removal};
 use jsonpath_parser::model::JpQuery;
@@ -83,28 +83,16 @@ impl<'p, L: Limits> Runner<'p, L> {
         }
     }
 
-    /// The runner, with no limit.
-    pub fn unlimited(self) -> Runner<'p>
-        ensures { runner_view result ≡ runner_view self.entry }
-    {
-        Runner {
-            planned: self.planned,
-            finders: self.finders,
-            limits: Unlimited,
-        }
-    }
-
     /// The nodes that the query selects in a document, in order (RFC 9535, 2.1.2).
     pub fn nodes<'a, T: Queryable>(
         &mut self,
         alloc: Global,
-        value: &'a T,
+        value: WholeRef<'a, T>,
     ) -> Result<Vec<QueryRef<'a, T>>, L::Stop>
-        requires { IsTrue (T.is_whole value.now) }
-        ensures { Runs L.stops (runner_view self.old) (runner_view self.new) (document_of T.tree T.custom value.now) (AreNodes T.Queryable.own) result }
+        ensures { Runs L.stops (runner_view self.old) (runner_view self.new) (document_at value.entry) (AreNodes T.Queryable.own) result }
     {
         let begun = Sink::Nodes(WholeNodes::new(alloc));
-        let sink = self.give_all(alloc, WholeRef { value }, begun)?;
+        let sink = self.give_all(alloc, value, begun)?;
         Ok(sink.into_nodes(alloc).list)
     }
 
@@ -112,13 +100,12 @@ impl<'p, L: Limits> Runner<'p, L> {
     pub fn values<'a, T: Queryable>(
         &mut self,
         alloc: Global,
-        value: &'a T,
+        value: WholeRef<'a, T>,
     ) -> Result<Vec<&'a T>, L::Stop>
-        requires { IsTrue (T.is_whole value.now) }
-        ensures { Runs L.stops (runner_view self.old) (runner_view self.new) (document_of T.tree T.custom value.now) (AreValues T.Queryable.own) result }
+        ensures { Runs L.stops (runner_view self.old) (runner_view self.new) (document_at value.entry) (AreValues T.Queryable.own) result }
     {
         let begun = Sink::Values(WholeValues::new(alloc));
-        let sink = self.give_all(alloc, WholeRef { value }, begun)?;
+        let sink = self.give_all(alloc, value, begun)?;
         Ok(sink.into_values(alloc).list)
     }
 
@@ -126,12 +113,11 @@ impl<'p, L: Limits> Runner<'p, L> {
     pub fn paths<T: Queryable>(
         &mut self,
         alloc: Global,
-        value: &T,
+        value: WholeRef<'_, T>,
     ) -> Result<Vec<QueryPath>, L::Stop>
-        requires { IsTrue (T.is_whole value.now) }
-        ensures { Runs L.stops (runner_view self.old) (runner_view self.new) (document_of T.tree T.custom value.now) ArePaths result }
+        ensures { Runs L.stops (runner_view self.old) (runner_view self.new) (document_at value.entry) ArePaths result }
     {
-        let sink = self.give_all(alloc, WholeRef { value }, Sink::Paths(Vec::new(alloc)))?;
+        let sink = self.give_all(alloc, value, Sink::Paths(Vec::new(alloc)))?;
         Ok(sink.into_paths(alloc))
     }
 
@@ -139,13 +125,12 @@ impl<'p, L: Limits> Runner<'p, L> {
     pub fn locations<T: Queryable>(
         &mut self,
         alloc: Global,
-        value: &T,
+        value: WholeRef<'_, T>,
     ) -> Result<Vec<Vec<Step>>, L::Stop>
-        requires { IsTrue (T.is_whole value.now) }
-        ensures { Runs L.stops (runner_view self.old) (runner_view self.new) (document_of T.tree T.custom value.now) AreLocations result }
+        ensures { Runs L.stops (runner_view self.old) (runner_view self.new) (document_at value.entry) AreLocations result }
     {
         let begun = Sink::Locations(Vec::new(alloc));
-        let sink = self.give_all(alloc, WholeRef { value }, begun)?;
+        let sink = self.give_all(alloc, value, begun)?;
         Ok(sink.into_locations(alloc))
     }
 
@@ -154,60 +139,63 @@ impl<'p, L: Limits> Runner<'p, L> {
     pub fn first<'a, T: Queryable>(
         &mut self,
         alloc: Global,
-        value: &'a T,
+        value: WholeRef<'a, T>,
     ) -> Result<Option<QueryRef<'a, T>>, L::Stop>
-        requires { IsTrue (T.is_whole value.now) }
-        ensures { Runs L.stops (runner_view self.old) (runner_view self.new) (document_of T.tree T.custom value.now) (IsFirst T.Queryable.own) result }
+        ensures { Runs L.stops (runner_view self.old) (runner_view self.new) (document_at value.entry) (IsFirst T.Queryable.own) result }
     {
-        let sink = self.give_all(alloc, WholeRef { value }, Sink::First(None))?;
-        Ok(WholeNode::told(sink.into_first()))
+        let sink = self.give_all(alloc, value, Sink::first(alloc, 1))?;
+        let only = sink.into_nodes(alloc).told();
+        Ok(only.one())
     }
 
-    /// The value of the only one of these nodes, or that there is none, or several. The document is
-    /// walked no further than to the second node, and no path is made.
+    /// The only one of these nodes, or that there is none, or several. The document is walked no
+    /// further than to the second node.
     pub fn only<'a, T: Queryable>(
         &mut self,
         alloc: Global,
-        value: &'a T,
+        value: WholeRef<'a, T>,
     ) -> Result<Only<'a, T>, L::Stop>
-        requires { IsTrue (T.is_whole value.now) }
-        ensures { Runs L.stops (runner_view self.old) (runner_view self.new) (document_of T.tree T.custom value.now) (IsOnlyNode T.Queryable.own) result }
+        ensures { Runs L.stops (runner_view self.old) (runner_view self.new) (document_at value.entry) (IsOnlyNode T.Queryable.own) result }
     {
-        let begun = Sink::Only(WholeOnly::Nothing);
-        let sink = self.give_all(alloc, WholeRef { value }, begun)?;
-        Ok(sink.into_only().told())
+        let sink = self.give_all(alloc, value, Sink::first(alloc, 2))?;
+        Ok(sink.into_nodes(alloc).told())
     }
 
     /// How many these nodes are, up to 2^63 - 1. No path and no list is made.
-    pub fn count<T: Queryable>(&mut self, alloc: Global, value: &T) -> Result<usize, L::Stop>
-        requires { IsTrue (T.is_whole value.now) }
-        ensures { Runs L.stops (runner_view self.old) (runner_view self.new) (document_of T.tree T.custom value.now) IsCount result }
+    pub fn count<T: Queryable>(
+        &mut self,
+        alloc: Global,
+        value: WholeRef<'_, T>,
+    ) -> Result<usize, L::Stop>
+        ensures { Runs L.stops (runner_view self.old) (runner_view self.new) (document_at value.entry) IsCount result }
     {
-        let sink = self.give_all(alloc, WholeRef { value }, Sink::Count(0))?;
+        let sink = self.give_all(alloc, value, Sink::start(alloc, Wanted::Count))?;
         Ok(sink.into_count())
     }
 
     /// Whether the query selects a node. The document is walked no further than to the first, and
     /// no path is made.
-    pub fn has_node<T: Queryable>(&mut self, alloc: Global, value: &T) -> Result<bool, L::Stop>
-        requires { IsTrue (T.is_whole value.now) }
-        ensures { Runs L.stops (runner_view self.old) (runner_view self.new) (document_of T.tree T.custom value.now) TellsWhether result }
+    pub fn has_node<T: Queryable>(
+        &mut self,
+        alloc: Global,
+        value: WholeRef<'_, T>,
+    ) -> Result<bool, L::Stop>
+        ensures { Runs L.stops (runner_view self.old) (runner_view self.new) (document_at value.entry) TellsWhether result }
     {
-        let sink = self.give_all(alloc, WholeRef { value }, Sink::Any(false))?;
-        Ok(sink.into_any())
+        let sink = self.give_all(alloc, value, Sink::start(alloc, Wanted::Any))?;
+        Ok(sink.into_count() > 0)
     }
 
     /// The locations of these nodes, in order, to be removed or replaced.
     pub(crate) fn marked<T: Queryable>(
         &mut self,
         alloc: Global,
-        value: &T,
+        value: WholeRef<'_, T>,
     ) -> Result<OrderedRemoval, L::Stop>
-        requires { IsTrue (T.is_whole value.now) }
-        ensures set { IfOk result (λ r. ordered_set r ≡ is_among (selected (runner_view self.old) (document_of T.tree T.custom value.now))) }
-        ensures count { IfOk result (λ r. ordered_count r ≡ distinct_count (selected (runner_view self.old) (document_of T.tree T.custom value.now))) }
+        ensures set { IfOk result (λ r. ordered_set r ≡ is_among (selected (runner_view self.old) (document_at value.entry))) }
+        ensures count { IfOk result (λ r. ordered_count r ≡ distinct_count (selected (runner_view self.old) (document_at value.entry))) }
         ensures same { runner_view self.new ≡ runner_view self.old }
-        ensures refused { IfErr result (IsStopOf L.stops (runner_view self.old) (document_of T.tree T.custom value.now)) }
+        ensures refused { IfErr result (IsStopOf L.stops (runner_view self.old) (document_at value.entry)) }
     {
         let removal = self.removal(alloc, value)?;
         match removal.ordered(alloc) {
@@ -217,17 +205,20 @@ impl<'p, L: Limits> Runner<'p, L> {
     }
 
     /// These locations, as they come.
-    fn removal<T: Queryable>(&mut self, alloc: Global, value: &T) -> Result<Removal, L::Stop>
-        requires { IsTrue (T.is_whole value.now) }
-        ensures removal { IfOk result (λ r. IsRemovalOf r (selected (runner_view self.old) (document_of T.tree T.custom value.now))) }
+    fn removal<T: Queryable>(
+        &mut self,
+        alloc: Global,
+        value: WholeRef<'_, T>,
+    ) -> Result<Removal, L::Stop>
+        ensures removal { IfOk result (λ r. IsRemovalOf r (selected (runner_view self.old) (document_at value.entry))) }
         ensures same { runner_view self.new ≡ runner_view self.old }
-        ensures refused { IfErr result (IsStopOf L.stops (runner_view self.old) (document_of T.tree T.custom value.now)) }
+        ensures refused { IfErr result (IsStopOf L.stops (runner_view self.old) (document_at value.entry)) }
     {
         let begun = match Box::new(alloc, Removal::new(alloc)) {
             Ok(removal) => Sink::Removal(removal),
             Err(_memory) => return Err(L::stop(alloc, Halt::Memory)),
         };
-        let sink = self.give_all(alloc, WholeRef { value }, begun)?;
+        let sink = self.give_all(alloc, value, begun)?;
         match sink.into_removal() {
             Some(removal) => Ok(Box::into_inner(removal)),
             None => Ok(Removal::new(alloc)),

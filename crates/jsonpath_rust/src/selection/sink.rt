@@ -1,14 +1,14 @@
 //! What is done with the nodes that a walk meets.
-ghost use Rattle.std.specs.Prelude.{◌∷◌, ◌≡◌, [], IfErr, IfOk, map, min, option_map, option_to_list, string_bytes, suc};
-ghost use Rattle.jsonpath_rust.specs.Prelude.Documents.{greatest_count, location_view, Memory, Node, of_nodes, operand_tree, paths_of, removal_count, removal_set, root_node, shown, tree_of};
-ghost use Rattle.jsonpath_rust.specs.Prelude.Selection.{any_in, count_in, finished, first_in, gave, locations_in, node_of, nodes_in, only_told, paths_in, removal_in, seen, seen_first, seen_only, start, TakesAlong, Took, values_in, wanted_of};
+ghost use Rattle.std.specs.Prelude.{◌∷◌, ◌≡◌, [], IfErr, IfOk, map, option_map, option_to_list, Some, ℕ};
+ghost use Rattle.jsonpath_rust.specs.Prelude.Documents.{location_view, Memory, Node, of_nodes, operand_tree, paths_of, removal_count, removal_set, root_node, shown, tree_of};
+ghost use Rattle.jsonpath_rust.specs.Prelude.Selection.{count_in, counted, few, finished, gave, locations_in, node_of, nodes_in, paths_in, removal_in, seen, seen_few, seen_only, start, TakesAlong, told_of, Took, values_in, wanted_of};
 
+use crate::documents::QueryPath;
 use crate::documents::halt::Walked;
-use crate::documents::nodes::{WholeNode, WholeNodes, WholeOnly, WholeValues};
+use crate::documents::nodes::{WholeNodes, WholeOnly, WholeValues};
 use crate::documents::queryable::Queryable;
 use crate::documents::value::{GREATEST_COUNT, Operand, Scalar, Side, count_scalar};
 use crate::documents::whole::WholeRef;
-use crate::documents::{QueryPath, QueryRef};
 use crate::selection::cache::Given;
 use jsonpath_base::Step;
 use jsonpath_base::engine::{Removal, Way};
@@ -44,6 +44,17 @@ impl Wanted {
             Wanted::Values => Operand::Side(Side::Absent),
         }
     }
+
+    /// What is wanted of so many nodes, as a value: how many they are, or whether there is one.
+    #[inline(always)]
+    fn of_count<'a, 's, T: Queryable>(self, count: usize) -> Operand<'a, 's, T>
+        ensures { operand_tree result ≡ Some (told_of self count) }
+    {
+        match self {
+            Wanted::Any => Operand::Side(Side::Plain(Scalar::Truth(count > 0))),
+            _ => Operand::Side(Side::Plain(count_scalar(count))),
+        }
+    }
 }
 
 /// Takes the nodes of a walk in their order.
@@ -60,14 +71,12 @@ pub enum Sink<'a, T: Queryable> {
     /// Marks each node's location to be removed or replaced. It stands in a box, so that the other
     /// sinks stay small.
     Removal(Box<Removal>),
-    /// Whether a node came. It stops at the first.
-    Any(bool),
-    /// How many nodes came, up to [`GREATEST_COUNT`].
-    Count(usize),
+    /// Counts down from the second number, one for each node. It stops at 0.
+    Count(usize, usize),
     /// The only node. It stops at the second.
     Only(WholeOnly<'a, T>),
-    /// The first node's value and Normalized Path. It stops there.
-    First(Option<WholeNode<'a, T>>),
+    /// Keeps the values and Normalized Paths of the first nodes. It stops at the last of these.
+    Few(FirstNodes<'a, T>),
 }
 
 impl<'a, T: Queryable> Sink<'a, T> {
@@ -77,11 +86,21 @@ impl<'a, T: Queryable> Sink<'a, T> {
         ensures { seen result ≡ start wanted }
     {
         match wanted {
-            Wanted::Any => Sink::Any(false),
-            Wanted::Count => Sink::Count(0),
+            Wanted::Any => Sink::Count(1, 1),
+            Wanted::Count => Sink::Count(GREATEST_COUNT, GREATEST_COUNT),
             Wanted::Only => Sink::Only(WholeOnly::Nothing),
             Wanted::Values => Sink::Values(WholeValues::new(alloc)),
         }
+    }
+
+    /// A sink for the first nodes, so many at most.
+    pub fn first(alloc: Global, most: usize) -> Self
+        ensures { seen result ≡ few most [] }
+    {
+        Sink::Few(FirstNodes {
+            nodes: WholeNodes::new(alloc),
+            room: most,
+        })
     }
 
     /// Takes the value that this way leads to. The result says whether the walk goes on.
@@ -113,16 +132,9 @@ impl<'a, T: Queryable> Sink<'a, T> {
                 way.settle();
                 Ok(true)
             }
-            Sink::Any(any) => {
-                *any = true;
-                Ok(false)
-            }
-            Sink::Count(count) => {
-                *count = one_more(*count);
-                Ok(true)
-            }
+            Sink::Count(room, _most) => Ok(take_count(room)),
             Sink::Only(only) => Ok(take_only(only, value)),
-            Sink::First(first) => Ok(take_first(first, alloc, value, way)?),
+            Sink::Few(first) => first.take(alloc, value, way),
         }
     }
 
@@ -130,19 +142,19 @@ impl<'a, T: Queryable> Sink<'a, T> {
     #[inline(always)]
     pub fn may_end(&self) -> bool {
         match self {
-            Sink::Any(_) | Sink::Only(_) | Sink::First(_) => true,
+            Sink::Count(_, most) => *most == 1,
+            Sink::Only(_) | Sink::Few(_) => true,
             _ => false,
         }
     }
 
     /// What was wanted of the nodes that it was given. The sink is freed.
     #[inline(always)]
-    pub fn finish<'s>(self) -> Given<'a, 's, T>
-        ensures { gave result ≡ finished (seen self.entry) }
+    pub fn finish<'s>(self, wanted: Wanted) -> Given<'a, 's, T>
+        ensures { gave result ≡ finished wanted (seen self.entry) }
     {
         match self {
-            Sink::Any(any) => Given::Value(Operand::Side(Side::Plain(Scalar::Truth(any)))),
-            Sink::Count(count) => Given::Value(Operand::Side(Side::Plain(count_scalar(count)))),
+            Sink::Count(room, most) => Given::Value(wanted.of_count(most.saturating_sub(room))),
             Sink::Only(WholeOnly::One(value)) => Given::Value(Operand::Side(Side::Lent(value))),
             Sink::Values(values) => Given::Values(values),
             other => {
@@ -152,25 +164,12 @@ impl<'a, T: Queryable> Sink<'a, T> {
         }
     }
 
-    /// Whether an `Any` was given a node. The sink is freed.
-    pub fn into_any(self) -> bool
-        ensures { result ≡ any_in (seen self.entry) }
-    {
-        match self {
-            Sink::Any(any) => any,
-            other => {
-                drop(other);
-                false
-            }
-        }
-    }
-
     /// How many nodes a `Count` was given. The sink is freed.
     pub fn into_count(self) -> usize
         ensures { result ≡ count_in (seen self.entry) }
     {
         match self {
-            Sink::Count(count) => count,
+            Sink::Count(room, most) => most.saturating_sub(room),
             other => {
                 drop(other);
                 0
@@ -178,25 +177,13 @@ impl<'a, T: Queryable> Sink<'a, T> {
         }
     }
 
-    /// What an `Only` was given: nothing, one node, or several.
-    pub fn into_only(self) -> WholeOnly<'a, T>
-        ensures { only_told (seen_only result) ≡ only_told (seen self.entry) }
-    {
-        match self {
-            Sink::Only(only) => only,
-            other => {
-                drop(other);
-                WholeOnly::Nothing
-            }
-        }
-    }
-
-    /// The nodes that a `Nodes` was given.
+    /// The nodes that a `Nodes` or a `Few` was given.
     pub fn into_nodes(self, alloc: Global) -> WholeNodes<'a, T>
         ensures { shown T.tree result.list.items ≡ nodes_in (seen self.entry) }
     {
         match self {
             Sink::Nodes(nodes) => nodes,
+            Sink::Few(first) => first.nodes,
             other => {
                 drop(other);
                 WholeNodes::new(alloc)
@@ -255,31 +242,15 @@ impl<'a, T: Queryable> Sink<'a, T> {
             }
         }
     }
-
-    /// The node that a `First` was given.
-    pub fn into_first(self) -> Option<WholeNode<'a, T>>
-        ensures { option_map (λ w. (string_bytes w.node.path, T.tree w.node.val.now)) result ≡ first_in (seen self.entry) }
-    {
-        match self {
-            Sink::First(first) => first,
-            other => {
-                drop(other);
-                None
-            }
-        }
-    }
 }
 
-/// The count and one, up to [`GREATEST_COUNT`].
+/// Counts a node: true, so that the walk goes on, if there is room for another.
 #[inline(always)]
-fn one_more(count: usize) -> usize
-    ensures { result ≡ min (suc count) greatest_count }
+fn take_count(room: &mut usize) -> bool
+    ensures { (n : Node) (most : ℕ) → Took (counted room.old most) (n ∷ []) (counted room.new most) result }
 {
-    if count < GREATEST_COUNT {
-        count + 1
-    } else {
-        GREATEST_COUNT
-    }
+    *room = room.saturating_sub(1);
+    *room > 0
 }
 
 /// Takes a node: true, so that the walk goes on, if that is the first.
@@ -299,25 +270,28 @@ fn take_only<'a, T: Queryable>(only: &mut WholeOnly<'a, T>, value: WholeRef<'a, 
     }
 }
 
-/// Takes a node, if that is the first: always false, so the walk stops.
-fn take_first<'a, T: Queryable>(
-    first: &mut Option<WholeNode<'a, T>>,
-    alloc: Global,
-    value: WholeRef<'a, T>,
-    way: &mut Way<'_>,
-) -> Walked<bool>
-    ensures gave { IfOk result (λ b. Took (seen_first first.old) (node_of way.old.steps.items value.entry ∷ []) (seen_first first.new) b) }
-    ensures same { way.new.steps.items ≡ way.old.steps.items }
-    ensures memory { IfErr result (λ h. h ≡ Memory) }
-{
-    if first.is_none() {
-        let path = way.path(alloc)?;
-        *first = Some(WholeNode {
-            node: QueryRef {
-                val: value.value,
-                path,
-            },
-        });
+/// The first nodes, as many as there is room for.
+#[derive(Drop)]
+pub struct FirstNodes<'a, T: Queryable> {
+    pub nodes: WholeNodes<'a, T>,
+    /// How many more are taken.
+    pub room: usize,
+}
+
+impl<'a, T: Queryable> FirstNodes<'a, T> {
+    /// Takes a node, where there is room: true, so that the walk goes on, if there is room for
+    /// another.
+    fn take(&mut self, alloc: Global, value: WholeRef<'a, T>, way: &mut Way<'_>) -> Walked<bool>
+        ensures gave { IfOk result (λ b. Took (seen_few self.old)
+            (node_of way.old.steps.items value.entry ∷ []) (seen_few self.new) b) }
+        ensures same { way.new.steps.items ≡ way.old.steps.items }
+        ensures memory { IfErr result (λ h. h ≡ Memory) }
+    {
+        if self.room == 0 {
+            return Ok(false);
+        }
+        self.nodes.push(value, way.path(alloc)?)?;
+        self.room -= 1;
+        Ok(self.room > 0)
     }
-    Ok(false)
 }

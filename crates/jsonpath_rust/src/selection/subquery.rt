@@ -107,7 +107,7 @@ impl<'a: 's, 's, T: Queryable> Task<'a, 's, T> {
     {
         let mut sink = Sink::start(self.alloc, wanted);
         let _goes_on = self.walk(segments, at, trail, &mut sink)?;
-        Ok(sink.finish())
+        Ok(sink.finish(wanted))
     }
 
     /// Keeps what is wanted of the nodes of the query from the root that has this number. They are

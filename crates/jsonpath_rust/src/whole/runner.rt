@@ -10,8 +10,14 @@ use serde_json::Value;
 use std::alloc::Global;
 
 impl Whole<Value> {
-    /// Removes all locations that the runner's query selects, and returns how many distinct ones
-    /// there are, as [`Runner::delete`]. Where the call has no result, the document is as it was.
+    /// Removes all locations that the runner's query selects, at once and each by its original place,
+    /// and returns how many distinct ones there are, as [`delete_within`] does.
+    ///
+    /// # Errors
+    ///
+    /// Those of each call of a [`Runner`]; after any of them the document is as it was.
+    ///
+    /// [`delete_within`]: crate::query::delete_within
     pub fn delete<L: Limits>(
         &mut self,
         alloc: Global,
@@ -24,9 +30,15 @@ impl Whole<Value> {
         runner.delete(alloc, &mut self.value)
     }
 
-    /// Puts a copy of `new` at all locations that the runner's query selects, and returns how many
-    /// distinct ones there are, as [`Runner::replace`]. Where the call has no result, the document
-    /// is as it was.
+    /// Puts a copy of `new` at all locations that the runner's query selects, at once, and returns
+    /// how many distinct ones there are, as [`replace_within`] does. The size of the copies is not
+    /// limited.
+    ///
+    /// # Errors
+    ///
+    /// Those of each call of a [`Runner`]; after any of them the document is as it was.
+    ///
+    /// [`replace_within`]: crate::query::replace_within
     pub fn replace<L: Limits>(
         &mut self,
         alloc: Global,

@@ -141,7 +141,7 @@ fn admitted(alloc: Global, asked: &[Value]) -> Given<Value> {
     let document = whole(document)?;
     match admit(alloc, text(query)?, &part, &functions)? {
         Some(query) => {
-            let paths = query.runner(alloc).paths(alloc, document.get());
+            let paths = query.runner(alloc).paths(alloc, document);
             drop(query);
             listed(alloc, paths?)
         }

@@ -130,7 +130,7 @@ fn told(count: Result<usize, Stop>) -> Given<Value> {
 fn one_added(alloc: Global, change: &[Value], document: &mut Whole<Value>) -> Given<Value> {
     let [query] = exactly::<1>(change)?;
     let query = Prepared::read(alloc, text(query)?)?;
-    let places = query.runner(alloc).locations(alloc, document.get());
+    let places = query.runner(alloc).locations(alloc, document.as_ref());
     drop(query);
     let mut changes = Vec::new(alloc);
     for place in places? {

@@ -9,6 +9,6 @@ use Rattle.jpath.proofs.output.nodes_printed.Goals as goal
 
 pub returns-clause-text : goal.returns-clause-text
 returns-clause-text c =
-    let doc = value_document c.args.document.now in
+    let doc = value_document c.args.document.value.now in
     let nodes = subst (λ q. AllZip (IsNodeAt doc) (selected q doc) (shown value_tree c.in_ok-nodes.nodes.items)) (c.runner.ensures ∙ c.in_ok-prepared.ensures.query) c.in_ok-nodes.ensures.told.nodes in
     c.in_ok-nodes_text.ensures ∙ rw c.as_slice.ensures.value (lines-AllZip c.args.listing doc _ _ nodes)

@@ -25,10 +25,9 @@ tied_by (sink.Nodes ns) w v f t = tt
 tied_by (sink.Paths ps) w v f t = tt
 tied_by (sink.Values vs) w v f t = tt
 tied_by (sink.Locations ls) w v f t = tt
-tied_by (sink.Any b) w v f t = tt
-tied_by (sink.Count n) w v f t = tt
+tied_by (sink.Count room most) w v f t = tt
 tied_by (sink.Only o) w v f t = tt
-tied_by (sink.First o) w v f t = tt
+tied_by (sink.Few ns) w v f t = tt
 
 -- at the root
 pub tied_at_root : {A : Type 0} {R : Ghosts A} {D : debug.Ghosts A} (s : Sink A R D) (w : Way) → w.steps.items ≡ [] → IsTied s w
@@ -40,10 +39,9 @@ tied_at_root (sink.Nodes ns) w e = tt
 tied_at_root (sink.Paths ps) w e = tt
 tied_at_root (sink.Values vs) w e = tt
 tied_at_root (sink.Locations ls) w e = tt
-tied_at_root (sink.Any b) w e = tt
-tied_at_root (sink.Count n) w e = tt
+tied_at_root (sink.Count room most) w e = tt
 tied_at_root (sink.Only o) w e = tt
-tied_at_root (sink.First o) w e = tt
+tied_at_root (sink.Few ns) w e = tt
 
 -- a sink of a filter marks nothing
 pub tied_inside : {A : Type 0} {R : Ghosts A} {D : debug.Ghosts A} (s : Sink A R D) (w : Way) (of : Wanted) → seen s ≡ start of → IsTied s w
@@ -55,10 +53,9 @@ tied_inside (sink.Nodes ns) w of e = tt
 tied_inside (sink.Paths ps) w of e = tt
 tied_inside (sink.Values vs) w of e = tt
 tied_inside (sink.Locations ls) w of e = tt
-tied_inside (sink.Any b) w of e = tt
-tied_inside (sink.Count n) w of e = tt
+tied_inside (sink.Count room most) w of e = tt
 tied_inside (sink.Only o) w of e = tt
-tied_inside (sink.First o) w of e = tt
+tied_inside (sink.Few ns) w of e = tt
 
 -- one step further
 pub tied_further : {A : Type 0} {R : Ghosts A} {D : debug.Ghosts A} (s : Sink A R D) (w v : Way) (step : StepRef) → v.steps.items ≡ w.steps.items ++ step ∷ [] → v.settled ≡ w.settled → IsTied s w → IsTied s v

@@ -1,9 +1,9 @@
 -- What a sink has, once it was given nodes.
-use Rattle.std.proofs.Common.{◌≡◌, ℕ, suc, pos, min, ◌+◌, ◌≤◌, List, [], ◌∷◌, ◌++◌, map, length, append-nil, append_assoc, refl, sym, ◌∙◌, ap, arith, Bool, true, false, Result, IfOk, Some, None, unwrap_or}
+use Rattle.std.proofs.Common.{◌≡◌, ℕ, zero, suc, pos, min, take, ◌-◌, List, [], ◌∷◌, ◌++◌, map, length, append-nil, append_assoc, refl, sym, ◌∙◌, ap, arith, Bool, true, false, Result, IfOk, Some, None, unwrap_or}
 use Rattle.std.proofs.lemmas.Result.{IfOk-weaker}
 use Rattle.std.proofs.lemmas.Bool.{false≢true}
-use Rattle.jsonpath_rust.specs.Prelude.Documents.{also, counted_with, distinct_count, greatest_count, has_node, is_among, Location, Node, normal, number, of_nodes, Removal, removal_count, removal_set, Tree}
-use Rattle.jsonpath_rust.specs.Prelude.Selection.{add, any, any_in, count, finished, first, first_in, full, give, given_of, IsRemovalOf, locations, locations_in, nodes_in, nothing, one, path_and_tree, paths, paths_in, removal, removal_in, Seen, several, start, Took, values, values_in, Wanted}
+use Rattle.jsonpath_rust.specs.Prelude.Documents.{also, counted_with, distinct_count, greatest_count, is_among, Location, Node, normal, number, of_nodes, Removal, removal_count, removal_set, Tree}
+use Rattle.jsonpath_rust.specs.Prelude.Selection.{add, count_in, counted, few, finished, full, give, given_of, IsRemovalOf, locations, locations_in, nodes_in, nothing, one, path_and_tree, paths, paths_in, removal, removal_in, Seen, several, start, Took, values, values_in, Wanted}
 use Rattle.jsonpath_base.specs.inner.Marks.{set_with}
 use Rattle.jsonpath_base.proofs.Removed.{set_begun}
 use Rattle.jsonpath_rust.specs.selection.inner.Sinks.{nodes}
@@ -20,13 +20,13 @@ add-full (paths ps) n h = absurd (false≢true h)
 add-full (values ts) n h = absurd (false≢true h)
 add-full (locations ls) n h = absurd (false≢true h)
 add-full (removal set k) n h = absurd (false≢true h)
-add-full (any b) n h = ap any (sym h)
-add-full (count k) n h = absurd (false≢true h)
+add-full (counted zero most) n h = refl
+add-full (counted (suc room) most) n h = absurd (false≢true h)
 add-full nothing n h = absurd (false≢true h)
 add-full (one t) n h = absurd (false≢true h)
 add-full several n h = refl
-add-full (first None) n h = absurd (false≢true h)
-add-full (first (Some p)) n h = refl
+add-full (few zero ms) n h = refl
+add-full (few (suc room) ms) n h = absurd (false≢true h)
 
 -- a sink that wants no more nodes stays as it is
 pub give-full : (s : Seen) (ns : List Node) → full s ≡ true → give s ns ≡ s
@@ -56,25 +56,19 @@ result_as r s z xs ys e h = IfOk-weaker r (λ b. Took s xs z b) (λ b. Took s ys
 
 -- ---- inside a filter
 
-give-any : (ns : List Node) → give (any false) ns ≡ any (has_node ns)
-give-any [] = refl
-give-any (n ∷ ns) = give-full (any true) ns refl
+-- each node takes one from the room
+give-counted : (room most : ℕ) (ns : List Node) → give (counted room most) ns ≡ counted (room - length ns) most
+give-counted room most [] = ap (λ k. counted k most) (omega arith)
+give-counted room most (n ∷ ns) = give-counted (room - 1) most ns ∙ ap (λ k. counted k most) (omega arith)
 
-pub any_given : (ns : List Node) → any_in (give (any false) ns) ≡ has_node ns
-any_given ns = ap any_in (give-any ns)
+-- so many nodes came, up to the room there was
+pub counted_all : (most : ℕ) (ns : List Node) → count_in (give (counted most most) ns) ≡ min (length ns) most
+counted_all most ns = ap count_in (give-counted most most ns) ∙ omega arith
 
-pub give-count : (k : ℕ) (ns : List Node) → k ≤ greatest_count → give (count k) ns ≡ count (min (k + length ns) greatest_count)
-give-count k [] h = ap count (omega (arith, h))
-give-count k (n ∷ ns) h = give-count (min (suc k) greatest_count) ns (omega arith) ∙ ap count (omega (arith, h))
-
-twice : (n : ℕ) → min (min (0 + n) greatest_count) greatest_count ≡ min n greatest_count
+twice : (n : ℕ) → min (greatest_count - (greatest_count - n)) greatest_count ≡ min n greatest_count
 twice n = omega arith
 
 -- ---- what it has in the end
-
--- the first node is kept
-pub only_first : (n : Node) (ns : List Node) → first_in (give (first None) (n ∷ ns)) ≡ Some (path_and_tree n)
-only_first n ns = ap first_in (give-full (first (Some (path_and_tree n))) ns refl)
 
 give-nodes : (ms : List (List ℕ × Tree)) (ns : List Node) → give (nodes ms) ns ≡ nodes (ms ++ map path_and_tree ns)
 give-nodes ms [] = ap nodes (sym (append-nil ms))
@@ -97,15 +91,25 @@ give-values ts [] = ap values (sym (append-nil ts))
 give-values ts (n ∷ ns) = give-values (ts ++ n.tree ∷ []) ns ∙ ap values (append_assoc ts (n.tree ∷ []) (map (λ m. m.tree) ns))
 
 -- what a sink for what is wanted gives is that of its nodes
-pub finished_all : (w : Wanted) (ns : List Node) → finished (give (start w) ns) ≡ given_of w (of_nodes ns)
-finished_all wanted.Any ns = ap finished (give-any ns)
-finished_all wanted.Count ns = ap finished (give-count 0 ns (omega arith)) ∙ ap (λ k. wanting.value (Some (number (pos k)))) (twice (length ns))
+pub finished_all : (w : Wanted) (ns : List Node) → finished w (give (start w) ns) ≡ given_of w (of_nodes ns)
+finished_all wanted.Any [] = refl
+finished_all wanted.Any (n ∷ ns) = ap (finished wanted.Any) (give-full (counted 0 1) ns refl)
+finished_all wanted.Count ns = ap (finished wanted.Count) (give-counted greatest_count greatest_count ns) ∙ ap (λ k. wanting.value (Some (number (pos k)))) (twice (length ns))
 finished_all wanted.Only [] = refl
 finished_all wanted.Only (n ∷ []) = refl
-finished_all wanted.Only (n ∷ m ∷ ns) = ap finished (give-full several ns refl)
-finished_all wanted.Values ns = ap finished (give-values [] ns)
+finished_all wanted.Only (n ∷ m ∷ ns) = ap (finished wanted.Only) (give-full several ns refl)
+finished_all wanted.Values ns = ap (finished wanted.Values) (give-values [] ns)
+
+-- the first nodes are kept, as many as there is room for
+give-few : (room : ℕ) (ms : List (List ℕ × Tree)) (ns : List Node) → nodes_in (give (few room ms) ns) ≡ ms ++ take room (map path_and_tree ns)
+give-few zero ms ns = ap nodes_in (give-full (few zero ms) ns refl) ∙ sym (append-nil ms)
+give-few (suc room) ms [] = sym (append-nil ms)
+give-few (suc room) ms (n ∷ ns) = give-few room (ms ++ path_and_tree n ∷ []) ns ∙ append_assoc ms (path_and_tree n ∷ []) (take room (map path_and_tree ns))
 
 -- what an empty sink has, once it was given these nodes
+pub given_few : (begun z : Seen) (room : ℕ) (ns : List Node) → begun ≡ few room [] → z ≡ give begun ns → nodes_in z ≡ take room (map path_and_tree ns)
+given_few begun z room ns h e = ap nodes_in (e ∙ ap (λ s. give s ns) h) ∙ give-few room [] ns
+
 pub given_nodes : {X : Type 0} (f : X → List ℕ × Tree) (xs : List X) (z : Seen) (ns : List Node) → xs ≡ [] → z ≡ give (nodes (map f xs)) ns → nodes_in z ≡ map path_and_tree ns
 given_nodes f xs z ns h e = ap nodes_in (e ∙ ap (λ ys. give (nodes (map f ys)) ns) h ∙ give-nodes [] ns)
 

@@ -1,5 +1,5 @@
 -- What a walk gives to a sink, for the contracts of the walk alone: the definitions here are no part of what a query means.
-use Rattle.std.specs.Prelude.{◌≡◌, ℕ, suc, min, List, [], ◌∷◌, ◌++◌, map, take, Bool, true, false, Option, Some, None, is_some, option_map, Result, IfOk, string_bytes}
+use Rattle.std.specs.Prelude.{◌≡◌, ℕ, zero, suc, ◌-◌, List, [], ◌∷◌, ◌++◌, map, take, Bool, true, false, Option, Some, None, Result, IfOk}
 use Rattle.std.specs.declared.fmt.Debug as debug
 use Rattle.jsonpath_parser.specs.Location.{Location}
 use Rattle.jsonpath_parser.specs.Normal.{normal}
@@ -13,11 +13,11 @@ use Rattle.jsonpath_rust.specs.documents.Node.{Node}
 use Rattle.jsonpath_rust.specs.documents.Answer.{shown, paths_of}
 use Rattle.jsonpath_rust.specs.documents.Functions.{greatest_count}
 use Rattle.jsonpath_rust.specs.documents.inner.Whole.{tree_of}
+use Rattle.jsonpath_rust.specs.declared.selection.sink.FirstNodes.{FirstNodes}
 use Rattle.jsonpath_rust.specs.declared.selection.sink.Sink.{Sink}
 use Rattle.jsonpath_rust.specs.declared.selection.sink.Sink.TheVariants as sink
 use Rattle.jsonpath_rust.specs.declared.selection.sink.Wanted.{Wanted}
 use Rattle.jsonpath_rust.specs.declared.selection.sink.Wanted.TheVariants as wanted
-use Rattle.jsonpath_rust.specs.declared.documents.nodes.WholeNode.{WholeNode}
 use Rattle.jsonpath_rust.specs.declared.documents.nodes.WholeOnly.{WholeOnly}
 use Rattle.jsonpath_rust.specs.declared.documents.nodes.WholeOnly.TheVariants.{Nothing, One, Several}
 use Rattle.jsonpath_rust.specs.declared.documents.queryable.Queryable.{Ghosts}
@@ -33,20 +33,19 @@ pub data Seen : Type 0 where
   values : List Tree → Seen
   locations : List Location → Seen
   removal : (Location → Bool) → ℕ → Seen
-  any : Bool → Seen
-  count : ℕ → Seen
+  counted : ℕ → ℕ → Seen
   nothing : Seen
   one : Tree → Seen
   several : Seen
-  first : Option (List ℕ × Tree) → Seen
+  few : ℕ → List (List ℕ × Tree) → Seen
 
 abbrev pub seen_only : {A : Type 0} {R : Ghosts A} {D : debug.Ghosts A} → WholeOnly A R D → Seen
 seen_only Nothing = nothing
 seen_only (One v) = one (tree_of v)
 seen_only Several = several
 
-abbrev pub seen_first : {A : Type 0} {R : Ghosts A} {D : debug.Ghosts A} → Option (WholeNode A R D) → Seen
-seen_first {R = R} o = first (option_map (λ w. (string_bytes w.node.path, R.tree w.node.val.now)) o)
+abbrev pub seen_few : {A : Type 0} {R : Ghosts A} {D : debug.Ghosts A} → FirstNodes A R D → Seen
+seen_few {R = R} f = few f.room (shown R.tree f.nodes.list.items)
 
 abbrev pub seen : {A : Type 0} {R : Ghosts A} {D : debug.Ghosts A} → Sink A R D → Seen
 seen {R = R} (sink.Nodes ns) = nodes (shown R.tree ns.list.items)
@@ -54,15 +53,14 @@ seen (sink.Paths ps) = paths (paths_of ps.items)
 seen {R = R} (sink.Values vs) = values (map (λ v. R.tree v.now) vs.list.items)
 seen (sink.Locations ls) = locations (map (λ l. location_view l.items) ls.items)
 seen (sink.Removal r) = removal (removal_set r.value) (removal_count r.value)
-seen (sink.Any b) = any b
-seen (sink.Count n) = count n
+seen (sink.Count room most) = counted room most
 seen (sink.Only o) = seen_only o
-seen (sink.First o) = seen_first o
+seen (sink.Few f) = seen_few f
 
 -- before any node
 abbrev pub start : Wanted → Seen
-start wanted.Any = any false
-start wanted.Count = count 0
+start wanted.Any = counted 1 1
+start wanted.Count = counted greatest_count greatest_count
 start wanted.Only = nothing
 start wanted.Values = values []
 
@@ -72,13 +70,12 @@ add (paths ps) n = paths (ps ++ normal n.location ∷ [])
 add (values ts) n = values (ts ++ n.tree ∷ [])
 add (locations ls) n = locations (ls ++ n.location ∷ [])
 add (removal set k) n = removal (also n.location set) (counted_with n.location set k)
-add (any b) n = any true
-add (count k) n = count (min (suc k) greatest_count)
+add (counted room most) n = counted (room - 1) most
 add nothing n = one n.tree
 add (one t) n = several
 add several n = several
-add (first None) n = first (Some (path_and_tree n))
-add (first (Some p)) n = first (Some p)
+add (few zero ns) n = few zero ns
+add (few (suc room) ns) n = few room (ns ++ path_and_tree n ∷ [])
 
 abbrev pub give : Seen → List Node → Seen
 give s [] = s
@@ -86,27 +83,20 @@ give s (n ∷ ns) = give (add s n) ns
 
 -- whether further nodes make no difference
 abbrev pub full : Seen → Bool
-full (any b) = b
+full (counted zero most) = true
 full several = true
-full (first o) = is_some o
+full (few zero ns) = true
 full _ = false
 
 -- ---- what it has
 
-abbrev pub any_in : Seen → Bool
-any_in (any b) = b
-any_in _ = false
-
 abbrev pub count_in : Seen → ℕ
-count_in (count k) = k
+count_in (counted room most) = most - room
 count_in _ = 0
-
-abbrev pub first_in : Seen → Option (List ℕ × Tree)
-first_in (first o) = o
-first_in _ = None
 
 abbrev pub nodes_in : Seen → List (List ℕ × Tree)
 nodes_in (nodes ns) = ns
+nodes_in (few room ns) = ns
 nodes_in _ = []
 
 abbrev pub paths_in : Seen → List (List ℕ)

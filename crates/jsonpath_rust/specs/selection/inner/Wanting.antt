@@ -1,5 +1,5 @@
 -- What a query inside a filter gives of what is wanted of it, for the contracts of the walk alone: the definitions here are no part of what a query means.
-use Rattle.std.specs.Prelude.{◌≡◌, List, [], map, Option, None, Some}
+use Rattle.std.specs.Prelude.{◌≡◌, ◌-◌, ℕ, nat_lt, List, [], map, Option, None, Some}
 use Rattle.std.specs.declared.fmt.Debug as debug
 use Rattle.jsonpath_base.specs.Tree.{Tree, truth}
 use Rattle.jsonpath_rust.specs.documents.Document.{Document}
@@ -8,7 +8,7 @@ use Rattle.jsonpath_rust.specs.documents.Meaning.{argued}
 use Rattle.jsonpath_rust.specs.documents.Node.{Node}
 use Rattle.jsonpath_rust.specs.documents.inner.Operands.{operand_tree}
 use Rattle.jsonpath_rust.specs.selection.inner.PlanViews.{Constants, argument_view}
-use Rattle.jsonpath_rust.specs.selection.inner.Sinks.{Seen, any, count, one}
+use Rattle.jsonpath_rust.specs.selection.inner.Sinks.{Seen, counted, one}
 use Rattle.jsonpath_rust.specs.selection.inner.Sinks as sinks
 use Rattle.jsonpath_rust.specs.declared.documents.queryable.Queryable.{Ghosts}
 use Rattle.jsonpath_rust.specs.declared.selection.cache.Given.{Given}
@@ -40,13 +40,17 @@ abbrev pub given_of : Wanted → Evaluated → Gave
 given_of wanted.Values e = values (as_trees e)
 given_of w e = value (wanted_of w e)
 
+-- of so many nodes: how many they are, or whether there is one
+abbrev pub told_of : Wanted → ℕ → Tree
+told_of wanted.Any k = truth (nat_lt 0 k)
+told_of _ k = count_value k
+
 -- by a sink for what is wanted
-abbrev pub finished : Seen → Gave
-finished (any b) = value (Some (truth b))
-finished (count k) = value (Some (count_value k))
-finished (one t) = value (Some t)
-finished (sinks.values ts) = values ts
-finished _ = value None
+abbrev pub finished : Wanted → Seen → Gave
+finished w (counted room most) = value (Some (told_of w (most - room)))
+finished w (one t) = value (Some t)
+finished w (sinks.values ts) = values ts
+finished w _ = value None
 
 -- the value, or the values, where that is given
 abbrev pub given_value : Option Gave → Option Tree

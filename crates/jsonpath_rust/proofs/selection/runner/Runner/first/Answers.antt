@@ -1,15 +1,14 @@
-use Rattle.std.proofs.Common.{◌∙◌, ap, rules, string_bytes}
-use Rattle.jsonpath_rust.specs.Prelude.Documents.{document_of}
-use Rattle.jsonpath_rust.specs.Prelude.Selection.{first_in, runner_view}
-use Rattle.jsonpath_rust.proofs.laws.selection.{first_answered, none_answered}
+use Rattle.std.proofs.Common.{◌∙◌, rules}
+use Rattle.jsonpath_rust.specs.Prelude.Documents.{document_at, nodelist}
+use Rattle.jsonpath_rust.specs.Prelude.Selection.{runner_view}
+use Rattle.jsonpath_rust.proofs.laws.selection.{first_answered, given_few}
 use Rattle.jsonpath_rust.proofs.selection.runner.Runner.first.Goals as goal
 
 pub returns : goal.returns
 returns g c =
     let tree = g.T.Queryable.tree in
     let q = runner_view c.args.self.now in
-    let doc = document_of tree g.T.Queryable.custom c.args.value.now in
-    let found = c.told.ensures.node ∙ c.into_first.ensures ∙ ap first_in c.in_ok-sink.ensures.gave in
-    let first = first_answered (λ r. (string_bytes r.path, tree r.val.now)) q doc _ (g.met.T.Queryable.distinct c.args.value.now c.requires) found in
-    let none = none_answered (λ r. (string_bytes r.path, tree r.val.now)) q doc _ found in
-    record { told = record { first = first; none = none; whole = search rules }; refused = tt; same = search rules }
+    let doc = document_at c.args.value in
+    let nodes = c.into_nodes.ensures ∙ given_few _ _ 1 (nodelist q doc) c.first.ensures c.in_ok-sink.ensures.gave in
+    let found = first_answered tree q doc c.told-only.result _ (g.met.T.Queryable.distinct c.args.value.value.now c.args.value.whole) nodes c.told-only.ensures.only in
+    record { told = record { first = rw c.one.ensures found.0; none = rw c.one.ensures found.1; whole = search rules }; refused = tt; same = search rules }

@@ -1,13 +1,14 @@
-use Rattle.std.proofs.Common.{◌∙◌, ap, rules}
-use Rattle.jsonpath_rust.specs.Prelude.Documents.{document_of}
-use Rattle.jsonpath_rust.specs.Prelude.Selection.{only_told, runner_view}
-use Rattle.jsonpath_rust.proofs.laws.selection.{only_answered}
+use Rattle.std.proofs.Common.{◌∙◌, rules}
+use Rattle.jsonpath_rust.specs.Prelude.Documents.{document_at, nodelist}
+use Rattle.jsonpath_rust.specs.Prelude.Selection.{runner_view}
+use Rattle.jsonpath_rust.proofs.laws.selection.{given_few, only_answered}
 use Rattle.jsonpath_rust.proofs.selection.runner.Runner.only.Goals as goal
 
 pub returns : goal.returns
 returns g c =
     let tree = g.T.Queryable.tree in
     let q = runner_view c.args.self.now in
-    let doc = document_of tree g.T.Queryable.custom c.args.value.now in
-    let only = only_answered tree q doc c.told.result (g.met.T.Queryable.distinct c.args.value.now c.requires) (c.told.ensures.only ∙ c.into_only.ensures ∙ ap only_told c.in_ok-sink.ensures.gave) in
+    let doc = document_at c.args.value in
+    let nodes = c.into_nodes.ensures ∙ given_few _ _ 2 (nodelist q doc) c.first.ensures c.in_ok-sink.ensures.gave in
+    let only = only_answered tree q doc c.told.result _ (g.met.T.Queryable.distinct c.args.value.value.now c.args.value.whole) nodes c.told.ensures.only in
     record { told = record { only = only; whole = search rules }; refused = tt; same = search rules }

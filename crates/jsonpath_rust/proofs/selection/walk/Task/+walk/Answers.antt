@@ -775,7 +775,7 @@ pub gather-returns-clause-given : goal.gather-returns-clause-given
 gather-returns-clause-given g t c =
     let h = hand c.args.self.now c.args.trail.now c.args.at in
     let seen = (c.in_ok-_goes_on.ensures.gave.took (tied_inside c.start-sink.result c.args.trail.now.way c.args.wanted c.start-sink.ensures)).given ∙ ap (λ s. give s (through (segments_meant h.kept c.args.segments.now) h.d h.n)) c.start-sink.ensures in
-    c.finish.ensures ∙ ap finished seen ∙ finished_all c.args.wanted (through (segments_meant h.kept c.args.segments.now) h.d h.n)
+    c.finish.ensures ∙ ap (finished c.args.wanted) seen ∙ finished_all c.args.wanted (through (segments_meant h.kept c.args.segments.now) h.d h.n)
 
 pub keep_nodes-gather-requires : goal.keep_nodes-gather-requires
 keep_nodes-gather-requires g t c κs within =
