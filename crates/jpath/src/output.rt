@@ -44,8 +44,8 @@ fn nodes_printed(
     query: &JpQuery,
     document: WholeRef<'_, Value>,
 ) -> Result<String, Fault>
-    ensures text { IfOk result (λ text. string_bytes text ≡ listed listing (query_view query.now) (value_document document.value.now)) }
-    ensures refused { IfErr result (IsNoAnswer (query_view query.now) (value_document document.value.now)) }
+    ensures text { IfOk result (λ text. string_bytes text ≡ listed listing (query_view query.now) (value_document document.entry.value.now)) }
+    ensures refused { IfErr result (IsNoAnswer (query_view query.now) (value_document document.entry.value.now)) }
 {
     let prepared = Prepared::of(alloc, query)?;
     let nodes = prepared.runner(alloc).nodes(alloc, document)?;
@@ -58,8 +58,8 @@ fn values_printed(
     query: &JpQuery,
     document: WholeRef<'_, Value>,
 ) -> Result<String, Fault>
-    ensures text { IfOk result (λ text. string_bytes text ≡ listed Listing.Values (query_view query.now) (value_document document.value.now)) }
-    ensures refused { IfErr result (IsNoAnswer (query_view query.now) (value_document document.value.now)) }
+    ensures text { IfOk result (λ text. string_bytes text ≡ listed Listing.Values (query_view query.now) (value_document document.entry.value.now)) }
+    ensures refused { IfErr result (IsNoAnswer (query_view query.now) (value_document document.entry.value.now)) }
 {
     let prepared = Prepared::of(alloc, query)?;
     let values = prepared.runner(alloc).values(alloc, document)?;

@@ -1,10 +1,9 @@
 -- What a caller is told of a walk that halted, under whatever limit.
-use Rattle.std.proofs.Common.{◌≡◌, [], ◌++◌, Bool, true, false, IsTrue, IsFalse, refl, ap, subst, arith}
-use Rattle.jsonpath_rust.specs.Prelude.Documents.{absolute, and, AsksPattern, call, compare, Contains, descendant, Document, Filter, filter, group, Halt, is_singular, no_segments, one, or, Query, relative, segment, segments_patterns, several, slice, test, wildcard}
+use Rattle.std.proofs.Common.{◌≡◌, [], ◌++◌, Bool, IsTrue, refl, ap, subst}
+use Rattle.jsonpath_rust.specs.Prelude.Documents.{absolute, and, call, compare, descendant, Document, Filter, filter, group, Halt, is_singular, no_segments, one, or, Query, relative, segment, segments_patterns, several, slice, test, wildcard}
 use Rattle.jsonpath_rust.specs.Prelude.Selection.{filter_query, IsConditionStop, IsHalt, IsStopOf, limit_of, Limit, tests_singular}
 use Rattle.jsonpath_parser.specs.tree.Syntax.{name, index}
 use Rattle.jsonpath_rust.specs.declared.documents.halt.Halt.TheVariants as halt
-use Rattle.jsonpath_rust.specs.declared.selection.budget.Limit.TheVariants as limits
 
 -- ---- a call that is free asks no pattern
 
@@ -47,13 +46,3 @@ condition_stops counts stops f doc limit cause stop says same h = says (tests_si
 -- of want of memory
 pub memory_stops : {S : Type 0} (counts : Bool) (stops : Bool → Query → Document → S → Type 0) (q : Query) (doc : Document) (stop : S) → Says counts stops halt.Memory stop → IsStopOf stops q doc stop
 memory_stops counts stops q doc stop says = query_stops counts stops q doc (limit_of counts (is_singular q)) halt.Memory stop says refl (λ other. absurd (other refl))
-
--- ---- a walk that may take any amount of work never halts by `Spent`
-
-pub never_spent : (free : Bool) (q : Query) (doc : Document) → (IsTrue free → segments_patterns q ≡ []) → IsHalt (limit_of true free) (segments_patterns q) doc halt.Spent → IsFalse free
-never_spent false q doc none h = refl
-never_spent true q doc none h =
-    absurd (nothing_asked (h (λ memory. let both : halt.Spent ≡ halt.Memory = memory in cc) (λ s. let both : limits.Unlimited ≡ limits.Limited = s.1 in cc)))
-  where
-    nothing_asked : AsksPattern (segments_patterns q) doc → ⊥
-    nothing_asked asks = omega (arith, (subst (λ ps. Contains ps (asks.entire, asks.pattern)) (none refl) asks.stands).1)

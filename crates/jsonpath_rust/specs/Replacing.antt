@@ -6,7 +6,6 @@ use Rattle.jsonpath_base.specs.Overwritten.{overwritten}
 use Rattle.jsonpath_base.specs.Put.{put}
 use Rattle.jsonpath_base.specs.Tree.{Tree}
 use Rattle.jsonpath_base.specs.Without.{is_among, distinct_count}
-use Rattle.jsonpath_rust.specs.Calls.{OfText}
 use Rattle.jsonpath_rust.specs.Deleting.{count_at}
 use Rattle.jsonpath_rust.specs.documents.Document.{Document}
 use Rattle.jsonpath_rust.specs.documents.Meaning.{selected}
@@ -19,10 +18,6 @@ pub record IsReplacement (q : Query) (u : Tree) (doc : Document) (left : Tree) (
 -- the same, as what a call returns
 abbrev pub Replacement : Tree → Tree → Document → Query → ℕ → Type 0
 Replacement u left doc q count = IsReplacement q u doc left count
-
--- The text derives a query, at this depth, and `u` is put at what that selects.
-abbrev pub Replaces : ℕ → List ℕ → Tree → Document → Tree → ℕ → Type 0
-Replaces depth text u doc left count = OfText depth text doc (Replacement u left) count
 
 -- The tree left is the tree before with `u` at this location; so it is as it was where nothing is there.
 pub record IsReplacementAt (l : Location) (u before left : Tree) (count : ℕ) : Type 0 where

@@ -2,9 +2,9 @@
 //! What a query means stands in `documents`.
 //!
 //! A query is compiled to a plan (`plan`), once. The walk (`walk`, `children`) goes by the plan;
-//! inside filters (`filter`, `function`, `subquery`) it looks up names and indexes (`singular`,
-//! `sides`, `counting`, `direct`), walks from the node at hand, or takes what is kept of the root
-//! (`cache`, `constants`, `early`) and of patterns (`engine` of `jsonpath_base`). The nodes go to a
+//! inside filters (`filter`, `function`) it works out their parts (`part`): it looks up names and
+//! indexes (`singular`, `sides`, `counting`, `direct`), walks from the node at hand, or takes what is
+//! kept of the root (`cache`, `keeping`, `early`) and of patterns (`engine` of `jsonpath_base`). The nodes go to a
 //! sink (`sink`) with the way that leads to them (`Way` there).
 mod action;
 mod arguments;
@@ -12,7 +12,6 @@ mod budget;
 mod cache;
 mod children;
 mod condition;
-mod constants;
 mod cost;
 mod counting;
 mod deciding;
@@ -21,9 +20,11 @@ mod early;
 mod filter;
 mod function;
 mod give;
+mod keeping;
 mod limits;
 mod only;
 mod onward;
+mod part;
 mod plan;
 mod planned;
 mod prepared;
@@ -33,7 +34,6 @@ mod singular;
 mod singular_test;
 mod sink;
 mod stop;
-mod subquery;
 mod trail;
 mod walk;
 

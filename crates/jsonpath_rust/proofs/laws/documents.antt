@@ -23,5 +23,5 @@ pub use Rattle.jsonpath_rust.proofs.laws.documents.NamedBelow.{named_below, name
 pub use Rattle.jsonpath_rust.proofs.laws.documents.NodesAt.{at-append, at-below, each-append, each-filter, each-flat_map, each_at, member_there, nodes_at, Stands, stands-indexed, stands-picks, stands-subtree}
 pub use Rattle.jsonpath_rust.proofs.laws.documents.NormalSteps.{normal_answered, normal_put, normal_reference, selected-steps}
 pub use Rattle.jsonpath_rust.proofs.laws.documents.Parts.{all_more, contains_part, differs, each_failed, each_next, err_so, filter_more, fold_next, get_or-self, joined_end, joined_next, kept_false, kept_true, ok_through, pairs_apart, part_of, parts_end, passed_on, some_found, some_next}
-pub use Rattle.jsonpath_rust.proofs.laws.documents.Singular.{absolute_value, relative_value, singular_trees}
+pub use Rattle.jsonpath_rust.proofs.laws.documents.Singular.{relative_value, singular_trees}
 pub use Rattle.jsonpath_rust.proofs.laws.documents.Trees.{all_at, child_there, children_at-none, element_at, element_size, indexed_some, member_size, named_none, pair_size, sizes_at, sliced-list, stepped-found, subtree-children, total}

@@ -19,21 +19,19 @@ pub mod Sinks
 pub mod Standing
 pub mod StepLaws
 pub mod Walks
-pub mod Wanting
 -- what other rooms and proofs of functions cite
 pub use Rattle.jsonpath_rust.proofs.laws.selection.Along.{along_as, along_between, along_idle, along_none, along_stop, children-list, children-members, Goes, goes_no_more, goes_off, goes_on, goes_on_to_place, goes_past_places, goes_to_no_place, goes_to_the_end, takes, takes_as, takes_from, takes_then, tied_at_root, tied_back, tied_further, tied_inside, tied_still}
 pub use Rattle.jsonpath_rust.proofs.laws.selection.Answers.{count_answered, first_answered, no_node, nodes_answered, only_answered, paths_answered, values_answered}
 pub use Rattle.jsonpath_rust.proofs.laws.selection.Conditions.{expression_back, held_as, never_none, none_holds, none_of_more, refused_as}
 pub use Rattle.jsonpath_rust.proofs.laws.selection.Counting.{children_counted, list_count, object_count}
-pub use Rattle.jsonpath_rust.proofs.laws.selection.DirectLaws.{at_hand_as, looked_up, looked_up_from_root, query_count, query_there}
+pub use Rattle.jsonpath_rust.proofs.laws.selection.DirectLaws.{at_hand_as, children_told, looked_up, query_count, query_there}
 pub use Rattle.jsonpath_rust.proofs.laws.selection.HaltingLaws.{asked_as, asked_at, asked_at_or, asked_left, asked_none, asked_rest, asked_right, pattern_asked, stop_is_memory}
-pub use Rattle.jsonpath_rust.proofs.laws.selection.Kept.{given_right, gives_value, keeps_none, keeps_set, kept_query, of_some, slot_set, value_given, wanted_given}
+pub use Rattle.jsonpath_rust.proofs.laws.selection.Kept.{given_right, keeps_none, keeps_set, of_some, slot_set, wanted_given}
 pub use Rattle.jsonpath_rust.proofs.laws.selection.Leading.{leads_below, leads_indexed}
 pub use Rattle.jsonpath_rust.proofs.laws.selection.NodelistLaws.{nodelist-through, through-applied}
-pub use Rattle.jsonpath_rust.proofs.laws.selection.PlanEquations.{argument_view-Call, argument_view-Filter, argument_view-Literal, argument_view-Nodes, argument_view-Pattern, call_view-Count, call_view-CountChildren, call_view-Length, call_view-Match, call_view-Search, call_view-Value, called, called_view-Constant, called_view-Here, filter_view-Comparison, filter_view-Constant, filter_view-HasChild, nodes_view-Lookup, nodes_view-Walk, segment_view-Descendant, segment_view-Selector, selector_view-Filter, selector_view-Index, selector_view-Name, selector_view-Wildcard, side_view-Call, side_view-Constant, side_view-Literal, side_view-Lookup}
-pub use Rattle.jsonpath_rust.proofs.laws.selection.PlanLaws.{arguments_rooted, filters_rooted, made_around, made_as, made_both, made_end, made_ended, made_here, made_next, made_none, made_start, numbered_kept, plan_made, plan_rooted, plan_settled, query_in-nodes, same_maker}
-pub use Rattle.jsonpath_rust.proofs.laws.selection.RootedLaws.{answer_as, answer_kept, comparison_as, comparison_kept, kept_call_same, kept_comparison_same}
+pub use Rattle.jsonpath_rust.proofs.laws.selection.PlanEquations.{call_view-Count, call_view-Length, call_view-Match, call_view-Search, call_view-Value, called, filter_view-Comparison, filter_view-Constant, filter_view-Test, part_view-Call, part_view-Children, part_view-Constant, part_view-Filter, part_view-Literal, part_view-Lookup, part_view-Pattern, part_view-Walk, segment_view-Descendant, segment_view-Selector, selector_view-Filter, selector_view-Index, selector_view-Name, selector_view-Wildcard}
+pub use Rattle.jsonpath_rust.proofs.laws.selection.PlanLaws.{arguments_rooted, filters_rooted, made_around, made_as, made_both, made_end, made_ended, made_here, made_next, made_none, made_start, numbered_kept, plan_made, plan_rooted, plan_settled, argument_in-nodes, same_maker}
+pub use Rattle.jsonpath_rust.proofs.laws.selection.RootedLaws.{asked_held, fit_patterns, kept_told, kept_trees, told_nodes, told_one, told_truth, truth_held}
 pub use Rattle.jsonpath_rust.proofs.laws.selection.Sinks.{finished_all, given_few, given_locations, given_nodes, given_paths, given_values, removal_is, removal_there, result_as}
-pub use Rattle.jsonpath_rust.proofs.laws.selection.StepLaws.{is_there, trees_found, wanted_found}
+pub use Rattle.jsonpath_rust.proofs.laws.selection.StepLaws.{is_there, one_as, steps_alone, wanted_found}
 pub use Rattle.jsonpath_rust.proofs.laws.selection.Walks.{below_more, element_turns, first_below, flat_map-alone, flat_map-filter, flat_map-flat_map, later_below, member_turns, selector_turns}
-pub use Rattle.jsonpath_rust.proofs.laws.selection.Wanting.{is_value, query_alone}

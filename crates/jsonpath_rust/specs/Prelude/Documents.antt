@@ -55,7 +55,7 @@ pub use Rattle.jsonpath_rust.specs.documents.Node.{below, children, children_at,
 pub use Rattle.jsonpath_rust.specs.documents.Patterns.{argument_patterns, arguments_patterns, AsksPattern, call_patterns, filter_patterns, filters_patterns, IsPattern, IsQueryRefusal, IsStop, segment_patterns, segments_patterns, selector_patterns, selectors_patterns, test_patterns}
 pub use Rattle.jsonpath_rust.specs.documents.Referring.{IsPut, IsReference, IsReferred, IsReplaced, put_there, Refers, tree_there}
 pub use Rattle.jsonpath_rust.specs.documents.inner.Effort.{argument_effort, arguments_effort, call_effort, filter_effort, filters_effort, segment_effort, segments_effort, selector_effort, selectors_effort, test_effort}
-pub use Rattle.jsonpath_rust.specs.documents.inner.Following.{child_view, element_step, followed, referent_view, segment_child, step_to}
+pub use Rattle.jsonpath_rust.specs.documents.inner.Following.{reached_view, element_step, followed, referent_view, segment_child, step_to}
 pub use Rattle.jsonpath_rust.specs.documents.inner.Operands.{arg_trees, operand_tree, scalar_tree, side_tree}
 pub use Rattle.jsonpath_rust.specs.documents.inner.Parts.{arguments_in, filters_in, segments_in, selectors_in}
 pub use Rattle.jsonpath_rust.specs.documents.inner.Refusing.{MemoryAlone}

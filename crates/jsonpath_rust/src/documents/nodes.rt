@@ -12,7 +12,7 @@ use std::alloc::{AllocError, Global};
 
 /// What a walk found where the only node is wanted: none, one with this value, or several.
 #[derive(Clone, Copy)]
-pub enum WholeOnly<'a, T: Queryable> {
+pub enum WholeSole<'a, T: Queryable> {
     Nothing,
     One(WholeRef<'a, T>),
     Several,

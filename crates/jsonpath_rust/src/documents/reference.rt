@@ -2,7 +2,7 @@
 //! its segments is one name or one index. The steps are followed down from the root; the value is
 //! not walked.
 ghost use Rattle.std.specs.Prelude.{◌≡◌, [], IfErr, IfOk, IfSome, IsSome, IsTrue, OnErr, option_map, Some};
-ghost use Rattle.jsonpath_rust.specs.Prelude.Documents.{child_view, followed, HasIndexesInRange, IsNormal, IsPut, IsReference, IsReferred, IsReplaced, Location, location_view, OutOfMemory, referent_view, segment_view, segments_in, selector_view, step_to, value_document, value_is_whole, value_tree};
+ghost use Rattle.jsonpath_rust.specs.Prelude.Documents.{reached_view, followed, HasIndexesInRange, IsNormal, IsPut, IsReference, IsReferred, IsReplaced, Location, location_view, OutOfMemory, referent_view, segment_view, segments_in, selector_view, step_to, value_document, value_is_whole, value_tree};
 ghost use Rattle.jsonpath_parser.specs.Location as location;
 ghost use Rattle.jsonpath_base.specs.Places as places;
 ghost use Rattle.jsonpath_rust.specs.documents.inner.Following as following;
@@ -18,7 +18,7 @@ use std::alloc::Global;
 
 /// A child of a value, and the step to it.
 #[derive(Drop)]
-struct Child<'v> {
+struct Reached<'v> {
     step: Step,
     value: &'v Value,
 }
@@ -130,8 +130,8 @@ fn segment_child<'v>(
     alloc: Global,
     segment: &Segment,
     value: &'v Value,
-) -> Queried<Option<Child<'v>>>
-    ensures value { IfOk result (λ o. option_map child_view o ≡ following.segment_child (segment_view segment.now) (value_tree value.now)) }
+) -> Queried<Option<Reached<'v>>>
+    ensures value { IfOk result (λ o. option_map reached_view o ≡ following.segment_child (segment_view segment.now) (value_tree value.now)) }
     ensures whole { IsTrue (value_is_whole value.now) → IfOk result (λ o. IfSome o (λ c. IsTrue (value_is_whole c.value.now))) }
     ensures memory { IfErr result (λ e. e ≡ OutOfMemory) }
 {
@@ -146,8 +146,8 @@ fn selector_child<'v>(
     alloc: Global,
     selector: &Selector,
     value: &'v Value,
-) -> Queried<Option<Child<'v>>>
-    ensures value { IfOk result (λ o. option_map child_view o
+) -> Queried<Option<Reached<'v>>>
+    ensures value { IfOk result (λ o. option_map reached_view o
         ≡ following.selector_child (selector_view selector.now) (value_tree value.now)) }
     ensures whole { IsTrue (value_is_whole value.now) → IfOk result (λ o. IfSome o (λ c. IsTrue (value_is_whole c.value.now))) }
     ensures memory { IfErr result (λ e. e ≡ OutOfMemory) }
@@ -160,13 +160,13 @@ fn selector_child<'v>(
 }
 
 /// The member of that name.
-fn member<'v>(alloc: Global, name: &str, value: &'v Value) -> Queried<Option<Child<'v>>>
-    ensures value { IfOk result (λ o. option_map child_view o ≡ step_to (location.name name.now) (value_tree value.now)) }
+fn member<'v>(alloc: Global, name: &str, value: &'v Value) -> Queried<Option<Reached<'v>>>
+    ensures value { IfOk result (λ o. option_map reached_view o ≡ step_to (location.name name.now) (value_tree value.now)) }
     ensures whole { IsTrue (value_is_whole value.now) → IfOk result (λ o. IfSome o (λ c. IsTrue (value_is_whole c.value.now))) }
     ensures memory { IfErr result (λ e. e ≡ OutOfMemory) }
 {
     match value.get(name) {
-        Some(member) => Ok(Some(Child {
+        Some(member) => Ok(Some(Reached {
             step: Step::Name(String::from_str(alloc, name)?),
             value: member,
         })),
@@ -175,14 +175,14 @@ fn member<'v>(alloc: Global, name: &str, value: &'v Value) -> Queried<Option<Chi
 }
 
 /// The element of that index; one below 0 counts from the end.
-fn element(index: i64, value: &Value) -> Option<Child<'_>>
-    ensures value { option_map child_view result ≡ following.element_step index (value_tree value.now) }
+fn element(index: i64, value: &Value) -> Option<Reached<'_>>
+    ensures value { option_map reached_view result ≡ following.element_step index (value_tree value.now) }
     ensures whole { IsTrue (value_is_whole value.now) → IfSome result (λ c. IsTrue (value_is_whole c.value.now)) }
 {
     let items = value.as_array()?;
     let position = element_of(index, items.len())?;
     let item = items.get(position)?;
-    Some(Child {
+    Some(Reached {
         step: Step::Index(position),
         value: item,
     })

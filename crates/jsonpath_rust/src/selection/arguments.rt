@@ -1,7 +1,7 @@
 //! The arguments of a custom function: each is paid for before it is added.
 ghost use Rattle.std.specs.Prelude.{◌+◌, ◌++◌, ◌≡◌, [], IfErr, length, OnOk, option_to_list, Some};
 ghost use Rattle.jsonpath_rust.specs.Prelude.Documents.{arg_trees, operand_tree};
-ghost use Rattle.jsonpath_rust.specs.Prelude.Selection.{document, gave, given_values, IsHalt, Limited, slot_at, slots_of};
+ghost use Rattle.jsonpath_rust.specs.Prelude.Selection.{document, Gave, gave, IsHalt, Limited, slot_at, slots_of, trees_in};
 
 use crate::documents::args::Args;
 use crate::documents::halt::Walked;
@@ -28,23 +28,24 @@ impl<'a: 's, 's, T: Queryable> Task<'a, 's, T> {
         value.push_to(self.alloc, args)
     }
 
-    /// Adds the values of nodes, a unit each, where these are given.
+    /// Adds the values that are given, for a unit each.
     pub fn push_given(
         &self,
         given: &Given<'a, 's, T>,
         budget: &mut Budget,
         args: &mut Args<'a, T>,
     ) -> Walked<()>
-        ensures value { OnOk result (arg_trees args.new ≡ arg_trees args.old ++ given_values (Some (gave given.now))) }
+        ensures value { OnOk result (arg_trees args.new ≡ arg_trees args.old ++ trees_in (gave given.now)) }
         ensures paid { OnOk result (self.now.limit ≡ Limited →
-            budget.new.left + length (given_values (Some (gave given.now))) ≡ budget.old.left) }
+            budget.new.left + length (trees_in (gave given.now)) ≡ budget.old.left) }
         ensures halts { IfErr result (IsHalt self.now.limit [] (document self.now)) }
     {
         budget.spend(self.limit, given.count())?;
-        given.push_to(args)
+        given.push_to(self.alloc, args)
     }
 
-    /// The same of what the constant of this number gave.
+    /// Adds what the constant of this number gave, if it is worked out, for a unit each, and for
+    /// what a copy costs.
     pub fn push_kept(
         &self,
         number: usize,
@@ -52,12 +53,28 @@ impl<'a: 's, 's, T: Queryable> Task<'a, 's, T> {
         budget: &mut Budget,
         args: &mut Args<'a, T>,
     ) -> Walked<()>
-        ensures value { OnOk result (arg_trees args.new ≡ arg_trees args.old ++ given_values (slot_at (slots_of cache.now) number)) }
+        ensures value { (g : Gave) → slot_at (slots_of cache.now) number ≡ Some g →
+            OnOk result (arg_trees args.new ≡ arg_trees args.old ++ trees_in g) }
         ensures halts { IfErr result (IsHalt self.now.limit [] (document self.now)) }
     {
         match cache.get(number) {
-            Some(given) => self.push_given(given, budget, args),
+            Some(given) => {
+                self.pay_copy(given, budget)?;
+                self.push_given(given, budget, args)
+            }
             None => Ok(()),
         }
+    }
+
+    /// Pays for a copy of what is kept, where that is a value that a custom function made.
+    pub fn pay_copy(&self, given: &Given<'a, 's, T>, budget: &mut Budget) -> Walked<()>
+        ensures halts { IfErr result (IsHalt self.now.limit [] (document self.now)) }
+    {
+        if let Given::Value(Operand::Made(made)) = given {
+            let most = budget.left().saturating_add(1);
+            let cost = self.limit.copy_cost(self.alloc, made.as_ref(), most)?;
+            budget.spend(self.limit, cost)?;
+        }
+        Ok(())
     }
 }

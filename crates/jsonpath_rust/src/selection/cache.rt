@@ -1,7 +1,7 @@
 //! What one call of the evaluator keeps: what was worked out once, by the number of its constant.
-ghost use Rattle.std.specs.Prelude.{◌++◌, ◌<◌, ◌≡◌, IfErr, IfOk, IsTrue, length, None, OnOk, option_map, Some};
-ghost use Rattle.jsonpath_rust.specs.Prelude.Documents.{arg_trees, Document, Memory, operand_tree};
-ghost use Rattle.jsonpath_rust.specs.Prelude.Selection.{AreEmpty, Constants, gave, given_by, given_value, given_values, IsGiven, IsHalt, Keeps, Limit, part_at, part_patterns, slot_at, slots_of};
+ghost use Rattle.std.specs.Prelude.{◌++◌, ◌<◌, ◌≡◌, IfErr, IfOk, IsTrue, length, map, None, OnOk, option_map, Some};
+ghost use Rattle.jsonpath_rust.specs.Prelude.Documents.{arg_trees, Document, is_true, Memory, operand_tree};
+ghost use Rattle.jsonpath_rust.specs.Prelude.Selection.{AreEmpty, Constants, gave, given_by, given_value, IsGiven, IsHalt, Keeps, Limit, part_at, part_patterns, slot_at, slots_of, trees_in};
 
 use crate::documents::args::Args;
 use crate::documents::halt::{Halt, Walked};
@@ -44,28 +44,39 @@ impl<'a, 's, T: Queryable> Given<'a, 's, T> {
         }
     }
 
-    /// How many values of nodes were given.
+    /// How many values were given, each of a node, or one.
     pub fn count(&self) -> usize
-        ensures { result ≡ length (given_values (Some (gave self.now))) }
+        ensures { result ≡ length (trees_in (gave self.now)) }
     {
         match self {
+            Given::Value(value) => value.count(),
             Given::Values(values) => values.list.len(),
-            _ => 0,
+            Given::Refused => 0,
         }
     }
 
-    /// Adds the values to the arguments of a custom function, where these are given.
-    pub fn push_to(&self, args: &mut Args<'a, T>) -> Walked<()>
-        ensures value { OnOk result (arg_trees args.new ≡ arg_trees args.old ++ given_values (Some (gave self.now))) }
+    /// Adds the values to the arguments of a custom function.
+    pub fn push_to(&self, alloc: Global, args: &mut Args<'a, T>) -> Walked<()>
+        ensures value { OnOk result (arg_trees args.new ≡ arg_trees args.old ++ trees_in (gave self.now)) }
         ensures memory { IfErr result (λ h. h ≡ Memory) }
     {
-        if let Given::Values(values) = self {
-            for value in &values.list {
-                args.push_lent(WholeRef { value: *value })?;
-            }
+        match self {
+            Given::Value(value) => value.try_clone(alloc)?.push_to(alloc, args),
+            Given::Values(values) => push_each(values, args),
+            Given::Refused => Ok(()),
         }
-        Ok(())
     }
+}
+
+/// Adds these values to the arguments of a custom function.
+fn push_each<'a, T: Queryable>(values: &WholeValues<'a, T>, args: &mut Args<'a, T>) -> Walked<()>
+    ensures value { OnOk result (arg_trees args.new ≡ arg_trees args.old ++ map (λ v. T.tree v.now) values.now.list.items) }
+    ensures memory { IfErr result (λ h. h ≡ Memory) }
+{
+    for value in &values.list {
+        args.push_lent(WholeRef { value: *value })?;
+    }
+    Ok(())
 }
 
 impl<'a, 's, T: Queryable> Cache<'a, 's, T> {
@@ -122,6 +133,17 @@ impl<'a, 's, T: Queryable> Cache<'a, 's, T> {
         match self.get(number) {
             Some(Given::Value(value)) => value.try_clone(alloc),
             _ => Ok(Operand::Side(Side::Absent)),
+        }
+    }
+
+    /// Whether the value that the constant of this number gave is true.
+    #[inline(always)]
+    pub fn is_true(&self, number: usize) -> bool
+        ensures { result ≡ is_true (given_value (slot_at (slots_of self.now) number)) }
+    {
+        match self.get(number) {
+            Some(Given::Value(value)) => value.is_true(),
+            _ => false,
         }
     }
 

@@ -1,8 +1,8 @@
 //! What is found without a walk, and makes no value: `length` and `value` of a node that is looked
-//! up, `count` of its children (RFC 9535, 2.4), and whether it is there.
+//! up, and `count` of its children (RFC 9535, 2.4).
 ghost use Rattle.std.specs.Prelude.{◌≡◌, [], IfErr, IfOk, IfSome, map};
-ghost use Rattle.jsonpath_rust.specs.Prelude.Documents.{answer, as_truth, Document, Node, relative, side_tree, step_view, test_argument, tested, tree_of};
-ghost use Rattle.jsonpath_rust.specs.Prelude.Selection.{Any, argument_view, call_view, Constants, document, IsHalt, nodes_view, steps_query, Wanted};
+ghost use Rattle.jsonpath_rust.specs.Prelude.Documents.{answer, Document, Node, relative, side_tree, step_view, test_argument, tree_of};
+ghost use Rattle.jsonpath_rust.specs.Prelude.Selection.{call_view, children_query, Constants, Count, document, IsHalt, part_view, steps_query, Wanted};
 ghost use Rattle.jsonpath_rust.specs.documents.Functions as functions;
 ghost use Rattle.jsonpath_rust.specs.documents.inner.Singular as singular;
 
@@ -11,7 +11,7 @@ use crate::documents::queryable::Queryable;
 use crate::documents::value::{Side, count_scalar, length_of};
 use crate::documents::whole::WholeRef;
 use crate::selection::budget::Budget;
-use crate::selection::plan::{Argument, Call, Nodes};
+use crate::selection::plan::{Call, Part};
 use crate::selection::singular::value_at;
 use crate::selection::walk::Task;
 use jsonpath_parser::model::SingularQuerySegment;
@@ -38,10 +38,13 @@ impl<'a: 's, 's, T: Queryable> Task<'a, 's, T> {
                 Some(steps) => Ok(Some(Side::lent(value_at(steps, at)))),
                 None => Ok(None),
             },
-            Call::CountChildren(steps) => {
-                let count = self.count_children(steps, at, budget)?;
-                Ok(Some(Side::Plain(count_scalar(count))))
-            }
+            Call::Count(arg) => match children_in(arg) {
+                Some(steps) => {
+                    let count = self.count_children(steps, at, budget)?;
+                    Ok(Some(Side::Plain(count_scalar(count))))
+                }
+                None => Ok(None),
+            },
             _ => Ok(None),
         }
     }
@@ -76,36 +79,33 @@ pub fn is_direct(call: &Call) -> bool {
     match call {
         Call::Length(arg) => lookup_in(arg).is_some(),
         Call::Value(arg) => lookup_in(arg).is_some(),
-        Call::CountChildren(_) => true,
+        Call::Count(arg) => children_in(arg).is_some(),
         _ => false,
     }
 }
 
-/// The steps of the query that an argument is, if that is a look-up.
+/// The steps of the query that a part is, if that is a look-up.
 #[inline(always)]
-pub fn lookup_in(arg: &Argument) -> Option<&[SingularQuerySegment]>
+pub fn lookup_in(part: &Part) -> Option<&[SingularQuerySegment]>
     ensures { (kept : Constants) (w : Wanted) →
-        IfSome result (λ ss. argument_view kept arg.now w
+        IfSome result (λ ss. part_view kept part.now w
         ≡ test_argument (relative (steps_query (map step_view ss.now)))) }
 {
-    match arg {
-        Argument::Nodes(nodes) => match nodes {
-            Nodes::Lookup(steps) => Some(steps),
-            _ => None,
-        },
+    match part {
+        Part::Lookup(steps) => Some(steps),
         _ => None,
     }
 }
 
-/// Whether there is a node (2.3.5.2.1), where it is looked up from the value; None where the query
-/// is walked or is a constant.
+/// The steps to the value whose children a part is, if it is these, where they are counted.
 #[inline(always)]
-pub fn is_there<T: Queryable>(nodes: &Nodes, at: WholeRef<'_, T>) -> Option<bool>
-    ensures { (kept : Constants) (d : Document) (n : Node) → n.tree ≡ tree_of at.entry →
-        IfSome result (λ b. b ≡ as_truth (tested (nodes_view kept nodes.now Any) d n)) }
+fn children_in(part: &Part) -> Option<&[SingularQuerySegment]>
+    ensures { (kept : Constants) →
+        IfSome result (λ ss. part_view kept part.now Count
+        ≡ test_argument (relative (children_query (map step_view ss.now)))) }
 {
-    match nodes {
-        Nodes::Lookup(steps) => Some(value_at(steps, at).is_some()),
+    match part {
+        Part::Children(steps) => Some(steps),
         _ => None,
     }
 }

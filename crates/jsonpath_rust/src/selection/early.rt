@@ -103,7 +103,7 @@ impl<'a: 's, 's, T: Queryable> Task<'a, 's, T> {
         ensures ready { IsReady self.now trail.new.cache }
         ensures halts { IfErr result (IsHalt self.now.limit [] (document self.now)) }
     {
-        match self.keep_nodes(number, wanted, trail) {
+        match self.keep(number, wanted, trail) {
             Ok(_there) => Ok(()),
             Err(Halt::Pattern) => Ok(()),
             Err(Halt::Memory) => Err(Halt::Memory),

@@ -1,15 +1,13 @@
 //! Whether filters hold (RFC 9535, 2.3.5).
 ghost use Rattle.std.specs.Prelude.{◌++◌, ◌≡◌, IfOk};
-ghost use Rattle.jsonpath_rust.specs.Prelude.Documents.{argument_patterns, as_truth, compares, each_holds, filter_patterns, filters_patterns, holds, operand_tree, operator_view, some_holds, test_patterns, tested, value_of};
-ghost use Rattle.jsonpath_rust.specs.Prelude.Selection.{Any, Comes, filter_view, filters_meant, here, kept_of, nodes_view, side_view, StandsAt};
+ghost use Rattle.jsonpath_rust.specs.Prelude.Documents.{argued, argument_patterns, as_truth, compares, each_holds, filter_patterns, filters_patterns, holds, operator_view, some_holds, value_of};
+ghost use Rattle.jsonpath_rust.specs.Prelude.Selection.{Any, Comes, filter_view, filters_meant, here, kept_of, Sole, part_view, StandsAt};
 
 use crate::documents::halt::Walked;
 use crate::documents::queryable::Queryable;
-use crate::documents::value::{Operand, Side, scalar_of};
 use crate::documents::whole::WholeRef;
-use crate::selection::direct::is_there;
-use crate::selection::plan;
-use crate::selection::plan::{Comparison, Filter, Nodes};
+use crate::selection::direct::lookup_in;
+use crate::selection::plan::{Comparison, Filter, Part};
 use crate::selection::singular::value_at;
 use crate::selection::sink::Wanted;
 use crate::selection::trail::Trail;
@@ -55,16 +53,17 @@ impl<'a: 's, 's, T: Queryable> Task<'a, 's, T> {
             Filter::Or(parts) => self.some_holds(parts, at, trail),
             Filter::And(parts) => self.each_holds(parts, at, trail),
             Filter::Group { expr, not } => Ok(self.filter_holds(expr, at, trail)? != *not),
-            Filter::Exists { nodes, not } => Ok(self.exists(nodes, at, trail)? != *not),
-            Filter::HasChild { steps, not } => {
-                let count = self.count_children(steps, at, &mut trail.budget)?;
-                Ok((count > 0) != *not)
-            }
-            Filter::Call { call, not } => Ok(self.called(call, at, trail)?.is_true() != *not),
+            Filter::Test { part, not } => Ok(self.tests_true(part, at, trail)? != *not),
             Filter::Comparison(operator, left, right) => {
                 self.comparison_holds((*operator, left, right), at, trail)
             }
-            Filter::Constant(number) => self.constant_comparison(*number, trail),
+            Filter::Constant(number) => {
+                if self.keep(*number, Wanted::Any, trail)? {
+                    Ok(trail.cache.is_true(*number))
+                } else {
+                    Ok(true)
+                }
+            }
         }
     }
 
@@ -110,26 +109,25 @@ impl<'a: 's, 's, T: Queryable> Task<'a, 's, T> {
         Ok(true)
     }
 
-    /// Whether there is a node (RFC 9535, 2.3.5.2.1). Names and indexes are looked up, and nothing
-    /// is made for them.
+    /// Whether a part tests true: a query has a node (RFC 9535, 2.3.5.2.1), a call returns true.
+    /// Names and indexes are looked up, and nothing is made for them.
     #[cycle(walk)]
     #[inline(always)]
-    fn exists(
+    fn tests_true(
         &self,
-        nodes: &'s Nodes,
+        part: &'s Part,
         at: WholeRef<'a, T>,
         trail: &mut Trail<'a, 's, '_, T>,
     ) -> Walked<bool>
         requires { StandsAt self.now at trail.old }
         ensures holds { IfOk result (λ b. b
-            ≡ as_truth (here self.now trail.old at.entry (tested (nodes_view
-            (kept_of self.now) nodes.now Any)))) }
-        ensures comes { Comes self.now trail.old trail.new (test_patterns (nodes_view (kept_of self.now) nodes.now Any)) result }
+            ≡ as_truth (here self.now trail.old at.entry (argued (part_view (kept_of self.now) part.now Any)))) }
+        ensures comes { Comes self.now trail.old trail.new (argument_patterns (part_view (kept_of self.now) part.now Any)) result }
     {
-        if let Some(there) = is_there(nodes, at) {
-            return Ok(there);
+        if let Some(steps) = lookup_in(part) {
+            return Ok(value_at(steps, at).is_some());
         }
-        Ok(self.nodes(nodes, Wanted::Any, at, trail)?.is_true())
+        Ok(self.value(part, Wanted::Any, at, trail)?.is_true())
     }
 
     /// Whether a comparison holds. Where both sides are at hand they are compared as they are lent,
@@ -143,11 +141,11 @@ impl<'a: 's, 's, T: Queryable> Task<'a, 's, T> {
     ) -> Walked<bool>
         requires { StandsAt self.now at trail.old }
         ensures holds { IfOk result (λ b. b ≡ compares (operator_view comparison.entry.0)
-            (here self.now trail.old at.entry (value_of (side_view (kept_of self.now) comparison.entry.1.now)))
-            (here self.now trail.old at.entry (value_of (side_view (kept_of self.now) comparison.entry.2.now)))) }
+            (here self.now trail.old at.entry (value_of (part_view (kept_of self.now) comparison.entry.1.now Sole)))
+            (here self.now trail.old at.entry (value_of (part_view (kept_of self.now) comparison.entry.2.now Sole)))) }
         ensures comes { Comes self.now trail.old trail.new
-            (argument_patterns (side_view (kept_of self.now) comparison.entry.1.now)
-            ++ argument_patterns (side_view (kept_of self.now) comparison.entry.2.now)) result }
+            (argument_patterns (part_view (kept_of self.now) comparison.entry.1.now Sole)
+            ++ argument_patterns (part_view (kept_of self.now) comparison.entry.2.now Sole)) result }
     {
         if let Some(held) = self.lent_compare(comparison, at, &trail.cache, &mut trail.budget)? {
             return Ok(held);
@@ -166,14 +164,14 @@ impl<'a: 's, 's, T: Queryable> Task<'a, 's, T> {
     ) -> Walked<bool>
         requires { StandsAt self.now at trail.old }
         ensures holds { IfOk result (λ b. b ≡ compares (operator_view comparison.entry.0)
-            (here self.now trail.old at.entry (value_of (side_view (kept_of self.now) comparison.entry.1.now)))
-            (here self.now trail.old at.entry (value_of (side_view (kept_of self.now) comparison.entry.2.now)))) }
+            (here self.now trail.old at.entry (value_of (part_view (kept_of self.now) comparison.entry.1.now Sole)))
+            (here self.now trail.old at.entry (value_of (part_view (kept_of self.now) comparison.entry.2.now Sole)))) }
         ensures comes { Comes self.now trail.old trail.new
-            (argument_patterns (side_view (kept_of self.now) comparison.entry.1.now)
-            ++ argument_patterns (side_view (kept_of self.now) comparison.entry.2.now)) result }
+            (argument_patterns (part_view (kept_of self.now) comparison.entry.1.now Sole)
+            ++ argument_patterns (part_view (kept_of self.now) comparison.entry.2.now Sole)) result }
     {
-        let left = self.side(comparison.1, at, trail)?;
-        let right = self.side(comparison.2, at, trail)?;
+        let left = self.value(comparison.1, Wanted::Sole, at, trail)?;
+        let right = self.value(comparison.2, Wanted::Sole, at, trail)?;
         let held = self.paid_compare(
             comparison.0,
             left.as_side(),
@@ -181,27 +179,5 @@ impl<'a: 's, 's, T: Queryable> Task<'a, 's, T> {
             &mut trail.budget,
         )?;
         Ok(held)
-    }
-
-    /// The value of a side of a comparison.
-    #[cycle(walk)]
-    #[tactic(auto, using(crate::proofs::laws::selection::PlanEquations::plan_equations))]
-    fn side(
-        &self,
-        side: &'s plan::Side,
-        at: WholeRef<'a, T>,
-        trail: &mut Trail<'a, 's, '_, T>,
-    ) -> Walked<Operand<'a, 's, T>>
-        requires { StandsAt self.now at trail.old }
-        ensures value { IfOk result (λ o. operand_tree o
-            ≡ here self.now trail.old at.entry (value_of (side_view (kept_of self.now) side.now))) }
-        ensures comes { Comes self.now trail.old trail.new (argument_patterns (side_view (kept_of self.now) side.now)) result }
-    {
-        match side {
-            plan::Side::Literal(literal) => Ok(Operand::Side(Side::Plain(scalar_of(literal)))),
-            plan::Side::Lookup(steps) => Ok(Operand::lent(value_at(steps, at))),
-            plan::Side::Constant(number) => Ok(self.constant_value(*number, &mut trail.cache)?),
-            plan::Side::Call(call) => self.called(call, at, trail),
-        }
     }
 }

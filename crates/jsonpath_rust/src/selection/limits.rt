@@ -87,7 +87,7 @@ pub struct Units {
 
 impl Units {
     /// So many.
-    pub fn new(count: usize) -> Self {
+    pub(crate) fn new(count: usize) -> Self {
         Units { count }
     }
 }

@@ -45,16 +45,14 @@ pub enum Constant {
         wanted: Wanted,
         nesting: Nesting,
     },
-    /// The value of the one node, if there is one, by these steps from the root.
-    Value(Vec<SingularQuerySegment>),
     /// What a call returns.
     Answer(Call),
     /// Whether the sides compare so.
-    Comparison(Operator, Side, Side),
+    Comparison(Operator, Part, Part),
 }
 
 /// A comparison: the operator, and the sides.
-pub type Comparison<'s> = (Operator, &'s Side, &'s Side);
+pub type Comparison<'s> = (Operator, &'s Part, &'s Part);
 
 /// A segment, which replaces each node by nodes below it (RFC 9535, 2.5).
 #[derive(Drop)]
@@ -93,65 +91,36 @@ pub enum Filter {
     /// Every part holds.
     And(Vec<Filter>),
     /// The filter holds, turned round where `not`.
-    Group {
-        expr: Box<Filter>,
-        not: bool,
-    },
-    /// There is a node, turned round where `not`.
-    Exists {
-        nodes: Nodes,
-        not: bool,
-    },
-    /// The value that these steps lead to from the current node has a child, turned round where
-    /// `not`.
-    HasChild {
-        steps: Vec<SingularQuerySegment>,
-        not: bool,
-    },
-    /// The call returns true, turned round where `not`.
-    Call {
-        call: Called,
-        not: bool,
-    },
+    Group { expr: Box<Filter>, not: bool },
+    /// The part is a query that has a node, or a call that returns true, turned round where `not`.
+    Test { part: Part, not: bool },
     /// The sides compare so.
-    Comparison(Operator, Side, Side),
-    /// The comparison that is the constant of this number holds.
+    Comparison(Operator, Part, Part),
+    /// The constant of this number, which is a comparison, holds.
     Constant(usize),
 }
 
-/// The nodes of a query inside a filter, by how they are found. The place where they stand tells
-/// what is wanted of them.
+/// A test, a side of a comparison (2.3.5.1), or an argument of a call, by how it is found. The place
+/// where it stands tells what is wanted of the nodes of a query.
 #[derive(Drop)]
 #[cycle(plan)]
-pub enum Nodes {
-    /// By these steps from the current node.
-    Lookup(Vec<SingularQuerySegment>),
-    /// By a walk of these segments from the current node.
-    Walk(Vec<Segment>),
-    /// Those of the constant of this number.
-    Constant(usize),
-}
-
-/// A side of a comparison (2.3.5.1).
-#[derive(Drop)]
-#[cycle(plan)]
-pub enum Side {
+pub enum Part {
     /// A literal.
     Literal(Literal),
-    /// The value of the one node, if there is one, by these steps from the current node.
+    /// A text that is asked as a pattern. Equal texts have one number for `match`, and another for
+    /// `search`.
+    Pattern(String, usize),
+    /// The node by these steps from the current node.
     Lookup(Vec<SingularQuerySegment>),
-    /// The constant of this number: the value of the one node, if there is one.
-    Constant(usize),
-    /// What a call returns.
-    Call(Called),
-}
-
-/// A call, by where it is worked out.
-#[derive(Drop)]
-#[cycle(plan)]
-pub enum Called {
-    /// A call that is made at each node.
-    Here(Box<Call>),
+    /// All children of what these steps from the current node lead to; where neither whether there
+    /// is one nor their count is wanted, their count as a value.
+    Children(Vec<SingularQuerySegment>),
+    /// The nodes by a walk of these segments from the current node.
+    Walk(Vec<Segment>),
+    /// What a call returns that is made at each node.
+    Call(Box<Call>),
+    /// Whether a filter holds.
+    Filter(Box<Filter>),
     /// The constant of this number.
     Constant(usize),
 }
@@ -161,34 +130,15 @@ pub enum Called {
 #[cycle(plan)]
 pub enum Call {
     /// A function of any name. All values of its arguments are wanted.
-    Custom(String, Vec<Argument>),
+    Custom(String, Vec<Part>),
     /// `length`
-    Length(Argument),
+    Length(Part),
     /// `value`
-    Value(Argument),
+    Value(Part),
     /// `count`
-    Count(Argument),
-    /// `count` of all children of the value that these steps lead to from the current node.
-    CountChildren(Vec<SingularQuerySegment>),
+    Count(Part),
     /// `search`
-    Search(Argument, Argument),
+    Search(Part, Part),
     /// `match`
-    Match(Argument, Argument),
-}
-
-/// An argument of a call.
-#[derive(Drop)]
-#[cycle(plan)]
-pub enum Argument {
-    /// A literal.
-    Literal(Literal),
-    /// A text that is asked as a pattern. Equal texts have one number for `match`, and another for
-    /// `search`.
-    Pattern(String, usize),
-    /// What is wanted of nodes.
-    Nodes(Nodes),
-    /// What a call returns.
-    Call(Called),
-    /// Whether a filter holds.
-    Filter(Filter),
+    Match(Part, Part),
 }

@@ -1,19 +1,19 @@
 //! The sides of a comparison, where both are at hand: they are lent, and nothing is made for them.
 ghost use Rattle.std.specs.Prelude.{◌≡◌, [], IfErr, IfOk, IfSome};
-ghost use Rattle.jsonpath_rust.specs.Prelude.Documents.{answer, compares, Node, operator_view, side_tree, tree_of, value_of};
-ghost use Rattle.jsonpath_rust.specs.Prelude.Selection.{called_view, document, IsHalt, IsReady, kept_of, part_at, side_view, value_by};
+ghost use Rattle.jsonpath_rust.specs.Prelude.Documents.{compares, Node, operator_view, side_tree, tree_of, value_of};
+ghost use Rattle.jsonpath_rust.specs.Prelude.Selection.{argument_at, document, IsHalt, IsReady, kept_of, Sole, part_view};
 
 use crate::documents::comparison::compares;
 use crate::documents::halt::Walked;
 use crate::documents::queryable::Queryable;
-use crate::documents::value::{Side, scalar_of};
+use crate::documents::value::{Scalar, Side, scalar_of};
 use crate::documents::whole::WholeRef;
 use crate::selection::budget::Budget;
 use crate::selection::cache::{Cache, Given};
 use crate::selection::direct::is_direct;
-use crate::selection::plan;
-use crate::selection::plan::{Called, Comparison};
+use crate::selection::plan::{Comparison, Part};
 use crate::selection::singular::value_at;
+use crate::selection::sink::Wanted;
 use crate::selection::walk::Task;
 use jsonpath_parser::model::Operator;
 
@@ -30,18 +30,18 @@ impl<'a: 's, 's, T: Queryable> Task<'a, 's, T> {
         requires { IsReady self.now cache.now }
         ensures holds { (n : Node) → n.tree ≡ tree_of at.entry →
             IfOk result (λ o. IfSome o (λ b. b ≡ compares (operator_view comparison.entry.0)
-            (value_of (side_view (kept_of self.now) comparison.entry.1.now) (document self.now) n)
-            (value_of (side_view (kept_of self.now) comparison.entry.2.now) (document self.now) n))) }
+            (value_of (part_view (kept_of self.now) comparison.entry.1.now Sole) (document self.now) n)
+            (value_of (part_view (kept_of self.now) comparison.entry.2.now Sole) (document self.now) n))) }
         ensures halts { IfErr result (IsHalt self.now.limit [] (document self.now)) }
     {
         // The right side is asked first, at no cost: the left one is paid for only where both are.
         if !is_at_hand(comparison.2, cache) {
             return Ok(None);
         }
-        let Some(left) = self.lent_side(comparison.1, at, cache, budget)? else {
+        let Some(left) = self.lent(comparison.1, at, cache, budget)? else {
             return Ok(None);
         };
-        let Some(right) = self.lent_side(comparison.2, at, cache, budget)? else {
+        let Some(right) = self.lent(comparison.2, at, cache, budget)? else {
             return Ok(None);
         };
         let held = self.paid_compare(comparison.0, left, right, budget)?;
@@ -68,11 +68,11 @@ impl<'a: 's, 's, T: Queryable> Task<'a, 's, T> {
         Ok(compares(operator, &left, &right))
     }
 
-    /// The value of a side; None where it is not at hand.
+    /// The value of a part; None where it is not at hand.
     #[inline(always)]
-    fn lent_side<'k>(
+    fn lent<'k>(
         &self,
-        side: &'s plan::Side,
+        part: &'s Part,
         at: WholeRef<'k, T>,
         cache: &'k Cache<'a, 's, T>,
         budget: &mut Budget,
@@ -80,41 +80,16 @@ impl<'a: 's, 's, T: Queryable> Task<'a, 's, T> {
         requires { IsReady self.now cache.now }
         ensures value { (n : Node) → n.tree ≡ tree_of at.entry →
             IfOk result (λ o. IfSome o (λ s. side_tree s
-            ≡ value_of (side_view (kept_of self.now) side.now) (document self.now) n)) }
+            ≡ value_of (part_view (kept_of self.now) part.now Sole) (document self.now) n)) }
         ensures halts { IfErr result (IsHalt self.now.limit [] (document self.now)) }
     {
-        match side {
-            plan::Side::Literal(literal) => Ok(Some(Side::Plain(scalar_of(literal)))),
-            plan::Side::Lookup(steps) => Ok(Some(Side::lent(value_at(steps, at)))),
-            plan::Side::Constant(number) => match self.plan.constant_steps(*number) {
-                Some(_steps) => Ok(self.lent_value(*number, cache)),
-                None => Ok(None),
-            },
-            plan::Side::Call(call) => self.lent_answer(call, at, cache, budget),
-        }
-    }
-
-    /// What a call returns; None where that is not at hand.
-    #[inline(always)]
-    fn lent_answer<'k>(
-        &self,
-        call: &'s Called,
-        at: WholeRef<'k, T>,
-        cache: &'k Cache<'a, 's, T>,
-        budget: &mut Budget,
-    ) -> Walked<Option<Side<'k, 's, T>>>
-        requires { IsReady self.now cache.now }
-        ensures value { (n : Node) → n.tree ≡ tree_of at.entry →
-            IfOk result (λ o. IfSome o (λ s. side_tree s
-            ≡ answer (called_view (kept_of self.now) call.now) (document self.now) n)) }
-        ensures halts { IfErr result (IsHalt self.now.limit [] (document self.now)) }
-    {
-        match call {
-            Called::Here(call) => self.direct_answer(call, at, budget),
-            Called::Constant(number) => match self.plan.constant_call(*number) {
-                Some(_call) => Ok(self.lent_value(*number, cache)),
-                None => Ok(None),
-            },
+        match part {
+            Part::Literal(literal) => Ok(Some(Side::Plain(scalar_of(literal)))),
+            Part::Pattern(text, _number) => Ok(Some(Side::Plain(Scalar::Text(text)))),
+            Part::Lookup(steps) => Ok(Some(Side::lent(value_at(steps, at)))),
+            Part::Call(call) => self.direct_answer(call, at, budget),
+            Part::Constant(number) => Ok(self.lent_value(*number, cache)),
+            _ => Ok(None),
         }
     }
 
@@ -122,8 +97,9 @@ impl<'a: 's, 's, T: Queryable> Task<'a, 's, T> {
     #[inline(always)]
     fn lent_value<'k>(&self, number: usize, cache: &'k Cache<'a, 's, T>) -> Option<Side<'k, 's, T>>
         requires { IsReady self.now cache.now }
-        ensures { IfSome result (λ s. side_tree s ≡ value_by (part_at (kept_of self.now) number) (document self.now)) }
+        ensures { (n : Node) → IfSome result (λ s. side_tree s ≡ value_of (argument_at (kept_of self.now) Sole number) (document self.now) n) }
     {
+        let _constant = self.plan.constant(number, Wanted::Sole)?;
         match cache.get(number) {
             Some(Given::Value(value)) => Some(value.as_side()),
             _ => None,
@@ -131,14 +107,13 @@ impl<'a: 's, 's, T: Queryable> Task<'a, 's, T> {
     }
 }
 
-/// Whether a side is at hand: a literal, a look-up, a constant that is worked out, a direct call.
+/// Whether a part is at hand: a literal, a look-up, a constant that is worked out, a direct call.
 #[inline(always)]
-fn is_at_hand<T: Queryable>(side: &plan::Side, cache: &Cache<'_, '_, T>) -> bool {
-    match side {
-        plan::Side::Literal(_) => true,
-        plan::Side::Lookup(_) => true,
-        plan::Side::Constant(number) => cache.get(*number).is_some(),
-        plan::Side::Call(Called::Constant(number)) => cache.get(*number).is_some(),
-        plan::Side::Call(Called::Here(call)) => is_direct(call),
+fn is_at_hand<T: Queryable>(part: &Part, cache: &Cache<'_, '_, T>) -> bool {
+    match part {
+        Part::Literal(_) | Part::Pattern(_, _) | Part::Lookup(_) => true,
+        Part::Constant(number) => cache.get(*number).is_some(),
+        Part::Call(call) => is_direct(call),
+        _ => false,
     }
 }

@@ -1,11 +1,11 @@
 //! What is done with the nodes that a walk meets.
 ghost use Rattle.std.specs.Prelude.{◌∷◌, ◌≡◌, [], IfErr, IfOk, map, option_map, option_to_list, Some, ℕ};
 ghost use Rattle.jsonpath_rust.specs.Prelude.Documents.{location_view, Memory, Node, of_nodes, operand_tree, paths_of, removal_count, removal_set, root_node, shown, tree_of};
-ghost use Rattle.jsonpath_rust.specs.Prelude.Selection.{count_in, counted, few, finished, gave, locations_in, node_of, nodes_in, paths_in, removal_in, seen, seen_few, seen_only, start, TakesAlong, told_of, Took, values_in, wanted_of};
+ghost use Rattle.jsonpath_rust.specs.Prelude.Selection.{count_in, counted, few, finished, gave, is_counted, locations_in, node_of, nodes_in, paths_in, removal_in, seen, seen_few, seen_sole, start, TakesAlong, told_of, Took, values_in, wanted_of};
 
 use crate::documents::QueryPath;
 use crate::documents::halt::Walked;
-use crate::documents::nodes::{WholeNodes, WholeOnly, WholeValues};
+use crate::documents::nodes::{WholeNodes, WholeSole, WholeValues};
 use crate::documents::queryable::Queryable;
 use crate::documents::value::{GREATEST_COUNT, Operand, Scalar, Side, count_scalar};
 use crate::documents::whole::WholeRef;
@@ -22,7 +22,7 @@ pub enum Wanted {
     /// How many there are.
     Count,
     /// The value of the only one.
-    Only,
+    Sole,
     /// All their values.
     Values,
 }
@@ -40,14 +40,24 @@ impl Wanted {
                 Some(_value) => Operand::Side(Side::Plain(count_scalar(1))),
                 None => Operand::Side(Side::Plain(count_scalar(0))),
             },
-            Wanted::Only => Operand::lent(value),
+            Wanted::Sole => Operand::lent(value),
             Wanted::Values => Operand::Side(Side::Absent),
+        }
+    }
+
+    /// Whether a count of the nodes tells it.
+    pub fn is_counted(self) -> bool
+        ensures { result ≡ is_counted self }
+    {
+        match self {
+            Wanted::Any | Wanted::Count => true,
+            Wanted::Sole | Wanted::Values => false,
         }
     }
 
     /// What is wanted of so many nodes, as a value: how many they are, or whether there is one.
     #[inline(always)]
-    fn of_count<'a, 's, T: Queryable>(self, count: usize) -> Operand<'a, 's, T>
+    pub fn of_count<'a, 's, T: Queryable>(self, count: usize) -> Operand<'a, 's, T>
         ensures { operand_tree result ≡ Some (told_of self count) }
     {
         match self {
@@ -74,7 +84,7 @@ pub enum Sink<'a, T: Queryable> {
     /// Counts down from the second number, one for each node. It stops at 0.
     Count(usize, usize),
     /// The only node. It stops at the second.
-    Only(WholeOnly<'a, T>),
+    Sole(WholeSole<'a, T>),
     /// Keeps the values and Normalized Paths of the first nodes. It stops at the last of these.
     Few(FirstNodes<'a, T>),
 }
@@ -88,7 +98,7 @@ impl<'a, T: Queryable> Sink<'a, T> {
         match wanted {
             Wanted::Any => Sink::Count(1, 1),
             Wanted::Count => Sink::Count(GREATEST_COUNT, GREATEST_COUNT),
-            Wanted::Only => Sink::Only(WholeOnly::Nothing),
+            Wanted::Sole => Sink::Sole(WholeSole::Nothing),
             Wanted::Values => Sink::Values(WholeValues::new(alloc)),
         }
     }
@@ -133,7 +143,7 @@ impl<'a, T: Queryable> Sink<'a, T> {
                 Ok(true)
             }
             Sink::Count(room, _most) => Ok(take_count(room)),
-            Sink::Only(only) => Ok(take_only(only, value)),
+            Sink::Sole(only) => Ok(take_sole(only, value)),
             Sink::Few(first) => first.take(alloc, value, way),
         }
     }
@@ -143,7 +153,7 @@ impl<'a, T: Queryable> Sink<'a, T> {
     pub fn may_end(&self) -> bool {
         match self {
             Sink::Count(_, most) => *most == 1,
-            Sink::Only(_) | Sink::Few(_) => true,
+            Sink::Sole(_) | Sink::Few(_) => true,
             _ => false,
         }
     }
@@ -155,7 +165,7 @@ impl<'a, T: Queryable> Sink<'a, T> {
     {
         match self {
             Sink::Count(room, most) => Given::Value(wanted.of_count(most.saturating_sub(room))),
-            Sink::Only(WholeOnly::One(value)) => Given::Value(Operand::Side(Side::Lent(value))),
+            Sink::Sole(WholeSole::One(value)) => Given::Value(Operand::Side(Side::Lent(value))),
             Sink::Values(values) => Given::Values(values),
             other => {
                 drop(other);
@@ -255,16 +265,16 @@ fn take_count(room: &mut usize) -> bool
 
 /// Takes a node: true, so that the walk goes on, if that is the first.
 #[inline(always)]
-fn take_only<'a, T: Queryable>(only: &mut WholeOnly<'a, T>, value: WholeRef<'a, T>) -> bool
-    ensures { (n : Node) → n.tree ≡ tree_of value.entry → Took (seen_only only.old) (n ∷ []) (seen_only only.new) result }
+fn take_sole<'a, T: Queryable>(only: &mut WholeSole<'a, T>, value: WholeRef<'a, T>) -> bool
+    ensures { (n : Node) → n.tree ≡ tree_of value.entry → Took (seen_sole only.old) (n ∷ []) (seen_sole only.new) result }
 {
     match only {
-        WholeOnly::Nothing => {
-            *only = WholeOnly::One(value);
+        WholeSole::Nothing => {
+            *only = WholeSole::One(value);
             true
         }
         _ => {
-            *only = WholeOnly::Several;
+            *only = WholeSole::Several;
             false
         }
     }

@@ -99,13 +99,13 @@ led (segment g gs) doc l t p here e = led_by g gs doc l t (segment_child g t) p 
 
 -- ---- what a text means
 
-abbrev Only : List ℕ → Query → Type 0
-Only text q = (t : Query) → Derives 128 text t → q ≡ t
+abbrev OnlyDerived : List ℕ → Query → Type 0
+OnlyDerived text q = (t : Query) → Derives 128 text t → q ≡ t
 
 pub selected_followed : (q : Query) (doc : Document) → IsTrue (is_singular q) → selected q doc ≡ map (λ n. n.location) (nodes_of (followed q [] doc.root))
 selected_followed q doc h = ap (map (λ n. n.location)) (applied_followed q doc [] doc.root h)
 
-meant_by : (text : List ℕ) (doc : Document) (q : Query) (o : Option (Location × Tree)) → followed q [] doc.root ≡ o → Derives 128 text q → Only text q → IsReference text doc (option_map (λ p. p.0) o)
+meant_by : (text : List ℕ) (doc : Document) (q : Query) (o : Option (Location × Tree)) → followed q [] doc.root ≡ o → Derives 128 text q → OnlyDerived text q → IsReference text doc (option_map (λ p. p.0) o)
 meant_by text doc q None is derived only = record {
   found = tt;
   all = λ l h.
@@ -123,7 +123,7 @@ meant_by text doc q (Some p) is derived only =
     }
 
 -- the place to which its segments lead is at that location
-pub means_referent : {E : Type 0} (text : List ℕ) (doc : Document) (q : Query) (gs : Segments) (r : Result (Option Referent) E) → q ≡ gs → Derives 128 text q → Only text q
+pub means_referent : {E : Type 0} (text : List ℕ) (doc : Document) (q : Query) (gs : Segments) (r : Result (Option Referent) E) → q ≡ gs → Derives 128 text q → OnlyDerived text q
     → IfOk r (λ o. option_map referent_view o ≡ followed gs [] doc.root) → IfOk r (λ o. IsReference text doc (option_map (λ p. location_view p.steps.items) o))
 means_referent text doc q gs (Err e) same derived only h = tt
 means_referent text doc q gs (Ok None) same derived only h = meant_by text doc q None (ap (λ x. followed x [] doc.root) same ∙ sym h) derived only

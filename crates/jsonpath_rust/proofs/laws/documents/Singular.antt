@@ -1,6 +1,6 @@
 -- A singular query gives the value to which its names and indexes lead.
 use Rattle.std.proofs.Common.{◌≡◌, ℕ, List, [], ◌∷◌, ◌++◌, length, map, Option, Some, None, option_map, option_and_then, option_to_list, IsTrue, refl, sym, ap, ◌∙◌}
-use Rattle.jsonpath_rust.specs.Prelude.Documents.{absolute, all_applied, as_list, as_value, child, descendant, Document, element_of, followed, index, is_singular, Location, name, Node, one, only_value, relative, root_node, Segment, segment_child, segments_of, several, Step, step_to, stepped, tested, Tree, value_at}
+use Rattle.jsonpath_rust.specs.Prelude.Documents.{all_applied, as_list, as_value, child, descendant, Document, element_of, followed, index, is_singular, Location, name, Node, one, only_value, relative, Segment, segment_child, segments_of, several, Step, step_to, stepped, tested, Tree, value_at}
 use Rattle.jsonpath_parser.specs.tree.Syntax as syntax
 use Rattle.jsonpath_rust.proofs.laws.documents.Following.{nodes_of, applied_followed}
 
@@ -69,7 +69,3 @@ relative_value gs d n h =
     ap only_value (applied_followed (segments_of gs) d n.location n.tree h)
     ∙ only_followed (followed (segments_of gs) n.location n.tree)
     ∙ sym (value_followed gs n.location n.tree)
-
--- from the root
-pub absolute_value : (gs : List Segment) (d : Document) (n : Node) → IsTrue (is_singular (segments_of gs)) → as_value (tested (absolute (segments_of gs)) d n) ≡ value_at gs d.root
-absolute_value gs d n h = relative_value gs d (root_node d.root) h

@@ -26,7 +26,7 @@ tied_by (sink.Paths ps) w v f t = tt
 tied_by (sink.Values vs) w v f t = tt
 tied_by (sink.Locations ls) w v f t = tt
 tied_by (sink.Count room most) w v f t = tt
-tied_by (sink.Only o) w v f t = tt
+tied_by (sink.Sole o) w v f t = tt
 tied_by (sink.Few ns) w v f t = tt
 
 -- at the root
@@ -40,21 +40,21 @@ tied_at_root (sink.Paths ps) w e = tt
 tied_at_root (sink.Values vs) w e = tt
 tied_at_root (sink.Locations ls) w e = tt
 tied_at_root (sink.Count room most) w e = tt
-tied_at_root (sink.Only o) w e = tt
+tied_at_root (sink.Sole o) w e = tt
 tied_at_root (sink.Few ns) w e = tt
 
 -- a sink of a filter marks nothing
 pub tied_inside : {A : Type 0} {R : Ghosts A} {D : debug.Ghosts A} (s : Sink A R D) (w : Way) (of : Wanted) → seen s ≡ start of → IsTied s w
 tied_inside (sink.Removal r) w wanted.Any e = absurd cc
 tied_inside (sink.Removal r) w wanted.Count e = absurd cc
-tied_inside (sink.Removal r) w wanted.Only e = absurd cc
+tied_inside (sink.Removal r) w wanted.Sole e = absurd cc
 tied_inside (sink.Removal r) w wanted.Values e = absurd cc
 tied_inside (sink.Nodes ns) w of e = tt
 tied_inside (sink.Paths ps) w of e = tt
 tied_inside (sink.Values vs) w of e = tt
 tied_inside (sink.Locations ls) w of e = tt
 tied_inside (sink.Count room most) w of e = tt
-tied_inside (sink.Only o) w of e = tt
+tied_inside (sink.Sole o) w of e = tt
 tied_inside (sink.Few ns) w of e = tt
 
 -- one step further

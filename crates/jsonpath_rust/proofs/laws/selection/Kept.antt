@@ -4,12 +4,10 @@ use Rattle.std.proofs.lemmas.List.{get_or-set_same, map-set, length-set}
 use Rattle.std.proofs.lemmas.List.Elements.{All-head, All-tail}
 use Rattle.std.proofs.Math.ListN.{length-map}
 use Rattle.std.specs.declared.fmt.Debug as debug
-use Rattle.jsonpath_rust.specs.Prelude.Documents.{Document, Evaluated, Ghosts, Query, Tree}
-use Rattle.jsonpath_rust.specs.Prelude.Selection.{answered, AreEmpty, Cache, compared, ConstantPart, Constants, Gave, gave, given_by, given_of, given_value, IsGiven, Keeps, nodes, part_at, query_at, query_in, slot_at, slots_of, value, value_by, Wanted, wanted_of}
-use Rattle.jsonpath_rust.specs.selection.inner.Wanting as wanting
+use Rattle.jsonpath_rust.specs.Prelude.Documents.{Document, Evaluated, Ghosts}
+use Rattle.jsonpath_rust.specs.Prelude.Selection.{answered, AreEmpty, Cache, compared, ConstantPart, Constants, Gave, gave, given_by, given_of, given_value, IsGiven, Keeps, nodes, part_at, slot_at, slots_of, Wanted, wanted_of}
 use Rattle.jsonpath_rust.specs.declared.selection.cache.Given.{Given}
 use Rattle.jsonpath_rust.specs.declared.selection.sink.Wanted.TheVariants as wanted
-use Rattle.jsonpath_rust.proofs.laws.selection.PlanLaws.{query_in-nodes}
 
 -- ---- what is kept
 
@@ -53,25 +51,7 @@ keeps_set kept doc old new n x e g h = record {
         subst (λ y. IsGiven y (part_at kept k) doc) (sym is) (subst (λ j. IsGiven (gave x) (part_at kept j) doc) (sym m.1) g)
     by_place k s i (inr m) = h.right k s (sym m ∙ i)
 
--- the query of a constant, for what is wanted of it
-pub kept_query : (kept : Constants) (n : ℕ) (w : Wanted) (q : Query) → part_at kept n ≡ nodes w q → query_at kept w n ≡ q
-kept_query kept n w q e = ap (query_in w) e ∙ query_in-nodes w q
-
 -- ---- values that are kept
-
--- what a part gives is this value
-pub gives_value : (p q : ConstantPart) (d : Document) (t u : Option Tree) → p ≡ q → given_by q d ≡ wanting.value u → t ≡ u → wanting.value t ≡ given_by p d
-gives_value p q d t u e g h = ap wanting.value h ∙ sym g ∙ sym (ap (λ x. given_by x d) e)
-
--- the value that is kept is that of the part
-pub value_given : (p : ConstantPart) (d : Document) (t : Option Tree) → wanting.value t ≡ given_by p d → t ≡ value_by p d
-value_given (nodes wanted.Any q) d t e = cc
-value_given (nodes wanted.Count q) d t e = cc
-value_given (nodes wanted.Only q) d t e = cc
-value_given (nodes wanted.Values q) d t e = absurd cc
-value_given (value ss) d t e = cc
-value_given (answered c) d t e = cc
-value_given (compared c) d t e = cc
 
 -- ---- nodes that are kept
 
@@ -79,9 +59,8 @@ value_given (compared c) d t e = cc
 pub given_right : (p : ConstantPart) (d : Document) → IsGiven (given_by p d) p d
 given_right (nodes wanted.Any q) d = refl
 given_right (nodes wanted.Count q) d = refl
-given_right (nodes wanted.Only q) d = refl
+given_right (nodes wanted.Sole q) d = refl
 given_right (nodes wanted.Values q) d = refl
-given_right (value ss) d = refl
 given_right (answered c) d = refl
 given_right (compared c) d = refl
 
@@ -89,7 +68,7 @@ given_right (compared c) d = refl
 pub wanted_given : (w : Wanted) (e : Evaluated) → given_value (Some (given_of w e)) ≡ wanted_of w e
 wanted_given wanted.Any e = refl
 wanted_given wanted.Count e = refl
-wanted_given wanted.Only e = refl
+wanted_given wanted.Sole e = refl
 wanted_given wanted.Values e = refl
 
 -- what is found

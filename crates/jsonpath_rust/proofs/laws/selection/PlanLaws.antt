@@ -6,7 +6,7 @@ use Rattle.std.proofs.Math.ListN.{length-map}
 use Rattle.std.proofs.lemmas.Bool.{and_from, and_parts, both_ways}
 use Rattle.std.proofs.lemmas.List.Folds.{list_all-append}
 use Rattle.jsonpath_rust.specs.Prelude.Documents.{arguments_of, filters_of, list_all, segments_of}
-use Rattle.jsonpath_rust.specs.Prelude.Selection.{Any, argument_is_rooted, arguments_are_rooted, Constant, constant_view, ConstantPart, Constants, Count, Extends, filter_is_rooted, filters_are_rooted, is_same_wanted, IsBeside, IsKept, IsNumbered, IsRight, IsRooted, IsSettled, kept_from, kept_in, kept_view, Made, nodes, Only, part_at, part_is_rooted, parts_where, query_in, Segment, segment_view, segments_meant, value, Values, Wanted}
+use Rattle.jsonpath_rust.specs.Prelude.Selection.{Any, argument_in, argument_is_rooted, arguments_are_rooted, Constant, constant_view, ConstantPart, Constants, Count, Extends, filter_is_rooted, filters_are_rooted, is_same_wanted, IsBeside, IsKept, IsNumbered, IsRight, IsRooted, IsSettled, kept_from, kept_in, kept_view, Made, nodes, Sole, part_at, part_is_rooted, parts_where, Segment, segment_view, segments_meant, Values, Wanted}
 use Rattle.jsonpath_parser.specs.tree.Syntax as tree
 use Rattle.jsonpath_rust.specs.declared.selection.plan.make.Maker.{Maker}
 
@@ -93,12 +93,12 @@ arguments_rooted (a ∷ args) = ap (λ b. argument_is_rooted a && b) (arguments_
 pub same_self : (w : Wanted) → is_same_wanted w w ≡ true
 same_self Any = refl
 same_self Count = refl
-same_self Only = refl
+same_self Sole = refl
 same_self Values = refl
 
 -- the query of a part, for what is wanted of it
-pub query_in-nodes : (w : Wanted) (q : tree.Query) → query_in w (nodes w q) ≡ q
-query_in-nodes w q = ap (λ b. (if b then q else tree.no_segments)) (same_self w)
+pub argument_in-nodes : (w : Wanted) (q : tree.Query) → argument_in w (nodes w q) ≡ tree.test_argument (tree.absolute q)
+argument_in-nodes w q = ap (λ b. tree.test_argument (tree.absolute (if b then q else tree.no_segments))) (same_self w)
 
 kept_push : (kept : Constants) (es : List Constant) (e : Constant) → kept_from kept (es ++ e ∷ []) ≡ kept_from kept es ++ constant_view (kept_from kept es) e ∷ []
 kept_push kept [] e = refl
@@ -118,7 +118,7 @@ numbered_kept old new part n k = record {
       let is : IsRight first → last ≡ p = λ r. m.says r (kept_in old) (extends_none (kept_in old)) in
       record {
         grows = extends_on (kept_in first) (kept_in old) (kept_in new) m.grows grows;
-        says = λ r kept x. ap (λ l. part_at l n) (x.is ∙ ap (λ l. l ++ x.more) grown ∙ append_assoc (kept_in old) (last ∷ []) x.more) ∙ ap (λ i. part_at (kept_in old ++ last ∷ x.more) i) (k.number ∙ sym (kept_count old (m.right r))) ∙ get_or-append_seam (kept_in old) last x.more (value []) ∙ is r;
+        says = λ r kept x. ap (λ l. part_at l n) (x.is ∙ ap (λ l. l ++ x.more) grown ∙ append_assoc (kept_in old) (last ∷ []) x.more) ∙ ap (λ i. part_at (kept_in old ++ last ∷ x.more) i) (k.number ∙ sym (kept_count old (m.right r))) ∙ get_or-append_seam (kept_in old) last x.more (nodes Any tree.no_segments) ∙ is r;
         right = λ r.
             let was : IsRight old = m.right r in
             record {

@@ -1,9 +1,10 @@
--- What has no `@` is the same at all nodes.
-use Rattle.std.proofs.Common.{◌≡◌, ℕ, suc, zero, [], ◌∷◌, ◌++◌, refl, sym, ◌∙◌, ap, Bool, true, false, ◌&&◌, ◌||◌, Option, Some, IsTrue}
+-- What has no `@` is the same at all nodes, and what is kept of it is what it stands for.
+use Rattle.std.proofs.Common.{◌≡◌, ◌+◌, ℕ, suc, zero, List, [], ◌∷◌, ◌++◌, refl, sym, ◌∙◌, ap, Bool, true, false, ◌&&◌, ◌||◌, Option, Some, option_to_list, IsTrue, if◌then◌else◌}
 use Rattle.std.proofs.lemmas.Bool.{and_parts}
-use Rattle.jsonpath_rust.specs.Prelude.Documents.{absolute, all_trees, and, answer, argued, Argument, argument, Arguments, as_nodes, as_trees, as_truth, as_value, Call, call, compare, compares, count_call, count_of, custom_call, Document, each_holds, Filter, filter_argument, filter_then, Filters, group, holds, is_matched, length_call, length_of, list_all, literal_argument, match_call, negated, no_arguments, no_filters, Node, of_value, only_value, or, relative, root_node, search_call, some_holds, Test, test, test_argument, tested, Tree, truth, value_call}
-use Rattle.jsonpath_rust.specs.Prelude.Selection.{answered, AreRooted, argument_is_rooted, arguments_are_rooted, call_at, call_in, call_is_rooted, compared, comparison_at, comparison_in, ConstantPart, Constants, filter_is_rooted, filters_are_rooted, given_by, nodes, part_at, part_is_rooted, test_is_rooted, value}
-use Rattle.jsonpath_rust.specs.selection.inner.Wanting as wanting
+use Rattle.jsonpath_rust.specs.Prelude.Documents.{absolute, all_trees, and, answer, argued, Argument, argument, argument_patterns, Arguments, as_nodes, as_trees, as_truth, as_value, Call, call, compare, compares, count_call, count_of, custom_call, Document, each_holds, equal, Evaluated, Filter, filter_argument, segments_patterns, filter_then, Filters, group, holds, is_matched, is_true, length_call, length_of, list, list_all, literal_argument, literal_tree, match_call, negated, no_arguments, no_filters, no_segments, Node, nodelist, null, number, object, of_nodes, of_value, only_value, or, Query, relative, root_node, search_call, some_holds, Test, test, test_argument, tested, text, Tree, truth, value_call}
+use Rattle.jsonpath_rust.specs.Prelude.Selection.{answered, AreRooted, argument_at, argument_in, argument_is_rooted, arguments_are_rooted, asked, call_is_rooted, compared, ConstantPart, Constants, filter_is_rooted, filters_are_rooted, fits, given_by, given_value, is_same_wanted, nodes, part_at, part_is_rooted, part_patterns, test_is_rooted, told, trees_in, truth_of, Wanted, wanted_of}
+use Rattle.jsonpath_rust.specs.declared.selection.sink.Wanted.TheVariants as wanted
+use Rattle.jsonpath_rust.proofs.laws.selection.Kept.{wanted_given}
 
 mutual
   filter_same : (f : Filter) (d : Document) (n m : Node) → IsTrue (filter_is_rooted f) → holds f d n ≡ holds f d m
@@ -62,34 +63,89 @@ part_rooted [] n h = refl
 part_rooted (p ∷ ps) zero h = (and_parts (part_is_rooted p) (list_all part_is_rooted ps) h).0
 part_rooted (p ∷ ps) (suc n) h = part_rooted ps n (and_parts (part_is_rooted p) (list_all part_is_rooted ps) h).1
 
-call_in_rooted : (p : ConstantPart) → IsTrue (part_is_rooted p) → IsTrue (call_is_rooted (call_in p))
-call_in_rooted (nodes w q) h = refl
-call_in_rooted (value ss) h = refl
-call_in_rooted (answered c) h = h
-call_in_rooted (compared c) h = refl
+-- ---- what is kept of a constant is what it stands for, at each node
 
-comparison_in_rooted : (p : ConstantPart) → IsTrue (part_is_rooted p) → IsTrue (filter_is_rooted (comparison_in p))
-comparison_in_rooted (nodes w q) h = refl
-comparison_in_rooted (value ss) h = refl
-comparison_in_rooted (answered c) h = refl
-comparison_in_rooted (compared c) h = h
+same_query : (w v : Wanted) (q r : Query) → IsTrue (is_same_wanted w v) → (w ≡ v) × ((if is_same_wanted w v then q else r) ≡ q)
+same_query wanted.Any wanted.Any q r h = (refl, refl)
+same_query wanted.Count wanted.Count q r h = (refl, refl)
+same_query wanted.Sole wanted.Sole q r h = (refl, refl)
+same_query wanted.Values wanted.Values q r h = (refl, refl)
+same_query wanted.Any wanted.Count q r h = absurd cc
+same_query wanted.Any wanted.Sole q r h = absurd cc
+same_query wanted.Any wanted.Values q r h = absurd cc
+same_query wanted.Count wanted.Any q r h = absurd cc
+same_query wanted.Count wanted.Sole q r h = absurd cc
+same_query wanted.Count wanted.Values q r h = absurd cc
+same_query wanted.Sole wanted.Any q r h = absurd cc
+same_query wanted.Sole wanted.Count q r h = absurd cc
+same_query wanted.Sole wanted.Values q r h = absurd cc
+same_query wanted.Values wanted.Any q r h = absurd cc
+same_query wanted.Values wanted.Count q r h = absurd cc
+same_query wanted.Values wanted.Sole q r h = absurd cc
 
-pub kept_call_same : (kept : Constants) (k : ℕ) (d : Document) (n m : Node) → AreRooted kept → answer (call_at kept k) d n ≡ answer (call_at kept k) d m
-kept_call_same kept k d n m h = call_same (call_at kept k) d n m (call_in_rooted (part_at kept k) (part_rooted kept k h))
+pub told_nodes : (w : Wanted) (ns : List Node) → told w (of_nodes ns) ≡ wanted_of w (of_nodes ns)
+told_nodes wanted.Any ns = refl
+told_nodes wanted.Count ns = refl
+told_nodes wanted.Sole ns = refl
+told_nodes wanted.Values ns = refl
 
-pub kept_comparison_same : (kept : Constants) (k : ℕ) (d : Document) (n m : Node) → AreRooted kept → holds (comparison_at kept k) d n ≡ holds (comparison_at kept k) d m
-kept_comparison_same kept k d n m h = filter_same (comparison_at kept k) d n m (comparison_in_rooted (part_at kept k) (part_rooted kept k h))
+pub told_one : (w : Wanted) (o : Option Tree) → told w (of_value o) ≡ o
+told_one wanted.Any o = refl
+told_one wanted.Count o = refl
+told_one wanted.Sole o = refl
+told_one wanted.Values o = refl
 
--- ---- what is worked out at the root
+part_told : (w : Wanted) (p : ConstantPart) (d : Document) (n : Node) → IsTrue (fits w p) → IsTrue (part_is_rooted p) → given_value (Some (given_by p d)) ≡ told w (argued (argument_in w p) d n)
+part_told w (nodes v q) d n f h =
+    let same = same_query w v q no_segments f in
+    wanted_given v (of_nodes (nodelist q d)) ∙ ap (λ u. wanted_of u (of_nodes (nodelist q d))) (sym same.0) ∙ ap (λ r. wanted_of w (of_nodes (nodelist r d))) (sym same.1) ∙ sym (told_nodes w _)
+part_told w (answered c) d n f h = call_same c d (root_node d.root) n h ∙ sym (told_one w _)
+part_told w (compared c) d n f h = ap (λ b. Some (truth b)) (filter_same c d (root_node d.root) n h) ∙ sym (told_one w _)
 
-pub answer_as : (f g : Call) (d : Document) (n m : Node) (t : Option Tree) → g ≡ f → n ≡ m → t ≡ answer f d n → t ≡ answer g d m
-answer_as f g d n m t e k h = h ∙ ap (answer f d) k ∙ sym (ap (λ x. answer x d m) e)
+part_trees : (p : ConstantPart) (d : Document) (n : Node) → IsTrue (fits wanted.Values p) → IsTrue (part_is_rooted p) → trees_in (given_by p d) ≡ as_trees (argued (argument_in wanted.Values p) d n)
+part_trees (nodes wanted.Values q) d n f h = refl
+part_trees (nodes wanted.Any q) d n f h = absurd cc
+part_trees (nodes wanted.Count q) d n f h = absurd cc
+part_trees (nodes wanted.Sole q) d n f h = absurd cc
+part_trees (answered c) d n f h = ap option_to_list (call_same c d (root_node d.root) n h)
+part_trees (compared c) d n f h = ap (λ b. truth b ∷ []) (filter_same c d (root_node d.root) n h)
 
-pub answer_kept : (p : ConstantPart) (f : Call) (d : Document) (n : Node) (t : Option Tree) → p ≡ answered f → n ≡ root_node d.root → t ≡ answer f d n → wanting.value t ≡ given_by p d
-answer_kept p f d n t e k h = ap wanting.value (h ∙ ap (answer f d) k) ∙ sym (ap (λ x. given_by x d) e)
+-- the value of what was wanted
+pub kept_told : (kept : Constants) (k : ℕ) (w : Wanted) (d : Document) (n : Node) → AreRooted kept → IsTrue (fits w (part_at kept k)) → given_value (Some (given_by (part_at kept k) d)) ≡ told w (argued (argument_at kept w k) d n)
+kept_told kept k w d n h f = part_told w (part_at kept k) d n f (part_rooted kept k h)
 
-pub comparison_as : (q r : Filter) (d : Document) (n m : Node) (b : Bool) → r ≡ q → n ≡ m → b ≡ holds q d n → b ≡ holds r d m
-comparison_as q r d n m b e k h = h ∙ ap (holds q d) k ∙ sym (ap (λ x. holds x d m) e)
+-- the values of its nodes
+pub kept_trees : (kept : Constants) (k : ℕ) (d : Document) (n : Node) → AreRooted kept → IsTrue (fits wanted.Values (part_at kept k)) → trees_in (given_by (part_at kept k) d) ≡ as_trees (argued (argument_at kept wanted.Values k) d n)
+kept_trees kept k d n h f = part_trees (part_at kept k) d n f (part_rooted kept k h)
 
-pub comparison_kept : (p : ConstantPart) (q : Filter) (d : Document) (n : Node) (b : Bool) → p ≡ compared q → n ≡ root_node d.root → b ≡ holds q d n → wanting.value (Some (truth b)) ≡ given_by p d
-comparison_kept p q d n b e k h = ap (λ x. wanting.value (Some (truth x))) (h ∙ ap (holds q d) k) ∙ sym (ap (λ x. given_by x d) e)
+-- ---- what tests true
+
+pub told_truth : (e : Evaluated) → is_true (told wanted.Any e) ≡ as_truth e
+told_truth (of_value o) = refl
+told_truth (of_nodes ns) = refl
+
+same_truth : (t : Tree) → compares equal (Some t) (Some (truth true)) ≡ is_true (Some t)
+same_truth null = refl
+same_truth (truth true) = refl
+same_truth (truth false) = refl
+same_truth (number k) = refl
+same_truth (text s) = refl
+same_truth (list ts) = refl
+same_truth (object ms) = refl
+
+pub truth_held : (a : Argument) (d : Document) (n : Node) → holds (truth_of a) d n ≡ as_truth (argued a d n)
+truth_held (test_argument t) d n = refl
+truth_held (filter_argument f) d n = refl
+truth_held (literal_argument l) d n = same_truth (literal_tree l)
+
+pub asked_held : (t : Bool) (a : Argument) (d : Document) (n : Node) → holds (asked t a) d n ≡ negated t (as_truth (argued a d n))
+asked_held t (test_argument q) d n = refl
+asked_held t (filter_argument f) d n = ap (negated t) (truth_held (filter_argument f) d n)
+asked_held t (literal_argument l) d n = ap (negated t) (truth_held (literal_argument l) d n)
+
+-- ---- what is asked of it
+
+pub fit_patterns : (w : Wanted) (p : ConstantPart) → IsTrue (fits w p) → argument_patterns (argument_in w p) ≡ part_patterns p
+fit_patterns w (nodes v q) f = ap segments_patterns (same_query w v q no_segments f).1
+fit_patterns w (answered c) f = refl
+fit_patterns w (compared c) f = refl

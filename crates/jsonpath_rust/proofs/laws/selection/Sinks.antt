@@ -95,9 +95,9 @@ pub finished_all : (w : Wanted) (ns : List Node) → finished w (give (start w) 
 finished_all wanted.Any [] = refl
 finished_all wanted.Any (n ∷ ns) = ap (finished wanted.Any) (give-full (counted 0 1) ns refl)
 finished_all wanted.Count ns = ap (finished wanted.Count) (give-counted greatest_count greatest_count ns) ∙ ap (λ k. wanting.value (Some (number (pos k)))) (twice (length ns))
-finished_all wanted.Only [] = refl
-finished_all wanted.Only (n ∷ []) = refl
-finished_all wanted.Only (n ∷ m ∷ ns) = ap (finished wanted.Only) (give-full several ns refl)
+finished_all wanted.Sole [] = refl
+finished_all wanted.Sole (n ∷ []) = refl
+finished_all wanted.Sole (n ∷ m ∷ ns) = ap (finished wanted.Sole) (give-full several ns refl)
 finished_all wanted.Values ns = ap (finished wanted.Values) (give-values [] ns)
 
 -- the first nodes are kept, as many as there is room for

@@ -1,9 +1,9 @@
 -- Where a walk stands, and how it comes back, one call after another.
-use Rattle.std.proofs.Common.{◌≡◌, List, [], refl, ◌∙◌, Bool, Result, Ok, Err, OnOk}
+use Rattle.std.proofs.Common.{◌≡◌, List, [], refl, ◌∙◌, Bool, Result, Ok, Err, IfErr, OnOk}
 use Rattle.jsonpath_rust.specs.Prelude.Documents.{Argument, AsksPattern, Ghosts, Halt, IsErrAnd, StepRef, WholeRef}
 use Rattle.jsonpath_rust.specs.Prelude.Selection.{Cache, Comes, document, IsHalt, IsReady, Returns, Stands, Task, Trail}
 use Rattle.std.specs.declared.fmt.Debug as debug
-use Rattle.jsonpath_rust.proofs.laws.selection.HaltingLaws.{halts_as}
+use Rattle.jsonpath_rust.proofs.laws.selection.HaltingLaws.{asked_none, halts_as}
 use Rattle.jsonpath_rust.proofs.laws.selection.Leading.{leads_as}
 
 -- with the same steps in other words
@@ -17,10 +17,6 @@ still s r = record { here = leads_as _ _ _ _ r.same s.here; ready = r.ready }
 -- nothing was done
 pub stays : {A : Type 0} {R : Ghosts A} {D : debug.Ghosts A} {task : Task A R D} {trail : Trail A R D} → IsReady task trail.cache → Returns task trail trail
 stays h = record { same = refl; ready = h }
-
--- at the root
-pub at_root : {A : Type 0} {R : Ghosts A} {D : debug.Ghosts A} {task : Task A R D} {steps : List StepRef} {cache : Cache A R D} → steps ≡ [] → IsReady task cache → Stands task task.root steps cache
-at_root e h = record { here = leads_as _ [] _ _ e refl; ready = h }
 
 -- one call, then another
 pub on : {A : Type 0} {R : Ghosts A} {D : debug.Ghosts A} {task : Task A R D} {old mid new : Trail A R D} → Returns task old mid → Returns task mid new → Returns task old new
@@ -54,3 +50,8 @@ comes_halt result e is r h f = comes_err result _ is r (λ y same memory spent. 
 -- that of a call of the walk
 pub comes_so : {A B C : Type 0} {R : Ghosts A} {D : debug.Ghosts A} {task : Task A R D} {old mid new : Trail A R D} {xs ys : List (Bool × Argument)} (result : Result C Halt) (e : Halt) → IsErrAnd result (λ y. y ≡ e) → Comes {B = B} task mid new xs (Err e) → (AsksPattern xs (document task) → AsksPattern ys (document task)) → Comes task old new ys result
 comes_so result e is k f = comes_halt result e is k.ready k.halts f
+
+-- what only pays
+pub comes_paid : {A C : Type 0} {R : Ghosts A} {D : debug.Ghosts A} {task : Task A R D} {old new : Trail A R D} {ys : List (Bool × Argument)} (result : Result C Halt) → Returns task old new → IfErr result (IsHalt task.limit [] (document task)) → Comes task old new ys result
+comes_paid (Ok v) r h = record { back = r; ready = tt; halts = tt }
+comes_paid (Err e) r h = record { back = tt; ready = r.ready; halts = λ memory spent. asked_none _ (h memory spent) }

@@ -1,7 +1,7 @@
 -- Names and indexes that are looked up lead where the walk would.
 use Rattle.std.proofs.Common.{◌≡◌, List, [], ◌∷◌, map, refl, sym, ◌∙◌, ap, Option, None, Some, is_some, option_map, option_to_list}
-use Rattle.jsonpath_rust.specs.Prelude.Documents.{all_applied, as_trees, as_truth, Document, has_node, Node, of_nodes, relative, root_node, SingularQuerySegment, step_view, tested, Tree, value_at}
-use Rattle.jsonpath_rust.specs.Prelude.Selection.{steps_query, Wanted, wanted_of}
+use Rattle.jsonpath_rust.specs.Prelude.Documents.{all_applied, argued, Argument, as_trees, as_truth, as_value, Document, has_node, Node, of_nodes, only_value, relative, root_node, SingularQuerySegment, step_view, tested, Tree, value_at}
+use Rattle.jsonpath_rust.specs.Prelude.Selection.{Constants, IsOne, Part, part_view, steps_query, Wanted, wanted_of}
 use Rattle.jsonpath_rust.proofs.laws.documents.{singular_trees}
 use Rattle.jsonpath_parser.proofs.laws.tree.Steps.{steps_singular}
 use Rattle.jsonpath_rust.specs.declared.selection.sink.Wanted.TheVariants as wanted
@@ -30,7 +30,7 @@ is_there f o ss d n e = some_node f o (all_applied (steps_query (map step_view s
 wanted_alone : (w : Wanted) (n : Node) (t : Tree) → n.tree ≡ t → wanted_of w (of_nodes (root_node t ∷ [])) ≡ wanted_of w (of_nodes (n ∷ []))
 wanted_alone wanted.Any n t e = refl
 wanted_alone wanted.Count n t e = refl
-wanted_alone wanted.Only n t e = ap Some (sym e)
+wanted_alone wanted.Sole n t e = ap Some (sym e)
 wanted_alone wanted.Values n t e = refl
 
 wanted_there : (w : Wanted) (o : Option Tree) (ns : List Node) → trees_of ns ≡ option_to_list o → wanted_of w (of_nodes (map root_node (option_to_list o))) ≡ wanted_of w (of_nodes ns)
@@ -45,5 +45,21 @@ wanted_there w (Some t) (n ∷ m ∷ ns) e = absurd cc
 pub wanted_found : (w : Wanted) (o : Option Tree) (ss : List SingularQuerySegment) (d : Document) (n : Node) → o ≡ value_at (map step_view ss) n.tree → wanted_of w (of_nodes (map root_node (option_to_list o))) ≡ wanted_of w (tested (relative (steps_query (map step_view ss))) d n)
 wanted_found w o ss d n e = wanted_there w o (all_applied (steps_query (map step_view ss)) d (n ∷ [])) (steps_there ss d n ∙ ap option_to_list (sym e))
 
-pub trees_found : (o : Option Tree) (ss : List SingularQuerySegment) (d : Document) (n : Node) → o ≡ value_at (map step_view ss) n.tree → option_to_list o ≡ as_trees (tested (relative (steps_query (map step_view ss))) d n)
-trees_found o ss d n e = ap option_to_list e ∙ sym (steps_there ss d n)
+-- ---- parts with one value at most
+
+-- what these steps lead to is the only value
+pub steps_alone : (ss : List SingularQuerySegment) (d : Document) (n : Node) → as_trees (tested (relative (steps_query (map step_view ss))) d n) ≡ option_to_list (as_value (tested (relative (steps_query (map step_view ss))) d n))
+steps_alone ss d n = alone (all_applied (steps_query (map step_view ss)) d (n ∷ [])) (value_at (map step_view ss) n.tree) (steps_there ss d n)
+  where
+    alone : (ns : List Node) (o : Option Tree) → trees_of ns ≡ option_to_list o → trees_of ns ≡ option_to_list (only_value ns)
+    alone [] o e = refl
+    alone (n ∷ []) o e = refl
+    alone (n ∷ m ∷ ns) None e = absurd cc
+    alone (n ∷ m ∷ ns) (Some t) e = absurd cc
+
+-- the same of a part in other words
+pub one_as : (kept : Constants) (p : Part) (a : Argument) → part_view kept p wanted.Values ≡ a → part_view kept p wanted.Sole ≡ a → ((d : Document) (n : Node) → as_trees (argued a d n) ≡ option_to_list (as_value (argued a d n))) → IsOne kept p
+one_as kept p a e f h = record {
+  same = e ∙ sym f;
+  alone = λ d n. ap (λ x. as_trees (argued x d n)) f ∙ h d n ∙ sym (ap (λ x. option_to_list (as_value (argued x d n))) f);
+}

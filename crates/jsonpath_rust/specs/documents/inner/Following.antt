@@ -9,7 +9,7 @@ use Rattle.jsonpath_base.specs.Steps.{owned_step, location_view}
 use Rattle.jsonpath_base.specs.Tree.{Tree, as_list}
 use Rattle.jsonpath_base.specs.Values.{value_tree}
 use Rattle.jsonpath_rust.specs.documents.Meaning.{element_of}
-use Rattle.jsonpath_rust.specs.declared.documents.reference.Child.{Child}
+use Rattle.jsonpath_rust.specs.declared.documents.reference.Reached.{Reached}
 use Rattle.jsonpath_rust.specs.declared.documents.reference.Referent.{Referent}
 
 -- the step to a child, and the child, where there is one
@@ -34,8 +34,8 @@ followed no_segments l t = Some (l, t)
 followed (segment g gs) l t = option_and_then (λ p. followed gs (l ++ p.0 ∷ []) p.1) (segment_child g t)
 
 -- what the code answers, seen so
-abbrev pub child_view : Child → Step × Tree
-child_view c = (owned_step c.step, value_tree c.value.now)
+abbrev pub reached_view : Reached → Step × Tree
+reached_view c = (owned_step c.step, value_tree c.value.now)
 
 abbrev pub referent_view : Referent → Location × Tree
 referent_view p = (location_view p.steps.items, value_tree p.value.now)

@@ -1,18 +1,17 @@
 -- What one call of the evaluator keeps, for the contracts of the walk alone: the definitions here are no part of what a query means.
-use Rattle.std.specs.Prelude.{◌≡◌, ℕ, List, [], map, length, get_or, Bool, Option, None, Some, option_map, All}
+use Rattle.std.specs.Prelude.{◌≡◌, ℕ, List, map, length, get_or, Bool, Option, None, Some, option_map, All}
 use Rattle.std.specs.declared.fmt.Debug as debug
 use Rattle.jsonpath_parser.specs.tree.Syntax.{Argument}
-use Rattle.jsonpath_base.specs.Tree.{Tree, truth}
+use Rattle.jsonpath_base.specs.Tree.{truth}
 use Rattle.jsonpath_rust.specs.documents.Document.{Document}
 use Rattle.jsonpath_rust.specs.documents.Functions.{of_nodes}
 use Rattle.jsonpath_rust.specs.documents.Meaning.{nodelist, holds, answer}
 use Rattle.jsonpath_rust.specs.documents.Node.{root_node}
 use Rattle.jsonpath_rust.specs.documents.Patterns.{AsksPattern, segments_patterns, filter_patterns, call_patterns}
-use Rattle.jsonpath_rust.specs.documents.inner.Singular.{value_at}
 use Rattle.jsonpath_rust.specs.documents.inner.Whole.{document_at}
 use Rattle.jsonpath_rust.specs.selection.inner.PlanViews.{Constants, ConstantPart, kept_view, part_at}
 use Rattle.jsonpath_rust.specs.selection.inner.PlanViews as plan
-use Rattle.jsonpath_rust.specs.selection.inner.Wanting.{Gave, value, values, refused, gave, given_of, wanted_of}
+use Rattle.jsonpath_rust.specs.selection.inner.Wanting.{Gave, value, values, refused, gave, given_of}
 use Rattle.jsonpath_rust.specs.declared.documents.queryable.Queryable.{Ghosts}
 use Rattle.jsonpath_rust.specs.declared.selection.cache.Cache.{Cache}
 use Rattle.jsonpath_rust.specs.declared.selection.cache.Given.{Given}
@@ -25,22 +24,15 @@ document task = document_at task.root
 abbrev pub kept_of : {A : Type 0} {R : Ghosts A} {D : debug.Ghosts A} → Task A R D → Constants
 kept_of task = kept_view task.plan.now.constants.items
 
--- the value of a part of the query without `@`, where it has one
-abbrev pub value_by : ConstantPart → Document → Option Tree
-value_by (plan.nodes w q) doc = wanted_of w (of_nodes (nodelist q doc))
-value_by (plan.value ss) doc = value_at ss doc.root
-value_by (plan.answered c) doc = answer c doc (root_node doc.root)
-value_by (plan.compared f) doc = Some (truth (holds f doc (root_node doc.root)))
-
 -- what a part of the query without `@` gives
 abbrev pub given_by : ConstantPart → Document → Gave
 given_by (plan.nodes w q) doc = given_of w (of_nodes (nodelist q doc))
-given_by p doc = value (value_by p doc)
+given_by (plan.answered c) doc = value (answer c doc (root_node doc.root))
+given_by (plan.compared f) doc = value (Some (truth (holds f doc (root_node doc.root))))
 
 -- the patterns that stand in a part of the query without `@`
 abbrev pub part_patterns : ConstantPart → List (Bool × Argument)
 part_patterns (plan.nodes w q) = segments_patterns q
-part_patterns (plan.value ss) = []
 part_patterns (plan.answered c) = call_patterns c
 part_patterns (plan.compared f) = filter_patterns f
 

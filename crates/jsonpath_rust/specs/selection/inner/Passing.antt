@@ -1,16 +1,28 @@
 -- Segments that go to each child, for the contracts of the walk alone: the definitions here are no part of what a query means.
-use Rattle.std.specs.Prelude.{◌≡◌, ◌≤◌, ◌+◌, ℕ}
+use Rattle.std.specs.Prelude.{◌≡◌, ◌≤◌, ◌+◌, ◌-◌, ◌*◌, ℕ}
 use Rattle.std.specs.List.{flat_map}
-use Rattle.jsonpath_parser.specs.tree.Syntax.{Segment}
-use Rattle.jsonpath_rust.specs.documents.inner.Effort.{segment_effort, filter_effort}
+use Rattle.jsonpath_parser.specs.tree.Syntax.{Segment, Argument, literal_argument, test_argument, filter_argument}
+use Rattle.jsonpath_rust.specs.documents.inner.Effort.{call_effort, filter_effort, segment_effort, segments_effort, test_effort}
 use Rattle.jsonpath_rust.specs.documents.Document.{Document}
 use Rattle.jsonpath_rust.specs.documents.Meaning.{replaced}
 use Rattle.jsonpath_rust.specs.documents.Node.{Node, children}
 use Rattle.jsonpath_rust.specs.documents.Patterns.{segment_patterns}
-use Rattle.jsonpath_rust.specs.selection.inner.PlanViews.{Constants, filter_view, segment_view}
+use Rattle.jsonpath_rust.specs.selection.inner.PlanViews.{answered, compared, ConstantPart, Constants, filter_view, nodes, segment_view}
 use Rattle.jsonpath_rust.specs.selection.inner.Walking.{acted, action_patterns}
 use Rattle.jsonpath_rust.specs.declared.selection.action.Action.{Action}
 use Rattle.jsonpath_rust.specs.declared.selection.action.Action.TheVariants.{All, If, Below}
+
+-- how much work it is to work out what is kept of a part
+abbrev pub kept_effort : ℕ → Argument → ℕ
+kept_effort r (literal_argument l) = 0
+kept_effort r (test_argument t) = test_effort r t
+kept_effort r (filter_argument f) = filter_effort r f
+
+-- the same, where the walk stands at the root already
+abbrev pub constant_effort : ℕ → ConstantPart → ℕ
+constant_effort r (nodes w q) = segments_effort r q + 5 * r + 12
+constant_effort r (answered c) = call_effort r c + 5 * r + 8
+constant_effort r (compared f) = filter_effort r f - 1
 
 -- how much work an action is
 abbrev pub action_effort : ℕ → Constants → Action → ℕ

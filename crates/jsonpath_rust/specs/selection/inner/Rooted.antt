@@ -63,13 +63,6 @@ abbrev filter_call : Filter → Call
 filter_call (test t (call c)) = c
 filter_call _ = length_call (literal_argument syntax.null)
 
-abbrev query_segment : Query → syntax.Segment
-query_segment (syntax.segment g gs) = g
-query_segment _ = syntax.one syntax.wildcard
-
-pub Segment-set : IsSet syntax.Segment
-Segment-set = set_by (λ g. syntax.segment g syntax.no_segments) query_segment (λ g. refl) Query-set
-
 pub Call-set : IsSet Call
 Call-set = set_by (λ c. filter_query (test true (call c))) (λ q. filter_call (query_filter q)) (λ c. refl) Query-set
 

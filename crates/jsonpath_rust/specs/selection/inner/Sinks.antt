@@ -18,8 +18,8 @@ use Rattle.jsonpath_rust.specs.declared.selection.sink.Sink.{Sink}
 use Rattle.jsonpath_rust.specs.declared.selection.sink.Sink.TheVariants as sink
 use Rattle.jsonpath_rust.specs.declared.selection.sink.Wanted.{Wanted}
 use Rattle.jsonpath_rust.specs.declared.selection.sink.Wanted.TheVariants as wanted
-use Rattle.jsonpath_rust.specs.declared.documents.nodes.WholeOnly.{WholeOnly}
-use Rattle.jsonpath_rust.specs.declared.documents.nodes.WholeOnly.TheVariants.{Nothing, One, Several}
+use Rattle.jsonpath_rust.specs.declared.documents.nodes.WholeSole.{WholeSole}
+use Rattle.jsonpath_rust.specs.declared.documents.nodes.WholeSole.TheVariants.{Nothing, One, Several}
 use Rattle.jsonpath_rust.specs.declared.documents.queryable.Queryable.{Ghosts}
 
 -- a node as it is answered: its Normalized Path and its tree
@@ -39,10 +39,10 @@ pub data Seen : Type 0 where
   several : Seen
   few : ℕ → List (List ℕ × Tree) → Seen
 
-abbrev pub seen_only : {A : Type 0} {R : Ghosts A} {D : debug.Ghosts A} → WholeOnly A R D → Seen
-seen_only Nothing = nothing
-seen_only (One v) = one (tree_of v)
-seen_only Several = several
+abbrev pub seen_sole : {A : Type 0} {R : Ghosts A} {D : debug.Ghosts A} → WholeSole A R D → Seen
+seen_sole Nothing = nothing
+seen_sole (One v) = one (tree_of v)
+seen_sole Several = several
 
 abbrev pub seen_few : {A : Type 0} {R : Ghosts A} {D : debug.Ghosts A} → FirstNodes A R D → Seen
 seen_few {R = R} f = few f.room (shown R.tree f.nodes.list.items)
@@ -54,14 +54,14 @@ seen {R = R} (sink.Values vs) = values (map (λ v. R.tree v.now) vs.list.items)
 seen (sink.Locations ls) = locations (map (λ l. location_view l.items) ls.items)
 seen (sink.Removal r) = removal (removal_set r.value) (removal_count r.value)
 seen (sink.Count room most) = counted room most
-seen (sink.Only o) = seen_only o
+seen (sink.Sole o) = seen_sole o
 seen (sink.Few f) = seen_few f
 
 -- before any node
 abbrev pub start : Wanted → Seen
 start wanted.Any = counted 1 1
 start wanted.Count = counted greatest_count greatest_count
-start wanted.Only = nothing
+start wanted.Sole = nothing
 start wanted.Values = values []
 
 abbrev pub add : Seen → Node → Seen

@@ -1,86 +1,75 @@
-//! The constant of a number.
-ghost use Rattle.std.specs.Prelude.{◌<◌, ◌≡◌, [], IfNone, IfSome, IsTrue, length, map};
-ghost use Rattle.jsonpath_rust.specs.Prelude.Documents.{operator_view, step_view};
-ghost use Rattle.jsonpath_rust.specs.Prelude.Selection.{answered, call_at, call_view, compared, comparison_at, constant_view, is_same_wanted, kept_view, nodes, part_at, query_at, segments_meant, side_view, steps_at, value};
-ghost use Rattle.jsonpath_parser.specs.tree.Syntax as tree;
+//! The constant of a number, and which parts are queries.
+ghost use Rattle.std.specs.Prelude.{◌<◌, ◌≡◌, IfNone, IfSome, IsFalse, IsTrue, length};
+ghost use Rattle.jsonpath_rust.specs.Prelude.Documents.{absolute, no_segments, test_argument};
+ghost use Rattle.jsonpath_rust.specs.Prelude.Selection.{argument_at, constant_view, Constants, fits, is_query_part, is_same_wanted, IsQuery, IsValue, kept_view, part_at};
 
-use super::{Call, Comparison, Constant, Plan, Segment};
+use super::{Constant, Part, Plan};
 use crate::selection::sink::Wanted;
-use jsonpath_parser::model::SingularQuerySegment;
 
 impl Plan {
-    /// The constant of this number.
+    /// The constant of this number, if it is no query, or one of which this is wanted.
     #[inline(always)]
-    fn constant(&self, number: usize) -> Option<&Constant>
+    pub fn constant(&self, number: usize, wanted: Wanted) -> Option<&Constant>
         ensures part { IfSome result (λ c. part_at (kept_view self.now.constants.items) number
             ≡ constant_view (kept_view self.now.constants.items) c.now) }
+        ensures fits { IfSome result (λ c. IsTrue (fits wanted (part_at (kept_view self.now.constants.items) number))) }
         ensures within { IfSome result (λ c. number < length (kept_view self.now.constants.items)) }
-        ensures none { IfNone result (part_at (kept_view self.now.constants.items) number ≡ value []) }
+        ensures none { IfNone result (argument_at (kept_view self.now.constants.items) wanted number
+            ≡ test_argument (absolute no_segments)) }
     {
-        self.constants.get(number)
+        let constant = self.constants.get(number)?;
+        if constant.fits(wanted) {
+            Some(constant)
+        } else {
+            None
+        }
     }
 
-    /// The segments of the query from the root that has this number, where this is wanted of its
-    /// nodes.
-    #[inline(always)]
-    pub fn constant_segments(&self, number: usize, wanted: Wanted) -> Option<&[Segment]>
-        ensures part { IfSome result (λ gs. part_at (kept_view self.now.constants.items) number
-            ≡ nodes wanted (segments_meant (kept_view self.now.constants.items) gs.now)) }
-        ensures within { IfSome result (λ gs. number < length (kept_view self.now.constants.items)) }
-        ensures none { IfNone result (query_at (kept_view self.now.constants.items) wanted number ≡ tree.no_segments) }
+    /// Whether a part is a query, where this is wanted of it; any other is a value.
+    pub fn is_query(&self, part: &Part, wanted: Wanted) -> bool
+        ensures query { IsTrue result → IsQuery (kept_view self.now.constants.items) part.now wanted }
+        ensures value { IsFalse result → IsValue (kept_view self.now.constants.items) part.now wanted }
     {
-        match self.constant(number)? {
+        match part {
+            Part::Literal(_literal) => false,
+            Part::Pattern(_text, _number) => false,
+            Part::Lookup(_steps) => true,
+            Part::Children(_steps) => wanted.is_counted(),
+            Part::Walk(_segments) => true,
+            Part::Call(_call) => false,
+            Part::Filter(_filter) => false,
+            Part::Constant(number) => match self.constants.get(*number) {
+                Some(constant) => constant.is_query(),
+                None => true,
+            },
+        }
+    }
+}
+
+impl Constant {
+    /// Whether it is no query, or one of which this is wanted.
+    #[inline(always)]
+    fn fits(&self, wanted: Wanted) -> bool
+        ensures { (kept : Constants) → result ≡ fits wanted (constant_view kept self.now) }
+    {
+        match self {
             Constant::Nodes {
-                segments,
                 wanted: made_for,
                 ..
-            } if is_same_wanted(wanted, *made_for) => Some(segments),
-            _ => None,
+            } => is_same_wanted(wanted, *made_for),
+            Constant::Answer(_call) => true,
+            Constant::Comparison(_operator, _left, _right) => true,
         }
     }
 
-    /// The steps from the root that have this number.
-    #[inline(always)]
-    pub fn constant_steps(&self, number: usize) -> Option<&[SingularQuerySegment]>
-        ensures part { IfSome result (λ ss. part_at (kept_view self.now.constants.items) number ≡ value (map step_view ss.now)) }
-        ensures within { IfSome result (λ ss. number < length (kept_view self.now.constants.items)) }
-        ensures none { IfNone result (steps_at (kept_view self.now.constants.items) number ≡ []) }
+    /// Whether it is a query.
+    fn is_query(&self) -> bool
+        ensures { (kept : Constants) → result ≡ is_query_part (constant_view kept self.now) }
     {
-        match self.constant(number)? {
-            Constant::Value(steps) => Some(steps),
-            _ => None,
-        }
-    }
-
-    /// The call that has this number.
-    #[inline(always)]
-    pub fn constant_call(&self, number: usize) -> Option<&Call>
-        ensures part { IfSome result (λ c. part_at (kept_view self.now.constants.items) number
-            ≡ answered (call_view (kept_view self.now.constants.items) c.now)) }
-        ensures within { IfSome result (λ c. number < length (kept_view self.now.constants.items)) }
-        ensures none { IfNone result (call_at (kept_view self.now.constants.items) number
-            ≡ tree.length_call (tree.literal_argument tree.null)) }
-    {
-        match self.constant(number)? {
-            Constant::Answer(call) => Some(call),
-            _ => None,
-        }
-    }
-
-    /// The comparison that has this number.
-    #[inline(always)]
-    pub fn constant_comparison(&self, number: usize) -> Option<Comparison<'_>>
-        ensures part { IfSome result (λ p. part_at (kept_view self.now.constants.items) number
-            ≡ compared (tree.compare (operator_view p.0)
-            (side_view (kept_view self.now.constants.items) p.1.now) (side_view
-            (kept_view self.now.constants.items) p.2.now))) }
-        ensures within { IfSome result (λ p. number < length (kept_view self.now.constants.items)) }
-        ensures none { IfNone result (comparison_at (kept_view self.now.constants.items) number
-            ≡ tree.compare tree.less (tree.literal_argument tree.null) (tree.literal_argument tree.null)) }
-    {
-        match self.constant(number)? {
-            Constant::Comparison(operator, left, right) => Some((*operator, left, right)),
-            _ => None,
+        match self {
+            Constant::Nodes { .. } => true,
+            Constant::Answer(_call) => false,
+            Constant::Comparison(_operator, _left, _right) => false,
         }
     }
 }
@@ -88,13 +77,12 @@ impl Plan {
 /// Whether the same is wanted.
 #[inline(always)]
 fn is_same_wanted(left: Wanted, right: Wanted) -> bool
-    ensures same { IsTrue result → left ≡ right }
-    ensures is { result ≡ is_same_wanted left right }
+    ensures { result ≡ is_same_wanted left right }
 {
     match (left, right) {
         (Wanted::Any, Wanted::Any) => true,
         (Wanted::Count, Wanted::Count) => true,
-        (Wanted::Only, Wanted::Only) => true,
+        (Wanted::Sole, Wanted::Sole) => true,
         (Wanted::Values, Wanted::Values) => true,
         _ => false,
     }

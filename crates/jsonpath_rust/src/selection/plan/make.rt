@@ -1,15 +1,15 @@
 //! How a plan is made: by one pass over the query.
 ghost use Rattle.std.specs.Prelude.{◌≡◌, IfOk, map};
 ghost use Rattle.jsonpath_rust.specs.Prelude.Documents.{list_all, MemoryAlone};
-ghost use Rattle.jsonpath_rust.specs.Prelude.Selection.{argument_is_rooted, call_is_rooted, every, filter_is_rooted, Made, Only, plan_view, test_is_rooted, Values, Wanted};
+ghost use Rattle.jsonpath_rust.specs.Prelude.Selection.{argument_is_rooted, call_is_rooted, every, filter_is_rooted, Made, Sole, plan_view, Values, Wanted};
 ghost use Rattle.jsonpath_parser.specs.tree.Syntax as syntax;
 ghost use Rattle.jsonpath_parser.specs.tree.View as tree;
 ghost use Rattle.jsonpath_rust.specs.selection.inner.PlanViews as plan;
 
-use super::numbering::Met;
+use super::numbering::{Met, Nesting};
 use super::patterns::Numbers;
-use super::steps::{steps_again, steps_of, steps_to_children, steps_to_counted};
-use super::{Argument, Call, Called, Constant, Filter, Nodes, Plan, Segment, Selector, Side};
+use super::steps::{looked_up, segments_of_steps, steps_again};
+use super::{Call, Constant, Filter, Part, Plan, Segment, Selector};
 use crate::selection::sink::Wanted;
 use jsonpath_base::Extent;
 use jsonpath_parser::errors::Parsed;
@@ -160,24 +160,8 @@ impl<'q> Maker<'q> {
             (syntax.Filter.test not (tree.test_view test.now))) }
         ensures memory { MemoryAlone result }
     {
-        match test {
-            tree::Test::RelQuery(segments) => {
-                if let Some(steps) = steps_to_children(self.alloc, segments)? {
-                    self.meet_current();
-                    return Ok(Filter::HasChild { steps, not });
-                }
-                let nodes = self.relative(segments)?;
-                Ok(Filter::Exists { nodes, not })
-            }
-            tree::Test::AbsQuery(query) => {
-                let nodes = Nodes::Constant(self.absolute(query, Wanted::Any)?);
-                Ok(Filter::Exists { nodes, not })
-            }
-            tree::Test::Function(function) => {
-                let call = self.called(function)?;
-                Ok(Filter::Call { call, not })
-            }
-        }
+        let part = self.test_part(test, Wanted::Any)?;
+        Ok(Filter::Test { part, not })
     }
 
     #[cycle(make)]
@@ -200,81 +184,87 @@ impl<'q> Maker<'q> {
     }
 
     #[cycle(make)]
-    fn side(&mut self, side: &'q tree::Comparable) -> Parsed<Side>
-        ensures made { IfOk result (λ s. Made argument_is_rooted self.old self.new (λ kept. plan.side_view kept s)
+    fn side(&mut self, side: &'q tree::Comparable) -> Parsed<Part>
+        ensures made { IfOk result (λ p. Made argument_is_rooted self.old self.new (λ kept. plan.part_view kept p Sole)
             (tree.comparable_view side.now)) }
         ensures memory { MemoryAlone result }
     {
         match side {
-            tree::Comparable::Literal(literal) => Ok(Side::Literal(literal.try_clone(self.alloc)?)),
+            tree::Comparable::Literal(literal) => Ok(Part::Literal(literal.try_clone(self.alloc)?)),
             tree::Comparable::SingularQuery(query) => self.singular(query),
-            tree::Comparable::Function(function) => Ok(Side::Call(self.called(function)?)),
+            tree::Comparable::Function(function) => self.called(function),
         }
     }
 
     /// A query of at most one node, as a side.
-    fn singular(&mut self, query: &'q SingularQuery) -> Parsed<Side>
-        ensures made { IfOk result (λ s. Made argument_is_rooted self.old self.new (λ kept. plan.side_view kept s)
+    fn singular(&mut self, query: &'q SingularQuery) -> Parsed<Part>
+        ensures made { IfOk result (λ p. Made argument_is_rooted self.old self.new (λ kept. plan.part_view kept p Sole)
             (syntax.test_argument (tree.singular_view query.now))) }
         ensures memory { MemoryAlone result }
     {
         match query {
             SingularQuery::Current(steps) => {
                 self.meet_current();
-                Ok(Side::Lookup(steps_again(self.alloc, steps)?))
+                Ok(Part::Lookup(steps_again(self.alloc, steps)?))
             }
             SingularQuery::Root(steps) => {
-                let steps = steps_again(self.alloc, steps)?;
-                Ok(Side::Constant(self.number(Constant::Value(steps))?))
+                let segments = segments_of_steps(self.alloc, steps)?;
+                let number = self.number(Constant::Nodes {
+                    segments,
+                    wanted: Wanted::Sole,
+                    nesting: Nesting::OF_STEPS,
+                })?;
+                Ok(Part::Constant(number))
             }
         }
     }
 
     /// A query from the current node.
     #[cycle(make)]
-    fn relative(&mut self, segments: &'q [tree::Segment]) -> Parsed<Nodes>
-        ensures made { (wanted : Wanted) → IfOk result (λ n. Made test_is_rooted self.old self.new (λ kept. plan.nodes_view kept n wanted)
-            (syntax.relative (tree.segments_of (map tree.segment_view segments.now)))) }
+    fn relative(&mut self, segments: &'q [tree::Segment], wanted: Wanted) -> Parsed<Part>
+        ensures made { IfOk result (λ p. Made argument_is_rooted self.old self.new (λ kept. plan.part_view kept p wanted)
+            (syntax.test_argument (syntax.relative (tree.segments_of (map tree.segment_view segments.now))))) }
         ensures memory { MemoryAlone result }
     {
         self.meet_current();
-        match steps_of(self.alloc, segments)? {
-            Some(steps) => Ok(Nodes::Lookup(steps)),
-            None => Ok(Nodes::Walk(self.segments(segments)?)),
+        if let Some(part) = looked_up(self.alloc, segments, wanted)? {
+            return Ok(part);
         }
+        Ok(Part::Walk(self.segments(segments)?))
     }
 
-    /// The number of a query from the root.
+    /// A query from the root.
     #[cycle(make)]
-    fn absolute(&mut self, query: &'q JpQuery, wanted: Wanted) -> Parsed<usize>
-        ensures made { IfOk result (λ n. Made every self.old self.new (λ kept. plan.query_at kept wanted n)
-            (tree.query_view query.now)) }
+    fn absolute(&mut self, query: &'q JpQuery, wanted: Wanted) -> Parsed<Part>
+        ensures made { IfOk result (λ p. Made argument_is_rooted self.old self.new (λ kept. plan.part_view kept p wanted)
+            (syntax.test_argument (syntax.absolute (tree.query_view query.now)))) }
         ensures memory { MemoryAlone result }
     {
         let around = self.begin();
         let segments = self.segments(&query.segments)?;
         let nesting = self.end_query(around);
-        self.number(Constant::Nodes {
+        let number = self.number(Constant::Nodes {
             segments,
             wanted,
             nesting,
-        })
+        })?;
+        Ok(Part::Constant(number))
     }
 
-    /// A call: the number of the constant, where it has no `@`.
+    /// A call: the constant of it, where it has no `@`.
     #[cycle(make)]
-    fn called(&mut self, call: &'q tree::TestFunction) -> Parsed<Called>
-        ensures made { IfOk result (λ c. Made call_is_rooted self.old self.new
-            (λ kept. plan.called_view kept c) (tree.call_view call.now)) }
+    fn called(&mut self, call: &'q tree::TestFunction) -> Parsed<Part>
+        ensures made { (wanted : Wanted) → IfOk result (λ p. Made argument_is_rooted self.old self.new
+            (λ kept. plan.part_view kept p wanted) (syntax.test_argument (syntax.call (tree.call_view call.now)))) }
         ensures memory { MemoryAlone result }
     {
         let around = self.begin();
         let made = self.call(call)?;
         if self.end(around) {
             let number = self.number(Constant::Answer(made))?;
-            return Ok(Called::Constant(number));
+            return Ok(Part::Constant(number));
         }
-        Ok(Called::Here(Box::new(self.alloc, made)?))
+        Ok(Part::Call(Box::new(self.alloc, made)?))
     }
 
     #[cycle(make)]
@@ -287,41 +277,27 @@ impl<'q> Maker<'q> {
                 let name = String::from_str(self.alloc, name)?;
                 Ok(Call::Custom(name, self.arguments(args)?))
             }
-            tree::TestFunction::Length(arg) => Ok(Call::Length(self.argument(arg, Wanted::Only)?)),
-            tree::TestFunction::Value(arg) => Ok(Call::Value(self.argument(arg, Wanted::Only)?)),
-            tree::TestFunction::Count(arg) => self.count(arg),
+            tree::TestFunction::Length(arg) => Ok(Call::Length(self.argument(arg, Wanted::Sole)?)),
+            tree::TestFunction::Value(arg) => Ok(Call::Value(self.argument(arg, Wanted::Sole)?)),
+            tree::TestFunction::Count(arg) => Ok(Call::Count(self.argument(arg, Wanted::Count)?)),
             tree::TestFunction::Search(text, pattern) => {
-                let text = self.argument(text, Wanted::Only)?;
+                let text = self.argument(text, Wanted::Sole)?;
                 let pattern = self.pattern(pattern, Extent::Substring)?;
                 Ok(Call::Search(text, pattern))
             }
             tree::TestFunction::Match(text, pattern) => {
-                let text = self.argument(text, Wanted::Only)?;
+                let text = self.argument(text, Wanted::Sole)?;
                 let pattern = self.pattern(pattern, Extent::Entire)?;
                 Ok(Call::Match(text, pattern))
             }
         }
     }
 
-    /// A call of `count`.
-    #[cycle(make)]
-    fn count(&mut self, argument: &'q tree::FnArg) -> Parsed<Call>
-        ensures made { IfOk result (λ c. Made call_is_rooted self.old self.new (λ kept. plan.call_view kept c)
-            (syntax.count_call (tree.argument_view argument.now))) }
-        ensures memory { MemoryAlone result }
-    {
-        if let Some(steps) = steps_to_counted(self.alloc, argument)? {
-            self.meet_current();
-            return Ok(Call::CountChildren(steps));
-        }
-        Ok(Call::Count(self.argument(argument, Wanted::Count)?))
-    }
-
     /// The arguments of a custom function.
     #[cycle(make)]
-    fn arguments(&mut self, arguments: &'q [tree::FnArg]) -> Parsed<Vec<Argument>>
+    fn arguments(&mut self, arguments: &'q [tree::FnArg]) -> Parsed<Vec<Part>>
         ensures made { IfOk result (λ v. Made (list_all argument_is_rooted) self.old self.new
-            (λ kept. map (λ a. plan.argument_view kept a Values) v.items)
+            (λ kept. map (λ a. plan.part_view kept a Values) v.items)
             (map tree.argument_view arguments.now)) }
         ensures memory { MemoryAlone result }
     {
@@ -334,44 +310,44 @@ impl<'q> Maker<'q> {
 
     /// The second argument of `match` or `search`.
     #[cycle(make)]
-    fn pattern(&mut self, argument: &'q tree::FnArg, extent: Extent) -> Parsed<Argument>
-        ensures made { IfOk result (λ a. Made argument_is_rooted self.old self.new (λ kept. plan.argument_view kept a Only)
+    fn pattern(&mut self, argument: &'q tree::FnArg, extent: Extent) -> Parsed<Part>
+        ensures made { IfOk result (λ p. Made argument_is_rooted self.old self.new (λ kept. plan.part_view kept p Sole)
             (tree.argument_view argument.now)) }
         ensures memory { MemoryAlone result }
     {
         match argument {
             tree::FnArg::Literal(literal) => self.literal_pattern(literal, extent),
-            _ => self.argument(argument, Wanted::Only),
+            _ => self.argument(argument, Wanted::Sole),
         }
     }
 
     #[cycle(make)]
-    fn argument(&mut self, argument: &'q tree::FnArg, wanted: Wanted) -> Parsed<Argument>
-        ensures made { IfOk result (λ a. Made argument_is_rooted self.old self.new (λ kept. plan.argument_view kept a wanted)
+    fn argument(&mut self, argument: &'q tree::FnArg, wanted: Wanted) -> Parsed<Part>
+        ensures made { IfOk result (λ p. Made argument_is_rooted self.old self.new (λ kept. plan.part_view kept p wanted)
             (tree.argument_view argument.now)) }
         ensures memory { MemoryAlone result }
     {
         match argument {
-            tree::FnArg::Literal(literal) => Ok(Argument::Literal(literal.try_clone(self.alloc)?)),
-            tree::FnArg::Filter(filter) => Ok(Argument::Filter(self.filter(filter)?)),
-            tree::FnArg::Test(test) => self.test_argument(test, wanted),
+            tree::FnArg::Literal(literal) => Ok(Part::Literal(literal.try_clone(self.alloc)?)),
+            tree::FnArg::Filter(filter) => {
+                let inner = self.filter(filter)?;
+                Ok(Part::Filter(Box::new(self.alloc, inner)?))
+            }
+            tree::FnArg::Test(test) => self.test_part(test, wanted),
         }
     }
 
-    /// A query or a call, as an argument.
+    /// A query or a call.
     #[cycle(make)]
-    fn test_argument(&mut self, test: &'q tree::Test, wanted: Wanted) -> Parsed<Argument>
-        ensures made { IfOk result (λ a. Made argument_is_rooted self.old self.new (λ kept. plan.argument_view kept a wanted)
+    fn test_part(&mut self, test: &'q tree::Test, wanted: Wanted) -> Parsed<Part>
+        ensures made { IfOk result (λ p. Made argument_is_rooted self.old self.new (λ kept. plan.part_view kept p wanted)
             (syntax.test_argument (tree.test_view test.now))) }
         ensures memory { MemoryAlone result }
     {
         match test {
-            tree::Test::RelQuery(segments) => Ok(Argument::Nodes(self.relative(segments)?)),
-            tree::Test::AbsQuery(query) => {
-                let number = self.absolute(query, wanted)?;
-                Ok(Argument::Nodes(Nodes::Constant(number)))
-            }
-            tree::Test::Function(function) => Ok(Argument::Call(self.called(function)?)),
+            tree::Test::RelQuery(segments) => self.relative(segments, wanted),
+            tree::Test::AbsQuery(query) => self.absolute(query, wanted),
+            tree::Test::Function(function) => self.called(function),
         }
     }
 }

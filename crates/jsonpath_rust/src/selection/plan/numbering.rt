@@ -5,7 +5,7 @@ ghost use Rattle.jsonpath_rust.specs.Prelude.Selection.{IsBeside, IsCompared, Is
 ghost use Rattle.jsonpath_rust.specs.declared.selection.plan.Constant.TheVariants.{Comparison};
 
 use super::make::Maker;
-use super::{Constant, Filter, Side};
+use super::{Constant, Filter, Part};
 use jsonpath_parser::errors::Parsed;
 use jsonpath_parser::model::Operator;
 use std::mem;
@@ -27,6 +27,9 @@ pub const MOST_AT_ONCE: usize = 3;
 impl Nesting {
     /// Of no query.
     pub const NONE: Nesting = Nesting { run: 0, whole: 0 };
+
+    /// Of names and indexes alone: such a query is never early.
+    pub const OF_STEPS: Nesting = Nesting { run: 1, whole: 0 };
 
     /// The greater of each of the two numbers.
     fn max(self, other: Nesting) -> Nesting {
@@ -124,7 +127,7 @@ impl<'q> Maker<'q> {
     pub fn compare(
         &mut self,
         operator: Operator,
-        sides: (Side, Side),
+        sides: (Part, Part),
         around: Met,
     ) -> Parsed<Filter>
         ensures made { IfOk result (IsCompared around self.old self.new (Comparison operator sides.0 sides.1)) }

@@ -2,12 +2,12 @@
 //! whether a finder is one of the pattern is looked at where it is asked.
 ghost use Rattle.std.specs.Prelude.{IfOk, OnOk};
 ghost use Rattle.jsonpath_rust.specs.Prelude.Documents.{MemoryAlone};
-ghost use Rattle.jsonpath_rust.specs.Prelude.Selection.{argument_is_rooted, IsBeside, Made, Only};
+ghost use Rattle.jsonpath_rust.specs.Prelude.Selection.{argument_is_rooted, IsBeside, Made, Sole};
 ghost use Rattle.jsonpath_parser.specs.tree.Syntax as syntax;
 ghost use Rattle.jsonpath_parser.specs.tree.View as tree;
 ghost use Rattle.jsonpath_rust.specs.selection.inner.PlanViews as plan;
 
-use super::Argument;
+use super::Part;
 use super::make::Maker;
 use jsonpath_base::Extent;
 use jsonpath_base::engine::{Asked, MOST_WEIGHT};
@@ -58,21 +58,17 @@ impl<'q> Numbers<'q> {
 
 impl<'q> Maker<'q> {
     /// A literal that is asked as a pattern.
-    pub fn literal_pattern(
-        &mut self,
-        literal: &'q tree::Literal,
-        extent: Extent,
-    ) -> Parsed<Argument>
-        ensures made { IfOk result (λ a. Made argument_is_rooted self.old self.new (λ kept. plan.argument_view kept a Only)
+    pub fn literal_pattern(&mut self, literal: &'q tree::Literal, extent: Extent) -> Parsed<Part>
+        ensures made { IfOk result (λ p. Made argument_is_rooted self.old self.new (λ kept. plan.part_view kept p Sole)
             (syntax.literal_argument (tree.literal_view literal.now))) }
         ensures memory { MemoryAlone result }
     {
         match literal {
             tree::Literal::String(text) => match self.pattern_number(text, extent)? {
-                Some(number) => Ok(Argument::Pattern(String::from_str(self.alloc, text)?, number)),
-                None => Ok(Argument::Literal(literal.try_clone(self.alloc)?)),
+                Some(number) => Ok(Part::Pattern(String::from_str(self.alloc, text)?, number)),
+                None => Ok(Part::Literal(literal.try_clone(self.alloc)?)),
             },
-            _ => Ok(Argument::Literal(literal.try_clone(self.alloc)?)),
+            _ => Ok(Part::Literal(literal.try_clone(self.alloc)?)),
         }
     }
 

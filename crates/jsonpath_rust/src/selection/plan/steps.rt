@@ -1,18 +1,38 @@
-//! Segments of one name or one index each, and steps.
+//! Queries from the current node that are looked up: segments of one name or one index each, and
+//! steps.
 ghost use Rattle.std.specs.Prelude.{◌≡◌, IfOk, IfSome, IsTrue, map};
-ghost use Rattle.jsonpath_rust.specs.Prelude.Documents.{argument_view, MemoryAlone, one, relative, segment_view, segments_of, step_view, test_argument, wildcard};
+ghost use Rattle.jsonpath_rust.specs.Prelude.Documents.{MemoryAlone, one, relative, segment_view, segments_of, step_view, test_argument, wildcard};
+ghost use Rattle.jsonpath_rust.specs.Prelude.Selection.{Constants};
 ghost use Rattle.jsonpath_rust.specs.selection.inner.PlanViews as plan;
 
+use super::{Part, Segment, Selector};
+use crate::selection::sink::Wanted;
 use jsonpath_parser::errors::Parsed;
 use jsonpath_parser::model as tree;
 use jsonpath_parser::model::SingularQuerySegment;
 use std::alloc::Global;
 
+/// The part that these segments from the current node are where they need no walk: names and
+/// indexes, or these and then `[*]` where its children are counted.
+pub fn looked_up(alloc: Global, segments: &[tree::Segment], wanted: Wanted) -> Parsed<Option<Part>>
+    ensures same { (kept : Constants) → IfOk result (λ o. IfSome o (λ p. plan.part_view kept p wanted
+        ≡ test_argument (relative (segments_of (map segment_view segments.now))))) }
+    ensures memory { MemoryAlone result }
+{
+    if let Some(steps) = steps_of(alloc, segments)? {
+        return Ok(Some(Part::Lookup(steps)));
+    }
+    if !wanted.is_counted() {
+        return Ok(None);
+    }
+    match steps_to_children(alloc, segments)? {
+        Some(steps) => Ok(Some(Part::Children(steps))),
+        None => Ok(None),
+    }
+}
+
 /// The steps of these segments, where each is one name or one index.
-pub fn steps_of(
-    alloc: Global,
-    segments: &[tree::Segment],
-) -> Parsed<Option<Vec<SingularQuerySegment>>>
+fn steps_of(alloc: Global, segments: &[tree::Segment]) -> Parsed<Option<Vec<SingularQuerySegment>>>
     ensures same { IfOk result (λ o. IfSome o (λ v. map step_view v.items ≡ map segment_view segments.now)) }
     ensures memory { MemoryAlone result }
 {
@@ -30,7 +50,7 @@ pub fn steps_of(
 }
 
 /// The steps before `[*]`, where these segments are names and indexes and then `[*]`.
-pub fn steps_to_children(
+fn steps_to_children(
     alloc: Global,
     segments: &[tree::Segment],
 ) -> Parsed<Option<Vec<SingularQuerySegment>>>
@@ -54,24 +74,6 @@ fn is_wildcard(segment: &tree::Segment) -> bool
     match segment {
         tree::Segment::Selector(tree::Selector::Wildcard) => true,
         _ => false,
-    }
-}
-
-/// As [`steps_to_children`], of an argument that is a query from the current node.
-pub fn steps_to_counted(
-    alloc: Global,
-    argument: &tree::FnArg,
-) -> Parsed<Option<Vec<SingularQuerySegment>>>
-    ensures same { IfOk result (λ o. IfSome o (λ v. test_argument
-        (relative (plan.children_query (map step_view v.items))) ≡ argument_view argument.now)) }
-    ensures memory { MemoryAlone result }
-{
-    match argument {
-        tree::FnArg::Test(test) => match &**test {
-            tree::Test::RelQuery(segments) => steps_to_children(alloc, segments),
-            _ => Ok(None),
-        },
-        _ => Ok(None),
     }
 }
 
@@ -117,4 +119,31 @@ pub fn steps_again(
         copies.push(step.try_clone(alloc)?)?;
     }
     Ok(copies)
+}
+
+/// The segments of these steps.
+pub fn segments_of_steps(alloc: Global, steps: &[SingularQuerySegment]) -> Parsed<Vec<Segment>>
+    ensures same { (kept : Constants) → IfOk result (λ v. map (plan.segment_view kept) v.items ≡ map step_view steps.now) }
+    ensures memory { MemoryAlone result }
+{
+    let mut segments = Vec::with_capacity(alloc, steps.len())?;
+    'steps: for step in steps {
+        segments.push(segment_of(alloc, step)?)?;
+    }
+    Ok(segments)
+}
+
+/// The segment of a step.
+#[tactic(auto, using(crate::proofs::laws::selection::PlanEquations::plan_equations))]
+fn segment_of(alloc: Global, step: &SingularQuerySegment) -> Parsed<Segment>
+    ensures same { (kept : Constants) → IfOk result (λ g. plan.segment_view kept g ≡ step_view step.now) }
+    ensures memory { MemoryAlone result }
+{
+    match step {
+        SingularQuerySegment::Name(name) => {
+            let name = String::from_str(alloc, name)?;
+            Ok(Segment::Selector(Selector::Name(name)))
+        }
+        SingularQuerySegment::Index(index) => Ok(Segment::Selector(Selector::Index(*index))),
+    }
 }

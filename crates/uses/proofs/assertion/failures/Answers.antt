@@ -1,4 +1,4 @@
-use Rattle.std.proofs.Common.{Any, refl, sym, subst, arith}
+use Rattle.std.proofs.Common.{Any, refl, sym, arith}
 use Rattle.std.proofs.lemmas.Result.{err_from_is_err_and}
 use Rattle.jsonpath_rust.specs.JsonPathError.TheVariants.{OutOfMemory}
 use Rattle.jsonpath_rust.specs.Document.{document_of}
@@ -11,7 +11,7 @@ returns-in_err-holds-clause-refused g c =
     let doc = document_of g.T.Queryable.tree g.T.Queryable.custom in
     let e = c.in_err-holds.field-0.0 in
     let a = c.assertion-item.result in
-    let stop = subst (λ x. IsUndecided (doc x) e a.condition) c.get.ensures.same c.in_err-holds.ensures.refused in
+    let stop = c.in_err-holds.ensures.refused in
     let any : Any (λ (b : Assertion). IsUndecided (doc c.args.document.value.now) e b.condition) c.args.assertions.now = (c.loop-assertion.assertion-index, a, omega arith, sym c.assertion-item.is, stop) in
     let p = err_from_is_err_and c.from_residual.result c.from_residual.ensures.1 in
     rw (p.1, p.2) any

@@ -1,8 +1,8 @@
-use Rattle.std.proofs.Common.{◌≡◌, true, false, ◌∙◌, sym, subst, arith, inl, inr, option_map, string_bytes}
+use Rattle.std.proofs.Common.{◌≡◌, true, false, ◌∙◌, sym, arith, inl, inr, option_map, string_bytes}
 use Rattle.std.proofs.lemmas.Result.{err_from_is_err_and}
 use Rattle.jsonpath_rust.specs.View.{query_view}
 use Rattle.jsonpath_rust.specs.Document.{document_of}
-use Rattle.uses.specs.Conditions.{is_met, IsUndecided}
+use Rattle.uses.specs.Conditions.{is_met}
 use Rattle.uses.specs.Policy.{IsKept, IsBroken, IsRuleStop, IsUnjudged}
 use Rattle.uses.proofs.Firsts.{shown_so, found_here, passed_next, passed_all}
 use Rattle.uses.proofs.policy.first_violation.Goals as goal
@@ -13,7 +13,7 @@ returns-in_err-holds-clause-refused g c =
     let v = c.args.document.value.now in
     let r = c.index-policy-index.result in
     let e = c.in_err-holds.field-0.0 in
-    let stop = subst (λ x. IsUndecided (doc x) e r.condition) c.get.ensures.same c.in_err-holds.ensures.refused in
+    let stop = c.in_err-holds.ensures.refused in
     let unjudged : IsUnjudged c.args.policy.now (doc v) e = record { index = c.loop-index.index; refused = found_here c.args.policy.now (IsKept (doc v)) c.loop-index.index r (IsRuleStop (doc v) e) c.loop-index.invariant (omega arith) c.index-policy-index.is (inl stop) } in
     let p = err_from_is_err_and c.from_residual.result c.from_residual.ensures.1 in
     rw (p.1, p.2) unjudged
@@ -24,7 +24,7 @@ returns-in_err-path-clause-refused g c =
     let v = c.args.document.value.now in
     let r = c.index-policy-index.result in
     let e = c.in_err-path.field-0.0 in
-    let unmet : is_met (doc v) r.condition ≡ false = sym (subst (λ x. c.in_ok-holds.field-0 ≡ is_met (doc x) r.condition) c.get.ensures.same c.in_ok-holds.ensures.holds) ∙ c.if-not-branch.true in
+    let unmet : is_met (doc v) r.condition ≡ false = sym c.in_ok-holds.ensures.holds ∙ c.if-not-branch.true in
     let unjudged : IsUnjudged c.args.policy.now (doc v) e = record { index = c.loop-index.index; refused = found_here c.args.policy.now (IsKept (doc v)) c.loop-index.index r (IsRuleStop (doc v) e) c.loop-index.invariant (omega arith) c.index-policy-index.is (inr (unmet, c.in_err-path.ensures.refused)) } in
     let p = err_from_is_err_and c.from_residual-in_err-path.result c.from_residual-in_err-path.ensures.1 in
     rw (p.1, p.2) unjudged
@@ -35,7 +35,7 @@ returns-then-not-branch-clause-broken g c =
     let v = c.args.document.value.now in
     let r = c.index-policy-index.result in
     let o = c.in_ok-path.path in
-    let unmet : is_met (doc v) r.condition ≡ false = sym (subst (λ x. c.in_ok-holds.field-0 ≡ is_met (doc x) r.condition) c.get.ensures.same c.in_ok-holds.ensures.holds) ∙ c.if-not-branch.true in
+    let unmet : is_met (doc v) r.condition ≡ false = sym c.in_ok-holds.ensures.holds ∙ c.if-not-branch.true in
     let path = option_map string_bytes o in
     let broken : IsBroken (doc v) path r = record { unmet = unmet; shown = shown_so (doc v) (query_view r.shown) o c.in_ok-path.ensures.found c.in_ok-path.ensures.silent } in
     found_here c.args.policy.now (IsKept (doc v)) c.loop-index.index r (IsBroken (doc v) path) c.loop-index.invariant (omega arith) c.index-policy-index.is broken
@@ -45,7 +45,7 @@ loop-index-preserved g c =
     let doc = document_of g.T.Queryable.tree g.T.Queryable.custom in
     let v = c.args.document.value.now in
     let r = c.index-policy-index.result in
-    let met : is_met (doc v) r.condition ≡ true = sym (subst (λ x. c.in_ok-holds.field-0 ≡ is_met (doc x) r.condition) c.get.ensures.same c.in_ok-holds.ensures.holds) ∙ c.if-not-branch.false in
+    let met : is_met (doc v) r.condition ≡ true = sym c.in_ok-holds.ensures.holds ∙ c.if-not-branch.false in
     passed_next c.args.policy.now (IsKept (doc v)) c.loop-index.index r c.loop-index.invariant (omega arith) c.index-policy-index.is met
 
 pub returns-clause-kept : goal.returns-clause-kept

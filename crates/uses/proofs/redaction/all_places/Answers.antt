@@ -11,7 +11,7 @@ pub returns-in_err-found-clause-refused : goal.returns-in_err-found-clause-refus
 returns-in_err-found-clause-refused c =
     let q = c.query-item.result in
     let e = c.in_err-found.field-0.0 in
-    let stop = subst (λ v. IsStop (query_view q) (value_document v) e) c.get.ensures.same (subst (λ s. IsStop s (value_document c.get.result.now) e) (c.runner.ensures ∙ c.in_ok-prepared.ensures.query) c.in_err-found.ensures.refused) in
+    let stop = subst (λ v. IsStop (query_view q) (value_document v) e) c.as_ref.ensures (subst (λ s. IsStop s (value_document c.as_ref.result.value.now) e) (c.runner.ensures ∙ c.in_ok-prepared.ensures.query) c.in_err-found.ensures.refused) in
     let stopped : IsStopAmong c.args.rules.now (value_document c.args.document.now.value) e = record { query = q; among = (c.loop-query.query-index, omega arith, sym c.query-item.is); stop = stop } in
     let p = err_from_is_err_and c.from_residual-in_err-found.result c.from_residual-in_err-found.ensures.1 in
     rw (p.1, p.2) stopped

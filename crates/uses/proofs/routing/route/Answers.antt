@@ -1,4 +1,4 @@
-use Rattle.std.proofs.Common.{◌≡◌, true, false, IsFalse, IsTrue, ◌∙◌, sym, subst, arith}
+use Rattle.std.proofs.Common.{◌≡◌, true, false, IsFalse, IsTrue, ◌∙◌, sym, arith}
 use Rattle.std.proofs.lemmas.Result.{err_from_is_err_and}
 use Rattle.jsonpath_rust.specs.Document.{document_of}
 use Rattle.uses.specs.Conditions.{is_met, IsUndecided, IsUnrouted}
@@ -11,7 +11,7 @@ returns-in_err-holds-clause-refused g c =
     let v = c.args.document.value.now in
     let f = c.index-table-index.result in
     let e = c.in_err-holds.field-0.0 in
-    let stop = subst (λ x. IsUndecided (doc x) e f) c.get.ensures.same c.in_err-holds.ensures.refused in
+    let stop = c.in_err-holds.ensures.refused in
     let unrouted : IsUnrouted c.args.table.now (doc v) e = record { index = c.loop-index.index; refused = found_here c.args.table.now (λ x. IsFalse (is_met (doc v) x)) c.loop-index.index f (IsUndecided (doc v) e) c.loop-index.invariant (omega arith) c.index-table-index.is stop } in
     let p = err_from_is_err_and c.from_residual.result c.from_residual.ensures.1 in
     rw (p.1, p.2) unrouted
@@ -21,7 +21,7 @@ returns-then-branch-clause-routed g c =
     let doc = document_of g.T.Queryable.tree g.T.Queryable.custom in
     let v = c.args.document.value.now in
     let f = c.index-table-index.result in
-    let held : is_met (doc v) f ≡ true = sym (subst (λ x. c.in_ok-holds.field-0 ≡ is_met (doc x) f) c.get.ensures.same c.in_ok-holds.ensures.holds) ∙ c.if-branch.true in
+    let held : is_met (doc v) f ≡ true = sym c.in_ok-holds.ensures.holds ∙ c.if-branch.true in
     position_here (is_met (doc v)) c.args.table.now c.loop-index.index (found_here c.args.table.now (λ x. IsFalse (is_met (doc v) x)) c.loop-index.index f (λ x. IsTrue (is_met (doc v) x)) c.loop-index.invariant (omega arith) c.index-table-index.is held)
 
 pub loop-index-preserved : goal.loop-index-preserved
@@ -29,7 +29,7 @@ loop-index-preserved g c =
     let doc = document_of g.T.Queryable.tree g.T.Queryable.custom in
     let v = c.args.document.value.now in
     let f = c.index-table-index.result in
-    let failed : is_met (doc v) f ≡ false = sym (subst (λ x. c.in_ok-holds.field-0 ≡ is_met (doc x) f) c.get.ensures.same c.in_ok-holds.ensures.holds) ∙ c.if-branch.false in
+    let failed : is_met (doc v) f ≡ false = sym c.in_ok-holds.ensures.holds ∙ c.if-branch.false in
     passed_next c.args.table.now (λ x. IsFalse (is_met (doc v) x)) c.loop-index.index f c.loop-index.invariant (omega arith) c.index-table-index.is failed
 
 pub returns-clause-routed : goal.returns-clause-routed

@@ -1,7 +1,7 @@
 use Rattle.std.proofs.Common.{◌≡◌, map, length, Some, option_map, All, IsTrue, sym, ◌∙◌, ap, subst, w64, rules, SFits, arith}
 use Rattle.std.proofs.lemmas.Int.{to_z-of_z}
 use Rattle.std.proofs.lemmas.List.{length-map}
-use Rattle.jsonpath_rust.specs.Prelude.Documents.{child_view, element_of, value_is_whole, value_tree}
+use Rattle.jsonpath_rust.specs.Prelude.Documents.{reached_view, element_of, value_is_whole, value_tree}
 use Rattle.jsonpath_rust.proofs.laws.documents.{all_at, element_none, element_some}
 use Rattle.jsonpath_base.proofs.Views.{as_list-value_tree, as_list_whole}
 use Rattle.jsonpath_rust.proofs.documents.reference.element.Goals as goal
@@ -14,7 +14,7 @@ returns-in_err-position-clause-value c =
     let len : c.len.result ≡ length (map value_tree items) = size ∙ sym (length-map items value_tree) in
     let fits : SFits w64 c.args.index = search rules in
     let no_place = c.in_err-position.ensures ∙ ap (λ i. element_of i c.len.result) (to_z-of_z w64 c.args.index fits) ∙ ap (element_of c.args.index) len in
-    ap (option_map child_view) c.from_residual-in_err-position.ensures ∙ element_none (value_tree c.args.value.now) items c.args.index is_list no_place
+    ap (option_map reached_view) c.from_residual-in_err-position.ensures ∙ element_none (value_tree c.args.value.now) items c.args.index is_list no_place
 
 pub returns-clause-value : goal.returns-clause-value
 returns-clause-value c =

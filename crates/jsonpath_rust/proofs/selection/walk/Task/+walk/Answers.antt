@@ -1,14 +1,14 @@
 -- The answers of the walk: of segments and selectors, of filters, of functions and of subqueries.
 use Rattle.std.proofs.Common.{◌≡◌, ◌<◌, length, map, List, [], ◌∷◌, ◌++◌, append-nil, arith, Some, option_to_list, sym, ◌∙◌, ap, refl, subst, All, IsTrue, OnOk, string_bytes}
 use Rattle.std.proofs.lemmas.List.{map-append}
-use Rattle.jsonpath_rust.specs.Prelude.Documents.{all_trees, answer, arg_trees, argued, argument_effort, argument_patterns, arguments_effort, arguments_patterns, as_nodes, as_trees, as_truth, as_value, AsksPattern, below, call_effort, call_patterns, children, compares, count_of, each_holds, element, filter_effort, filter_patterns, filters_effort, filters_patterns, flat_map, get, holds, Index, index, is_entire, is_matched, is_true, lent_location, lent_step, Name, name, negated, nodelist, of_nodes, only_value, operand_tree, operator_view, picks, places_left, relative, replaced, root_node, segments_effort, segments_patterns, selector_effort, selector_patterns, selectors_effort, selectors_patterns, side_tree, SingularQuerySegment, size, slice_of, some_holds, step_view, StepRef, subtree, tested, tree_of, truth, value_at, value_of}
-use Rattle.jsonpath_rust.specs.Prelude.Selection.{acted, action_effort, action_patterns, Any, Argument, argument_view, arguments_meant, call_in, call_view, children_query, comparison_in, Count, document, Filter, filter_view, filters_meant, finished, give, given_by, given_of, given_value, given_values, IsGiven, IsHalt, kept_of, node_of, nodes_view, Only, part_patterns, query_at, Segment, segment_view, segments_meant, Selector, selector_view, selectors_meant, side_view, through, value_by, Values, wanted_of}
+use Rattle.jsonpath_rust.specs.Prelude.Documents.{all_trees, answer, arg_trees, argued, argument_effort, argument_patterns, arguments_effort, arguments_patterns, as_nodes, as_trees, as_truth, as_value, AsksPattern, below, call_effort, call_patterns, children, compares, count_of, each_holds, element, filter_effort, filter_patterns, filters_effort, filters_patterns, flat_map, get, holds, Index, index, is_entire, is_matched, is_true, lent_location, lent_step, Name, name, negated, nodelist, of_nodes, only_value, operand_tree, operator_view, picks, places_left, replaced, segments_patterns, selector_effort, selector_patterns, selectors_effort, selectors_patterns, side_tree, SingularQuerySegment, slice_of, some_holds, step_view, StepRef, subtree, tree_of, truth, value_at, value_of}
+use Rattle.jsonpath_rust.specs.Prelude.Selection.{acted, action_effort, action_patterns, Any, argument_at, arguments_meant, asked, call_view, children_argument, constant_view, Count, document, Filter, filter_view, filters_meant, finished, gave, give, given_by, given_of, given_value, IsGiven, IsHalt, kept_of, node_of, Sole, Part, part_at, part_patterns, part_view, Segment, segment_view, segments_meant, Selector, selector_view, selectors_meant, through, told, trees_in, Values, Wanted}
 use Rattle.jsonpath_rust.proofs.laws.documents.{all_at, child_there, differs, each_failed, each_next, element_at, element_size, joined_next, kept_false, kept_true, member_size, member_there, ok_through, pair_size, part_of, parts_end, sliced-list, some_found, some_next}
-use Rattle.jsonpath_rust.proofs.laws.selection.{along_as, along_between, along_idle, along_none, along_stop, answer_as, answer_kept, asked_as, asked_at, asked_at_or, asked_left, asked_none, asked_rest, asked_right, below_more, call_view-Count, call_view-CountChildren, call_view-Match, call_view-Search, call_view-Value, called, children-list, children-members, comparison_as, comparison_kept, element_turns, filter_view-HasChild, finished_all, first_below, flat_map-alone, flat_map-filter, given_right, goes_no_more, goes_off, goes_on, goes_on_to_place, goes_past_places, goes_to_no_place, goes_to_the_end, kept_call_same, kept_comparison_same, kept_query, later_below, leads_below, leads_indexed, looked_up, looked_up_from_root, member_turns, nodelist-through, nodes_view-Lookup, nodes_view-Walk, of_some, pattern_asked, query_alone, query_count, query_there, segment_view-Descendant, selector_turns, selector_view-Filter, selector_view-Index, selector_view-Name, selector_view-Wildcard, side_view-Constant, side_view-Lookup, takes_as, takes_from, takes_then, through-applied, tied_back, tied_further, tied_inside, tied_still, trees_found, wanted_found, wanted_given}
+use Rattle.jsonpath_rust.proofs.laws.selection.{along_as, along_between, along_idle, along_none, along_stop, asked_as, asked_at, asked_at_or, asked_held, asked_left, asked_none, asked_rest, asked_right, below_more, call_view-Count, call_view-Match, call_view-Search, call_view-Value, called, children-list, children-members, children_told, element_turns, filter_view-Constant, filter_view-Test, finished_all, first_below, fit_patterns, flat_map-alone, flat_map-filter, given_right, goes_no_more, goes_off, goes_on, goes_on_to_place, goes_past_places, goes_to_no_place, goes_to_the_end, is_there, kept_told, kept_trees, later_below, leads_below, leads_indexed, member_turns, nodelist-through, of_some, one_as, part_view-Children, part_view-Constant, part_view-Lookup, part_view-Walk, pattern_asked, segment_view-Descendant, selector_turns, selector_view-Filter, selector_view-Index, selector_view-Name, selector_view-Wildcard, steps_alone, takes_as, takes_from, takes_then, through-applied, tied_back, tied_further, tied_inside, tied_still, told_nodes, told_truth, truth_held, wanted_found, wanted_given}
 use Rattle.jsonpath_rust.specs.selection.inner.PlanViews as plan
 use Rattle.jsonpath_rust.proofs.laws.selection.Hand.{hand, hand_on}
 use Rattle.jsonpath_rust.specs.documents.Args.{arg_value}
-use Rattle.jsonpath_rust.proofs.laws.selection.Standing.{still, stands_as, stays, at_root, on, comes_as, comes_on, comes_after, comes_err, comes_halt, comes_so}
+use Rattle.jsonpath_rust.proofs.laws.selection.Standing.{still, stands_as, stays, on, comes_as, comes_on, comes_after, comes_err, comes_halt, comes_so, comes_paid}
 use Rattle.jsonpath_rust.proofs.selection.walk.Task.+walk.Goals as goal
 
 -- ---- segments and selectors
@@ -375,14 +375,6 @@ descend-returns-clause-comes g t c = comes_on _ c.in_ok-pass.ensures.comes.back 
 
 -- ---- filters
 
-pub filter_holds-returns-in_ok-count-in-HasChild-clause-holds : goal.filter_holds-returns-in_ok-count-in-HasChild-clause-holds
-filter_holds-returns-in_ok-count-in-HasChild-clause-holds g t c =
-    let h = hand c.args.self.now c.args.trail.now c.args.at in
-    let e = ap (filter_view h.kept) c.in-HasChild.is ∙ filter_view-HasChild h.kept c.in-HasChild.steps c.in-HasChild.not in
-    let steps = ap (λ (ss : List SingularQuerySegment). children_query (map step_view ss)) c.deref-in-HasChild.ensures.value in
-    let held = query_there _ h.d h.n _ (c.in_ok-count-in-HasChild.ensures.count h.d h.n refl) ∙ ap (λ q. as_truth (tested (relative q) h.d h.n)) steps in
-    differs _ _ ∙ ap (negated c.in-HasChild.not) held ∙ sym (ap (λ f. holds f h.d h.n) e)
-
 pub some_holds-filter_holds-requires : goal.some_holds-filter_holds-requires
 some_holds-filter_holds-requires g t c κs within =
     let h = hand c.args.self.now c.args.trail.now c.args.at in
@@ -447,37 +439,29 @@ each_holds-returns-in_err-filter_holds-clause-comes g t c =
     let kept = kept_of c.args.self.now in
     comes_so _ _ c.from_residual-in_err-filter_holds.ensures.1 c.in_err-filter_holds.ensures.comes (λ h. asked_at (λ (x : Filter). filter_patterns (filter_view kept x)) (λ xs. filters_patterns (filters_meant kept xs)) (λ x xs. refl) c.args.parts.now c.loop-part.part-index c.part-item.result c.loop-part-test.true c.part-item.is h)
 
-pub exists-returns-in-Some-clause-holds : goal.exists-returns-in-Some-clause-holds
-exists-returns-in-Some-clause-holds g t c =
-    let h = hand c.args.self.now c.args.trail.now c.args.at in
-    of_some (λ b. b ≡ as_truth (tested (nodes_view h.kept c.args.nodes.now Any) h.d h.n)) _ _ c.in-Some.is (c.is_there.ensures h.kept h.d h.n refl)
-
-pub exists-returns-clause-holds : goal.exists-returns-clause-holds
-exists-returns-clause-holds g t c = c.is_true.ensures ∙ ap is_true c.in_ok-nodes.ensures.value
-
 pub comparison_holds-lent_compare-requires : goal.comparison_holds-lent_compare-requires
 comparison_holds-lent_compare-requires g t c = c.requires.ready
 
 pub comparison_holds-returns-in-Some-clause-holds : goal.comparison_holds-returns-in-Some-clause-holds
 comparison_holds-returns-in-Some-clause-holds g t c =
     let h = hand c.args.self.now c.args.trail.now c.args.at in
-    let left = value_of (side_view h.kept c.args.comparison.1.now) h.d h.n in
-    let right = value_of (side_view h.kept c.args.comparison.2.now) h.d h.n in
+    let left = value_of (part_view h.kept c.args.comparison.1.now Sole) h.d h.n in
+    let right = value_of (part_view h.kept c.args.comparison.2.now Sole) h.d h.n in
     of_some (λ b. b ≡ compares (operator_view c.args.comparison.0) left right) _ _ c.in-Some.is (c.in_ok-held.ensures.holds h.n refl)
 
 pub comparison_holds-returns-clause-comes : goal.comparison_holds-returns-clause-comes
 comparison_holds-returns-clause-comes g t c = comes_after _ c.walked_compare.ensures.comes refl c.requires.ready (λ h. h)
 
-pub walked_compare-side-requires-2 : goal.walked_compare-side-requires-2
-walked_compare-side-requires-2 g t c κs within =
+pub walked_compare-value-requires-2 : goal.walked_compare-value-requires-2
+walked_compare-value-requires-2 g t c κs within =
     (omega (arith, c.decreases), (within, still c.requires c.in_ok-left.ensures.comes.back))
 
 pub walked_compare-returns-clause-holds : goal.walked_compare-returns-clause-holds
 walked_compare-returns-clause-holds g t c =
     let h = hand c.args.self.now c.args.trail.now c.args.at in
     let op = operator_view c.args.comparison.0 in
-    let right = c.in_ok-right.ensures.value ∙ ap (λ q. value_of (side_view h.kept c.args.comparison.2.now) h.d (node_of q c.args.at)) c.in_ok-left.ensures.comes.back.same in
-    c.in_ok-held.ensures.holds ∙ ap (λ o. compares op o (side_tree c.as_side-2.result)) (c.as_side.ensures ∙ c.in_ok-left.ensures.value) ∙ ap (compares op (value_of (side_view h.kept c.args.comparison.1.now) h.d h.n)) (c.as_side-2.ensures ∙ right)
+    let right = c.in_ok-right.ensures.value ∙ ap (λ q. value_of (part_view h.kept c.args.comparison.2.now Sole) h.d (node_of q c.args.at)) c.in_ok-left.ensures.comes.back.same in
+    c.in_ok-held.ensures.holds ∙ ap (λ o. compares op o (side_tree c.as_side-2.result)) (c.as_side.ensures ∙ c.in_ok-left.ensures.value) ∙ ap (compares op (value_of (part_view h.kept c.args.comparison.1.now Sole) h.d h.n)) (c.as_side-2.ensures ∙ right)
 
 pub walked_compare-returns-clause-comes : goal.walked_compare-returns-clause-comes
 walked_compare-returns-clause-comes g t c =
@@ -487,110 +471,32 @@ walked_compare-returns-clause-comes g t c =
 pub walked_compare-returns-in_err-left-clause-comes : goal.walked_compare-returns-in_err-left-clause-comes
 walked_compare-returns-in_err-left-clause-comes g t c =
     let kept = kept_of c.args.self.now in
-    comes_so _ _ c.from_residual.ensures.1 c.in_err-left.ensures.comes (λ h. asked_left (argument_patterns (side_view kept c.args.comparison.1.now)) (argument_patterns (side_view kept c.args.comparison.2.now)) h)
+    comes_so _ _ c.from_residual.ensures.1 c.in_err-left.ensures.comes (λ h. asked_left (argument_patterns (part_view kept c.args.comparison.1.now Sole)) (argument_patterns (part_view kept c.args.comparison.2.now Sole)) h)
 
 pub walked_compare-returns-in_err-right-clause-comes : goal.walked_compare-returns-in_err-right-clause-comes
 walked_compare-returns-in_err-right-clause-comes g t c =
     let kept = kept_of c.args.self.now in
-    comes_so _ _ c.from_residual-in_err-right.ensures.1 c.in_err-right.ensures.comes (λ h. asked_right (argument_patterns (side_view kept c.args.comparison.1.now)) (argument_patterns (side_view kept c.args.comparison.2.now)) h)
+    comes_so _ _ c.from_residual-in_err-right.ensures.1 c.in_err-right.ensures.comes (λ h. asked_right (argument_patterns (part_view kept c.args.comparison.1.now Sole)) (argument_patterns (part_view kept c.args.comparison.2.now Sole)) h)
 
 pub walked_compare-returns-in_err-held-clause-comes : goal.walked_compare-returns-in_err-held-clause-comes
 walked_compare-returns-in_err-held-clause-comes g t c =
     let back = on c.in_ok-left.ensures.comes.back c.in_ok-right.ensures.comes.back in
     comes_halt _ _ c.from_residual-in_err-held.ensures.1 back.ready c.in_err-held.ensures.halts (asked_none _)
 
-pub side-constant_value-requires : goal.side-constant_value-requires
-side-constant_value-requires g t c = c.requires.ready
-
-pub side-returns-in_ok-constant_value-in-Constant-clause-comes : goal.side-returns-in_ok-constant_value-in-Constant-clause-comes
-side-returns-in_ok-constant_value-in-Constant-clause-comes g t c = record { back = record { same = refl; ready = c.in_ok-constant_value-in-Constant.ensures.ready }; ready = tt; halts = tt }
-
-pub side-returns-in_ok-constant_value-in-Constant-clause-value : goal.side-returns-in_ok-constant_value-in-Constant-clause-value
-side-returns-in_ok-constant_value-in-Constant-clause-value g t c =
-    let h = hand c.args.self.now c.args.trail.now c.args.at in
-    let e = ap (side_view h.kept) c.in-Constant.is ∙ side_view-Constant h.kept c.in-Constant.number in
-    let task = c.args.self.now in
-    let found = looked_up_from_root task.plan.now.constants.items c.in-Constant.number h.d h.n task.plan.now.settled in
-    c.in_ok-constant_value-in-Constant.ensures.value ∙ sym (ap (λ x. value_of x h.d h.n) e ∙ found)
-
-pub side-returns-in-Lookup-clause-value : goal.side-returns-in-Lookup-clause-value
-side-returns-in-Lookup-clause-value g t c =
-    let h = hand c.args.self.now c.args.trail.now c.args.at in
-    let e = ap (side_view h.kept) c.in-Lookup.is ∙ side_view-Lookup h.kept c.in-Lookup.steps in
-    let found = looked_up c.in-Lookup.steps.items h.d h.n h.n.tree refl in
-    c.lent.ensures ∙ c.value_at.ensures ∙ ap (λ (ss : List SingularQuerySegment). value_at (map step_view ss) h.n.tree) c.deref.ensures.value ∙ sym (ap (λ x. value_of x h.d h.n) e ∙ found)
-
 -- ---- functions
-
-pub answer-returns-in-Some-clause-comes : goal.answer-returns-in-Some-clause-comes
-answer-returns-in-Some-clause-comes g t c =
-    let kept = kept_of c.args.self.now in
-    let e = ap (call_view kept) c.in-Value.is ∙ call_view-Value kept c.in-Value.arg in
-    comes_as _ c.nodes.ensures.comes (λ h. asked_as call_patterns _ _ e (asked_as argument_patterns _ _ (c.in-Some.ensures.nodes kept Only) h))
-
-pub answer-returns-in-Some-nodes_in-clause-comes : goal.answer-returns-in-Some-nodes_in-clause-comes
-answer-returns-in-Some-nodes_in-clause-comes g t c =
-    let kept = kept_of c.args.self.now in
-    let e = ap (call_view kept) c.in-Count.is ∙ call_view-Count kept c.in-Count.arg in
-    comes_as _ c.nodes-in-Some-nodes_in.ensures.comes (λ h. asked_as call_patterns _ _ e (asked_as argument_patterns _ _ (c.in-Some-nodes_in.ensures.nodes kept Count) h))
 
 pub answer-returns-in-Custom-clause-comes : goal.answer-returns-in-Custom-clause-comes
 answer-returns-in-Custom-clause-comes g t c =
     let kept = kept_of c.args.self.now in
     let e = ap (call_view kept) c.in-Custom.is ∙ called kept c.in-Custom.name c.in-Custom.args in
-    comes_as _ c.custom.ensures.comes (λ h. asked_as call_patterns _ _ e (asked_as (λ (xs : List Argument). arguments_patterns (arguments_meant kept xs)) _ _ (sym c.deref.ensures.value) h))
-
-pub answer-returns-in_ok-count-in-CountChildren-clause-value : goal.answer-returns-in_ok-count-in-CountChildren-clause-value
-answer-returns-in_ok-count-in-CountChildren-clause-value g t c =
-    let h = hand c.args.self.now c.args.trail.now c.args.at in
-    let e = ap (call_view h.kept) c.in-CountChildren.is ∙ call_view-CountChildren h.kept c.in-CountChildren.steps in
-    let steps = ap (λ (ss : List SingularQuerySegment). children_query (map step_view ss)) c.deref-in-CountChildren.ensures.value in
-    ap Some c.count_scalar-in-CountChildren.ensures ∙ query_count _ h.d h.n _ (c.in_ok-count-in-CountChildren.ensures.count h.d h.n refl) ∙ ap (λ q. count_of (as_nodes (tested (relative q) h.d h.n))) steps ∙ sym (ap (λ f. answer f h.d h.n) e)
-
-pub answer-returns-in-Some-nodes_in-clause-value : goal.answer-returns-in-Some-nodes_in-clause-value
-answer-returns-in-Some-nodes_in-clause-value g t c =
-    let h = hand c.args.self.now c.args.trail.now c.args.at in
-    let e = ap (call_view h.kept) c.in-Count.is ∙ call_view-Count h.kept c.in-Count.arg in
-    let nodes = c.in-Some-nodes_in.ensures.nodes h.kept Count in
-    ok_through _ (operand_tree) _ _ (sym (ap (λ f. answer f h.d h.n) e ∙ ap (λ a. count_of (as_nodes (argued a h.d h.n))) nodes)) c.nodes-in-Some-nodes_in.ensures.value
-
-pub answer-returns-in-Some-clause-value : goal.answer-returns-in-Some-clause-value
-answer-returns-in-Some-clause-value g t c =
-    let h = hand c.args.self.now c.args.trail.now c.args.at in
-    let e = ap (call_view h.kept) c.in-Value.is ∙ call_view-Value h.kept c.in-Value.arg in
-    let nodes = c.in-Some.ensures.nodes h.kept Only in
-    ok_through _ (operand_tree) _ _ (query_alone h.kept c.in-Some.nodes.now Only h.d h.n ∙ sym (ap (λ f. answer f h.d h.n) e ∙ ap (λ a. only_value (as_nodes (argued a h.d h.n))) nodes)) c.nodes.ensures.value
-
-pub answer-returns-in-None-nodes_in-clause-value : goal.answer-returns-in-None-nodes_in-clause-value
-answer-returns-in-None-nodes_in-clause-value g t c =
-    let h = hand c.args.self.now c.args.trail.now c.args.at in
-    let e = ap (call_view h.kept) c.in-Count.is ∙ call_view-Count h.kept c.in-Count.arg in
-    ap Some c.count_scalar.ensures ∙ sym (ap (λ f. answer f h.d h.n) e ∙ ap (λ x. count_of (as_nodes x)) ((c.in-None-nodes_in.ensures.value h.kept).alone Count h.d h.n))
-
-pub answer-returns-in-None-clause-value : goal.answer-returns-in-None-clause-value
-answer-returns-in-None-clause-value g t c =
-    let h = hand c.args.self.now c.args.trail.now c.args.at in
-    let e = ap (call_view h.kept) c.in-Value.is ∙ call_view-Value h.kept c.in-Value.arg in
-    sym (ap (λ f. answer f h.d h.n) e ∙ ap (λ x. only_value (as_nodes x)) ((c.in-None.ensures.value h.kept).alone Only h.d h.n))
+    comes_as _ c.custom.ensures.comes (λ h. asked_as call_patterns _ _ e (asked_as (λ (xs : List Part). arguments_patterns (arguments_meant kept xs)) _ _ (sym c.deref.ensures.value) h))
 
 pub answer-returns-in-Custom-clause-value : goal.answer-returns-in-Custom-clause-value
 answer-returns-in-Custom-clause-value g t c =
     let h = hand c.args.self.now c.args.trail.now c.args.at in
     let custom = g.T.Queryable.custom in
     let e = ap (call_view h.kept) c.in-Custom.is ∙ called h.kept c.in-Custom.name c.in-Custom.args in
-    ok_through _ (operand_tree) _ _ (ap (λ (xs : List Argument). Some (custom (string_bytes c.in-Custom.name) (all_trees (arguments_meant h.kept xs) h.d h.n))) c.deref.ensures.value ∙ sym (ap (λ f. answer f h.d h.n) e)) c.custom.ensures.value
-
-pub answer-nodes-requires : goal.answer-nodes-requires
-answer-nodes-requires g t c κs within =
-    let h = hand c.args.self.now c.args.trail.now c.args.at in
-    let e = ap (call_view h.kept) c.in-Value.is ∙ call_view-Value h.kept c.in-Value.arg in
-    (omega (arith, c.decreases, ap (call_effort h.big) e, ap (argument_effort h.big) (c.in-Some.ensures.nodes h.kept Only)), (within, c.requires))
-
-pub answer-nodes-requires-in-Some-nodes_in : goal.answer-nodes-requires-in-Some-nodes_in
-answer-nodes-requires-in-Some-nodes_in g t c κs within =
-    let h = hand c.args.self.now c.args.trail.now c.args.at in
-    let e = ap (call_view h.kept) c.in-Count.is ∙ call_view-Count h.kept c.in-Count.arg in
-    (omega (arith, c.decreases, ap (call_effort h.big) e, ap (argument_effort h.big) (c.in-Some-nodes_in.ensures.nodes h.kept Count)), (within, c.requires))
+    ok_through _ (operand_tree) _ _ (ap (λ (xs : List Part). Some (custom (string_bytes c.in-Custom.name) (all_trees (arguments_meant h.kept xs) h.d h.n))) c.deref.ensures.value ∙ sym (ap (λ f. answer f h.d h.n) e)) c.custom.ensures.value
 
 pub answer-match_or_search-requires : goal.answer-match_or_search-requires
 answer-match_or_search-requires g t c κs within =
@@ -608,7 +514,7 @@ pub answer-custom-requires : goal.answer-custom-requires
 answer-custom-requires g t c κs within =
     let h = hand c.args.self.now c.args.trail.now c.args.at in
     let e = ap (call_view h.kept) c.in-Custom.is ∙ called h.kept c.in-Custom.name c.in-Custom.args in
-    (omega (arith, c.decreases, ap (call_effort h.big) e, ap (λ (xs : List Argument). arguments_effort h.big (arguments_meant h.kept xs)) c.deref.ensures.value), (within, c.requires))
+    (omega (arith, c.decreases, ap (call_effort h.big) e, ap (λ (xs : List Part). arguments_effort h.big (arguments_meant h.kept xs)) c.deref.ensures.value), (within, c.requires))
 
 pub match_or_search-value-requires-2 : goal.match_or_search-value-requires-2
 match_or_search-value-requires-2 g t c κs within = (omega (arith, c.decreases), (within, still c.requires c.in_ok-text.ensures.comes.back))
@@ -616,9 +522,9 @@ match_or_search-value-requires-2 g t c κs within = (omega (arith, c.decreases),
 pub match_or_search-returns-clause-value : goal.match_or_search-returns-clause-value
 match_or_search-returns-clause-value g t c =
     let h = hand c.args.self.now c.args.trail.now c.args.at in
-    let pattern = c.in_ok-pattern.ensures.value ∙ ap (λ q. as_value (argued (argument_view h.kept c.args.args.1.now Only) h.d (node_of q c.args.at))) c.in_ok-text.ensures.comes.back.same in
+    let pattern = c.in_ok-pattern.ensures.value ∙ ap (λ q. as_value (argued (part_view h.kept c.args.args.1.now Sole) h.d (node_of q c.args.at))) c.in_ok-text.ensures.comes.back.same in
     let entire = is_entire c.args.extent in
-    ap (λ b. Some (truth b)) (c.in_ok-found.ensures.value ∙ ap (λ o. is_matched entire o (operand_tree c.in_ok-pattern.pattern)) c.in_ok-text.ensures.value ∙ ap (is_matched entire (as_value (argued (argument_view h.kept c.args.args.0.now Only) h.d h.n))) pattern)
+    ap (λ b. Some (truth b)) (c.in_ok-found.ensures.value ∙ ap (λ o. is_matched entire o (operand_tree c.in_ok-pattern.pattern)) (c.in_ok-text.ensures.value) ∙ ap (is_matched entire (as_value (argued (part_view h.kept c.args.args.0.now Sole) h.d h.n))) pattern)
 
 pub match_or_search-returns-clause-comes : goal.match_or_search-returns-clause-comes
 match_or_search-returns-clause-comes g t c =
@@ -628,9 +534,9 @@ match_or_search-returns-clause-comes g t c =
 pub match_or_search-returns-in_err-found-clause-comes : goal.match_or_search-returns-in_err-found-clause-comes
 match_or_search-returns-in_err-found-clause-comes g t c =
     let h = hand c.args.self.now c.args.trail.now c.args.at in
-    let pattern = c.in_ok-pattern.ensures.value ∙ ap (λ q. as_value (argued (argument_view h.kept c.args.args.1.now Only) h.d (node_of q c.args.at))) c.in_ok-text.ensures.comes.back.same in
-    let asked = argument_view h.kept c.args.args.1.now Only in
-    let more = argument_patterns (argument_view h.kept c.args.args.0.now Only) ++ argument_patterns asked in
+    let pattern = c.in_ok-pattern.ensures.value ∙ ap (λ q. as_value (argued (part_view h.kept c.args.args.1.now Sole) h.d (node_of q c.args.at))) c.in_ok-text.ensures.comes.back.same in
+    let asked = part_view h.kept c.args.args.1.now Sole in
+    let more = argument_patterns (part_view h.kept c.args.args.0.now Sole) ++ argument_patterns asked in
     let why : IsHalt c.args.self.now.limit ((is_entire c.args.extent, asked) ∷ more) h.d c.in_err-found.field-0.0 = λ memory spent. pattern_asked h.d (is_entire c.args.extent) asked more h.n _ c.requires.here pattern (c.in_err-found.ensures.refused memory) in
     let back = on c.in_ok-text.ensures.comes.back c.in_ok-pattern.ensures.comes.back in
     comes_halt _ _ c.from_residual-in_err-found.ensures.1 back.ready why (λ h. h)
@@ -638,15 +544,15 @@ match_or_search-returns-in_err-found-clause-comes g t c =
 pub match_or_search-returns-in_err-text-clause-comes : goal.match_or_search-returns-in_err-text-clause-comes
 match_or_search-returns-in_err-text-clause-comes g t c =
     let kept = kept_of c.args.self.now in
-    let text = argument_view kept c.args.args.0.now Only in
-    let pattern = argument_view kept c.args.args.1.now Only in
+    let text = part_view kept c.args.args.0.now Sole in
+    let pattern = part_view kept c.args.args.1.now Sole in
     comes_so _ _ c.from_residual.ensures.1 c.in_err-text.ensures.comes (λ h. asked_rest (is_entire c.args.extent, pattern) _ (asked_left (argument_patterns text) (argument_patterns pattern) h))
 
 pub match_or_search-returns-in_err-pattern-clause-comes : goal.match_or_search-returns-in_err-pattern-clause-comes
 match_or_search-returns-in_err-pattern-clause-comes g t c =
     let kept = kept_of c.args.self.now in
-    let text = argument_view kept c.args.args.0.now Only in
-    let pattern = argument_view kept c.args.args.1.now Only in
+    let text = part_view kept c.args.args.0.now Sole in
+    let pattern = part_view kept c.args.args.1.now Sole in
     comes_so _ _ c.from_residual-in_err-pattern.ensures.1 c.in_err-pattern.ensures.comes (λ h. asked_rest (is_entire c.args.extent, pattern) _ (asked_right (argument_patterns text) (argument_patterns pattern) h))
 
 pub match_or_search-returns-in_err-cost-clause-comes : goal.match_or_search-returns-in_err-cost-clause-comes
@@ -654,10 +560,10 @@ match_or_search-returns-in_err-cost-clause-comes g t c =
     let back = on c.in_ok-text.ensures.comes.back c.in_ok-pattern.ensures.comes.back in
     comes_err _ _ c.from_residual-in_err-cost.ensures.1 back.ready (λ y e memory spent. absurd (memory (e ∙ c.in_err-cost.ensures.memory)))
 
-pub custom-push_argument-requires : goal.custom-push_argument-requires
-custom-push_argument-requires g t c κs within =
+pub custom-push-requires : goal.custom-push-requires
+custom-push-requires g t c κs within =
     let h = hand c.args.self.now c.args.trail.now c.args.at in
-    let w = part_of (λ (x : Argument). argument_effort h.big (argument_view h.kept x Values)) (λ xs. arguments_effort h.big (arguments_meant h.kept xs)) (λ x xs. refl) c.args.args.now c.loop-arg.arg-index c.arg-item.result c.loop-arg-test.true c.arg-item.is in
+    let w = part_of (λ (x : Part). argument_effort h.big (part_view h.kept x Values)) (λ xs. arguments_effort h.big (arguments_meant h.kept xs)) (λ x xs. refl) c.args.args.now c.loop-arg.arg-index c.arg-item.result c.loop-arg-test.true c.arg-item.is in
     (omega (arith, c.decreases, w), (within, still c.requires c.loop-arg.invariant.returns))
 
 pub custom-loop-arg-init : goal.custom-loop-arg-init
@@ -671,8 +577,8 @@ custom-loop-arg-preserved g t c =
     let inv = c.loop-arg.invariant in
     let item = c.arg-item.result in
     let was = arg_trees c.loop-arg.values in
-    let same = ap (λ q. was ++ as_trees (argued (argument_view h.kept item Values) h.d (node_of q c.args.at))) inv.returns.same in
-    record { returns = on inv.returns c.in_ok-push_argument.ensures.comes.back; trees = joined_next (λ (xs : List Argument). all_trees (arguments_meant h.kept xs) h.d h.n) (λ a. as_trees (argued (argument_view h.kept a Values) h.d h.n)) (λ x xs. refl) c.args.args.now c.loop-arg.arg-index item was _ _ c.loop-arg-test.true c.arg-item.is (c.in_ok-push_argument.ensures.value ∙ same) inv.trees }
+    let same = ap (λ q. was ++ as_trees (argued (part_view h.kept item Values) h.d (node_of q c.args.at))) inv.returns.same in
+    record { returns = on inv.returns c.in_ok-push.ensures.comes.back; trees = joined_next (λ (xs : List Part). all_trees (arguments_meant h.kept xs) h.d h.n) (λ a. as_trees (argued (part_view h.kept a Values) h.d h.n)) (λ x xs. refl) c.args.args.now c.loop-arg.arg-index item was _ _ c.loop-arg-test.true c.arg-item.is (c.in_ok-push.ensures.value ∙ same) inv.trees }
 
 pub custom-returns-clause-value : goal.custom-returns-clause-value
 custom-returns-clause-value g t c =
@@ -680,14 +586,14 @@ custom-returns-clause-value g t c =
     let tree = g.T.Queryable.tree in
     let custom = g.T.Queryable.custom in
     let all = arg_trees c.loop-arg.values in
-    let end = sym (append-nil all) ∙ parts_end (λ (xs : List Argument). all ++ all_trees (arguments_meant h.kept xs) h.d h.n) c.args.args.now c.loop-arg.arg-index _ c.loop-arg-test.false c.loop-arg.invariant.trees in
+    let end = sym (append-nil all) ∙ parts_end (λ (xs : List Part). all ++ all_trees (arguments_meant h.kept xs) h.d h.n) c.args.args.now c.loop-arg.arg-index _ c.loop-arg-test.false c.loop-arg.invariant.trees in
     let nm = string_bytes c.args.name.now in
     ap (λ x. Some x) (c.in_ok-value.ensures.value ∙ ap (λ k. custom k (map (λ a. tree (arg_value a)) c.deref-2.result.now)) c.deref.ensures ∙ ap (λ xs. custom nm (map (λ a. tree (arg_value a)) xs)) c.deref-2.ensures.value ∙ ap (custom nm) end)
 
-pub custom-returns-in_err-push_argument-clause-comes : goal.custom-returns-in_err-push_argument-clause-comes
-custom-returns-in_err-push_argument-clause-comes g t c =
+pub custom-returns-in_err-push-clause-comes : goal.custom-returns-in_err-push-clause-comes
+custom-returns-in_err-push-clause-comes g t c =
     let kept = kept_of c.args.self.now in
-    comes_so _ _ c.from_residual.ensures.1 c.in_err-push_argument.ensures.comes (λ h. asked_at (λ (x : Argument). argument_patterns (argument_view kept x Values)) (λ xs. arguments_patterns (arguments_meant kept xs)) (λ x xs. refl) c.args.args.now c.loop-arg.arg-index c.arg-item.result c.loop-arg-test.true c.arg-item.is h)
+    comes_so _ _ c.from_residual.ensures.1 c.in_err-push.ensures.comes (λ h. asked_at (λ (x : Part). argument_patterns (part_view kept x Values)) (λ xs. arguments_patterns (arguments_meant kept xs)) (λ x xs. refl) c.args.args.now c.loop-arg.arg-index c.arg-item.result c.loop-arg-test.true c.arg-item.is h)
 
 pub custom-returns-in_err-cost-clause-comes : goal.custom-returns-in_err-cost-clause-comes
 custom-returns-in_err-cost-clause-comes g t c = comes_err _ _ c.from_residual-in_err-cost.ensures.1 c.loop-arg.invariant.returns.ready (λ y e memory spent. absurd (memory (e ∙ c.in_err-cost.ensures.memory)))
@@ -695,81 +601,7 @@ custom-returns-in_err-cost-clause-comes g t c = comes_err _ _ c.from_residual-in
 pub custom-returns-in_err-value-clause-comes : goal.custom-returns-in_err-value-clause-comes
 custom-returns-in_err-value-clause-comes g t c = comes_err _ _ c.from_residual-in_err-value.ensures.1 c.loop-arg.invariant.returns.ready (λ y e memory spent. absurd (memory (e c.in_err-value.ensures.memory)))
 
-pub push_argument-returns-in-Some-clause-value : goal.push_argument-returns-in-Some-clause-value
-push_argument-returns-in-Some-clause-value g t c =
-    let h = hand c.args.self.now c.args.trail.now c.args.at in
-    let was = arg_trees c.args.args.now in
-    let same = sym (ap (λ a. as_trees (argued a h.d h.n)) (c.in-Some.ensures.nodes h.kept Values)) in
-    subst (λ ts. OnOk c.push_nodes.result (arg_trees c.push_nodes.new.args ≡ was ++ ts)) same c.push_nodes.ensures.value
-
-pub push_argument-returns-in-Some-clause-comes : goal.push_argument-returns-in-Some-clause-comes
-push_argument-returns-in-Some-clause-comes g t c =
-    let kept = kept_of c.args.self.now in
-    comes_as _ c.push_nodes.ensures.comes (λ h. asked_as argument_patterns _ _ (c.in-Some.ensures.nodes kept Values) h)
-
-pub push_argument-returns-in_ok-push_value-in-None-clause-value : goal.push_argument-returns-in_ok-push_value-in-None-clause-value
-push_argument-returns-in_ok-push_value-in-None-clause-value g t c =
-    let h = hand c.args.self.now c.args.trail.now c.args.at in
-    let is = c.in-None.ensures.value h.kept in
-    let value = c.in_ok-value-in-None.ensures.value ∙ ap (λ a. as_value (argued a h.d h.n)) (is.same Only Values) in
-    let trees = ap option_to_list value ∙ sym (ap as_trees (is.alone Values h.d h.n)) in
-    c.in_ok-push_value-in-None.ensures.value ∙ ap (λ ts. arg_trees c.args.args.now ++ ts) trees
-
-pub push_argument-returns-in_err-value-in-None-clause-comes : goal.push_argument-returns-in_err-value-in-None-clause-comes
-push_argument-returns-in_err-value-in-None-clause-comes g t c =
-    let kept = kept_of c.args.self.now in
-    comes_so _ _ c.from_residual.ensures.1 c.in_err-value-in-None.ensures.comes (λ h. asked_as argument_patterns _ _ ((c.in-None.ensures.value kept).same Values Only) h)
-
-pub push_argument-value-requires : goal.push_argument-value-requires
-push_argument-value-requires g t c κs within =
-    let h = hand c.args.self.now c.args.trail.now c.args.at in
-    (omega (arith, c.decreases, ap (argument_effort h.big) ((c.in-None.ensures.value h.kept).same Only Values)), (within, c.requires))
-
-pub push_argument-push_nodes-requires : goal.push_argument-push_nodes-requires
-push_argument-push_nodes-requires g t c κs within =
-    let h = hand c.args.self.now c.args.trail.now c.args.at in
-    (omega (arith, c.decreases, ap (argument_effort h.big) (c.in-Some.ensures.nodes h.kept Values)), (within, c.requires))
-
-pub value-returns-in-Some-clause-value : goal.value-returns-in-Some-clause-value
-value-returns-in-Some-clause-value g t c =
-    let h = hand c.args.self.now c.args.trail.now c.args.at in
-    let query = c.in-Some.ensures (kept_of c.args.self.now) Only in
-    let found = looked_up c.in-Some.steps.now h.d h.n h.n.tree refl in
-    c.lent.ensures ∙ c.value_at.ensures ∙ sym (ap (λ a. as_value (argued a h.d h.n)) query ∙ found)
-
--- ---- queries inside filters
-
-pub nodes-returns-in_ok-given-in-Walk-clause-value : goal.nodes-returns-in_ok-given-in-Walk-clause-value
-nodes-returns-in_ok-given-in-Walk-clause-value g t c =
-    let h = hand c.args.self.now c.args.trail.now c.args.at in
-    let w = c.args.wanted in
-    let e = ap (λ ns. nodes_view h.kept ns w) c.in-Walk.is ∙ nodes_view-Walk h.kept c.in-Walk.segments w in
-    let ns = ap (λ (gs : List Segment). through (segments_meant h.kept gs) h.d h.n) c.deref-in-Walk.ensures.value ∙ through-applied (segments_meant h.kept c.in-Walk.segments.items) h.d h.n in
-    c.into_value.ensures ∙ ap (λ x. given_value (Some x)) (c.in_ok-given-in-Walk.ensures.given ∙ ap (λ ms. given_of w (of_nodes ms)) ns) ∙ wanted_given w _ ∙ sym (ap (λ q. wanted_of w (tested q h.d h.n)) e)
-
-pub nodes-returns-in-Lookup-clause-value : goal.nodes-returns-in-Lookup-clause-value
-nodes-returns-in-Lookup-clause-value g t c =
-    let h = hand c.args.self.now c.args.trail.now c.args.at in
-    let w = c.args.wanted in
-    let e = ap (λ ns. nodes_view h.kept ns w) c.in-Lookup.is ∙ nodes_view-Lookup h.kept c.in-Lookup.steps w in
-    let there = c.value_at.ensures ∙ ap (λ (ss : List SingularQuerySegment). value_at (map step_view ss) h.n.tree) c.deref.ensures.value in
-    c.of.ensures ∙ wanted_found w _ c.in-Lookup.steps.items h.d h.n there ∙ sym (ap (λ q. wanted_of w (tested q h.d h.n)) e)
-
-pub push_nodes-returns-in_ok-push_given-in-Walk-clause-value : goal.push_nodes-returns-in_ok-push_given-in-Walk-clause-value
-push_nodes-returns-in_ok-push_given-in-Walk-clause-value g t c =
-    let h = hand c.args.self.now c.args.trail.now c.args.at in
-    let e = ap (λ ns. nodes_view h.kept ns Values) c.in-Walk.is ∙ nodes_view-Walk h.kept c.in-Walk.segments Values in
-    let ns = ap (λ (gs : List Segment). through (segments_meant h.kept gs) h.d h.n) c.deref-in-Walk.ensures.value ∙ through-applied (segments_meant h.kept c.in-Walk.segments.items) h.d h.n in
-    let trees = ap (λ x. given_values (Some x)) (c.in_ok-given-in-Walk.ensures.given ∙ ap (λ ms. given_of Values (of_nodes ms)) ns) ∙ sym (ap (λ q. as_trees (tested q h.d h.n)) e) in
-    c.in_ok-push_given-in-Walk.ensures.value ∙ ap (λ ts. arg_trees c.args.args.now ++ ts) trees
-
-pub push_nodes-returns-in_ok-push_value-in-Lookup-clause-value : goal.push_nodes-returns-in_ok-push_value-in-Lookup-clause-value
-push_nodes-returns-in_ok-push_value-in-Lookup-clause-value g t c =
-    let h = hand c.args.self.now c.args.trail.now c.args.at in
-    let e = ap (λ ns. nodes_view h.kept ns Values) c.in-Lookup.is ∙ nodes_view-Lookup h.kept c.in-Lookup.steps Values in
-    let there = c.lent-value.ensures ∙ c.value_at.ensures ∙ ap (λ (ss : List SingularQuerySegment). value_at (map step_view ss) h.n.tree) c.deref.ensures.value in
-    let trees = trees_found _ c.in-Lookup.steps.items h.d h.n there ∙ sym (ap (λ q. as_trees (tested q h.d h.n)) e) in
-    c.in_ok-push_value-in-Lookup.ensures.value ∙ ap (λ ts. arg_trees c.args.args.now ++ ts) trees
+-- ---- parts of filters
 
 pub gather-returns-clause-given : goal.gather-returns-clause-given
 gather-returns-clause-given g t c =
@@ -777,147 +609,152 @@ gather-returns-clause-given g t c =
     let seen = (c.in_ok-_goes_on.ensures.gave.took (tied_inside c.start-sink.result c.args.trail.now.way c.args.wanted c.start-sink.ensures)).given ∙ ap (λ s. give s (through (segments_meant h.kept c.args.segments.now) h.d h.n)) c.start-sink.ensures in
     c.finish.ensures ∙ ap (finished c.args.wanted) seen ∙ finished_all c.args.wanted (through (segments_meant h.kept c.args.segments.now) h.d h.n)
 
-pub keep_nodes-gather-requires : goal.keep_nodes-gather-requires
-keep_nodes-gather-requires g t c κs within =
-    let big = size (tree_of c.args.self.now.root) in
+pub filter_holds-returns-in_ok-tests_true-in-Test-clause-holds : goal.filter_holds-returns-in_ok-tests_true-in-Test-clause-holds
+filter_holds-returns-in_ok-tests_true-in-Test-clause-holds g t c =
+    let h = hand c.args.self.now c.args.trail.now c.args.at in
+    let e = ap (filter_view h.kept) c.in-Test.is ∙ filter_view-Test h.kept c.in-Test.part c.in-Test.not in
+    differs _ _ ∙ ap (negated c.in-Test.not) c.in_ok-tests_true-in-Test.ensures.holds ∙ sym (ap (λ f. holds f h.d h.n) e ∙ asked_held c.in-Test.not _ h.d h.n)
+
+pub filter_holds-returns-then-branch-clause-holds : goal.filter_holds-returns-then-branch-clause-holds
+filter_holds-returns-then-branch-clause-holds g t c =
+    let h = hand c.args.self.now c.args.trail.now c.args.at in
+    let k = c.in-Constant.number in
+    let e = ap (filter_view h.kept) c.in-Constant.is ∙ filter_view-Constant h.kept k in
+    let keeps = c.in_ok-keep-in-Constant.ensures in
+    let asked = argued (argument_at h.kept Any k) h.d h.n in
+    c.is_true.ensures ∙ ap (λ s. is_true (given_value s)) (keeps.kept c.if-branch.true) ∙ ap is_true (kept_told h.kept k Any h.d h.n c.args.self.now.plan.now.rooted (keeps.fits c.if-branch.true)) ∙ told_truth asked ∙ sym (ap (λ f. holds f h.d h.n) e ∙ truth_held (argument_at h.kept Any k) h.d h.n)
+
+pub tests_true-returns-in-Some-clause-holds : goal.tests_true-returns-in-Some-clause-holds
+tests_true-returns-in-Some-clause-holds g t c =
+    let h = hand c.args.self.now c.args.trail.now c.args.at in
+    c.is_some.ensures ∙ is_there tree_of c.value_at.result c.in-Some.steps.now h.d h.n c.value_at.ensures ∙ sym (ap (λ a. as_truth (argued a h.d h.n)) (c.in-Some.ensures h.kept Any))
+
+-- ---- calls of queries
+
+pub answer-returns-then-is_query-clause-value : goal.answer-returns-then-is_query-clause-value
+answer-returns-then-is_query-clause-value g t c =
+    let h = hand c.args.self.now c.args.trail.now c.args.at in
+    let e = ap (call_view h.kept) c.in-Value.is ∙ call_view-Value h.kept c.in-Value.arg in
+    ok_through _ operand_tree _ _ (ap as_value (c.is_query.ensures.query c.if-is_query.true h.d h.n) ∙ sym (ap (λ f. answer f h.d h.n) e)) c.value-then-is_query.ensures.value
+
+pub answer-returns-else-is_query-clause-value : goal.answer-returns-else-is_query-clause-value
+answer-returns-else-is_query-clause-value g t c =
+    let h = hand c.args.self.now c.args.trail.now c.args.at in
+    let e = ap (call_view h.kept) c.in-Value.is ∙ call_view-Value h.kept c.in-Value.arg in
+    sym (ap (λ f. answer f h.d h.n) e ∙ ap (λ x. only_value (as_nodes x)) (c.is_query.ensures.value c.if-is_query.false h.d h.n))
+
+pub answer-returns-then-is_query-2-clause-value : goal.answer-returns-then-is_query-2-clause-value
+answer-returns-then-is_query-2-clause-value g t c =
+    let h = hand c.args.self.now c.args.trail.now c.args.at in
+    let e = ap (call_view h.kept) c.in-Count.is ∙ call_view-Count h.kept c.in-Count.arg in
+    ok_through _ operand_tree _ _ (ap (told Count) (c.is_query-in-Count.ensures.query c.if-is_query-2.true h.d h.n) ∙ sym (ap (λ f. answer f h.d h.n) e)) c.value-then-is_query-2.ensures.value
+
+pub answer-returns-else-is_query-2-clause-value : goal.answer-returns-else-is_query-2-clause-value
+answer-returns-else-is_query-2-clause-value g t c =
+    let h = hand c.args.self.now c.args.trail.now c.args.at in
+    let e = ap (call_view h.kept) c.in-Count.is ∙ call_view-Count h.kept c.in-Count.arg in
+    ap Some c.count_scalar.ensures ∙ sym (ap (λ f. answer f h.d h.n) e ∙ ap (λ x. count_of (as_nodes x)) (c.is_query-in-Count.ensures.value c.if-is_query-2.false h.d h.n))
+
+-- ---- parts
+
+pub value-returns-in-Lookup-clause-value : goal.value-returns-in-Lookup-clause-value
+value-returns-in-Lookup-clause-value g t c =
+    let h = hand c.args.self.now c.args.trail.now c.args.at in
+    let w = c.args.wanted in
+    let e = ap (λ p. part_view h.kept p w) c.in-Lookup.is ∙ part_view-Lookup h.kept c.in-Lookup.steps w in
+    let there = c.value_at.ensures ∙ ap (λ (ss : List SingularQuerySegment). value_at (map step_view ss) h.n.tree) c.deref-in-Lookup.ensures.value in
+    c.of.ensures ∙ wanted_found w _ c.in-Lookup.steps.items h.d h.n there ∙ sym (told_nodes w _) ∙ sym (ap (λ a. told w (argued a h.d h.n)) e)
+
+pub value-returns-in_ok-count-in-Children-clause-value : goal.value-returns-in_ok-count-in-Children-clause-value
+value-returns-in_ok-count-in-Children-clause-value g t c =
+    let h = hand c.args.self.now c.args.trail.now c.args.at in
+    let w = c.args.wanted in
+    let e = ap (λ p. part_view h.kept p w) c.in-Children.is ∙ part_view-Children h.kept c.in-Children.steps w in
+    let steps = ap (λ (ss : List SingularQuerySegment). told w (argued (children_argument w (map step_view ss)) h.d h.n)) c.deref-in-Children.ensures.value in
+    c.of_count.ensures ∙ children_told w _ h.d h.n _ (c.in_ok-count-in-Children.ensures.count h.d h.n refl) ∙ steps ∙ sym (ap (λ a. told w (argued a h.d h.n)) e)
+
+pub value-returns-in_ok-given-in-Walk-clause-value : goal.value-returns-in_ok-given-in-Walk-clause-value
+value-returns-in_ok-given-in-Walk-clause-value g t c =
+    let h = hand c.args.self.now c.args.trail.now c.args.at in
+    let w = c.args.wanted in
+    let e = ap (λ p. part_view h.kept p w) c.in-Walk.is ∙ part_view-Walk h.kept c.in-Walk.segments w in
+    let ns = ap (λ (gs : List Segment). through (segments_meant h.kept gs) h.d h.n) c.deref-in-Walk.ensures.value ∙ through-applied (segments_meant h.kept c.in-Walk.segments.items) h.d h.n in
+    c.into_value.ensures ∙ ap (λ x. given_value (Some x)) (c.in_ok-given-in-Walk.ensures.given ∙ ap (λ ms. given_of w (of_nodes ms)) ns) ∙ wanted_given w _ ∙ sym (told_nodes w _) ∙ sym (ap (λ a. told w (argued a h.d h.n)) e)
+
+pub value-returns-then-branch-clause-value : goal.value-returns-then-branch-clause-value
+value-returns-then-branch-clause-value g t c =
+    let h = hand c.args.self.now c.args.trail.now c.args.at in
+    let w = c.args.wanted in
+    let k = c.in-Constant.number in
+    let e = ap (λ p. part_view h.kept p w) c.in-Constant.is ∙ part_view-Constant h.kept k w in
+    let keeps = c.in_ok-keep-in-Constant.ensures in
+    ok_through _ operand_tree _ _ (ap given_value (keeps.kept c.if-branch.true) ∙ kept_told h.kept k w h.d h.n c.args.self.now.plan.now.rooted (keeps.fits c.if-branch.true) ∙ sym (ap (λ a. told w (argued a h.d h.n)) e)) c.kept.ensures.value
+
+pub push-returns-in_ok-given-in-Walk-clause-value : goal.push-returns-in_ok-given-in-Walk-clause-value
+push-returns-in_ok-given-in-Walk-clause-value g t c =
+    let h = hand c.args.self.now c.args.trail.now c.args.at in
+    let e = ap (λ p. part_view h.kept p Values) c.in-Walk.is ∙ part_view-Walk h.kept c.in-Walk.segments Values in
+    let ns = ap (λ (gs : List Segment). through (segments_meant h.kept gs) h.d h.n) c.deref.ensures.value ∙ through-applied (segments_meant h.kept c.in-Walk.segments.items) h.d h.n in
+    let trees = ap trees_in (c.in_ok-given-in-Walk.ensures.given ∙ ap (λ ms. given_of Values (of_nodes ms)) ns) ∙ sym (ap (λ a. as_trees (argued a h.d h.n)) e) in
+    subst (λ ts. OnOk c.push_given.result (arg_trees c.push_given.new.args ≡ arg_trees c.args.args.now ++ ts)) trees c.push_given.ensures.value
+
+pub push-returns-then-branch-clause-value : goal.push-returns-then-branch-clause-value
+push-returns-then-branch-clause-value g t c =
+    let h = hand c.args.self.now c.args.trail.now c.args.at in
+    let k = c.in-Constant.number in
+    let e = ap (λ p. part_view h.kept p Values) c.in-Constant.is ∙ part_view-Constant h.kept k Values in
+    let keeps = c.in_ok-keep-in-Constant.ensures in
+    let trees = kept_trees h.kept k h.d h.n c.args.self.now.plan.now.rooted (keeps.fits c.if-branch.true) ∙ sym (ap (λ a. as_trees (argued a h.d h.n)) e) in
+    subst (λ ts. OnOk c.push_kept.result (arg_trees c.push_kept.new.args ≡ arg_trees c.args.args.now ++ ts)) trees (c.push_kept.ensures.value _ (keeps.kept c.if-branch.true))
+
+pub push-push_one-requires-in-Lookup : goal.push-push_one-requires-in-Lookup
+push-push_one-requires-in-Lookup g t c κs within =
     let kept = kept_of c.args.self.now in
-    let e = kept_query kept c.args.number c.args.wanted _ c.in-Some.ensures.part in
-    let root = at_root (ap (λ w. w.steps.items) c.replace-here.ensures.after ∙ c.new-root.ensures) c.requires in
-    (omega (arith, c.decreases, ap (segments_effort big) e), (within, root))
+    let e = λ (w : Wanted). ap (λ p. part_view kept p w) c.in-Lookup.is ∙ part_view-Lookup kept _ w in
+    (omega (arith, c.decreases), (within, (c.requires, one_as kept _ _ (e Values) (e Sole) (steps_alone c.in-Lookup._steps.items))))
 
-pub keep_nodes-keep-requires : goal.keep_nodes-keep-requires
-keep_nodes-keep-requires g t c = subst (λ k. c.args.number < k) (sym c.in-Ok.ensures.comes.back.ready.room) c.in-Some.ensures.within
-
-pub keep_nodes-keep_halt-requires : goal.keep_nodes-keep_halt-requires
-keep_nodes-keep_halt-requires g t c = subst (λ k. c.args.number < k) (sym c.in-Err.ensures.comes.ready.room) c.in-Some.ensures.within
-
-pub keep_nodes-returns-in_default-clause-none : goal.keep_nodes-returns-in_default-clause-none
-keep_nodes-returns-in_default-clause-none g t c = λ is. c.in_default.ensures.none
-
-pub keep_nodes-returns-then-branch-clause-kept : goal.keep_nodes-returns-then-branch-clause-kept
-keep_nodes-returns-then-branch-clause-kept g t c = λ is.
-    let kept = kept_of c.args.self.now in
-    let d = document c.args.self.now in
-    let q = c.in-Some.ensures.part in
-    c.in_ok-has.ensures.given kept d c.requires c.if-branch.true ∙ ap (λ p. Some (given_by p d)) q ∙ ap (λ x. Some (given_of c.args.wanted (of_nodes (nodelist x d)))) (sym (kept_query kept c.args.number c.args.wanted _ q))
-
-pub keep_nodes-returns-then-branch-clause-comes : goal.keep_nodes-returns-then-branch-clause-comes
-keep_nodes-returns-then-branch-clause-comes g t c = record { back = stays c.requires; ready = tt; halts = tt }
-
-pub keep_nodes-returns-in-Ok-clause-kept : goal.keep_nodes-returns-in-Ok-clause-kept
-keep_nodes-returns-in-Ok-clause-kept g t c = λ is.
-    let kept = kept_of c.args.self.now in
-    let d = document c.args.self.now in
-    let gs = segments_meant kept c.in-Some.segments.now in
-    let at = λ (q : List StepRef). through gs d (node_of q c.args.self.now.root) in
-    let all = ap at (ap (λ w. w.steps.items) c.replace-here.ensures.after ∙ c.new-root.ensures) ∙ nodelist-through gs d ∙ ap (λ q. nodelist q d) (sym (kept_query kept c.args.number c.args.wanted _ c.in-Some.ensures.part)) in
-    c.keep.ensures.value ∙ ap Some (c.in-Ok.ensures.given ∙ ap (λ ns. given_of c.args.wanted (of_nodes ns)) all)
-
-pub keep_nodes-returns-in-Ok-clause-comes : goal.keep_nodes-returns-in-Ok-clause-comes
-keep_nodes-returns-in-Ok-clause-comes g t c =
-    let kept = kept_of c.args.self.now in
-    let d = document c.args.self.now in
-    let gs = segments_meant kept c.in-Some.segments.now in
-    let part = plan.part_at kept c.args.number in
-    let at = λ (q : List StepRef). through gs d (node_of q c.args.self.now.root) in
-    let all = ap at (ap (λ w. w.steps.items) c.replace-here.ensures.after ∙ c.new-root.ensures) ∙ nodelist-through gs d in
-    let same = c.in-Ok.ensures.given ∙ ap (λ ns. given_of c.args.wanted (of_nodes ns)) all ∙ sym (ap (λ p. given_by p d) c.in-Some.ensures.part) in
-    let given = subst (λ x. IsGiven x part d) (sym same) (given_right part d) in
-    record { back = record { same = ap (λ w. w.steps.items) c.replace-here.ensures.value; ready = c.keep.ensures.right kept d given c.in-Ok.ensures.comes.back.ready }; ready = tt; halts = tt }
-
-pub keep_nodes-returns-in-Err-clause-comes : goal.keep_nodes-returns-in-Err-clause-comes
-keep_nodes-returns-in-Err-clause-comes g t c =
-    let kept = kept_of c.args.self.now in
-    let d = document c.args.self.now in
-    let comes = c.in-Err.ensures.comes in
-    let query = kept_query kept c.args.number c.args.wanted _ c.in-Some.ensures.part in
-    let halt = subst (λ p. IsHalt c.args.self.now.limit (part_patterns p) d c.in-Err.halt) (sym c.in-Some.ensures.part) comes.halts in
-    let why = subst (λ q. IsHalt c.args.self.now.limit (segments_patterns q) d c.in-Err.halt) (sym query) comes.halts in
-    record {
-      back = tt;
-      ready = c.keep_halt.ensures.right kept d c.args.self.now.limit halt comes.ready;
-      halts = subst (λ h. IsHalt c.args.self.now.limit (segments_patterns (query_at kept c.args.wanted c.args.number)) d h) (sym c.keep_halt.ensures.same) why;
-    }
-
-pub keep_nodes-returns-in_err-has-clause-comes : goal.keep_nodes-returns-in_err-has-clause-comes
-keep_nodes-returns-in_err-has-clause-comes g t c =
-    let kept = kept_of c.args.self.now in
-    let d = document c.args.self.now in
-    let part = c.in-Some.ensures.part in
-    let query = kept_query kept c.args.number c.args.wanted _ part in
-    let why = c.in_err-has.ensures.refused kept d c.args.self.now.limit c.requires in
-    comes_halt _ _ c.from_residual.ensures.1 c.requires why (λ h. asked_as segments_patterns _ _ query (subst (λ p. AsksPattern (part_patterns p) d) part h))
+pub push_one-returns-clause-comes : goal.push_one-returns-clause-comes
+push_one-returns-clause-comes g t c =
+    let back = c.in_ok-value.ensures.comes.back in
+    comes_paid _ (record { same = back.same; ready = back.ready }) c.push_value.ensures.halts
 
 -- ---- constants
 
-pub constant_answer-answer-requires : goal.constant_answer-answer-requires
-constant_answer-answer-requires g t c κs within =
-    let big = size (tree_of c.args.self.now.root) in
-    let e = ap call_in c.in-Some.ensures.part in
-    let root = at_root (ap (λ w. w.steps.items) c.replace-here.ensures.after ∙ c.new-root.ensures) c.requires in
-    (omega (arith, c.decreases, sym (ap (call_effort big) e)), (within, root))
-
-pub constant_answer-keep-requires : goal.constant_answer-keep-requires
-constant_answer-keep-requires g t c = subst (λ k. c.args.number < k) (sym c.in_ok-given.ensures.comes.back.ready.room) c.in-Some.ensures.within
-
-pub constant_answer-returns-in_default-clause-value : goal.constant_answer-returns-in_default-clause-value
-constant_answer-returns-in_default-clause-value g t c = λ n.
-    let d = document c.args.self.now in
-    sym (ap (λ f. answer f d n) c.in_default.ensures.none)
-
-pub constant_answer-returns-in-Some-2-clause-value : goal.constant_answer-returns-in-Some-2-clause-value
-constant_answer-returns-in-Some-2-clause-value g t c = λ n.
+pub keep-returns-in_err-has-clause-comes : goal.keep-returns-in_err-has-clause-comes
+keep-returns-in_err-has-clause-comes g t c =
     let kept = kept_of c.args.self.now in
     let d = document c.args.self.now in
-    of_some (λ v. operand_tree v ≡ value_by (plan.part_at kept c.args.number) d) _ _ c.in-Some-2.is c.in_ok-value.ensures.value ∙ ap (λ p. value_by p d) c.in-Some.ensures.part ∙ sym (ap (λ p. answer (call_in p) d (root_node d.root)) c.in-Some.ensures.part) ∙ kept_call_same kept c.args.number d (root_node d.root) n c.args.self.now.plan.now.rooted
+    let why = c.in_err-has.ensures.refused kept d c.args.self.now.limit c.requires in
+    comes_halt _ _ c.from_residual.ensures.1 c.requires why (λ h. subst (λ ps. AsksPattern ps d) (sym (fit_patterns c.args.wanted (part_at kept c.args.number) c.in-Some.ensures.fits)) h)
 
-pub constant_answer-returns-clause-value : goal.constant_answer-returns-clause-value
-constant_answer-returns-clause-value g t c = λ n.
+pub keep-returns-in-Ok-clause-comes : goal.keep-returns-in-Ok-clause-comes
+keep-returns-in-Ok-clause-comes g t c =
     let kept = kept_of c.args.self.now in
     let d = document c.args.self.now in
-    let top = ap (λ (q : List StepRef). node_of q c.args.self.now.root) (ap (λ w. w.steps.items) c.replace-here.ensures.after ∙ c.new-root.ensures) in
-    c.in_ok-first.ensures.value ∙ answer_as _ _ d _ (root_node d.root) _ (ap call_in c.in-Some.ensures.part) top c.in_ok-given.ensures.value ∙ kept_call_same kept c.args.number d (root_node d.root) n c.args.self.now.plan.now.rooted
+    let part = part_at kept c.args.number in
+    let same = c.in-Ok.ensures.given ∙ sym (ap (λ p. given_by p d) c.in-Some.ensures.part) in
+    let given = subst (λ x. IsGiven x part d) (sym same) (given_right part d) in
+    record { back = record { same = ap (λ w. w.steps.items) c.replace-here.ensures.value; ready = c.keep.ensures.right kept d given c.in-Ok.ensures.comes.back.ready }; ready = tt; halts = tt }
 
-pub constant_answer-returns-clause-comes : goal.constant_answer-returns-clause-comes
-constant_answer-returns-clause-comes g t c =
+pub keep-returns-in-Err-clause-comes : goal.keep-returns-in-Err-clause-comes
+keep-returns-in-Err-clause-comes g t c =
     let kept = kept_of c.args.self.now in
     let d = document c.args.self.now in
-    let top = ap (λ (q : List StepRef). node_of q c.args.self.now.root) (ap (λ w. w.steps.items) c.replace-here.ensures.after ∙ c.new-root.ensures) in
-    let given = answer_kept _ _ d _ _ c.in-Some.ensures.part top c.in_ok-given.ensures.value in
-    record { back = record { same = ap (λ w. w.steps.items) c.replace-here.ensures.value; ready = c.keep.ensures.right kept d given c.in_ok-given.ensures.comes.back.ready }; ready = tt; halts = tt }
+    let limit = c.args.self.now.limit in
+    let comes = c.in-Err.ensures.comes in
+    let halt = subst (λ p. IsHalt limit (part_patterns p) d c.in-Err.halt) (sym c.in-Some.ensures.part) comes.halts in
+    let why = subst (λ ps. IsHalt limit ps d c.in-Err.halt) (sym (fit_patterns c.args.wanted (part_at kept c.args.number) c.in-Some.ensures.fits)) halt in
+    record {
+      back = tt;
+      ready = c.keep_halt.ensures.right kept d limit halt comes.ready;
+      halts = subst (λ h. IsHalt limit (argument_patterns (argument_at kept c.args.wanted c.args.number)) d h) (sym c.keep_halt.ensures.same) why;
+    }
 
-pub constant_comparison-comparison_holds-requires : goal.constant_comparison-comparison_holds-requires
-constant_comparison-comparison_holds-requires g t c κs within =
-    let big = size (tree_of c.args.self.now.root) in
-    let e = ap comparison_in c.in-Some.ensures.part in
-    let root = at_root (ap (λ w. w.steps.items) c.replace-here.ensures.after ∙ c.new-root.ensures) c.requires in
-    (omega (arith, c.decreases, ap (filter_effort big) e), (within, root))
-
-pub constant_comparison-keep-requires : goal.constant_comparison-keep-requires
-constant_comparison-keep-requires g t c = subst (λ k. c.args.number < k) (sym c.in_ok-held.ensures.comes.back.ready.room) c.in-Some.ensures.within
-
-pub constant_comparison-returns-in_default-clause-holds : goal.constant_comparison-returns-in_default-clause-holds
-constant_comparison-returns-in_default-clause-holds g t c = λ n.
-    let d = document c.args.self.now in
-    sym (ap (λ f. holds f d n) c.in_default.ensures.none)
-
-pub constant_comparison-returns-in-Some-2-clause-holds : goal.constant_comparison-returns-in-Some-2-clause-holds
-constant_comparison-returns-in-Some-2-clause-holds g t c = λ n.
+pub worked_out-returns-in-Nodes-clause-given : goal.worked_out-returns-in-Nodes-clause-given
+worked_out-returns-in-Nodes-clause-given g t c =
     let kept = kept_of c.args.self.now in
     let d = document c.args.self.now in
-    c.is_true.ensures ∙ ap is_true (of_some (λ v. operand_tree v ≡ value_by (plan.part_at kept c.args.number) d) _ _ c.in-Some-2.is c.in_ok-value.ensures.value ∙ ap (λ p. value_by p d) c.in-Some.ensures.part) ∙ sym (ap (λ p. holds (comparison_in p) d (root_node d.root)) c.in-Some.ensures.part) ∙ kept_comparison_same kept c.args.number d (root_node d.root) n c.args.self.now.plan.now.rooted
-
-pub constant_comparison-returns-clause-holds : goal.constant_comparison-returns-clause-holds
-constant_comparison-returns-clause-holds g t c = λ n.
-    let kept = kept_of c.args.self.now in
-    let d = document c.args.self.now in
-    let top = ap (λ (q : List StepRef). node_of q c.args.self.now.root) (ap (λ w. w.steps.items) c.replace-here.ensures.after ∙ c.new-root.ensures) in
-    comparison_as _ _ d _ (root_node d.root) _ (ap comparison_in c.in-Some.ensures.part) top c.in_ok-held.ensures.holds ∙ kept_comparison_same kept c.args.number d (root_node d.root) n c.args.self.now.plan.now.rooted
-
-pub constant_comparison-returns-clause-comes : goal.constant_comparison-returns-clause-comes
-constant_comparison-returns-clause-comes g t c =
-    let kept = kept_of c.args.self.now in
-    let d = document c.args.self.now in
-    let top = ap (λ (q : List StepRef). node_of q c.args.self.now.root) (ap (λ w. w.steps.items) c.replace-here.ensures.after ∙ c.new-root.ensures) in
-    let given = comparison_kept _ _ d _ _ c.in-Some.ensures.part top c.in_ok-held.ensures.holds in
-    record { back = record { same = ap (λ w. w.steps.items) c.replace-here.ensures.value; ready = c.keep.ensures.right kept d given c.in_ok-held.ensures.comes.back.ready }; ready = tt; halts = tt }
+    let gs = segments_meant kept c.deref.result.now in
+    let e = ap (constant_view kept) c.in-Nodes.is in
+    let all = ap (λ (q : List StepRef). through gs d (node_of q c.args.self.now.root)) c.requires.root ∙ nodelist-through gs d ∙ ap (λ (xs : List Segment). nodelist (segments_meant kept xs) d) c.deref.ensures.value in
+    ok_through _ gave _ _ (ap (λ ns. given_of c.in-Nodes.wanted (of_nodes ns)) all ∙ sym (ap (λ p. given_by p d) e)) c.gather.ensures.given

@@ -1,6 +1,6 @@
 use Rattle.std.proofs.Common.{◌+◌, ◌*◌, ◌≡◌, ◌<◌, ◌++◌, drop, map, length, All}
-use Rattle.jsonpath_rust.specs.Prelude.Documents.{all_pick, all_trees, arg_trees, argument_effort, arguments_effort, call_effort, children, each_holds, element, element_nodes, filter_effort, filters_effort, flat_map, member_nodes, places_left, segment_effort, segments_effort, selector_effort, selectors_effort, size, slice_of, some_holds, test_effort, tree_of}
-use Rattle.jsonpath_rust.specs.Prelude.Selection.{acted, action_effort, Any, argument_view, arguments_meant, call_at, call_view, called_view, comparison_at, document, filter_view, filters_meant, kept_of, node_of, nodes_view, Only, query_at, Returns, segment_view, segments_meant, selector_view, selectors_meant, side_view, through, Values}
+use Rattle.jsonpath_rust.specs.Prelude.Documents.{all_pick, all_trees, arg_trees, argument_effort, arguments_effort, call_effort, children, each_holds, element, element_nodes, filter_effort, filters_effort, flat_map, member_nodes, places_left, segment_effort, segments_effort, selector_effort, selectors_effort, size, slice_of, some_holds, tree_of}
+use Rattle.jsonpath_rust.specs.Prelude.Selection.{acted, action_effort, Any, argument_at, arguments_meant, call_view, constant_effort, constant_view, document, filter_view, filters_meant, kept_effort, kept_of, node_of, Sole, part_view, Returns, segment_view, segments_meant, selector_view, selectors_meant, through, Values}
 use Rattle.jsonpath_rust.proofs.laws.selection.{Goes}
 use Rattle.jsonpath_rust.proofs.selection.walk.Task.+walk.Given as goal
 
@@ -51,50 +51,38 @@ decreases-each_holds g l = filters_effort (size (tree_of l.self.now.root)) (filt
 abbrev pub decreases-answer : goal.decreases-answer
 decreases-answer g l = call_effort (size (tree_of l.self.now.root)) (call_view (kept_of l.self.now) l.call.now) + 5 * size (tree_of l.at) + 1
 
-abbrev pub decreases-called : goal.decreases-called
-decreases-called g l = call_effort (size (tree_of l.self.now.root)) (called_view (kept_of l.self.now) l.call.now) + 5 * size (tree_of l.at) + 5 * size (tree_of l.self.now.root) + 6
-
-abbrev pub decreases-constant_answer : goal.decreases-constant_answer
-decreases-constant_answer g l = call_effort (size (tree_of l.self.now.root)) (call_at (kept_of l.self.now) l.number) + 5 * size (tree_of l.self.now.root) + 5
-
-abbrev pub decreases-constant_comparison : goal.decreases-constant_comparison
-decreases-constant_comparison g l = filter_effort (size (tree_of l.self.now.root)) (comparison_at (kept_of l.self.now) l.number) + 1
-
 abbrev pub decreases-match_or_search : goal.decreases-match_or_search
-decreases-match_or_search g l = argument_effort (size (tree_of l.self.now.root)) (argument_view (kept_of l.self.now) l.args.0.now Only) + argument_effort (size (tree_of l.self.now.root)) (argument_view (kept_of l.self.now) l.args.1.now Only) + 5 * size (tree_of l.at) + 4
+decreases-match_or_search g l = argument_effort (size (tree_of l.self.now.root)) (part_view (kept_of l.self.now) l.args.0.now Sole) + argument_effort (size (tree_of l.self.now.root)) (part_view (kept_of l.self.now) l.args.1.now Sole) + 5 * size (tree_of l.at) + 4
 
 abbrev pub decreases-custom : goal.decreases-custom
-decreases-custom g l = arguments_effort (size (tree_of l.self.now.root)) (arguments_meant (kept_of l.self.now) l.args.now) + 5 * size (tree_of l.at) + 4
-
-abbrev pub decreases-push_argument : goal.decreases-push_argument
-decreases-push_argument g l = argument_effort (size (tree_of l.self.now.root)) (argument_view (kept_of l.self.now) l.arg.now Values) + 5 * size (tree_of l.at) + 3
-
-abbrev pub decreases-value : goal.decreases-value
-decreases-value g l = argument_effort (size (tree_of l.self.now.root)) (argument_view (kept_of l.self.now) l.arg.now Only) + 5 * size (tree_of l.at) + 1
+decreases-custom g l = arguments_effort (size (tree_of l.self.now.root)) (arguments_meant (kept_of l.self.now) l.args.now) + 5 * size (tree_of l.at) + 5
 
 abbrev pub decreases-gather : goal.decreases-gather
 decreases-gather g l = segments_effort (size (tree_of l.self.now.root)) (segments_meant (kept_of l.self.now) l.segments.now) + 5 * size (tree_of l.at) + 3
 
-abbrev pub decreases-exists : goal.decreases-exists
-decreases-exists g l = test_effort (size (tree_of l.self.now.root)) (nodes_view (kept_of l.self.now) l.nodes.now Any) + 5 * size (tree_of l.at) + 2
-
 abbrev pub decreases-comparison_holds : goal.decreases-comparison_holds
-decreases-comparison_holds g l = argument_effort (size (tree_of l.self.now.root)) (side_view (kept_of l.self.now) l.comparison.1.now) + argument_effort (size (tree_of l.self.now.root)) (side_view (kept_of l.self.now) l.comparison.2.now) + 5 * size (tree_of l.at) + 5
+decreases-comparison_holds g l = argument_effort (size (tree_of l.self.now.root)) (part_view (kept_of l.self.now) l.comparison.1.now Sole) + argument_effort (size (tree_of l.self.now.root)) (part_view (kept_of l.self.now) l.comparison.2.now Sole) + 5 * size (tree_of l.at) + 5
 
 abbrev pub decreases-walked_compare : goal.decreases-walked_compare
-decreases-walked_compare g l = argument_effort (size (tree_of l.self.now.root)) (side_view (kept_of l.self.now) l.comparison.1.now) + argument_effort (size (tree_of l.self.now.root)) (side_view (kept_of l.self.now) l.comparison.2.now) + 5 * size (tree_of l.at) + 4
+decreases-walked_compare g l = argument_effort (size (tree_of l.self.now.root)) (part_view (kept_of l.self.now) l.comparison.1.now Sole) + argument_effort (size (tree_of l.self.now.root)) (part_view (kept_of l.self.now) l.comparison.2.now Sole) + 5 * size (tree_of l.at) + 4
 
-abbrev pub decreases-side : goal.decreases-side
-decreases-side g l = argument_effort (size (tree_of l.self.now.root)) (side_view (kept_of l.self.now) l.side.now) + 5 * size (tree_of l.at) + 2
+abbrev pub decreases-tests_true : goal.decreases-tests_true
+decreases-tests_true g l = argument_effort (size (tree_of l.self.now.root)) (part_view (kept_of l.self.now) l.part.now Any) + 5 * size (tree_of l.at) + 3
 
-abbrev pub decreases-nodes : goal.decreases-nodes
-decreases-nodes g l = test_effort (size (tree_of l.self.now.root)) (nodes_view (kept_of l.self.now) l.nodes.now l.wanted) + 5 * size (tree_of l.at) + 1
+abbrev pub decreases-value : goal.decreases-value
+decreases-value g l = argument_effort (size (tree_of l.self.now.root)) (part_view (kept_of l.self.now) l.part.now l.wanted) + 5 * size (tree_of l.at) + 2
 
-abbrev pub decreases-push_nodes : goal.decreases-push_nodes
-decreases-push_nodes g l = test_effort (size (tree_of l.self.now.root)) (nodes_view (kept_of l.self.now) l.nodes.now Values) + 5 * size (tree_of l.at) + 2
+abbrev pub decreases-push : goal.decreases-push
+decreases-push g l = argument_effort (size (tree_of l.self.now.root)) (part_view (kept_of l.self.now) l.part.now Values) + 5 * size (tree_of l.at) + 4
 
-abbrev pub decreases-keep_nodes : goal.decreases-keep_nodes
-decreases-keep_nodes g l = segments_effort (size (tree_of l.self.now.root)) (query_at (kept_of l.self.now) l.wanted l.number) + 5 * size (tree_of l.self.now.root) + 6
+abbrev pub decreases-push_one : goal.decreases-push_one
+decreases-push_one g l = argument_effort (size (tree_of l.self.now.root)) (part_view (kept_of l.self.now) l.part.now Values) + 5 * size (tree_of l.at) + 3
+
+abbrev pub decreases-keep : goal.decreases-keep
+decreases-keep g l = kept_effort (size (tree_of l.self.now.root)) (argument_at (kept_of l.self.now) l.wanted l.number)
+
+abbrev pub decreases-worked_out : goal.decreases-worked_out
+decreases-worked_out g l = constant_effort (size (tree_of l.self.now.root)) (constant_view (kept_of l.self.now) l.constant.now)
 
 -- what was given, with what is left, is what all of them give
 abbrev pub invariant-pick_each-loop-selector : goal.invariant-pick_each-loop-selector

@@ -1,23 +1,22 @@
-use Rattle.std.proofs.Common.{List, Some, map, ap, sym, ◌∙◌}
-use Rattle.jsonpath_rust.specs.Prelude.Documents.{answer, as_nodes, count_of, length_call, length_of, relative, SingularQuerySegment, step_view, tested, tree_of, value_call}
-use Rattle.jsonpath_rust.specs.Prelude.Selection.{call_view, children_query, Only}
-use Rattle.jsonpath_rust.proofs.laws.selection.{call_view-CountChildren, call_view-Length, call_view-Value, looked_up, query_count}
+use Rattle.std.proofs.Common.{Some, ap, sym, ◌∙◌}
+use Rattle.jsonpath_rust.specs.Prelude.Documents.{answer, count_call, length_call, length_of, tree_of, value_call}
+use Rattle.jsonpath_rust.specs.Prelude.Selection.{call_view, Sole}
+use Rattle.jsonpath_rust.proofs.laws.selection.{call_view-Count, call_view-Length, call_view-Value, looked_up, query_count}
 use Rattle.jsonpath_rust.proofs.selection.walk.Task.direct_answer.Goals as goal
 
 pub returns-in_ok-direct_length-in-Some-clause-value : goal.returns-in_ok-direct_length-in-Some-clause-value
 returns-in_ok-direct_length-in-Some-clause-value g c = λ kept d n e.
-    let is = ap (call_view kept) c.in-Length.is ∙ call_view-Length kept c.in-Length.arg ∙ ap length_call (c.in-Some.ensures kept Only) in
+    let is = ap (call_view kept) c.in-Length.is ∙ call_view-Length kept c.in-Length.arg ∙ ap length_call (c.in-Some.ensures kept Sole) in
     let found = looked_up c.in-Some.steps.now d n (tree_of c.args.at) e in
     c.in_ok-direct_length-in-Some.ensures.value ∙ sym (ap (λ f. answer f d n) is ∙ ap length_of found)
 
 pub returns-in-Some-lookup_in-clause-value : goal.returns-in-Some-lookup_in-clause-value
 returns-in-Some-lookup_in-clause-value g c = λ kept d n e.
-    let is = ap (call_view kept) c.in-Value.is ∙ call_view-Value kept c.in-Value.arg ∙ ap value_call (c.in-Some-lookup_in.ensures kept Only) in
+    let is = ap (call_view kept) c.in-Value.is ∙ call_view-Value kept c.in-Value.arg ∙ ap value_call (c.in-Some-lookup_in.ensures kept Sole) in
     let found = looked_up c.in-Some-lookup_in.steps.now d n (tree_of c.args.at) e in
     c.lent.ensures ∙ c.value_at.ensures ∙ sym (ap (λ f. answer f d n) is ∙ found)
 
-pub returns-in_ok-count-in-CountChildren-clause-value : goal.returns-in_ok-count-in-CountChildren-clause-value
-returns-in_ok-count-in-CountChildren-clause-value g c = λ kept d n e.
-    let is = ap (call_view kept) c.in-CountChildren.is ∙ call_view-CountChildren kept c.in-CountChildren.steps in
-    let steps = ap (λ (ss : List SingularQuerySegment). children_query (map step_view ss)) c.deref.ensures.value in
-    ap Some c.count_scalar.ensures ∙ query_count _ d n _ (c.in_ok-count-in-CountChildren.ensures.count d n e) ∙ ap (λ q. count_of (as_nodes (tested (relative q) d n))) steps ∙ sym (ap (λ f. answer f d n) is)
+pub returns-in_ok-count-in-Some-children_in-clause-value : goal.returns-in_ok-count-in-Some-children_in-clause-value
+returns-in_ok-count-in-Some-children_in-clause-value g c = λ kept d n e.
+    let is = ap (call_view kept) c.in-Count.is ∙ call_view-Count kept c.in-Count.arg ∙ ap count_call (c.in-Some-children_in.ensures kept) in
+    ap Some c.count_scalar.ensures ∙ query_count _ d n _ (c.in_ok-count-in-Some-children_in.ensures.count d n e) ∙ sym (ap (λ f. answer f d n) is)

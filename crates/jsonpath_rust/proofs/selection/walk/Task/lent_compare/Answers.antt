@@ -1,6 +1,6 @@
 use Rattle.std.proofs.Common.{◌≡◌, ap, ◌∙◌}
 use Rattle.jsonpath_rust.specs.Prelude.Documents.{compares, operator_view, side_tree, value_of}
-use Rattle.jsonpath_rust.specs.Prelude.Selection.{document, kept_of, side_view}
+use Rattle.jsonpath_rust.specs.Prelude.Selection.{document, kept_of, Sole, part_view}
 use Rattle.jsonpath_rust.proofs.laws.selection.{of_some}
 use Rattle.jsonpath_rust.proofs.selection.walk.Task.lent_compare.Goals as goal
 
@@ -9,8 +9,8 @@ returns-clause-holds g c = λ n e.
     let d = document c.args.self.now in
     let op = operator_view c.args.comparison.0 in
     let kept = kept_of c.args.self.now in
-    let left = value_of (side_view kept c.args.comparison.1.now) d n in
-    let right = value_of (side_view kept c.args.comparison.2.now) d n in
+    let left = value_of (part_view kept c.args.comparison.1.now Sole) d n in
+    let right = value_of (part_view kept c.args.comparison.2.now Sole) d n in
     let first = of_some (λ s. side_tree s ≡ left) _ _ c.in-Some.is (c.in_ok-left.ensures.value n e) in
     let second = of_some (λ s. side_tree s ≡ right) _ _ c.in-Some-2.is (c.in_ok-right.ensures.value n e) in
     c.in_ok-held.ensures.holds ∙ ap (λ o. compares op o (side_tree c.in-Some-2.right)) first ∙ ap (compares op left) second

@@ -8,8 +8,8 @@ use Rattle.jsonpath_parser.specs.tree.Syntax as syntax
 use Rattle.jsonpath_parser.specs.tree.View as tree
 use Rattle.jsonpath_parser.proofs.laws.tree.ViewEquations as source
 use Rattle.jsonpath_rust.specs.Prelude.Documents.{Bor, Operator}
-use Rattle.jsonpath_rust.specs.Prelude.Selection.{answered, Any, argument_is_rooted, argument_view, call_in, call_view, compared, every, filter_is_rooted, filter_view, nodes, part_is_rooted, query_in, segment_view, selector_view, Values}
-use Rattle.jsonpath_rust.proofs.laws.selection.{arguments_rooted, filters_rooted, made_around, made_as, made_both, made_end, made_ended, made_here, made_next, made_none, made_start, query_in-nodes}
+use Rattle.jsonpath_rust.specs.Prelude.Selection.{answered, argument_in, argument_is_rooted, asked, call_view, compared, every, filter_is_rooted, filter_view, nodes, Sole, part_is_rooted, part_view, segment_view, selector_view, Values}
+use Rattle.jsonpath_rust.proofs.laws.selection.{argument_in-nodes, arguments_rooted, filters_rooted, made_around, made_as, made_both, made_end, made_ended, made_here, made_next, made_none, made_start}
 use Rattle.jsonpath_rust.proofs.laws.selection.PlanEquations as plan
 use Rattle.jsonpath_parser.specs.declared.tree.model.Comparable.{Comparable}
 use Rattle.jsonpath_rust.proofs.selection.plan.make.Maker.+make.Goals as goal
@@ -53,11 +53,11 @@ filters-returns-clause-made t c =
 
 pub arguments-arguments-init : goal.arguments-arguments-init
 arguments-arguments-init t c =
-    made_start argument_is_rooted (λ kept x. argument_view kept x Values) tree.argument_view _ c.args.arguments.now (search rules)
+    made_start argument_is_rooted (λ kept x. part_view kept x Values) tree.argument_view _ c.args.arguments.now (search rules)
 
 pub arguments-arguments-preserved : goal.arguments-arguments-preserved
 arguments-arguments-preserved t c =
-    made_next (λ kept x. argument_view kept x Values) tree.argument_view _ _ _ c.args.arguments.now c.arguments.argument-index c.argument-item.result c.in_ok-push.ensures.items c.arguments-test.true c.argument-item.is c.arguments.invariant c.in_ok-argument.ensures.made
+    made_next (λ kept x. part_view kept x Values) tree.argument_view _ _ _ c.args.arguments.now c.arguments.argument-index c.argument-item.result c.in_ok-push.ensures.items c.arguments-test.true c.argument-item.is c.arguments.invariant c.in_ok-argument.ensures.made
 
 pub arguments-returns-clause-made : goal.arguments-returns-clause-made
 arguments-returns-clause-made t c =
@@ -120,47 +120,9 @@ pub atom-returns-in-Comparison-clause-made : goal.atom-returns-in-Comparison-cla
 atom-returns-in-Comparison-clause-made t c =
     rw (ap tree.atom_view c.in-Comparison.is ∙ source.atom_view-Comparison c.in-Comparison.comparison ∙ ap tree.comparison_view (sym c.deref-in-Comparison.ensures)) c.comparison.ensures.made
 
-pub test-returns-in-Some-clause-made : goal.test-returns-in-Some-clause-made
-test-returns-in-Some-clause-made t c =
-    made_here c.meet_current.ensures (made_none {test = every} _ _ (λ kept. plan.filter_view-HasChild kept _ _ ∙ ap (λ q. syntax.Filter.test c.args.not (syntax.relative q)) (rw c.in-Some.is at c.in_ok-steps-in-RelQuery.ensures.same)) (ap (syntax.Filter.test c.args.not) (ap tree.test_view c.in-RelQuery.is ∙ source.test_view-RelQuery c.in-RelQuery.segments ∙ ap (λ xs. syntax.relative (tree.segments_of (map tree.segment_view xs))) (sym c.deref.ensures.value))) refl)
-
-pub test-returns-in_ok-nodes-in-RelQuery-clause-made : goal.test-returns-in_ok-nodes-in-RelQuery-clause-made
-test-returns-in_ok-nodes-in-RelQuery-clause-made t c =
-    made_as (syntax.Filter.test c.args.not) _ _ (λ kept. plan.filter_view-Exists kept _ _) (ap (syntax.Filter.test c.args.not) (ap tree.test_view c.in-RelQuery.is ∙ source.test_view-RelQuery c.in-RelQuery.segments ∙ ap (λ xs. syntax.relative (tree.segments_of (map tree.segment_view xs))) (sym c.deref-in-RelQuery.ensures.value))) (λ h. h) (c.in_ok-nodes-in-RelQuery.ensures.made Any)
-
-pub test-returns-in_ok-absolute-in-AbsQuery-clause-made : goal.test-returns-in_ok-absolute-in-AbsQuery-clause-made
-test-returns-in_ok-absolute-in-AbsQuery-clause-made t c =
-    made_as (λ q. syntax.Filter.test c.args.not (syntax.absolute q)) _ _ (λ kept. plan.filter_view-Exists kept _ _ ∙ ap (syntax.Filter.test c.args.not) (plan.nodes_view-Constant kept _ Any)) (ap (syntax.Filter.test c.args.not) (ap tree.test_view c.in-AbsQuery.is ∙ source.test_view-AbsQuery c.in-AbsQuery.query)) (λ h. h) c.in_ok-absolute-in-AbsQuery.ensures.made
-
-pub test-returns-in_ok-call-in-Function-clause-made : goal.test-returns-in_ok-call-in-Function-clause-made
-test-returns-in_ok-call-in-Function-clause-made t c =
-    made_as (λ x. syntax.Filter.test c.args.not (syntax.call x)) _ _ (λ kept. plan.filter_view-Call kept _ _) (ap (syntax.Filter.test c.args.not) (ap tree.test_view c.in-Function.is ∙ source.test_view-Function c.in-Function.function ∙ ap (λ x. syntax.call (tree.call_view x)) (sym c.deref-in-Function.ensures))) (λ h. h) c.in_ok-call-in-Function.ensures.made
-
-pub side-returns-in_ok-try_clone-in-Literal-clause-made : goal.side-returns-in_ok-try_clone-in-Literal-clause-made
-side-returns-in_ok-try_clone-in-Literal-clause-made t c =
-    made_none _ _ (λ kept. plan.side_view-Literal kept _ ∙ ap syntax.literal_argument c.in_ok-try_clone-in-Literal.ensures.same) (ap tree.comparable_view c.in-Literal.is ∙ source.comparable_view-Literal c.in-Literal.literal) refl
-
 pub side-returns-in-SingularQuery-clause-made : goal.side-returns-in-SingularQuery-clause-made
 side-returns-in-SingularQuery-clause-made t c =
     rw (ap tree.comparable_view c.in-SingularQuery.is ∙ source.comparable_view-SingularQuery c.in-SingularQuery.query) c.singular.ensures.made
-
-pub side-returns-in_ok-called-in-Function-clause-made : goal.side-returns-in_ok-called-in-Function-clause-made
-side-returns-in_ok-called-in-Function-clause-made t c =
-    made_as (λ x. syntax.test_argument (syntax.call x)) _ _ (λ kept. plan.side_view-Call kept _) (ap tree.comparable_view c.in-Function.is ∙ source.comparable_view-Function c.in-Function.function) (λ h. h) c.in_ok-called-in-Function.ensures.made
-
-pub relative-returns-in-Some-clause-made : goal.relative-returns-in-Some-clause-made
-relative-returns-in-Some-clause-made t c =
-    λ w. made_here c.meet_current.ensures (made_none {test = every} _ _ (λ kept. plan.nodes_view-Lookup kept _ w ∙ ap (λ gs. syntax.relative (tree.segments_of gs)) (rw c.in-Some.is at c.in_ok-steps.ensures.same)) refl refl)
-
-pub relative-returns-in_ok-segments-in-None-clause-made : goal.relative-returns-in_ok-segments-in-None-clause-made
-relative-returns-in_ok-segments-in-None-clause-made t c = λ w.
-    made_here c.meet_current.ensures (made_as {test = every} (λ gs. syntax.relative (tree.segments_of gs)) _ _ (λ kept. plan.nodes_view-Walk kept _ w) refl (λ h. refl) c.in_ok-segments-in-None.ensures.made)
-
-pub absolute-returns-clause-made : goal.absolute-returns-clause-made
-absolute-returns-clause-made t c =
-    let of_query : tree.query_view c.args.query.now ≡ tree.segments_of (map tree.segment_view c.deref.result.now) = source.query_view-segments c.args.query.now ∙ ap (λ xs. tree.segments_of (map tree.segment_view xs)) (sym c.deref.ensures.value) in
-    let around = made_around {test = every} c.begin-around.ensures c.end_query-nesting.ensures (λ h. (h, refl)) c.in_ok-segments.ensures.made in
-    IfOk-weaker c.number.result _ _ (λ n k. made_as (query_in c.args.wanted) _ _ (λ kept. refl) (sym (query_in-nodes c.args.wanted _)) (λ h. refl) (k.made (made_as (λ gs. nodes c.args.wanted (tree.segments_of gs)) _ _ (λ kept. refl) (ap (nodes c.args.wanted) of_query) (λ h. refl) around) refl)) c.number.ensures.numbered
 
 pub call-returns-in_ok-argument-in-Length-clause-made : goal.call-returns-in_ok-argument-in-Length-clause-made
 call-returns-in_ok-argument-in-Length-clause-made t c =
@@ -169,18 +131,6 @@ call-returns-in_ok-argument-in-Length-clause-made t c =
 pub call-returns-in_ok-argument-in-Value-clause-made : goal.call-returns-in_ok-argument-in-Value-clause-made
 call-returns-in_ok-argument-in-Value-clause-made t c =
     made_as syntax.value_call _ _ (λ kept. plan.call_view-Value kept _) (ap tree.call_view c.in-Value.is ∙ source.call_view-Value c.in-Value.arg) (λ h. h) c.in_ok-argument-in-Value.ensures.made
-
-pub call-returns-in-Count-clause-made : goal.call-returns-in-Count-clause-made
-call-returns-in-Count-clause-made t c =
-    rw (ap tree.call_view c.in-Count.is ∙ source.call_view-Count c.in-Count.arg) c.count.ensures.made
-
-pub count-returns-in-Some-clause-made : goal.count-returns-in-Some-clause-made
-count-returns-in-Some-clause-made t c =
-    made_here c.meet_current.ensures (made_none {test = every} _ _ (λ kept. plan.call_view-CountChildren kept _ ∙ ap syntax.count_call (rw c.in-Some.is at c.in_ok-steps.ensures.same)) refl refl)
-
-pub count-returns-clause-made : goal.count-returns-clause-made
-count-returns-clause-made t c =
-    made_as syntax.count_call _ _ (λ kept. plan.call_view-Count kept _) refl (λ h. h) c.in_ok-argument.ensures.made
 
 pub call-returns-in_ok-pattern-in-Search-clause-made : goal.call-returns-in_ok-pattern-in-Search-clause-made
 call-returns-in_ok-pattern-in-Search-clause-made t c =
@@ -192,31 +142,7 @@ call-returns-in_ok-pattern-in-Match-clause-made t c =
 
 pub call-returns-in_ok-arguments-in-Custom-clause-made : goal.call-returns-in_ok-arguments-in-Custom-clause-made
 call-returns-in_ok-arguments-in-Custom-clause-made t c =
-    made_as (λ xs. syntax.custom_call (string_bytes c.in-Custom.name) (tree.arguments_of xs)) _ _ (λ kept. plan.call_view-Custom kept _ _ ∙ ap (λ s. syntax.custom_call s (tree.arguments_of (map (λ x. x Values) (map (argument_view kept) c.in_ok-arguments-in-Custom.field-0.items)))) (search rules) ∙ ap (λ xs. syntax.custom_call (string_bytes c.in-Custom.name) (tree.arguments_of xs)) (map-map (λ x. x Values) (argument_view kept) _)) (ap tree.call_view c.in-Custom.is ∙ source.call_view-Custom c.in-Custom.name c.in-Custom.args ∙ ap (λ xs. syntax.custom_call (string_bytes c.in-Custom.name) (tree.arguments_of (map tree.argument_view xs))) (sym c.deref-in-Custom.ensures.value)) (λ h. arguments_rooted (map tree.argument_view c.deref-in-Custom.result.now) ∙ h) c.in_ok-arguments-in-Custom.ensures.made
-
-pub argument-returns-in_ok-try_clone-in-Literal-clause-made : goal.argument-returns-in_ok-try_clone-in-Literal-clause-made
-argument-returns-in_ok-try_clone-in-Literal-clause-made t c =
-    made_none _ _ (λ kept. plan.argument_view-Literal kept _ c.args.wanted ∙ ap syntax.literal_argument c.in_ok-try_clone-in-Literal.ensures.same) (ap tree.argument_view c.in-Literal.is ∙ source.argument_view-Literal c.in-Literal.literal) refl
-
-pub argument-returns-in_ok-filter-in-Filter-clause-made : goal.argument-returns-in_ok-filter-in-Filter-clause-made
-argument-returns-in_ok-filter-in-Filter-clause-made t c =
-    made_as syntax.filter_argument _ _ (λ kept. plan.argument_view-Filter kept _ c.args.wanted) (ap tree.argument_view c.in-Filter.is ∙ source.argument_view-Filter c.in-Filter.filter) (λ h. h) c.in_ok-filter-in-Filter.ensures.made
-
-pub argument-returns-in-Test-clause-made : goal.argument-returns-in-Test-clause-made
-argument-returns-in-Test-clause-made t c =
-    rw (ap tree.argument_view c.in-Test.is ∙ source.argument_view-Test c.in-Test.test ∙ ap (λ x. syntax.test_argument (tree.test_view x)) (sym c.deref.ensures)) c.test_argument.ensures.made
-
-pub test_argument-returns-in_ok-relative-in-RelQuery-clause-made : goal.test_argument-returns-in_ok-relative-in-RelQuery-clause-made
-test_argument-returns-in_ok-relative-in-RelQuery-clause-made t c =
-    made_as syntax.test_argument _ _ (λ kept. plan.argument_view-Nodes kept _ c.args.wanted) (ap syntax.test_argument (ap tree.test_view c.in-RelQuery.is ∙ source.test_view-RelQuery c.in-RelQuery.segments ∙ ap (λ xs. syntax.relative (tree.segments_of (map tree.segment_view xs))) (sym c.deref.ensures.value))) (λ h. h) (c.in_ok-relative-in-RelQuery.ensures.made c.args.wanted)
-
-pub test_argument-returns-in_ok-number-in-AbsQuery-clause-made : goal.test_argument-returns-in_ok-number-in-AbsQuery-clause-made
-test_argument-returns-in_ok-number-in-AbsQuery-clause-made t c =
-    made_as (λ q. syntax.test_argument (syntax.absolute q)) _ _ (λ kept. plan.argument_view-Nodes kept _ c.args.wanted ∙ ap syntax.test_argument (plan.nodes_view-Constant kept _ c.args.wanted)) (ap syntax.test_argument (ap tree.test_view c.in-AbsQuery.is ∙ source.test_view-AbsQuery c.in-AbsQuery.query)) (λ h. h) c.in_ok-number-in-AbsQuery.ensures.made
-
-pub test_argument-returns-in_ok-called-in-Function-clause-made : goal.test_argument-returns-in_ok-called-in-Function-clause-made
-test_argument-returns-in_ok-called-in-Function-clause-made t c =
-    made_as (λ x. syntax.test_argument (syntax.call x)) _ _ (λ kept. plan.argument_view-Call kept _ c.args.wanted) (ap syntax.test_argument (ap tree.test_view c.in-Function.is ∙ source.test_view-Function c.in-Function.function ∙ ap (λ x. syntax.call (tree.call_view x)) (sym c.deref-in-Function.ensures))) (λ h. h) c.in_ok-called-in-Function.ensures.made
+    made_as (λ xs. syntax.custom_call (string_bytes c.in-Custom.name) (tree.arguments_of xs)) _ _ (λ kept. plan.call_view-Custom kept _ _ ∙ ap (λ s. syntax.custom_call s (tree.arguments_of (map (λ x. x Values) (map (part_view kept) c.in_ok-arguments-in-Custom.field-0.items)))) (search rules) ∙ ap (λ xs. syntax.custom_call (string_bytes c.in-Custom.name) (tree.arguments_of xs)) (map-map (λ x. x Values) (part_view kept) _)) (ap tree.call_view c.in-Custom.is ∙ source.call_view-Custom c.in-Custom.name c.in-Custom.args ∙ ap (λ xs. syntax.custom_call (string_bytes c.in-Custom.name) (tree.arguments_of (map tree.argument_view xs))) (sym c.deref-in-Custom.ensures.value)) (λ h. arguments_rooted (map tree.argument_view c.deref-in-Custom.result.now) ∙ h) c.in_ok-arguments-in-Custom.ensures.made
 
 pub pattern-returns-in-Literal-clause-made : goal.pattern-returns-in-Literal-clause-made
 pattern-returns-in-Literal-clause-made t c =
@@ -237,12 +163,68 @@ comparison-returns-clause-made t c =
     let sides = made_both {test = part_is_rooted} (λ a b. compared (syntax.compare (tree.operator_view p.0) a b)) _ _ (λ kept. refl) refl (and_from _ _) c.in_ok-side.ensures.made c.in_ok-side-2.ensures.made in
     rw same (IfOk-weaker c.compare.result _ _ (λ f k. k.made c.begin-around.ensures sides) c.compare.ensures.made)
 
+pub test-returns-clause-made : goal.test-returns-clause-made
+test-returns-clause-made t c =
+    made_as (asked c.args.not) _ _ (λ kept. plan.filter_view-Test kept _ _) refl (λ h. h) c.in_ok-part.ensures.made
+
+pub side-returns-in_ok-try_clone-in-Literal-clause-made : goal.side-returns-in_ok-try_clone-in-Literal-clause-made
+side-returns-in_ok-try_clone-in-Literal-clause-made t c =
+    made_none _ _ (λ kept. plan.part_view-Literal kept _ Sole ∙ ap syntax.literal_argument c.in_ok-try_clone-in-Literal.ensures.same) (ap tree.comparable_view c.in-Literal.is ∙ source.comparable_view-Literal c.in-Literal.literal) refl
+
+pub side-returns-in-Function-clause-made : goal.side-returns-in-Function-clause-made
+side-returns-in-Function-clause-made t c =
+    rw (ap tree.comparable_view c.in-Function.is ∙ source.comparable_view-Function c.in-Function.function) (c.called.ensures.made Sole)
+
+pub relative-returns-in-Some-clause-made : goal.relative-returns-in-Some-clause-made
+relative-returns-in-Some-clause-made t c =
+    made_here c.meet_current.ensures (made_none {test = every} _ _ (λ kept. rw c.in-Some.is at (c.in_ok-part.ensures.same kept)) refl refl)
+
+pub relative-returns-clause-made : goal.relative-returns-clause-made
+relative-returns-clause-made t c =
+    made_here c.meet_current.ensures (made_as {test = every} (λ gs. syntax.test_argument (syntax.relative (tree.segments_of gs))) _ _ (λ kept. plan.part_view-Walk kept _ c.args.wanted) refl (λ h. refl) c.in_ok-segments.ensures.made)
+
+pub absolute-returns-clause-made : goal.absolute-returns-clause-made
+absolute-returns-clause-made t c =
+    let w = c.args.wanted in
+    let of_query : tree.query_view c.args.query.now ≡ tree.segments_of (map tree.segment_view c.deref.result.now) = source.query_view-segments c.args.query.now ∙ ap (λ xs. tree.segments_of (map tree.segment_view xs)) (sym c.deref.ensures.value) in
+    let around = made_around {test = every} c.begin-around.ensures c.end_query-nesting.ensures (λ h. (h, refl)) c.in_ok-segments.ensures.made in
+    let part = c.in_ok-number.ensures.numbered.made (made_as (λ gs. nodes w (tree.segments_of gs)) _ _ (λ kept. refl) (ap (nodes w) of_query) (λ h. refl) around) refl in
+    made_as (argument_in w) _ _ (λ kept. plan.part_view-Constant kept _ w) (sym (argument_in-nodes w _)) (λ h. refl) part
+
+pub argument-returns-in_ok-try_clone-in-Literal-clause-made : goal.argument-returns-in_ok-try_clone-in-Literal-clause-made
+argument-returns-in_ok-try_clone-in-Literal-clause-made t c =
+    made_none _ _ (λ kept. plan.part_view-Literal kept _ c.args.wanted ∙ ap syntax.literal_argument c.in_ok-try_clone-in-Literal.ensures.same) (ap tree.argument_view c.in-Literal.is ∙ source.argument_view-Literal c.in-Literal.literal) refl
+
+pub argument-returns-in_ok-new-in-Filter-clause-made : goal.argument-returns-in_ok-new-in-Filter-clause-made
+argument-returns-in_ok-new-in-Filter-clause-made t c =
+    made_as syntax.filter_argument _ _ (λ kept. plan.part_view-Filter kept _ c.args.wanted ∙ ap (λ f. syntax.filter_argument (filter_view kept f)) (search rules)) (ap tree.argument_view c.in-Filter.is ∙ source.argument_view-Filter c.in-Filter.filter) (λ h. h) c.in_ok-inner-in-Filter.ensures.made
+
+pub argument-returns-in-Test-clause-made : goal.argument-returns-in-Test-clause-made
+argument-returns-in-Test-clause-made t c =
+    rw (ap tree.argument_view c.in-Test.is ∙ source.argument_view-Test c.in-Test.test ∙ ap (λ x. syntax.test_argument (tree.test_view x)) (sym c.deref.ensures)) c.test_part.ensures.made
+
+pub test_part-returns-in-RelQuery-clause-made : goal.test_part-returns-in-RelQuery-clause-made
+test_part-returns-in-RelQuery-clause-made t c =
+    rw (ap tree.test_view c.in-RelQuery.is ∙ source.test_view-RelQuery c.in-RelQuery.segments ∙ ap (λ xs. syntax.relative (tree.segments_of (map tree.segment_view xs))) (sym c.deref.ensures.value)) c.relative.ensures.made
+
+pub test_part-returns-in-AbsQuery-clause-made : goal.test_part-returns-in-AbsQuery-clause-made
+test_part-returns-in-AbsQuery-clause-made t c =
+    rw (ap tree.test_view c.in-AbsQuery.is ∙ source.test_view-AbsQuery c.in-AbsQuery.query) c.absolute.ensures.made
+
+pub test_part-returns-in-Function-clause-made : goal.test_part-returns-in-Function-clause-made
+test_part-returns-in-Function-clause-made t c =
+    rw (ap tree.test_view c.in-Function.is ∙ source.test_view-Function c.in-Function.function ∙ ap (λ x. syntax.call (tree.call_view x)) (sym c.deref-in-Function.ensures)) (c.called.ensures.made c.args.wanted)
+
+pub call-returns-in_ok-argument-in-Count-clause-made : goal.call-returns-in_ok-argument-in-Count-clause-made
+call-returns-in_ok-argument-in-Count-clause-made t c =
+    made_as syntax.count_call _ _ (λ kept. plan.call_view-Count kept _) (ap tree.call_view c.in-Count.is ∙ source.call_view-Count c.in-Count.arg) (λ h. h) c.in_ok-argument-in-Count.ensures.made
+
 pub called-returns-then-end-clause-made : goal.called-returns-then-end-clause-made
-called-returns-then-end-clause-made t c =
+called-returns-then-end-clause-made t c = λ w.
     let made = made_ended c.begin-around.ensures c.end.ensures.beside c.in_ok-made.ensures.made in
     let part = made_as {test = part_is_rooted} answered _ _ (λ kept. refl) refl (λ h. h) made in
-    made_as call_in _ _ (λ kept. plan.called_view-Constant kept _) refl (λ h. h) (c.in_ok-number.ensures.numbered.made part (c.in_ok-made.ensures.made.rooted (sym c.end.ensures.rooted ∙ c.if-end.true)).1)
+    made_as (argument_in w) _ _ (λ kept. plan.part_view-Constant kept _ w) refl (λ h. h) (c.in_ok-number.ensures.numbered.made part (c.in_ok-made.ensures.made.rooted (sym c.end.ensures.rooted ∙ c.if-end.true)).1)
 
 pub called-returns-clause-made : goal.called-returns-clause-made
-called-returns-clause-made t c =
-    made_as (λ x. x) _ _ (λ kept. plan.called_view-Here kept _ ∙ ap (call_view kept) (search rules)) refl (λ h. h) (made_ended c.begin-around.ensures c.end.ensures.beside c.in_ok-made.ensures.made)
+called-returns-clause-made t c = λ w.
+    made_as (λ x. syntax.test_argument (syntax.call x)) _ _ (λ kept. plan.part_view-Call kept _ w ∙ ap (λ x. syntax.test_argument (syntax.call (call_view kept x))) (search rules)) refl (λ h. h) (made_ended c.begin-around.ensures c.end.ensures.beside c.in_ok-made.ensures.made)

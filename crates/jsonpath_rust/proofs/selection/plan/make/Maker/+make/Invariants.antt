@@ -1,6 +1,6 @@
 use Rattle.std.proofs.Common.{map, take}
 use Rattle.jsonpath_rust.specs.Prelude.Documents.{list_all}
-use Rattle.jsonpath_rust.specs.Prelude.Selection.{argument_is_rooted, argument_view, every, filter_is_rooted, filter_view, Made, segment_view, selector_view, Values}
+use Rattle.jsonpath_rust.specs.Prelude.Selection.{argument_is_rooted, every, filter_is_rooted, filter_view, Made, part_view, segment_view, selector_view, Values}
 use Rattle.jsonpath_parser.specs.tree.View as tree
 use Rattle.jsonpath_rust.proofs.selection.plan.make.Maker.+make.Given as goal
 
@@ -14,4 +14,4 @@ abbrev pub invariant-filters-filters : goal.invariant-filters-filters
 invariant-filters-filters l = Made (list_all filter_is_rooted) l.initial.self l.self (λ kept. map (filter_view kept) l.parts.items) (map tree.filter_view (take l.filter-index l.filters))
 
 abbrev pub invariant-arguments-arguments : goal.invariant-arguments-arguments
-invariant-arguments-arguments l = Made (list_all argument_is_rooted) l.initial.self l.self (λ kept. map (λ a. argument_view kept a Values) l.parts.items) (map tree.argument_view (take l.argument-index l.arguments))
+invariant-arguments-arguments l = Made (list_all argument_is_rooted) l.initial.self l.self (λ kept. map (λ a. part_view kept a Values) l.parts.items) (map tree.argument_view (take l.argument-index l.arguments))

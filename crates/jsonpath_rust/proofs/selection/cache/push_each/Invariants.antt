@@ -1,6 +1,6 @@
 use Rattle.std.proofs.Common.{◌≡◌, ◌++◌, map, drop}
 use Rattle.jsonpath_rust.specs.Prelude.Documents.{arg_trees}
-use Rattle.jsonpath_rust.proofs.selection.cache.Given.push_to.Given as goal
+use Rattle.jsonpath_rust.proofs.selection.cache.push_each.Given as goal
 
 -- the arguments so far, with the values that are left
 abbrev pub invariant-loop-value : goal.invariant-loop-value
