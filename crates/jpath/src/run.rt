@@ -117,7 +117,10 @@ fn document_of(alloc: Global, bytes: &[u8]) -> Result<Whole<Value>, Fault>
             Fault::NotJson
         }),
     };
-    Whole::new(value).map_err(|_| Fault::NotWhole)
+    match Whole::new(value) {
+        Ok(document) => Ok(document),
+        Err(_) => Err(Fault::NotWhole),
+    }
 }
 
 /// Writes all bytes, and flushes once.

@@ -3,8 +3,8 @@ use Rattle.std.specs.Prelude.{◌≡◌, ℕ, List, Some, None, ⊤, IsFalse}
 use Rattle.serde_json.specs.Data.{Data}
 use Rattle.serde_json.specs.Read.{read as read_text}
 use Rattle.jsonpath_base.specs.Values.{has_whole_numbers}
-use Rattle.jsonpath_rust.specs.declared.whole.read.ReadError.{ReadError}
-use Rattle.jsonpath_rust.specs.declared.whole.read.ReadError.TheVariants.{NotJson, NotWhole, Memory}
+use Rattle.jsonpath_rust.specs.declared.checked.read.ReadError.{ReadError}
+use Rattle.jsonpath_rust.specs.declared.checked.read.ReadError.TheVariants.{NotJson, NotWhole, Memory}
 
 -- `serde_json` reads what holds a number that is no whole number of 64 bits
 pub record ReadsNotWhole (text : List ℕ) : Type 0 where

@@ -9,10 +9,10 @@ pub mod halt;
 mod lending;
 mod node;
 pub mod nodes;
+pub mod operand;
 pub mod queryable;
 mod reference;
 mod refusal;
-pub mod value;
 pub mod whole;
 
 pub use crate::documents::node::{QueryPath, QueryRef};

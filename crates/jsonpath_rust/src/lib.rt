@@ -2,17 +2,18 @@
 //!
 //! `documents` has what a document is, and what a query means of it. Two evaluators work that out:
 //! `selection` walks to the nodes of a query, and `states` evaluates each part of a query by
-//! itself. `query` and `json_path` have the calls, and `whole` those of a document that was checked
+//! itself. `query` and `json_path` have the calls, and `checked` those of a document that was checked
 //! once.
 #![tactic(auto)]
 
+mod checked;
 mod documents;
 mod json_path;
 pub mod query;
 mod selection;
 mod states;
-mod whole;
 
+pub use crate::checked::ReadError;
 pub use crate::documents::whole::{Whole, WholeRef};
 pub use crate::json_path::JsonPath;
 pub use crate::query::queryable::{Deletable, Queryable};
@@ -20,7 +21,6 @@ pub use crate::query::{
     Condition, ConditionRunner, Limits, Only, Prepared, PreparedRef, Runner, Step, Stop, Units,
     Unlimited,
 };
-pub use crate::whole::ReadError;
 pub use jsonpath_build as build;
 pub use jsonpath_parser as parser;
 pub use jsonpath_parser::errors::JsonPathError;

@@ -2,14 +2,15 @@
 //! What a query means stands in `documents`.
 //!
 //! A query is compiled to a plan (`plan`), once. The walk (`walk`, `children`) goes by the plan;
-//! inside filters (`filter`, `function`) it works out their parts (`part`): it looks up names and
-//! indexes (`singular`, `sides`, `counting`, `direct`), walks from the node at hand, or takes what is
-//! kept of the root (`cache`, `keeping`, `early`) and of patterns (`engine` of `jsonpath_base`). The nodes go to a
-//! sink (`sink`) with the way that leads to them (`Way` there).
+//! inside filters (`filter`, `call`) it works out their parts (`part`): it looks up names and
+//! indexes (`lookup`, `sides`, `counting`, `direct`), walks from the node at hand, or takes what is
+//! kept of the root (`cache`, `keeping`, `early`) and of patterns (`engine` of `jsonpath_base`). The
+//! nodes go to a sink (`sink`) with the way that leads to them (`Way` there).
 mod action;
 mod arguments;
 mod budget;
 mod cache;
+mod call;
 mod children;
 mod condition;
 mod cost;
@@ -18,10 +19,10 @@ mod deciding;
 mod direct;
 mod early;
 mod filter;
-mod function;
 mod give;
 mod keeping;
 mod limits;
+mod lookup;
 mod only;
 mod onward;
 mod part;
@@ -30,7 +31,6 @@ mod planned;
 mod prepared;
 mod runner;
 mod sides;
-mod singular;
 mod singular_test;
 mod sink;
 mod stop;

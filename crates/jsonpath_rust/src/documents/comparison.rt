@@ -2,8 +2,8 @@
 ghost use Rattle.std.specs.Prelude.{◌≡◌};
 ghost use Rattle.jsonpath_rust.specs.Prelude.Documents.{are_equal, compares, is_below, operator_view, same, scalar_tree, side_tree, tree_of};
 
+use crate::documents::operand::{Scalar, Side};
 use crate::documents::queryable::Queryable;
-use crate::documents::value::{Scalar, Side};
 use crate::documents::whole::{Whole, WholeRef};
 use jsonpath_base::text_less;
 use jsonpath_parser::model::Operator;

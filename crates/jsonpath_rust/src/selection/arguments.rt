@@ -5,8 +5,8 @@ ghost use Rattle.jsonpath_rust.specs.Prelude.Selection.{document, Gave, gave, Is
 
 use crate::documents::args::Args;
 use crate::documents::halt::Walked;
+use crate::documents::operand::Operand;
 use crate::documents::queryable::Queryable;
-use crate::documents::value::Operand;
 use crate::selection::budget::Budget;
 use crate::selection::cache::{Cache, Given};
 use crate::selection::walk::Task;

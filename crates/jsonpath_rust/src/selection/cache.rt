@@ -6,8 +6,8 @@ ghost use Rattle.jsonpath_rust.specs.Prelude.Selection.{AreEmpty, Constants, gav
 use crate::documents::args::Args;
 use crate::documents::halt::{Halt, Walked};
 use crate::documents::nodes::WholeValues;
+use crate::documents::operand::{Operand, Side};
 use crate::documents::queryable::Queryable;
-use crate::documents::value::{Operand, Side};
 use crate::documents::whole::WholeRef;
 use std::alloc::{AllocError, Global};
 

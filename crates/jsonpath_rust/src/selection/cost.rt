@@ -7,8 +7,8 @@ ghost use Rattle.jsonpath_rust.specs.Prelude.Selection.{compared_cost, cost, ele
 use crate::documents::args::Args;
 use crate::documents::halt::Walked;
 use crate::documents::nodes::{WholeElements, WholeMembers};
+use crate::documents::operand::{Operand, Side};
 use crate::documents::queryable::Queryable;
-use crate::documents::value::{Operand, Side};
 use crate::documents::whole::WholeRef;
 use crate::selection::budget::{Budget, Limit};
 use crate::selection::sink::Sink;

@@ -7,7 +7,7 @@ use crate::documents::halt::Walked;
 use crate::documents::queryable::Queryable;
 use crate::documents::whole::WholeRef;
 use crate::selection::budget::Budget;
-use crate::selection::singular::value_at;
+use crate::selection::lookup::value_at;
 use crate::selection::walk::Task;
 use jsonpath_parser::model::SingularQuerySegment;
 

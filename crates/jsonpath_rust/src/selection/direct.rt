@@ -7,12 +7,12 @@ ghost use Rattle.jsonpath_rust.specs.documents.Functions as functions;
 ghost use Rattle.jsonpath_rust.specs.documents.inner.Singular as singular;
 
 use crate::documents::halt::Walked;
+use crate::documents::operand::{Side, count_scalar, length_of};
 use crate::documents::queryable::Queryable;
-use crate::documents::value::{Side, count_scalar, length_of};
 use crate::documents::whole::WholeRef;
 use crate::selection::budget::Budget;
+use crate::selection::lookup::value_at;
 use crate::selection::plan::{Call, Part};
-use crate::selection::singular::value_at;
 use crate::selection::walk::Task;
 use jsonpath_parser::model::SingularQuerySegment;
 

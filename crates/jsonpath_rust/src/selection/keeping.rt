@@ -4,8 +4,8 @@ ghost use Rattle.jsonpath_rust.specs.Prelude.Documents.{absolute, argument_patte
 ghost use Rattle.jsonpath_rust.specs.Prelude.Selection.{argument_at, Comes, constant_view, document, fits, gave, given_by, given_value, IsHalt, IsReady, kept_of, part_at, part_patterns, slot_at, slots_of, StandsAt};
 
 use crate::documents::halt::Walked;
+use crate::documents::operand::{Operand, Scalar, Side};
 use crate::documents::queryable::Queryable;
-use crate::documents::value::{Operand, Scalar, Side};
 use crate::selection::budget::Budget;
 use crate::selection::cache::{Cache, Given};
 use crate::selection::plan::Constant;

@@ -5,12 +5,12 @@ ghost use Rattle.jsonpath_rust.specs.Prelude.Selection.{Comes, gave, given_of, h
 
 use crate::documents::args::Args;
 use crate::documents::halt::Walked;
+use crate::documents::operand::{Operand, Scalar, Side, scalar_of};
 use crate::documents::queryable::Queryable;
-use crate::documents::value::{Operand, Scalar, Side, scalar_of};
 use crate::documents::whole::WholeRef;
 use crate::selection::cache::Given;
+use crate::selection::lookup::value_at;
 use crate::selection::plan::{Part, Segment};
-use crate::selection::singular::value_at;
 use crate::selection::sink::{Sink, Wanted};
 use crate::selection::trail::Trail;
 use crate::selection::walk::Task;

@@ -5,14 +5,14 @@ ghost use Rattle.jsonpath_rust.specs.Prelude.Selection.{argument_at, document, I
 
 use crate::documents::comparison::compares;
 use crate::documents::halt::Walked;
+use crate::documents::operand::{Scalar, Side, scalar_of};
 use crate::documents::queryable::Queryable;
-use crate::documents::value::{Scalar, Side, scalar_of};
 use crate::documents::whole::WholeRef;
 use crate::selection::budget::Budget;
 use crate::selection::cache::{Cache, Given};
 use crate::selection::direct::is_direct;
+use crate::selection::lookup::value_at;
 use crate::selection::plan::{Comparison, Part};
-use crate::selection::singular::value_at;
 use crate::selection::sink::Wanted;
 use crate::selection::walk::Task;
 use jsonpath_parser::model::Operator;

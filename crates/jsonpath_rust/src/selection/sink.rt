@@ -6,8 +6,8 @@ ghost use Rattle.jsonpath_rust.specs.Prelude.Selection.{count_in, counted, few, 
 use crate::documents::QueryPath;
 use crate::documents::halt::Walked;
 use crate::documents::nodes::{WholeNodes, WholeSole, WholeValues};
+use crate::documents::operand::{GREATEST_COUNT, Operand, Scalar, Side, count_scalar};
 use crate::documents::queryable::Queryable;
-use crate::documents::value::{GREATEST_COUNT, Operand, Scalar, Side, count_scalar};
 use crate::documents::whole::WholeRef;
 use crate::selection::cache::Given;
 use jsonpath_base::Step;

@@ -6,19 +6,19 @@
 //! every state, so this cannot be made of the walk, which knows one node at a time. The recursion,
 //! in `segments` and `filters`, stands on one `Evaluation`.
 
-pub mod comparison;
+pub mod calls;
+pub mod compare;
 pub mod filters;
 pub mod found;
-pub mod function;
 pub mod segments;
+pub mod single;
 pub mod singular;
 pub mod test;
-pub mod value;
 
 use crate::documents::halt::Walked;
 use crate::documents::queryable::Queryable;
 use crate::documents::whole::WholeRef;
-use crate::states::whole::WholeData;
+use crate::states::held::WholeData;
 use std::alloc::Global;
 
 /// What a part of a query returns, or why it halts.

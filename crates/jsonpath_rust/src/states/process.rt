@@ -15,9 +15,9 @@ use crate::documents::queryable::Queryable;
 use crate::documents::whole::WholeRef;
 use crate::states::evaluate::Evaluation;
 use crate::states::evaluate::segments::Part;
-use crate::states::evaluate::value::literal_data;
+use crate::states::evaluate::single::literal_data;
+use crate::states::held::WholeData;
 use crate::states::state::State;
-use crate::states::whole::WholeData;
 use jsonpath_parser::model::{
     Comparable, Comparison, Filter, FilterAtom, FnArg, JpQuery, Literal, Segment, Selector,
     SingularQuery, SingularQuerySegment, Test, TestFunction,

@@ -5,8 +5,8 @@ ghost use Rattle.jsonpath_rust.specs.Prelude.States.{content_of, DataIsWhole, in
 
 use crate::documents::Queried;
 use crate::documents::queryable::Queryable;
+use crate::states::held::WholePointerRef;
 use crate::states::state::{Data, Pointer};
-use crate::states::whole::WholePointerRef;
 use std::alloc::Global;
 
 /// The member of that name, under the pointer's path and one step more; nothing where there is

@@ -7,12 +7,12 @@ use Rattle.jsonpath_rust.specs.documents.Args.{arg_value}
 use Rattle.jsonpath_rust.specs.documents.inner.Whole.{tree_of, own_tree}
 use Rattle.jsonpath_rust.specs.declared.documents.queryable.Queryable.{Ghosts}
 use Rattle.jsonpath_rust.specs.declared.documents.args.Args.{Args}
-use Rattle.jsonpath_rust.specs.declared.documents.value.Side.{Side}
-use Rattle.jsonpath_rust.specs.declared.documents.value.Side.TheVariants as side
-use Rattle.jsonpath_rust.specs.declared.documents.value.Scalar.{Scalar}
-use Rattle.jsonpath_rust.specs.declared.documents.value.Scalar.TheVariants as scalar
-use Rattle.jsonpath_rust.specs.declared.documents.value.Operand.{Operand}
-use Rattle.jsonpath_rust.specs.declared.documents.value.Operand.TheVariants as operand
+use Rattle.jsonpath_rust.specs.declared.documents.operand.Side.{Side}
+use Rattle.jsonpath_rust.specs.declared.documents.operand.Side.TheVariants as side
+use Rattle.jsonpath_rust.specs.declared.documents.operand.Scalar.{Scalar}
+use Rattle.jsonpath_rust.specs.declared.documents.operand.Scalar.TheVariants as scalar
+use Rattle.jsonpath_rust.specs.declared.documents.operand.Operand.{Operand}
+use Rattle.jsonpath_rust.specs.declared.documents.operand.Operand.TheVariants as operand
 
 abbrev pub scalar_tree : Scalar → Tree
 scalar_tree scalar.Null = tree.null

@@ -20,10 +20,10 @@ use Rattle.jsonpath_rust.specs.declared.documents.halt.Halt.{Halt}
 use Rattle.jsonpath_rust.specs.declared.documents.halt.Halt.TheVariants.{Memory}
 use Rattle.jsonpath_rust.specs.declared.states.state.data.Data.{Data}
 use Rattle.jsonpath_rust.specs.declared.states.state.pointer.Pointer.{Pointer}
-use Rattle.jsonpath_rust.specs.declared.states.whole.WholeData.{WholeData}
-use Rattle.jsonpath_rust.specs.declared.states.whole.WholePointer.{WholePointer}
-use Rattle.jsonpath_rust.specs.declared.states.whole.WholePointerRef.{WholePointerRef}
-use Rattle.jsonpath_rust.specs.declared.states.whole.WholePointers.{WholePointers}
+use Rattle.jsonpath_rust.specs.declared.states.held.WholeData.{WholeData}
+use Rattle.jsonpath_rust.specs.declared.states.held.WholePointer.{WholePointer}
+use Rattle.jsonpath_rust.specs.declared.states.held.WholePointerRef.{WholePointerRef}
+use Rattle.jsonpath_rust.specs.declared.states.held.WholePointers.{WholePointers}
 
 -- what is asked, seen as the meaning has it
 abbrev pub document : {A : Type 0} {R : Ghosts A} {D : debug.Ghosts A} → Evaluation A R D → Document

@@ -6,14 +6,14 @@ ghost use Rattle.jsonpath_rust.specs.Prelude.States.{argument_content, arguments
 use crate::documents::args::Args;
 use crate::documents::halt::Walked;
 use crate::documents::queryable::Queryable;
-use crate::states::evaluate::comparison::compares;
-use crate::states::evaluate::function::{
+use crate::states::evaluate::calls::{
     custom_data, found_data, length_data, node_count, only_value, push_values,
 };
+use crate::states::evaluate::compare::compares;
+use crate::states::evaluate::single::{literal_data, truth_data};
 use crate::states::evaluate::test::{is_true, test_answer};
-use crate::states::evaluate::value::{literal_data, truth_data};
 use crate::states::evaluate::{Evaluation, Returned};
-use crate::states::whole::WholeData;
+use crate::states::held::WholeData;
 use jsonpath_base::Extent;
 use jsonpath_parser::model::{
     Comparable, Comparison, Filter, FilterAtom, FnArg, Test, TestFunction,

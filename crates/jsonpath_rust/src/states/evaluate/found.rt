@@ -8,8 +8,8 @@ ghost use Rattle.jsonpath_parser.specs.Location as location;
 use crate::documents::Queried;
 use crate::documents::queryable::Queryable;
 use crate::documents::whole::WholeRef;
+use crate::states::held::{WholeData, WholePointer, WholePointerRef, WholePointers};
 use crate::states::state::Pointer;
-use crate::states::whole::{WholeData, WholePointer, WholePointerRef, WholePointers};
 use jsonpath_base::picked;
 use std::alloc::Global;
 

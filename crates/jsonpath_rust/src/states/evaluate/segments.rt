@@ -6,8 +6,8 @@ ghost use Rattle.jsonpath_rust.specs.Prelude.States.{content_at, document, Halts
 use crate::documents::queryable::Queryable;
 use crate::states::evaluate::test::keep_if;
 use crate::states::evaluate::{Evaluation, Returned};
+use crate::states::held::{WholeData, WholePointerRef, WholePointers};
 use crate::states::state::{Data, Pointer};
-use crate::states::whole::{WholeData, WholePointerRef, WholePointers};
 use jsonpath_parser::model::{Filter, Segment, Selector};
 
 /// What is done at each node.

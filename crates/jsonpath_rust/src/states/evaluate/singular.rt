@@ -7,7 +7,7 @@ ghost use Rattle.jsonpath_rust.specs.Prelude.States.{content_at, document, segme
 use crate::documents::queryable::Queryable;
 use crate::states::evaluate::segments::Part;
 use crate::states::evaluate::{Evaluation, Returned};
-use crate::states::whole::WholeData;
+use crate::states::held::WholeData;
 use jsonpath_parser::model::{SingularQuery, SingularQuerySegment};
 
 impl<'a, T: Queryable> Evaluation<'a, T> {

@@ -7,9 +7,9 @@ ghost use Rattle.jsonpath_rust.specs.states.Process as process;
 use crate::documents::Queried;
 use crate::documents::queryable::Queryable;
 use crate::states::evaluate::Returned;
-use crate::states::evaluate::value::truth_data;
+use crate::states::evaluate::single::truth_data;
+use crate::states::held::{WholeData, WholePointerRef, WholePointers};
 use crate::states::state::Data;
-use crate::states::whole::{WholeData, WholePointerRef, WholePointers};
 use jsonpath_parser::model::Test;
 use std::alloc::Global;
 

@@ -1,0 +1,62 @@
+//! Data of one value: truths, counts, literals, and the value that data is or points to.
+ghost use Rattle.std.specs.Prelude.{◌≡◌, IfErr, IfOk, IfSome, IsTrue, option_map};
+ghost use Rattle.jsonpath_rust.specs.Prelude.Documents.{count_value, literal_tree, literal_view, Memory, tree_of, truth};
+ghost use Rattle.jsonpath_rust.specs.Prelude.States.{content_at, plain, value};
+
+use crate::documents::operand::{count_scalar, made, scalar_of};
+use crate::documents::queryable::Queryable;
+use crate::documents::whole::WholeRef;
+use crate::states::evaluate::Returned;
+use crate::states::held::WholeData;
+use crate::states::state::Data;
+use jsonpath_parser::model::Literal;
+use std::alloc::Global;
+
+/// A truth.
+pub fn truth_data<'a, T: Queryable>(alloc: Global, b: bool) -> Returned<'a, T>
+    ensures value { IfOk result (λ d. content_at d ≡ value (truth b)) }
+    ensures memory { IfErr result (λ h. h ≡ Memory) }
+{
+    let content = Data::Value(T::from_bool(alloc, b)?);
+    Ok(WholeData { content })
+}
+
+/// A count.
+pub fn count_data<'a, T: Queryable>(alloc: Global, count: usize) -> Returned<'a, T>
+    ensures value { IfOk result (λ d. content_at d ≡ value (count_value count)) }
+    ensures memory { IfErr result (λ h. h ≡ Memory) }
+{
+    let content = Data::Value(made(alloc, count_scalar(count))?.value);
+    Ok(WholeData { content })
+}
+
+/// A literal.
+pub fn literal_data<'a, T: Queryable>(alloc: Global, literal: &Literal) -> Returned<'a, T>
+    ensures value { IfOk result (λ d. content_at d ≡ value (literal_tree (literal_view literal.now))) }
+    ensures memory { IfErr result (λ h. h ≡ Memory) }
+{
+    let content = Data::Value(made(alloc, scalar_of(literal))?.value);
+    Ok(WholeData { content })
+}
+
+/// The value that it is or points to.
+pub fn plain_value<'d, 'a, T: Queryable>(given: &'d WholeData<'a, T>) -> Option<WholeRef<'d, T>>
+    ensures { option_map tree_of result ≡ plain (content_at given.now) }
+{
+    match lent_value(given) {
+        Some(value) => Some(WholeRef { value }),
+        None => None,
+    }
+}
+
+/// The same, as a plain borrow.
+fn lent_value<'d, 'a, T: Queryable>(given: &'d WholeData<'a, T>) -> Option<&'d T>
+    ensures value { option_map (λ v. T.tree v.now) result ≡ plain (content_at given.now) }
+    ensures whole { IfSome result (λ v. IsTrue (T.is_whole v.now)) }
+{
+    match &given.content {
+        Data::Ref(from) => Some(from.inner),
+        Data::Value(own) => Some(own),
+        _ => None,
+    }
+}
