@@ -117,9 +117,10 @@ fn document_of(alloc: Global, bytes: &[u8]) -> Result<Whole<Value>, Fault>
             Fault::NotJson
         }),
     };
-    match Whole::new(value) {
-        Ok(document) => Ok(document),
-        Err(_) => Err(Fault::NotWhole),
+    if jsonpath_base::whole(&value) {
+        Ok(Whole::of(value))
+    } else {
+        Err(Fault::NotWhole)
     }
 }
 

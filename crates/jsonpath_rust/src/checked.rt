@@ -25,6 +25,14 @@ impl<T: Queryable> Whole<T> {
         }
     }
 
+    /// A value that is known to be whole.
+    pub fn of(value: T) -> Self
+        requires { IsTrue (T.is_whole value) }
+        ensures { result.value ≡ value }
+    {
+        Whole { value }
+    }
+
     /// The value, borrowed.
     pub fn get(&self) -> &T
         ensures same { result.now ≡ self.now.value }
