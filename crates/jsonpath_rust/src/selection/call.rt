@@ -82,8 +82,8 @@ impl<'a: 's, 's, T: Queryable> Task<'a, 's, T> {
             ++ argument_patterns (part_view (kept_of self.now) args.entry.1.now Sole))) result }
     {
         let origin = origin_of(args.1);
-        let text = self.value(args.0, Wanted::Sole, at, trail)?;
-        let pattern = self.value(args.1, Wanted::Sole, at, trail)?;
+        let text = self.operand(args.0, at, trail)?;
+        let pattern = self.operand(args.1, at, trail)?;
         let how = (extent, origin);
         let cost = self
             .limit

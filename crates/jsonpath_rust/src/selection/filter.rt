@@ -6,7 +6,6 @@ ghost use Rattle.jsonpath_rust.specs.Prelude.Selection.{Any, Comes, filter_view,
 use crate::documents::halt::Walked;
 use crate::documents::queryable::Queryable;
 use crate::documents::whole::WholeRef;
-use crate::selection::direct::lookup_in;
 use crate::selection::lookup::value_at;
 use crate::selection::plan::{Comparison, Filter, Part};
 use crate::selection::sink::Wanted;
@@ -112,6 +111,7 @@ impl<'a: 's, 's, T: Queryable> Task<'a, 's, T> {
     /// Whether a part tests true: a query has a node (RFC 9535, 2.3.5.2.1), a call returns true.
     /// Names and indexes are looked up, and nothing is made for them.
     #[cycle(walk)]
+    #[tactic(auto, using(crate::proofs::laws::selection::PlanEquations::plan_equations))]
     #[inline(always)]
     fn tests_true(
         &self,
@@ -124,10 +124,19 @@ impl<'a: 's, 's, T: Queryable> Task<'a, 's, T> {
             ≡ as_truth (here self.now trail.old at.entry (argued (part_view (kept_of self.now) part.now Any)))) }
         ensures comes { Comes self.now trail.old trail.new (argument_patterns (part_view (kept_of self.now) part.now Any)) result }
     {
-        if let Some(steps) = lookup_in(part) {
-            return Ok(value_at(steps, at).is_some());
+        match part {
+            Part::Lookup(steps) => Ok(value_at(steps, at).is_some()),
+            Part::Children(steps) => {
+                let count = self.count_children(steps, at, &mut trail.budget)?;
+                Ok(count > 0)
+            }
+            Part::Walk(segments) => {
+                let given = self.gather(segments, Wanted::Any, at, trail)?;
+                Ok(given.into_value().is_true())
+            }
+            Part::Call(call) => Ok(self.answer(call, at, trail)?.is_true()),
+            _ => Ok(self.value(part, Wanted::Any, at, trail)?.is_true()),
         }
-        Ok(self.value(part, Wanted::Any, at, trail)?.is_true())
     }
 
     /// Whether a comparison holds. Where both sides are at hand they are compared as they are lent,

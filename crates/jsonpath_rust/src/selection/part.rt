@@ -1,7 +1,7 @@
 //! Parts of filters as values: literals, look-ups, walks, calls, filters and constants.
 ghost use Rattle.std.specs.Prelude.{◌++◌, ◌≡◌, IfOk, OnOk};
-ghost use Rattle.jsonpath_rust.specs.Prelude.Documents.{arg_trees, argued, argument_patterns, as_trees, of_nodes, operand_tree, segments_patterns};
-ghost use Rattle.jsonpath_rust.specs.Prelude.Selection.{Comes, gave, given_of, here, IsOne, kept_of, part_view, segments_meant, StandsAt, through, told, Values};
+ghost use Rattle.jsonpath_rust.specs.Prelude.Documents.{arg_trees, argued, argument_patterns, as_trees, as_value, of_nodes, operand_tree, segments_patterns};
+ghost use Rattle.jsonpath_rust.specs.Prelude.Selection.{Comes, gave, given_of, here, IsOne, kept_of, part_view, segments_meant, Sole, StandsAt, through, told, Values};
 
 use crate::documents::args::Args;
 use crate::documents::halt::Walked;
@@ -9,6 +9,7 @@ use crate::documents::operand::{Operand, Scalar, Side, scalar_of};
 use crate::documents::queryable::Queryable;
 use crate::documents::whole::WholeRef;
 use crate::selection::cache::Given;
+use crate::selection::direct::lookup_in;
 use crate::selection::lookup::value_at;
 use crate::selection::plan::{Part, Segment};
 use crate::selection::sink::{Sink, Wanted};
@@ -57,6 +58,26 @@ impl<'a: 's, 's, T: Queryable> Task<'a, 's, T> {
                 }
             }
         }
+    }
+
+    /// The value of a part: what is looked up, at once.
+    #[cycle(walk)]
+    #[inline(always)]
+    pub fn operand(
+        &self,
+        part: &'s Part,
+        at: WholeRef<'a, T>,
+        trail: &mut Trail<'a, 's, '_, T>,
+    ) -> Walked<Operand<'a, 's, T>>
+        requires { StandsAt self.now at trail.old }
+        ensures value { IfOk result (λ o. operand_tree o
+            ≡ as_value (here self.now trail.old at.entry (argued (part_view (kept_of self.now) part.now Sole)))) }
+        ensures comes { Comes self.now trail.old trail.new (argument_patterns (part_view (kept_of self.now) part.now Sole)) result }
+    {
+        if let Some(steps) = lookup_in(part) {
+            return Ok(Operand::lent(value_at(steps, at)));
+        }
+        self.value(part, Wanted::Sole, at, trail)
     }
 
     /// Adds a part to the arguments of a custom function: each value of a node of a query is one, as

@@ -1,10 +1,10 @@
 -- The answers of the walk: of segments and selectors, of filters, of functions and of subqueries.
 use Rattle.std.proofs.Common.{◌≡◌, ◌<◌, length, map, List, [], ◌∷◌, ◌++◌, append-nil, arith, Some, option_to_list, sym, ◌∙◌, ap, refl, subst, All, IsTrue, OnOk, string_bytes}
 use Rattle.std.proofs.lemmas.List.{map-append}
-use Rattle.jsonpath_rust.specs.Prelude.Documents.{all_trees, answer, arg_trees, argued, argument_effort, argument_patterns, arguments_effort, arguments_patterns, as_nodes, as_trees, as_truth, as_value, AsksPattern, below, call_effort, call_patterns, children, compares, count_of, each_holds, element, filter_effort, filter_patterns, filters_effort, filters_patterns, flat_map, get, holds, Index, index, is_entire, is_matched, is_true, lent_location, lent_step, Name, name, negated, nodelist, of_nodes, only_value, operand_tree, operator_view, picks, places_left, replaced, segments_patterns, selector_effort, selector_patterns, selectors_effort, selectors_patterns, side_tree, SingularQuerySegment, slice_of, some_holds, step_view, StepRef, subtree, tree_of, truth, value_at, value_of}
-use Rattle.jsonpath_rust.specs.Prelude.Selection.{acted, action_effort, action_patterns, Any, argument_at, arguments_meant, asked, call_view, children_argument, constant_view, Count, document, Filter, filter_view, filters_meant, finished, gave, give, given_by, given_of, given_value, IsGiven, IsHalt, kept_of, node_of, Sole, Part, part_at, part_patterns, part_view, Segment, segment_view, segments_meant, Selector, selector_view, selectors_meant, through, told, trees_in, Values, Wanted}
+use Rattle.jsonpath_rust.specs.Prelude.Documents.{all_trees, answer, arg_trees, argued, argument_effort, argument_patterns, arguments_effort, arguments_patterns, as_nodes, as_trees, as_truth, as_value, AsksPattern, below, call_effort, call_patterns, children, compares, count_of, each_holds, element, filter_effort, filter_patterns, filters_effort, filters_patterns, flat_map, get, holds, Index, index, is_entire, is_matched, is_true, lent_location, lent_step, Name, name, negated, nodelist, of_nodes, only_value, operand_tree, operator_view, picks, places_left, replaced, segments_patterns, selector_effort, selector_patterns, selectors_effort, selectors_patterns, side_tree, SingularQuerySegment, slice_of, some_holds, step_view, StepRef, subtree, tree_of, relative, tested, truth, value_at, value_of}
+use Rattle.jsonpath_rust.specs.Prelude.Selection.{acted, action_effort, action_patterns, Any, argument_at, arguments_meant, asked, call_view, children_argument, children_query, constant_view, Count, document, Filter, filter_view, filters_meant, finished, gave, give, given_by, given_of, given_value, IsGiven, IsHalt, kept_of, node_of, Sole, Part, part_at, part_patterns, part_view, Segment, segment_view, segments_meant, Selector, selector_view, selectors_meant, through, told, trees_in, Values, Wanted}
 use Rattle.jsonpath_rust.proofs.laws.documents.{all_at, child_there, differs, each_failed, each_next, element_at, element_size, joined_next, kept_false, kept_true, member_size, member_there, ok_through, pair_size, part_of, parts_end, sliced-list, some_found, some_next}
-use Rattle.jsonpath_rust.proofs.laws.selection.{along_as, along_between, along_idle, along_none, along_stop, asked_as, asked_at, asked_at_or, asked_held, asked_left, asked_none, asked_rest, asked_right, below_more, call_view-Count, call_view-Match, call_view-Search, call_view-Value, called, children-list, children-members, children_told, element_turns, filter_view-Constant, filter_view-Test, finished_all, first_below, fit_patterns, flat_map-alone, flat_map-filter, given_right, goes_no_more, goes_off, goes_on, goes_on_to_place, goes_past_places, goes_to_no_place, goes_to_the_end, is_there, kept_told, kept_trees, later_below, leads_below, leads_indexed, member_turns, nodelist-through, of_some, one_as, part_view-Children, part_view-Constant, part_view-Lookup, part_view-Walk, pattern_asked, segment_view-Descendant, selector_turns, selector_view-Filter, selector_view-Index, selector_view-Name, selector_view-Wildcard, steps_alone, takes_as, takes_from, takes_then, through-applied, tied_back, tied_further, tied_inside, tied_still, told_nodes, told_truth, truth_held, wanted_found, wanted_given}
+use Rattle.jsonpath_rust.proofs.laws.selection.{along_as, along_between, along_idle, along_none, along_stop, asked_as, asked_at, asked_at_or, asked_held, asked_left, asked_none, asked_rest, asked_right, below_more, call_view-Count, call_view-Match, call_view-Search, call_view-Value, called, children-list, children-members, children_told, element_turns, filter_view-Constant, filter_view-Test, finished_all, first_below, fit_patterns, flat_map-alone, flat_map-filter, given_right, goes_no_more, goes_off, goes_on, goes_on_to_place, goes_past_places, goes_to_no_place, goes_to_the_end, is_there, kept_told, kept_trees, later_below, leads_below, leads_indexed, looked_up, member_turns, nodelist-through, of_some, one_as, part_view-Children, part_view-Constant, part_view-Lookup, part_view-Walk, pattern_asked, query_there, segment_view-Descendant, selector_turns, selector_view-Filter, selector_view-Index, selector_view-Name, selector_view-Wildcard, steps_alone, takes_as, takes_from, takes_then, through-applied, tied_back, tied_further, tied_inside, tied_still, told_nodes, told_truth, truth_held, wanted_found, wanted_given}
 use Rattle.jsonpath_rust.specs.selection.inner.PlanViews as plan
 use Rattle.jsonpath_rust.proofs.laws.selection.Hand.{hand, hand_on}
 use Rattle.jsonpath_rust.specs.documents.Args.{arg_value}
@@ -516,8 +516,8 @@ answer-custom-requires g t c κs within =
     let e = ap (call_view h.kept) c.in-Custom.is ∙ called h.kept c.in-Custom.name c.in-Custom.args in
     (omega (arith, c.decreases, ap (call_effort h.big) e, ap (λ (xs : List Part). arguments_effort h.big (arguments_meant h.kept xs)) c.deref.ensures.value), (within, c.requires))
 
-pub match_or_search-value-requires-2 : goal.match_or_search-value-requires-2
-match_or_search-value-requires-2 g t c κs within = (omega (arith, c.decreases), (within, still c.requires c.in_ok-text.ensures.comes.back))
+pub match_or_search-operand-requires-2 : goal.match_or_search-operand-requires-2
+match_or_search-operand-requires-2 g t c κs within = (omega (arith, c.decreases), (within, still c.requires c.in_ok-text.ensures.comes.back))
 
 pub match_or_search-returns-clause-value : goal.match_or_search-returns-clause-value
 match_or_search-returns-clause-value g t c =
@@ -624,10 +624,26 @@ filter_holds-returns-then-branch-clause-holds g t c =
     let asked = argued (argument_at h.kept Any k) h.d h.n in
     c.is_true.ensures ∙ ap (λ s. is_true (given_value s)) (keeps.kept c.if-branch.true) ∙ ap is_true (kept_told h.kept k Any h.d h.n c.args.self.now.plan.now.rooted (keeps.fits c.if-branch.true)) ∙ told_truth asked ∙ sym (ap (λ f. holds f h.d h.n) e ∙ truth_held (argument_at h.kept Any k) h.d h.n)
 
-pub tests_true-returns-in-Some-clause-holds : goal.tests_true-returns-in-Some-clause-holds
-tests_true-returns-in-Some-clause-holds g t c =
+pub tests_true-returns-in-Lookup-clause-holds : goal.tests_true-returns-in-Lookup-clause-holds
+tests_true-returns-in-Lookup-clause-holds g t c =
     let h = hand c.args.self.now c.args.trail.now c.args.at in
-    c.is_some.ensures ∙ is_there tree_of c.value_at.result c.in-Some.steps.now h.d h.n c.value_at.ensures ∙ sym (ap (λ a. as_truth (argued a h.d h.n)) (c.in-Some.ensures h.kept Any))
+    let e = ap (λ p. part_view h.kept p Any) c.in-Lookup.is ∙ part_view-Lookup h.kept c.in-Lookup.steps Any in
+    let there = c.value_at.ensures ∙ ap (λ (ss : List SingularQuerySegment). value_at (map step_view ss) h.n.tree) c.deref.ensures.value in
+    c.is_some.ensures ∙ is_there tree_of c.value_at.result c.in-Lookup.steps.items h.d h.n there ∙ sym (ap (λ a. as_truth (argued a h.d h.n)) e)
+
+pub tests_true-returns-in_ok-count-in-Children-clause-holds : goal.tests_true-returns-in_ok-count-in-Children-clause-holds
+tests_true-returns-in_ok-count-in-Children-clause-holds g t c =
+    let h = hand c.args.self.now c.args.trail.now c.args.at in
+    let e = ap (λ p. part_view h.kept p Any) c.in-Children.is ∙ part_view-Children h.kept c.in-Children.steps Any in
+    let steps = ap (λ (ss : List SingularQuerySegment). as_truth (tested (relative (children_query (map step_view ss))) h.d h.n)) c.deref-in-Children.ensures.value in
+    query_there _ h.d h.n _ (c.in_ok-count-in-Children.ensures.count h.d h.n refl) ∙ steps ∙ sym (ap (λ a. as_truth (argued a h.d h.n)) e)
+
+pub tests_true-returns-in_ok-given-in-Walk-clause-holds : goal.tests_true-returns-in_ok-given-in-Walk-clause-holds
+tests_true-returns-in_ok-given-in-Walk-clause-holds g t c =
+    let h = hand c.args.self.now c.args.trail.now c.args.at in
+    let e = ap (λ p. part_view h.kept p Any) c.in-Walk.is ∙ part_view-Walk h.kept c.in-Walk.segments Any in
+    let ns = ap (λ (gs : List Segment). through (segments_meant h.kept gs) h.d h.n) c.deref-in-Walk.ensures.value ∙ through-applied (segments_meant h.kept c.in-Walk.segments.items) h.d h.n in
+    c.is_true.ensures ∙ ap is_true (c.into_value.ensures ∙ ap (λ x. given_value (Some x)) (c.in_ok-given-in-Walk.ensures.given ∙ ap (λ ms. given_of Any (of_nodes ms)) ns)) ∙ sym (ap (λ a. as_truth (argued a h.d h.n)) e)
 
 -- ---- calls of queries
 
@@ -656,6 +672,12 @@ answer-returns-else-is_query-2-clause-value g t c =
     ap Some c.count_scalar.ensures ∙ sym (ap (λ f. answer f h.d h.n) e ∙ ap (λ x. count_of (as_nodes x)) (c.is_query-in-Count.ensures.value c.if-is_query-2.false h.d h.n))
 
 -- ---- parts
+
+pub operand-returns-in-Some-clause-value : goal.operand-returns-in-Some-clause-value
+operand-returns-in-Some-clause-value g t c =
+    let h = hand c.args.self.now c.args.trail.now c.args.at in
+    let query = c.in-Some.ensures h.kept Sole in
+    c.lent.ensures ∙ c.value_at.ensures ∙ sym (ap (λ a. as_value (argued a h.d h.n)) query ∙ looked_up c.in-Some.steps.now h.d h.n h.n.tree refl)
 
 pub value-returns-in-Lookup-clause-value : goal.value-returns-in-Lookup-clause-value
 value-returns-in-Lookup-clause-value g t c =

@@ -72,6 +72,9 @@ decreases-tests_true g l = argument_effort (size (tree_of l.self.now.root)) (par
 abbrev pub decreases-value : goal.decreases-value
 decreases-value g l = argument_effort (size (tree_of l.self.now.root)) (part_view (kept_of l.self.now) l.part.now l.wanted) + 5 * size (tree_of l.at) + 2
 
+abbrev pub decreases-operand : goal.decreases-operand
+decreases-operand g l = argument_effort (size (tree_of l.self.now.root)) (part_view (kept_of l.self.now) l.part.now Sole) + 5 * size (tree_of l.at) + 3
+
 abbrev pub decreases-push : goal.decreases-push
 decreases-push g l = argument_effort (size (tree_of l.self.now.root)) (part_view (kept_of l.self.now) l.part.now Values) + 5 * size (tree_of l.at) + 4
 
