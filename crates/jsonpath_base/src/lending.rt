@@ -15,15 +15,15 @@ use serde_json::{Map, Value};
 
 /// The value at the location of these steps, lent for writing; None where nothing is there (RFC 9535, 1.1). When the loan ends,
 /// what was written stands there, and nothing else has changed. It takes no memory, and time as twice `at`.
-pub fn at_mut<'v>(value: &'v mut Value, steps: &[Step]) -> Option<&'v mut Value>
-    ensures* writes_back { sem 𝓛 (LendsAt (location_view steps.now) value.entry result) }
-    ensures value { option_map (λ v. value_tree v.now) result ≡ places.at (location_view steps.now) (value_tree value.old) }
+pub fn at_mut<'v>(value: &'v mut Value, place: &[Step]) -> Option<&'v mut Value>
+    ensures* writes_back { sem 𝓛 (LendsAt (location_view place.now) value.entry result) }
+    ensures value { option_map (λ v. value_tree v.now) result ≡ places.at (location_view place.now) (value_tree value.old) }
     ensures whole { IsTrue (value_is_whole value.old) → IfSome result (λ v. IsTrue (value_is_whole v.now)) }
 {
-    let left = count(steps);
-    let found = is_there(value, steps);
+    let left = count(place);
+    let found = is_there(value, place);
     if found {
-        return Some(place_mut(value, steps, left));
+        return Some(place_mut(value, place, left));
     }
     None
 }

@@ -27,7 +27,7 @@ mod way;
 pub use adding::add_at;
 pub use equality::same;
 pub use lending::at_mut;
-pub use location::{begins, fixed_steps, path_of};
+pub use location::{fixed_steps, path_of, starts_with};
 pub use pattern::{Extent, Finder, Pattern, found};
 pub use place::{at, put_at, take_at};
 pub use pointer::{location_by_pointer, pointer_of, step_by_token};

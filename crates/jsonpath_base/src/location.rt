@@ -1,4 +1,4 @@
-//! Locations as values: whether one begins another, the Normalized Path of each (RFC 9535, 2.7), and the one at the front of a
+//! Locations as values: whether one begins with another, the Normalized Path of each (RFC 9535, 2.7), and the one at the front of a
 //! query.
 ghost use Rattle.std.specs.Prelude.{◌≡◌, ◌↔◌, ◌++◌, IfErr, IfOk, IsTrue, OnOk, map, option_map, string_bytes};
 ghost use Rattle.jsonpath_base.specs.Prelude.{Begins, fixed_part, location_view, owned_step, segment_view, segments_of, step_text};
@@ -12,12 +12,12 @@ use jsonpath_parser::errors::{JsonPathError, Parsed};
 use jsonpath_parser::model::{JpQuery, Segment, Selector};
 use std::alloc::Global;
 
-/// Whether a location begins with the steps of another, so that it is that one or lies below it. It takes no memory, and time
-/// linear in the steps of `prefix` and in the names that they hold.
-pub fn begins(location: &[Step], prefix: &[Step]) -> bool
-    ensures { IsTrue result ↔ Begins (location_view prefix.now) (location_view location.now) }
+/// Whether a place begins with the steps of another, so that it is that one or lies below it. It takes no memory, and time
+/// linear in the steps of `beginning` and in the names that they hold.
+pub fn starts_with(place: &[Step], beginning: &[Step]) -> bool
+    ensures { IsTrue result ↔ Begins (location_view beginning.now) (location_view place.now) }
 {
-    location.starts_with(prefix)
+    place.starts_with(beginning)
 }
 
 /// The Normalized Path of the location of these steps (RFC 9535, 2.7), in time linear in the steps and in the names that they
@@ -26,12 +26,12 @@ pub fn begins(location: &[Step], prefix: &[Step]) -> bool
 /// # Errors
 ///
 /// `OutOfMemory` where memory ran out.
-pub fn path_of(alloc: Global, steps: &[Step]) -> Parsed<String>
-    ensures value { IfOk result (λ path. IsNormal (location_view steps.now) (string_bytes path)) }
+pub fn path_of(alloc: Global, place: &[Step]) -> Parsed<String>
+    ensures value { IfOk result (λ path. IsNormal (location_view place.now) (string_bytes path)) }
     ensures memory { IfErr result (λ e. e ≡ JsonPathError.OutOfMemory) }
 {
     let mut path = String::from_str(alloc, "$")?;
-    for step in steps {
+    for step in place {
         add_step(alloc, &mut path, step)?;
     }
     Ok(path)

@@ -53,9 +53,12 @@ pub struct Pattern {
 impl Pattern {
     ghost use Rattle.jsonpath_base.specs.PatternViews.{source_of, is_for_match, pattern_of};
 
-    /// Reads a pattern, for `match` or for `search`. A text that `regex` cannot read is found nowhere.
-    /// `InvalidJsonPath` comes only where `regex` can read it and refuses it for its size; else memory ran out.
-    /// Counted repetitions are built as if they were written out, so `(a{1000}){1000}` costs as a million characters do.
+    /// Reads a pattern, for `match` or for `search`. A text that `regex` cannot read is found nowhere. Counted repetitions are
+    /// built as if they were written out, so `(a{1000}){1000}` costs as a million characters do.
+    ///
+    /// # Errors
+    ///
+    /// `InvalidJsonPath` where `regex` can read it and refuses it for its size; `OutOfMemory` where memory ran out.
     pub fn new(alloc: Global, pattern: &str, extent: Extent) -> Parsed<Pattern>
         ensures source { IfOk result (λ p. source_of p ≡ pattern.now) }
         ensures extent { IfOk result (λ p. is_for_match p ≡ is_entire extent) }
@@ -165,7 +168,11 @@ impl<'p> Finder<'p> {
 }
 
 /// What `match` returns for a text and a pattern, where `whole`, or else `search`. It reads the pattern anew each time: see
-/// [`Pattern`]. It refuses as [`Pattern::new`] does.
+/// [`Pattern`].
+///
+/// # Errors
+///
+/// Those of [`Pattern::new`].
 pub fn found(alloc: Global, text: &str, pattern: &str, whole: bool) -> Parsed<bool>
     ensures value { IfOk result (λ b. b ≡ found whole pattern.now text.now) }
     ensures refused { IfErr result (IsPatternRefusal (pattern_sought whole pattern.now)) }

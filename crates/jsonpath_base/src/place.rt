@@ -11,11 +11,11 @@ use std::mem;
 /// linear in the steps and in the names that they hold, times the logarithm of an object's members. Of a value with a number
 /// that is not whole less is proved: that number counts as null in these clauses.
 #[cycle(at)]
-pub fn at<'v>(value: &'v Value, steps: &[Step]) -> Option<&'v Value>
-    ensures value { option_map (λ v. value_tree v.now) result ≡ places.at (location_view steps.now) (value_tree value.now) }
+pub fn at<'v>(value: &'v Value, place: &[Step]) -> Option<&'v Value>
+    ensures value { option_map (λ v. value_tree v.now) result ≡ places.at (location_view place.now) (value_tree value.now) }
     ensures whole { IsTrue (value_is_whole value.now) → IfSome result (λ v. IsTrue (value_is_whole v.now)) }
 {
-    match steps.split_first() {
+    match place.split_first() {
         None => Some(value),
         Some((step, rest)) => match child(value, step) {
             Some(below) => at(below, rest),
@@ -38,13 +38,13 @@ pub fn child<'v>(value: &'v Value, step: &Step) -> Option<&'v Value>
 /// Puts a value at the location of these steps, in the place of the one there, and returns true; where nothing is there,
 /// it returns false and changes nothing, and the new value is dropped. It takes no memory, and time as `at`. Of values with
 /// a number that is not whole less is proved, as of `at`.
-pub fn put_at(value: &mut Value, steps: &[Step], new: Value) -> bool
-    ensures value { value_tree value.new ≡ put (location_view steps.now) (value_tree new) (value_tree value.old) }
-    ensures found { result ≡ is_some (places.at (location_view steps.now) (value_tree value.old)) }
+pub fn put_at(value: &mut Value, place: &[Step], new: Value) -> bool
+    ensures value { value_tree value.new ≡ put (location_view place.now) (value_tree new) (value_tree value.old) }
+    ensures found { result ≡ is_some (places.at (location_view place.now) (value_tree value.old)) }
     ensures unchanged { result ≡ false → view value.new ≡ view value.old }
     ensures whole { IsTrue (value_is_whole value.old) → IsTrue (value_is_whole new) → IsTrue (value_is_whole value.new) }
 {
-    exchange(value, steps, new).is_some()
+    exchange(value, place, new).is_some()
 }
 
 /// Takes the value at the location of these steps, and leaves null there; None where nothing is there, and then nothing

@@ -19,12 +19,12 @@ use std::alloc::{AllocError, Global};
 /// # Errors
 ///
 /// `OutOfMemory` where memory ran out.
-pub fn pointer_of(alloc: Global, steps: &[Step]) -> Parsed<String>
-    ensures value { IfOk result (λ text. string_bytes text ≡ pointer (location_view steps.now)) }
+pub fn pointer_of(alloc: Global, place: &[Step]) -> Parsed<String>
+    ensures value { IfOk result (λ text. string_bytes text ≡ pointer (location_view place.now)) }
     ensures memory { IfErr result (λ e. e ≡ JsonPathError.OutOfMemory) }
 {
     let mut text = String::new(alloc);
-    for step in steps {
+    for step in place {
         push_step(&mut text, step)?;
     }
     Ok(text)

@@ -176,9 +176,12 @@ impl OrderedRemoval {
 /// locations there are. One where nothing is counts, and changes nothing; where the root is one of them, null is left. Of a
 /// value with a number that is not whole less is proved: that number counts as null in these clauses.
 ///
-/// It refuses by `OutOfMemory` alone, and then the value is as it was: all locations are marked first, and from there
-/// on nothing is taken. Time n log n in the steps of the locations; in a list that loses elements, each element behind the
-/// first of them is moved once.
+/// Time n log n in the steps of the locations; in a list that loses elements, each element behind the first of them is moved
+/// once.
+///
+/// # Errors
+///
+/// `OutOfMemory` where memory ran out, and then the value is as it was: all locations are marked first.
 pub fn remove_all(alloc: Global, value: &mut Value, places: &[Vec<Step>]) -> Parsed<usize>
     ensures removed { OnOk result (value_tree value.new ≡ without (is_among (map (λ p. location_view p.items) places.now)) (value_tree value.old)) }
     ensures count { IfOk result (λ n. n ≡ distinct_count (map (λ p. location_view p.items) places.now)) }
@@ -195,9 +198,12 @@ pub fn remove_all(alloc: Global, value: &mut Value, places: &[Vec<Step>]) -> Par
 /// lie inside one another the outermost is replaced, and the others count; one where nothing is counts, and changes nothing.
 /// Of values with a number that is not whole less is proved: that number counts as null in these clauses.
 ///
-/// It refuses by `OutOfMemory` alone, and then the value is as it was: all locations are marked, and all copies made, before
-/// anything is replaced. Time n log n in the steps of the locations, and the size of `new` for each location that lies inside
-/// no other; the copies stand in memory until then.
+/// Time n log n in the steps of the locations, and the size of `new` for each location that lies inside no other; the copies
+/// stand in memory until anything is replaced.
+///
+/// # Errors
+///
+/// `OutOfMemory` where memory ran out, and then the value is as it was: all is marked, and all copies are made, first.
 pub fn replace_all(
     alloc: Global,
     value: &mut Value,

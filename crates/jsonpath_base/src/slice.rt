@@ -115,7 +115,11 @@ pub fn slice_places(
     }
 }
 
-/// The places of [`slice_places`] as a list, in time and memory linear in their number. It refuses by `OutOfMemory` alone.
+/// The places of [`slice_places`] as a list, in time and memory linear in their number.
+///
+/// # Errors
+///
+/// `OutOfMemory` where memory ran out.
 pub fn picked(
     alloc: Global,
     start: Option<i64>,

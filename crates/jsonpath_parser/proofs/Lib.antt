@@ -23,8 +23,6 @@ pub mod SoundFilters
 pub mod SoundLists
 pub mod SoundParts
 pub mod SoundSegments
-pub mod SpelledTrees
-pub mod TextDepths
 pub mod TextSpells
 pub mod Turns
 pub mod Unambiguous

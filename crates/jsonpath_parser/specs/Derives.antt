@@ -1,5 +1,5 @@
 -- When a text is a query, and which refusal it gets when it is none.
-use Rattle.std.specs.Prelude.{◌≡◌, ◌≤◌, ◌<◌, ◌+◌, ℕ, List, Result, MatchResult, string_bytes}
+use Rattle.std.specs.Prelude.{◌≡◌, ◌≤◌, ◌<◌, ℕ, List, Result, MatchResult, string_bytes}
 use Rattle.std.specs.Str.{IsCharBoundary}
 use Rattle.jsonpath_parser.specs.words.Depth.{depth}
 use Rattle.jsonpath_parser.specs.words.Numbers.{SpellsNumber}
@@ -18,10 +18,6 @@ pub record Derives (limit : ℕ) (text : List ℕ) (tree : Query) : Type 0 where
   pub within : depth text ≤ limit
   pub spelled : Spells IsValued tree text
   pub typed : Typed tree
-
--- Each text that spells the tree of another derives it too, at a limit of one more: a name in brackets opens one that it does not open behind a dot.
-abbrev pub EachTextDerives : Type 0
-EachTextDerives = (limit : ℕ) (text other : List ℕ) (tree : Query) → Derives limit text tree → Spells IsValued tree other → Derives (limit + 1) other tree
 
 -- the text spells this tree as it is written, a number literal without a value as none, and the tree is well-typed
 abbrev pub SpellsTyped : List ℕ → Query → Type 0

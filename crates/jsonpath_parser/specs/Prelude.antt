@@ -18,7 +18,6 @@ pub use Rattle.jsonpath_parser.specs.Derives.{Derives, IsRefusal}
 pub use Rattle.jsonpath_parser.specs.Equality.{IsEqualityOf}
 pub use Rattle.jsonpath_parser.specs.Errors.{error_view}
 pub use Rattle.jsonpath_parser.specs.Grammar.{Behind, Between, is_basic, is_conjunction, IsCustomName, IsInRange, IsNoBareTest, IsNothing, IsPlural, IsSeveral, Spells, SpellsAnd, SpellsArgument, SpellsArguments, SpellsBound, SpellsCall, SpellsCalled, SpellsIndex, SpellsInt, SpellsLiteral, SpellsLogical, SpellsMoreAnd, SpellsMoreArguments, SpellsMoreOr, SpellsMoreSelectors, SpellsNot, SpellsOperator, SpellsOr, SpellsPositive, SpellsSegment, SpellsSegments, SpellsSelector, SpellsSelectors, SpellsShorthand, SpellsSlice, SpellsStep, SpellsTest, Then}
-pub use Rattle.jsonpath_parser.specs.inner.QueryTexts.{arguments_text, filters_text, query_text, segment_text, segments_text, selectors_text}
 pub use Rattle.jsonpath_parser.specs.inner.ReadingGrammar.{ands_at, arguments_at, comparable_of, filter_of, is_int_first, is_operator_first, is_twice, IsAny, operand_behind, ors_at, segments_at, selection_of, selectors_at, starts_segment, steps_in, steps_of, word_literal}
 unfoldable pub use Rattle.jsonpath_parser.specs.inner.ReadingGrammar.{all_arguments_at, all_segments_at, argument_at, basic_at, called_at, compared_at, conjunction_at, descendant_at, disjunction_at, end_at, group_at, logical_at, negated_at, number_reading, numbered_at, operand_at, operator_at, plain_at, query_at, segment_at, selection_at, selector_at, shorthand_at, slice_at, step_at, whole_query, word_at, word_operand_at}
 pub use Rattle.jsonpath_parser.specs.inner.ReadingLists.{found_then}
@@ -26,13 +25,12 @@ unfoldable pub use Rattle.jsonpath_parser.specs.inner.ReadingLists.{many_at, sep
 pub use Rattle.jsonpath_parser.specs.inner.ReadingParts.{IsAnswer, IsCursorRefusal, slice_in, StaysInText, Takes}
 unfoldable pub use Rattle.jsonpath_parser.specs.inner.ReadingParts.{taken_at}
 pub use Rattle.jsonpath_parser.specs.inner.ReadingQuery.{IsReadRefusal}
-pub use Rattle.jsonpath_parser.specs.inner.Spellable.{are_several_filters, are_several_selectors, are_spelled_arguments, are_spelled_conjunctions, are_spelled_operands, are_spelled_selectors, is_bound, is_custom_name, is_function_name, is_in_range, is_long, is_no_bare_test, is_spelled, is_spelled_argument, is_spelled_call, is_spelled_conjunction, is_spelled_filter, is_spelled_literal, is_spelled_operand, is_spelled_segment, is_spelled_selector, is_spelled_test}
 pub use Rattle.jsonpath_parser.specs.Location.{Begins, Location, Step}
 pub use Rattle.jsonpath_parser.specs.Normal.{index_digits, IsNormal, name_char, step_text, steps_text}
 unfoldable pub use Rattle.jsonpath_parser.specs.Normal.{name_chars}
 pub use Rattle.jsonpath_parser.specs.Parts.{always, is_comparison, ReadsPart, rest_of, Spelling, SpellsBasic, SpellsChild, SpellsComparable, SpellsComparison, SpellsConjunction, SpellsRelative, SpellsSingular, SpellsSliceParts, SpellsSteps, text_of}
 pub use Rattle.jsonpath_parser.specs.tree.Making.{Makes, operator_of}
-pub use Rattle.jsonpath_parser.specs.tree.Reach.{are_local_arguments, are_local_filters, are_local_selectors, argument_calls_only, arguments_call_only, calls_only, filter_calls_only, filters_call_only, is_local, is_local_argument, is_local_filter, is_local_segment, is_local_selector, is_one_of, segment_calls_only, selector_calls_only, selectors_call_only}
+pub use Rattle.jsonpath_parser.specs.tree.QueryTexts.{arguments_text, filters_text, query_text, segment_text, segments_text, selectors_text}
 pub use Rattle.jsonpath_parser.specs.tree.Shown.{argument_shown, filter_shown, joined, not_shown, segment_shown, segments_shown, selector_shown}
 pub use Rattle.jsonpath_parser.specs.tree.Steps.{HasIndexesInRange, steps_query}
 pub use Rattle.jsonpath_parser.specs.tree.Syntax.{absolute, and, Argument, argument, Arguments, bool, Call, call, compare, count_call, custom_call, descendant, equal, Filter, filter, filter_argument, filter_then, Filters, greater, greater_or_equal, group, index, length_call, less, less_or_equal, list_of, Literal, literal_argument, match_call, name, no_arguments, no_filters, no_segments, no_selectors, not_equal, null, number, one, Operator, or, Query, relative, search_call, Segment, segment, Segments, Selector, selector, Selectors, several, slice, string, Test, test, test_argument, value_call, wildcard}

@@ -3,6 +3,4 @@ pub mod ReadingLists
 pub mod ReadingGrammar
 pub mod ReadingQuery
 pub mod ReadingParts
-pub mod Spellable
-pub mod QueryTexts
-pub mod Nesting
+pub mod Faults

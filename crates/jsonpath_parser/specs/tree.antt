@@ -5,3 +5,4 @@ pub mod Typing
 pub mod Reach
 pub mod Making
 pub mod Shown
+pub mod QueryTexts

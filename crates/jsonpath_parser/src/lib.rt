@@ -1,7 +1,7 @@
 //! JSONPath query texts (RFC 9535): the query tree, and its reading, or that of a part of one, from a text.
 //!
 //! A text is read by its words (`words`), along the grammar (`grammar`), into a tree (`tree`); `parse` reads a whole query, and
-//! `cursor` a part of one. Where that fails, `errors` has why.
+//! `cursor` a part of one. Where that fails, `errors` has why. `query_text` is a tree as a text that reads back.
 #![tactic(auto)]
 
 mod cursor;
@@ -10,6 +10,7 @@ pub mod errors;
 mod grammar;
 mod one_tree;
 mod parse;
+mod query_text;
 mod tree;
 mod words;
 
@@ -22,9 +23,9 @@ pub use crate::error_equality::equal_errors_hold_the_same;
 pub use crate::errors::Parsed;
 pub use crate::one_tree::{no_text_derives_two_trees, no_text_spells_two_trees};
 pub use crate::parse::{MAX_NESTING_DEPTH, parse_json_path, parse_json_path_within};
+pub use crate::query_text::to_query_text;
 pub use crate::tree::{
-    calls_only, each_text_of_a_tree_derives_it, equal_parts_are_one_tree, is_local, is_singular,
-    is_typed, let_go, model, to_query_text,
+    calls_only, equal_parts_are_one_tree, is_local, is_singular, is_typed, let_go, model,
 };
 pub use crate::words::depth::nests_deeper;
-pub use crate::words::quoting::push_name_chars;
+pub use crate::words::quoting;

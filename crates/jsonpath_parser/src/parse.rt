@@ -20,7 +20,7 @@ pub const MAX_NESTING_DEPTH: usize = 128;
 
 /// The query that the whole text is, where it is well-typed.
 #[tactic(auto, unfolding(crate::specs::inner::ReadingQuery::typed_query))]
-fn typed_query(alloc: Global, numbers: Numbers, text: &str) -> Result<JpQuery, Stop>
+pub fn typed_query(alloc: Global, numbers: Numbers, text: &str) -> Result<JpQuery, Stop>
     ensures { Gives query_view result (reading.typed_query numbers text.now) }
 {
     let query = whole_query(alloc, numbers, text)?;

@@ -45,6 +45,7 @@ pub use Rattle.jsonpath_parser.specs.tree.Typing
 pub use Rattle.jsonpath_parser.specs.tree.Reach
 pub use Rattle.jsonpath_parser.specs.tree.Making
 pub use Rattle.jsonpath_parser.specs.tree.Shown
+pub use Rattle.jsonpath_parser.specs.tree.QueryTexts
 pub use Rattle.jsonpath_parser.specs.declared.tree.model.JpQuery
 pub use Rattle.jsonpath_parser.specs.Grammar
 pub use Rattle.jsonpath_parser.specs.Valueless

@@ -25,8 +25,8 @@ pub use crate::selection::{
 pub use crate::states::{Query, apply, selector, state};
 use crate::states::{processed_nodes, processed_values};
 pub use jsonpath_base::{
-    Step, add_at, at, at_mut, begins, fixed_steps, location_by_pointer, path_of, pointer_of,
-    put_at, remove_all, replace_all, step_by_token, take_at,
+    Step, add_at, at, at_mut, fixed_steps, location_by_pointer, path_of, pointer_of, put_at,
+    remove_all, replace_all, starts_with, step_by_token, take_at,
 };
 use jsonpath_parser::model::JpQuery;
 use jsonpath_parser::{MAX_NESTING_DEPTH, is_typed};

@@ -4,8 +4,8 @@ use crate::answers::{list_of, listed, location, optional, pair, with_left};
 use crate::arguments::{each, given, given_if, list, number, size, step, steps, text, text_copy};
 use crate::refusal::{Given, Refusal};
 use jsonpath_base::{
-    SlicePlaces, Step, add_at, add_index, add_name, at, begins, location_by_pointer, path_of,
-    picked, pointer_of, put_at, remove_all, replace_all, slice_places, take_at,
+    SlicePlaces, Step, add_at, add_index, add_name, at, location_by_pointer, path_of, picked,
+    pointer_of, put_at, remove_all, replace_all, slice_places, starts_with, take_at,
 };
 use serde_json::Value;
 use std::alloc::Global;
@@ -55,9 +55,10 @@ pub fn copied(alloc: Global, original: &Value, other: &Value) -> Given<Value> {
     given_if(copy == original, Value::from(copy == other))
 }
 
-/// Whether the location begins with the prefix.
-pub fn begun(alloc: Global, location: &Value, prefix: &Value) -> Given<Value> {
-    Ok(Value::from(begins(&steps(alloc, location)?, &steps(alloc, prefix)?)))
+/// Whether the place begins with the steps of the other one.
+pub fn begun(alloc: Global, place: &Value, beginning: &Value) -> Given<Value> {
+    let (place, beginning) = (steps(alloc, place)?, steps(alloc, beginning)?);
+    Ok(Value::from(starts_with(&place, &beginning)))
 }
 
 /// The path of the location, or its pointer.

@@ -52,7 +52,7 @@ fn of_two(alloc: Global, name: &str, first: &Value, second: &Value) -> Given<Val
         ),
         "add_name" | "add_index" => locations::longer(alloc, name, first, second),
         "try_clone" => locations::copied(alloc, first, second),
-        "begins" => locations::begun(alloc, first, second),
+        "starts_with" => locations::begun(alloc, first, second),
         "location_by_pointer" => locations::pointed(alloc, first, text(second)?),
         "step_by_token" => {
             let step = step_by_token(alloc, first, text(second)?)?;

@@ -125,11 +125,19 @@ fn asked(alloc: Global, name: &str, tree: &JpQuery, beside: &Value) -> Given<Val
     match name {
         "is_singular" => Ok(Value::from(is_singular(tree))),
         "is_local" => Ok(Value::from(is_local(tree))),
-        "calls_only" => Ok(Value::from(calls_only(tree, &texts(alloc, beside)?))),
+        "calls_only" => other_name(alloc, tree, &texts(alloc, beside)?),
         "fixed_steps" => location(alloc, &fixed_steps(alloc, tree)?),
         "same_tree" => Ok(Value::from(is_spelled(alloc, tree, text(beside)?)?)),
         "to_query_text" => written(alloc, tree),
         _ => Err(Refusal::NoAnswer),
+    }
+}
+
+/// The first name of a custom function that is none of these, or null.
+fn other_name(alloc: Global, tree: &JpQuery, names: &[&str]) -> Given<Value> {
+    match calls_only(tree, names) {
+        Some(name) => Ok(Value::String(String::from_str(alloc, name)?)),
+        None => Ok(Value::Null),
     }
 }
 

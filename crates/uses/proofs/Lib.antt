@@ -2,7 +2,6 @@ pub mod Differing
 pub mod Firsts
 pub mod Telling
 pub mod Making
-pub mod Admitting
 pub mod Splitting
 pub mod Patching
 pub mod Taking

@@ -12,7 +12,7 @@ ghost use Rattle.uses.specs.Gateway.{IsAdmissible};
 use jsonpath_rust::parser::model::JpQuery;
 use jsonpath_rust::parser::{MAX_NESTING_DEPTH, calls_only, is_local};
 use jsonpath_rust::query::laws::local_is_confined;
-use jsonpath_rust::query::{Prepared, Queried, Step, begins, fixed_steps};
+use jsonpath_rust::query::{Prepared, Queried, Step, fixed_steps, starts_with};
 use std::alloc::Global;
 
 /// The query of a text, prepared, if a tenant may ask it; None if not. The names and indexes at its front lead into the
@@ -60,5 +60,5 @@ fn is_admissible(alloc: Global, query: &JpQuery, part: &[Step], functions: &[&st
     ensures memory { IfErr result (λ e. e ≡ OutOfMemory) }
 {
     let front = fixed_steps(alloc, query)?;
-    Ok(begins(&front, part) && is_local(query) && calls_only(query, functions))
+    Ok(starts_with(&front, part) && is_local(query) && calls_only(query, functions).is_none())
 }

@@ -1,9 +1,7 @@
+pub mod Asking
 pub mod Calls
 pub mod Joined
 pub mod Kinds
-pub mod Reached
-pub mod Spellable
 pub mod Steps
 pub mod TreeEquality
-pub mod Typed
 pub mod ViewEquations

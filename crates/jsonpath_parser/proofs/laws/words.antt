@@ -4,7 +4,6 @@ pub mod Giving
 pub mod Ints
 pub mod NumberPowers
 pub mod NumberValues
-pub mod Openings
 pub mod Quoting
 pub mod Runs
 pub mod StringComplete

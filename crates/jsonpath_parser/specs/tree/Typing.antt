@@ -70,13 +70,21 @@ takes (count_call x) = is_query_argument x
 takes (search_call x y) = is_value_argument x && is_value_argument y
 takes (match_call x y) = is_value_argument x && is_value_argument y
 
--- What stands in a query, collected: something of each test that asks for a truth or for existence, of each side of a comparison, and of each
--- call of the table of types. `none` is what nothing gives, and `both` joins what two parts give, in order.
-module _ {A : Type 0} (none : A) (both : A → A → A) (of_test : Test → A) (of_side : Argument → A) (of_call : Call → A) where
+-- What is asked of the parts of a query: something of each test that asks for a truth or for existence, of each side of a comparison, of each query
+-- from the root in a filter, and of each call. `none` is what a part without any gives, and `both` joins what two parts give, in order.
+pub record Asked (A : Type 0) : Type 0 where
+  pub none : A
+  pub both : A → A → A
+  pub of_test : Test → A
+  pub of_side : Argument → A
+  pub of_root : A
+  pub of_call : Call → A
+
+module _ {A : Type 0} (asked : Asked A) where
   abbrev mutual
     pub over_segments : Segments → A
-    over_segments no_segments = none
-    over_segments (segment g gs) = both (over_segment g) (over_segments gs)
+    over_segments no_segments = asked.none
+    over_segments (segment g gs) = asked.both (over_segment g) (over_segments gs)
 
     pub over_segment : Segment → A
     over_segment (one s) = over_selector s
@@ -84,89 +92,96 @@ module _ {A : Type 0} (none : A) (both : A → A → A) (of_test : Test → A) (
     over_segment (descendant g) = over_segment g
 
     pub over_selectors : Selectors → A
-    over_selectors no_selectors = none
-    over_selectors (selector s ss) = both (over_selector s) (over_selectors ss)
+    over_selectors no_selectors = asked.none
+    over_selectors (selector s ss) = asked.both (over_selector s) (over_selectors ss)
 
     pub over_selector : Selector → A
     over_selector (filter f) = over_filter f
-    over_selector _ = none
+    over_selector _ = asked.none
 
     pub over_filter : Filter → A
     over_filter (or fs) = over_filters fs
     over_filter (and fs) = over_filters fs
     over_filter (group negated f) = over_filter f
-    over_filter (test negated t) = both (of_test t) (over_test t)
-    over_filter (compare op left right) = both (both (of_side left) (over_argument left)) (both (of_side right) (over_argument right))
+    over_filter (test negated t) = asked.both (asked.of_test t) (over_test t)
+    over_filter (compare op left right) = asked.both (asked.both (asked.of_side left) (over_argument left)) (asked.both (asked.of_side right) (over_argument right))
 
     pub over_filters : Filters → A
-    over_filters no_filters = none
-    over_filters (filter_then f fs) = both (over_filter f) (over_filters fs)
+    over_filters no_filters = asked.none
+    over_filters (filter_then f fs) = asked.both (over_filter f) (over_filters fs)
 
     pub over_test : Test → A
     over_test (relative gs) = over_segments gs
-    over_test (absolute gs) = over_segments gs
+    over_test (absolute gs) = asked.both asked.of_root (over_segments gs)
     over_test (call c) = over_call c
 
     pub over_call : Call → A
-    over_call (custom_call n xs) = over_arguments xs
-    over_call (length_call x) = both (of_call (length_call x)) (over_argument x)
-    over_call (value_call x) = both (of_call (value_call x)) (over_argument x)
-    over_call (count_call x) = both (of_call (count_call x)) (over_argument x)
-    over_call (search_call x y) = both (of_call (search_call x y)) (both (over_argument x) (over_argument y))
-    over_call (match_call x y) = both (of_call (match_call x y)) (both (over_argument x) (over_argument y))
+    over_call (custom_call n xs) = asked.both (asked.of_call (custom_call n xs)) (over_arguments xs)
+    over_call (length_call x) = asked.both (asked.of_call (length_call x)) (over_argument x)
+    over_call (value_call x) = asked.both (asked.of_call (value_call x)) (over_argument x)
+    over_call (count_call x) = asked.both (asked.of_call (count_call x)) (over_argument x)
+    over_call (search_call x y) = asked.both (asked.of_call (search_call x y)) (asked.both (over_argument x) (over_argument y))
+    over_call (match_call x y) = asked.both (asked.of_call (match_call x y)) (asked.both (over_argument x) (over_argument y))
 
     pub over_argument : Argument → A
-    over_argument (literal_argument l) = none
+    over_argument (literal_argument l) = asked.none
     over_argument (test_argument t) = over_test t
     over_argument (filter_argument f) = over_filter f
 
     pub over_arguments : Arguments → A
-    over_arguments no_arguments = none
-    over_arguments (argument x xs) = both (over_argument x) (over_arguments xs)
+    over_arguments no_arguments = asked.none
+    over_arguments (argument x xs) = asked.both (over_argument x) (over_arguments xs)
+
+  -- a side of a comparison
+  abbrev pub over_side : Argument → A
+  over_side x = asked.both (asked.of_side x) (over_argument x)
 
 -- every call takes its arguments, a call as a test gives a truth, and a side of a comparison gives a value
+abbrev pub typing : Asked Bool
+typing = record { none = true; both = ◌&&◌; of_test = is_truth_test; of_side = is_value_argument; of_root = true; of_call = takes }
+
+-- the query is well-typed (2.4.3)
 abbrev pub is_typed : Query → Bool
-is_typed = over_segments true ◌&&◌ is_truth_test is_value_argument takes
+is_typed = over_segments typing
 
 -- ---- the same of its parts
 
 abbrev pub is_typed_segment : Segment → Bool
-is_typed_segment = over_segment true ◌&&◌ is_truth_test is_value_argument takes
+is_typed_segment = over_segment typing
 
 abbrev pub is_typed_selector : Selector → Bool
-is_typed_selector = over_selector true ◌&&◌ is_truth_test is_value_argument takes
+is_typed_selector = over_selector typing
 
 abbrev pub are_typed_selectors : Selectors → Bool
-are_typed_selectors = over_selectors true ◌&&◌ is_truth_test is_value_argument takes
+are_typed_selectors = over_selectors typing
 
 abbrev pub is_typed_filter : Filter → Bool
-is_typed_filter = over_filter true ◌&&◌ is_truth_test is_value_argument takes
+is_typed_filter = over_filter typing
 
 abbrev pub are_typed_filters : Filters → Bool
-are_typed_filters = over_filters true ◌&&◌ is_truth_test is_value_argument takes
+are_typed_filters = over_filters typing
 
 -- what stands in it; as an argument it may give a value too
 abbrev pub is_typed_test : Test → Bool
-is_typed_test = over_test true ◌&&◌ is_truth_test is_value_argument takes
+is_typed_test = over_test typing
 
 abbrev pub is_typed_call : Call → Bool
-is_typed_call = over_call true ◌&&◌ is_truth_test is_value_argument takes
+is_typed_call = over_call typing
 
 abbrev pub is_typed_argument : Argument → Bool
-is_typed_argument = over_argument true ◌&&◌ is_truth_test is_value_argument takes
+is_typed_argument = over_argument typing
 
 abbrev pub are_typed_arguments : Arguments → Bool
-are_typed_arguments = over_arguments true ◌&&◌ is_truth_test is_value_argument takes
+are_typed_arguments = over_arguments typing
 
 -- a side of a comparison: it gives a value, and is well-typed
 abbrev pub is_typed_side : Argument → Bool
-is_typed_side x = is_value_argument x && is_typed_argument x
+is_typed_side = over_side typing
 
 -- a test outside a call: it is well-typed, and gives a truth or is asked for existence
 abbrev pub is_typed_truth : Test → Bool
 is_typed_truth t = is_truth_test t && is_typed_test t
 
--- the query is well-typed (2.4.3)
 abbrev pub Typed : Query → Type 0
 Typed q = is_typed q ≡ true
 

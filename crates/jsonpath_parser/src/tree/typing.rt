@@ -1,11 +1,11 @@
 //! Whether the functions of a query get what they take (RFC 9535, 2.4.3).
 ghost use Rattle.std.specs.Prelude.{◌≡◌, map};
 ghost use Rattle.jsonpath_parser.specs.tree.Typing as typing;
-ghost use Rattle.jsonpath_parser.specs.Prelude.{argument_view, arguments_of, atom_view, call_view, comparable_view, comparison_view, filter_view, filters_of, query_view, segment_view, segments_of, selector_view, selectors_of, test_view};
+ghost use Rattle.jsonpath_parser.specs.Prelude.{atom_view, call_view, comparable_view, comparison_view, filter_view, query_view, segment_view, segments_of, selector_view, test_view};
 
+use crate::tree::asking::Question;
 use crate::tree::model::{
-    Comparable, Comparison, Filter, FilterAtom, FnArg, JpQuery, Segment, Selector, Test,
-    TestFunction,
+    Comparable, Comparison, Filter, FilterAtom, JpQuery, Segment, Selector, Test, TestFunction,
 };
 
 /// Whether a query tree is well-typed (RFC 9535, 2.4.3): each function takes its arguments, a function that stands as a
@@ -18,172 +18,66 @@ pub fn is_typed(query: &JpQuery) -> bool
     segments(&query.segments)
 }
 
-#[cycle(typing)]
+#[tactic(auto, using(crate::proofs::laws::tree::Asking::typed_segments))]
 pub fn segments(segments: &[Segment]) -> bool
     ensures { result ≡ typing.is_typed (segments_of (map segment_view segments.now)) }
 {
-    'segments: for one in segments {
-        if !segment(one) {
-            return false;
-        }
-    }
-    true
+    Question::Typed.segments(segments).is_none()
 }
 
-#[cycle(typing)]
+#[tactic(auto, using(crate::proofs::laws::tree::Asking::typed_segment))]
 pub fn segment(segment: &Segment) -> bool
     ensures { result ≡ typing.is_typed_segment (segment_view segment.now) }
 {
-    match segment {
-        Segment::Descendant(inner) => self::segment(inner),
-        Segment::Selector(one) => selector(one),
-        Segment::Selectors(several) => selectors(several),
-    }
+    Question::Typed.segment(segment).is_none()
 }
 
-#[cycle(typing)]
-fn selectors(selectors: &[Selector]) -> bool
-    ensures { result ≡ typing.are_typed_selectors (selectors_of (map selector_view selectors.now)) }
-{
-    'selectors: for one in selectors {
-        if !selector(one) {
-            return false;
-        }
-    }
-    true
-}
-
-#[cycle(typing)]
+#[tactic(auto, using(crate::proofs::laws::tree::Asking::typed_selector))]
 pub fn selector(selector: &Selector) -> bool
     ensures { result ≡ typing.is_typed_selector (selector_view selector.now) }
 {
-    match selector {
-        Selector::Name(_) | Selector::Wildcard | Selector::Index(_) | Selector::Slice(_, _, _) => {
-            true
-        }
-        Selector::Filter(inner) => filter(inner),
-    }
+    Question::Typed.selector(selector).is_none()
 }
 
-#[cycle(typing)]
-fn filters(filters: &[Filter]) -> bool
-    ensures { result ≡ typing.are_typed_filters (filters_of (map filter_view filters.now)) }
-{
-    'filters: for one in filters {
-        if !filter(one) {
-            return false;
-        }
-    }
-    true
-}
-
-#[cycle(typing)]
+#[tactic(auto, using(crate::proofs::laws::tree::Asking::typed_filter))]
 pub fn filter(filter: &Filter) -> bool
     ensures { result ≡ typing.is_typed_filter (filter_view filter.now) }
 {
-    match filter {
-        Filter::Or(parts) | Filter::And(parts) => filters(parts),
-        Filter::Atom(one) => atom(one),
-    }
+    Question::Typed.filter(filter).is_none()
 }
 
-#[cycle(typing)]
+#[tactic(auto, using(crate::proofs::laws::tree::Asking::typed_filter))]
 pub fn atom(atom: &FilterAtom) -> bool
     ensures { result ≡ typing.is_typed_filter (atom_view atom.now) }
 {
-    match atom {
-        FilterAtom::Filter { expr, .. } => filter(expr),
-        FilterAtom::Test { expr, .. } => is_truth(expr) && test(expr),
-        FilterAtom::Comparison(sides) => comparison(sides),
-    }
+    Question::Typed.atom(atom).is_none()
 }
 
-#[cycle(typing)]
+#[tactic(auto, using(crate::proofs::laws::tree::Asking::typed_filter))]
 pub fn comparison(comparison: &Comparison) -> bool
     ensures { result ≡ typing.is_typed_filter (comparison_view comparison.now) }
 {
-    match comparison {
-        Comparison::Eq(left, right)
-        | Comparison::Ne(left, right)
-        | Comparison::Gt(left, right)
-        | Comparison::Gte(left, right)
-        | Comparison::Lt(left, right)
-        | Comparison::Lte(left, right) => comparable(left) && comparable(right),
-    }
+    Question::Typed.comparison(comparison).is_none()
 }
 
-#[cycle(typing)]
-pub fn comparable(comparable: &Comparable) -> bool
-    ensures { result ≡ typing.is_typed_side (comparable_view comparable.now) }
+#[tactic(auto, using(crate::proofs::laws::tree::Asking::typed_side))]
+pub fn comparable(side: &Comparable) -> bool
+    ensures { result ≡ typing.is_typed_side (comparable_view side.now) }
 {
-    match comparable {
-        Comparable::Literal(_) => true,
-        Comparable::SingularQuery(_) => true,
-        Comparable::Function(function) => function.is_comparable() && call(function),
-    }
-}
-
-/// Whether the test gives a truth, or is asked for existence.
-fn is_truth(test: &Test) -> bool
-    ensures { result ≡ typing.is_truth_test (test_view test.now) }
-{
-    match test {
-        Test::RelQuery(_) | Test::AbsQuery(_) => true,
-        Test::Function(call) => !call.is_comparable(),
-    }
+    Question::Typed.side(side).is_none()
 }
 
 /// Whether the test is well-typed, and gives a truth or is asked for existence.
+#[tactic(auto, using(crate::proofs::laws::tree::Asking::truth_test, crate::proofs::laws::tree::Asking::typed_test))]
 pub fn truth(test: &Test) -> bool
     ensures { result ≡ typing.is_typed_truth (test_view test.now) }
 {
-    is_truth(test) && self::test(test)
+    Question::Typed.of_test(test).is_none() && Question::Typed.test(test).is_none()
 }
 
-#[cycle(typing)]
-fn test(test: &Test) -> bool
-    ensures { result ≡ typing.is_typed_test (test_view test.now) }
-{
-    match test {
-        Test::RelQuery(inner) => segments(inner),
-        Test::AbsQuery(query) => segments(&query.segments),
-        Test::Function(function) => call(function),
-    }
-}
-
-#[cycle(typing)]
+#[tactic(auto, using(crate::proofs::laws::tree::Asking::typed_call))]
 pub fn call(call: &TestFunction) -> bool
     ensures { result ≡ typing.is_typed_call (call_view call.now) }
 {
-    match call {
-        TestFunction::Custom(_, args) => arguments(args),
-        TestFunction::Length(arg) => call.takes() && argument(arg),
-        TestFunction::Value(arg) | TestFunction::Count(arg) => call.takes() && argument(arg),
-        TestFunction::Search(left, right) | TestFunction::Match(left, right) => call.takes()
-            && argument(left)
-            && argument(right),
-    }
-}
-
-#[cycle(typing)]
-fn arguments(arguments: &[FnArg]) -> bool
-    ensures { result ≡ typing.are_typed_arguments (arguments_of (map argument_view arguments.now)) }
-{
-    'arguments: for one in arguments {
-        if !argument(one) {
-            return false;
-        }
-    }
-    true
-}
-
-#[cycle(typing)]
-fn argument(argument: &FnArg) -> bool
-    ensures { result ≡ typing.is_typed_argument (argument_view argument.now) }
-{
-    match argument {
-        FnArg::Literal(_) => true,
-        FnArg::Test(inner) => test(inner),
-        FnArg::Filter(inner) => filter(inner),
-    }
+    Question::Typed.call(call).is_none()
 }

@@ -2,7 +2,7 @@
 use Rattle.std.specs.Prelude.{◌≡◌, ℕ, List, [], ◌∷◌, ◌++◌, ◌⊎◌, Bool, true, false, Option, Some, IsSome}
 use Rattle.std.specs.List.{Contains}
 use Rattle.jsonpath_parser.specs.tree.Syntax.{Selector, Selectors, Segment, Segments, Filter, Filters, Test, Call, search_call, match_call, Argument, Arguments, Query}
-use Rattle.jsonpath_parser.specs.tree.Typing.{over_segments, over_segment, over_selectors, over_selector, over_filter, over_filters, over_test, over_call, over_argument, over_arguments}
+use Rattle.jsonpath_parser.specs.tree.Typing.{Asked, over_segments, over_segment, over_selectors, over_selector, over_filter, over_filters, over_test, over_call, over_argument, over_arguments}
 use Rattle.jsonpath_parser.specs.Derives.{Derives, IsRefusal}
 use Rattle.jsonpath_parser.specs.declared.errors.JsonPathError.{JsonPathError}
 use Rattle.jsonpath_parser.specs.declared.errors.JsonPathError.TheVariants.{OutOfMemory}
@@ -21,38 +21,41 @@ pattern_of (search_call a b) = (false, b) ∷ []
 pattern_of (match_call a b) = (true, b) ∷ []
 pattern_of _ = []
 
+abbrev pub pattern_question : Asked (List (Bool × Argument))
+pattern_question = record { none = []; both = ◌++◌; of_test = λ t. []; of_side = λ x. []; of_root = []; of_call = pattern_of }
+
 -- the patterns that stand in a query
 abbrev pub segments_patterns : Segments → List (Bool × Argument)
-segments_patterns = over_segments [] ◌++◌ (λ t. []) (λ x. []) pattern_of
+segments_patterns = over_segments pattern_question
 
 -- ---- the same of its parts
 
 abbrev pub segment_patterns : Segment → List (Bool × Argument)
-segment_patterns = over_segment [] ◌++◌ (λ t. []) (λ x. []) pattern_of
+segment_patterns = over_segment pattern_question
 
 abbrev pub selector_patterns : Selector → List (Bool × Argument)
-selector_patterns = over_selector [] ◌++◌ (λ t. []) (λ x. []) pattern_of
+selector_patterns = over_selector pattern_question
 
 abbrev pub selectors_patterns : Selectors → List (Bool × Argument)
-selectors_patterns = over_selectors [] ◌++◌ (λ t. []) (λ x. []) pattern_of
+selectors_patterns = over_selectors pattern_question
 
 abbrev pub filter_patterns : Filter → List (Bool × Argument)
-filter_patterns = over_filter [] ◌++◌ (λ t. []) (λ x. []) pattern_of
+filter_patterns = over_filter pattern_question
 
 abbrev pub filters_patterns : Filters → List (Bool × Argument)
-filters_patterns = over_filters [] ◌++◌ (λ t. []) (λ x. []) pattern_of
+filters_patterns = over_filters pattern_question
 
 abbrev pub test_patterns : Test → List (Bool × Argument)
-test_patterns = over_test [] ◌++◌ (λ t. []) (λ x. []) pattern_of
+test_patterns = over_test pattern_question
 
 abbrev pub call_patterns : Call → List (Bool × Argument)
-call_patterns = over_call [] ◌++◌ (λ t. []) (λ x. []) pattern_of
+call_patterns = over_call pattern_question
 
 abbrev pub argument_patterns : Argument → List (Bool × Argument)
-argument_patterns = over_argument [] ◌++◌ (λ t. []) (λ x. []) pattern_of
+argument_patterns = over_argument pattern_question
 
 abbrev pub arguments_patterns : Arguments → List (Bool × Argument)
-arguments_patterns = over_arguments [] ◌++◌ (λ t. []) (λ x. []) pattern_of
+arguments_patterns = over_arguments pattern_question
 
 -- the value is a text in which `regex` reads a pattern: with true for `match`, which asks of the entire text, and with false for `search`
 abbrev pub IsPattern : Bool → Option Tree → Type 0

@@ -16,8 +16,8 @@ pub use jsonpath_base::laws::{
     removal_leaves_the_rest, removed_member_is_gone, same_is_an_equivalence, without_nowhere,
 };
 pub use jsonpath_parser::{
-    each_text_of_a_tree_derives_it, equal_errors_hold_the_same, equal_parts_are_one_tree,
-    no_text_derives_two_trees, no_text_spells_two_trees,
+    equal_errors_hold_the_same, equal_parts_are_one_tree, no_text_derives_two_trees,
+    no_text_spells_two_trees,
 };
 use serde_json::Value;
 

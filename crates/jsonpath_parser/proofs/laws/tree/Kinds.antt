@@ -1,6 +1,6 @@
--- Which filters the code's comparisons and atoms are: a comparison is one, and no atom is an `||` or an `&&`.
+-- What is so of each comparison and of each atom of the code.
 use Rattle.std.proofs.Common.{◌≡◌, Bool, true, refl, ap, ◌∙◌, rules}
-use Rattle.jsonpath_parser.specs.Prelude.{atom_view, comparable_view, Comparison, comparison_view, filter_view, FilterAtom, is_basic, is_comparison, is_conjunction, is_no_bare_test, test_view, the_lemmas}
+use Rattle.jsonpath_parser.specs.Prelude.{atom_view, comparable_view, Comparison, comparison_view, filter_view, FilterAtom, is_basic, is_comparison, test_view, the_lemmas}
 use Rattle.jsonpath_parser.specs.tree.Syntax as tree
 use Rattle.jsonpath_parser.specs.declared.tree.model.FilterAtom
 use Rattle.jsonpath_parser.specs.declared.tree.model.FilterAtom.TheVariants as atom_variants
@@ -27,12 +27,6 @@ of_atom f x groups tests each (FilterAtom.Comparison' p c) = let open_ : atom_vi
 
 pub comparison_is_comparison : (c : Comparison) → is_comparison (comparison_view c) ≡ true
 comparison_is_comparison = of_comparison is_comparison true (λ op l r. refl)
-
-pub comparison_is_no_bare_test : (c : Comparison) → is_no_bare_test (comparison_view c) ≡ true
-comparison_is_no_bare_test = of_comparison is_no_bare_test true (λ op l r. refl)
-
-pub atom_is_conjunction : (a : FilterAtom) → is_conjunction (atom_view a) ≡ true
-atom_is_conjunction = of_atom is_conjunction true (λ b g. refl) (λ b t. refl) (λ op l r. refl)
 
 pub atom_is_basic : (a : FilterAtom) → is_basic (atom_view a) ≡ true
 atom_is_basic = of_atom is_basic true (λ b g. refl) (λ b t. refl) (λ op l r. refl)

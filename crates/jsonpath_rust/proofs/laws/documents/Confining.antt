@@ -3,7 +3,8 @@ use Rattle.std.proofs.Common.{◌≡◌, ℕ, suc, ℤ, List, [], ◌∷◌, ◌
 use Rattle.std.proofs.lemmas.Bool.{and_parts, false≢true}
 use Rattle.std.proofs.lemmas.List.Elements.{All-from_recursion, All-map, All-weaker, filter_agree}
 use Rattle.jsonpath_rust.specs.Prelude.Documents.{absolute, AgreeAt, all_applied, all_pick, all_trees, AllByRecursion, and, answer, argued, Argument, argument, Arguments, as_list, as_nodes, as_trees, as_truth, as_value, at, Begins, below, Call, call, child, children, children_at, compare, compares, count_call, count_of, custom_call, descendant, Document, each_holds, element, element_nodes, element_of, elements, Filter, filter_argument, filter_then, Filters, fixed_part, fixed_step, flat_map, followed, group, holds, index, is_matched, length_call, length_of, list, literal_argument, LocalIsConfined, Location, match_call, member_nodes, member_subtrees, Members, name, negated, no_arguments, no_filters, no_members, no_segments, no_selectors, no_trees, Node, nodelist, null, number, object, of_nodes, of_value, one, only_value, option_map_or, or, pairs, picks, Query, relative, replaced, root_node, search_call, Segment, segment, Segments, selected, SelectedBeginsWithFixedPart, Selector, selector, Selectors, several, SingularSelectsOneAtMost, slice, slice_of, some_holds, Step, subtree, subtree_at, subtrees_at, Test, test, test_argument, tested, text, Tree, Trees, truth, value_call, wildcard}
-use Rattle.jsonpath_parser.specs.tree.Reach.{is_local, is_local_segment, are_local_selectors, is_local_selector, is_local_filter, are_local_filters, is_local_test, is_local_call, is_local_argument, are_local_arguments}
+use Rattle.jsonpath_parser.specs.tree.Reach.{is_local, locality}
+use Rattle.jsonpath_parser.specs.tree.Typing.{over_argument, over_arguments, over_call, over_filter, over_filters, over_segment, over_selector, over_selectors, over_test}
 use Rattle.jsonpath_parser.specs.tree.Syntax as syntax
 use Rattle.jsonpath_base.specs.Tree as base
 use Rattle.jsonpath_rust.proofs.laws.documents.Following.{node_at, nodes_of, applied_to_none, selected_followed}
@@ -147,74 +148,74 @@ mutual
   applied_alike : (gs : Segments) (d e : Document) (ns : List Node) → SameCustom d e → IsTrue (is_local gs) → all_applied gs d ns ≡ all_applied gs e ns
   applied_alike no_segments d e ns same h = refl
   applied_alike (segment g gs) d e ns same h =
-      let both = and_parts (is_local_segment g) (is_local gs) h in
+      let both = and_parts (over_segment locality g) (is_local gs) h in
       ap (all_applied gs d) (flat_map_agree (replaced g d) (replaced g e) (λ n. replaced_alike g d e n same both.0) ns) ∙ applied_alike gs d e (flat_map (replaced g e) ns) same both.1
 
-  replaced_alike : (g : Segment) (d e : Document) (n : Node) → SameCustom d e → IsTrue (is_local_segment g) → replaced g d n ≡ replaced g e n
+  replaced_alike : (g : Segment) (d e : Document) (n : Node) → SameCustom d e → IsTrue (over_segment locality g) → replaced g d n ≡ replaced g e n
   replaced_alike (one s) d e n same h = picks_alike s d e n same h
   replaced_alike (several ss) d e n same h = all_pick_alike ss d e n same h
   replaced_alike (descendant g) d e n same h = flat_map_agree (replaced g d) (replaced g e) (λ m. replaced_alike g d e m same h) (subtree n)
 
-  picks_alike : (s : Selector) (d e : Document) (n : Node) → SameCustom d e → IsTrue (is_local_selector s) → picks s d n ≡ picks s e n
+  picks_alike : (s : Selector) (d e : Document) (n : Node) → SameCustom d e → IsTrue (over_selector locality s) → picks s d n ≡ picks s e n
   picks_alike (syntax.Selector.name k) d e n same h = refl
   picks_alike wildcard d e n same h = refl
   picks_alike (syntax.Selector.index i) d e n same h = refl
   picks_alike (slice start end step) d e n same h = refl
   picks_alike (syntax.Selector.filter f) d e n same h = filter_agree (holds f d) (holds f e) (λ m. holds_alike f d e m same h) (children n)
 
-  all_pick_alike : (ss : Selectors) (d e : Document) (n : Node) → SameCustom d e → IsTrue (are_local_selectors ss) → all_pick ss d n ≡ all_pick ss e n
+  all_pick_alike : (ss : Selectors) (d e : Document) (n : Node) → SameCustom d e → IsTrue (over_selectors locality ss) → all_pick ss d n ≡ all_pick ss e n
   all_pick_alike no_selectors d e n same h = refl
   all_pick_alike (selector s ss) d e n same h =
-      let both = and_parts (is_local_selector s) (are_local_selectors ss) h in
+      let both = and_parts (over_selector locality s) (over_selectors locality ss) h in
       ap (λ ns. ns ++ all_pick ss d n) (picks_alike s d e n same both.0) ∙ ap (λ ns. picks s e n ++ ns) (all_pick_alike ss d e n same both.1)
 
-  holds_alike : (f : Filter) (d e : Document) (n : Node) → SameCustom d e → IsTrue (is_local_filter f) → holds f d n ≡ holds f e n
+  holds_alike : (f : Filter) (d e : Document) (n : Node) → SameCustom d e → IsTrue (over_filter locality f) → holds f d n ≡ holds f e n
   holds_alike (or fs) d e n same h = some_alike fs d e n same h
   holds_alike (and fs) d e n same h = each_alike fs d e n same h
   holds_alike (group t f) d e n same h = ap (negated t) (holds_alike f d e n same h)
   holds_alike (test t q) d e n same h = ap (λ x. negated t (as_truth x)) (tested_alike q d e n same h)
   holds_alike (compare op a b) d e n same h =
-      let both = and_parts (is_local_argument a) (is_local_argument b) h in
+      let both = and_parts (over_argument locality a) (over_argument locality b) h in
       ap (λ x. compares op (as_value x) (as_value (argued b d n))) (argued_alike a d e n same both.0) ∙ ap (λ x. compares op (as_value (argued a e n)) (as_value x)) (argued_alike b d e n same both.1)
 
-  some_alike : (fs : Filters) (d e : Document) (n : Node) → SameCustom d e → IsTrue (are_local_filters fs) → some_holds fs d n ≡ some_holds fs e n
+  some_alike : (fs : Filters) (d e : Document) (n : Node) → SameCustom d e → IsTrue (over_filters locality fs) → some_holds fs d n ≡ some_holds fs e n
   some_alike no_filters d e n same h = refl
   some_alike (filter_then f fs) d e n same h =
-      let both = and_parts (is_local_filter f) (are_local_filters fs) h in
+      let both = and_parts (over_filter locality f) (over_filters locality fs) h in
       ap (λ b. b || some_holds fs d n) (holds_alike f d e n same both.0) ∙ ap (λ b. holds f e n || b) (some_alike fs d e n same both.1)
 
-  each_alike : (fs : Filters) (d e : Document) (n : Node) → SameCustom d e → IsTrue (are_local_filters fs) → each_holds fs d n ≡ each_holds fs e n
+  each_alike : (fs : Filters) (d e : Document) (n : Node) → SameCustom d e → IsTrue (over_filters locality fs) → each_holds fs d n ≡ each_holds fs e n
   each_alike no_filters d e n same h = refl
   each_alike (filter_then f fs) d e n same h =
-      let both = and_parts (is_local_filter f) (are_local_filters fs) h in
+      let both = and_parts (over_filter locality f) (over_filters locality fs) h in
       ap (λ b. b && each_holds fs d n) (holds_alike f d e n same both.0) ∙ ap (λ b. holds f e n && b) (each_alike fs d e n same both.1)
 
-  tested_alike : (t : Test) (d e : Document) (n : Node) → SameCustom d e → IsTrue (is_local_test t) → tested t d n ≡ tested t e n
+  tested_alike : (t : Test) (d e : Document) (n : Node) → SameCustom d e → IsTrue (over_test locality t) → tested t d n ≡ tested t e n
   tested_alike (relative gs) d e n same h = ap of_nodes (applied_alike gs d e (n ∷ []) same h)
   tested_alike (absolute gs) d e n same h = absurd (false≢true h)
   tested_alike (call f) d e n same h = ap of_value (answer_alike f d e n same h)
 
-  answer_alike : (f : Call) (d e : Document) (n : Node) → SameCustom d e → IsTrue (is_local_call f) → answer f d n ≡ answer f e n
+  answer_alike : (f : Call) (d e : Document) (n : Node) → SameCustom d e → IsTrue (over_call locality f) → answer f d n ≡ answer f e n
   answer_alike (custom_call called args) d e n same h = ap (λ custom. Some (custom called (all_trees args d n))) same ∙ ap (λ ts. Some (e.custom called ts)) (arguments_alike args d e n same h)
   answer_alike (length_call a) d e n same h = ap (λ x. length_of (as_value x)) (argued_alike a d e n same h)
   answer_alike (value_call a) d e n same h = ap (λ x. only_value (as_nodes x)) (argued_alike a d e n same h)
   answer_alike (count_call a) d e n same h = ap (λ x. count_of (as_nodes x)) (argued_alike a d e n same h)
   answer_alike (search_call a b) d e n same h =
-      let both = and_parts (is_local_argument a) (is_local_argument b) h in
+      let both = and_parts (over_argument locality a) (over_argument locality b) h in
       ap (λ x. Some (truth (is_matched false (as_value x) (as_value (argued b d n))))) (argued_alike a d e n same both.0) ∙ ap (λ x. Some (truth (is_matched false (as_value (argued a e n)) (as_value x)))) (argued_alike b d e n same both.1)
   answer_alike (match_call a b) d e n same h =
-      let both = and_parts (is_local_argument a) (is_local_argument b) h in
+      let both = and_parts (over_argument locality a) (over_argument locality b) h in
       ap (λ x. Some (truth (is_matched true (as_value x) (as_value (argued b d n))))) (argued_alike a d e n same both.0) ∙ ap (λ x. Some (truth (is_matched true (as_value (argued a e n)) (as_value x)))) (argued_alike b d e n same both.1)
 
-  argued_alike : (a : Argument) (d e : Document) (n : Node) → SameCustom d e → IsTrue (is_local_argument a) → argued a d n ≡ argued a e n
+  argued_alike : (a : Argument) (d e : Document) (n : Node) → SameCustom d e → IsTrue (over_argument locality a) → argued a d n ≡ argued a e n
   argued_alike (literal_argument l) d e n same h = refl
   argued_alike (test_argument t) d e n same h = tested_alike t d e n same h
   argued_alike (filter_argument f) d e n same h = ap (λ b. of_value (Some (truth b))) (holds_alike f d e n same h)
 
-  arguments_alike : (args : Arguments) (d e : Document) (n : Node) → SameCustom d e → IsTrue (are_local_arguments args) → all_trees args d n ≡ all_trees args e n
+  arguments_alike : (args : Arguments) (d e : Document) (n : Node) → SameCustom d e → IsTrue (over_arguments locality args) → all_trees args d n ≡ all_trees args e n
   arguments_alike no_arguments d e n same h = refl
   arguments_alike (argument a rest) d e n same h =
-      let both = and_parts (is_local_argument a) (are_local_arguments rest) h in
+      let both = and_parts (over_argument locality a) (over_arguments locality rest) h in
       ap (λ x. as_trees x ++ all_trees rest d n) (argued_alike a d e n same both.0) ∙ ap (λ ts. as_trees (argued a e n) ++ ts) (arguments_alike rest d e n same both.1)
 
 -- ---- confinement
@@ -222,7 +223,7 @@ mutual
 -- what is local stays so behind its fixed part
 local_behind : (gs : Segments) → IsTrue (is_local gs) → IsTrue (is_local (behind gs))
 local_behind no_segments h = h
-local_behind (segment g gs) h = of_step (fixed_step g) (local_behind gs (and_parts (is_local_segment g) (is_local gs) h).1)
+local_behind (segment g gs) h = of_step (fixed_step g) (local_behind gs (and_parts (over_segment locality g) (is_local gs) h).1)
   where
     of_step : (o : Option Step) → IsTrue (is_local (behind gs)) → IsTrue (is_local (option_map_or (λ s. behind gs) o (segment g gs)))
     of_step None rest = h
