@@ -199,10 +199,10 @@ pub record Gathered {K : Type 0} (compare : K → K → Ordering) (all got rest 
 -- ---- the entries of a level, one after the other
 
 -- those in front are in order, and the others as they were
-pub record Sofar {K : Type 0} (start now : List (K × Marks)) (i count : ℕ) : Type 0 where
+pub record Sofar {K : Type 0} (to : K → Step) (start now : List (K × Marks)) (i count : ℕ) : Type 0 where
   pub keys : keys_of now ≡ keys_of start
   pub size : length now ≡ length start
-  pub same : (to : K → Step) (l : Location) → marked_in to now l ≡ marked_in to start l
+  pub same : IsSameSet (marked_in to start) (marked_in to now)
   pub ordered : list_all (λ e. in_order e.1) (take i now) ≡ true
   pub counted : count ≡ counts (take i now)
   pub rest : drop i now ≡ drop i start
@@ -231,14 +231,14 @@ counts-append : {K : Type 0} (es fs : List (K × Marks)) → counts (es ++ fs) �
 counts-append [] fs = omega arith
 counts-append (e ∷ es) fs = omega (arith, counts-append es fs)
 
-pub sofar_next : {K : Type 0} (start now : List (K × Marks)) (i n m k : ℕ) (e : K × Marks) (w : Marks) → i < length now → e ≡ get_or now i e → IsSameSet (marked e.1) (marked w) → in_order w ≡ true → m ≡ distinct_count (listed w) → k ≡ n + m
-    → Sofar start now i n → Sofar start (set now i (e.0, w)) (i + 1) k
-sofar_next {K} start now i n m k e w within read same order count sum h =
+pub sofar_next : {K : Type 0} (to : K → Step) (start now : List (K × Marks)) (i n m k : ℕ) (e : K × Marks) (w : Marks) → i < length now → e ≡ get_or now i e → IsSameSet (marked e.1) (marked w) → in_order w ≡ true → m ≡ distinct_count (listed w) → k ≡ n + m
+    → Sofar to start now i n → Sofar to start (set now i (e.0, w)) (i + 1) k
+sofar_next {K} to start now i n m k e w within read same order count sum h =
     let front : take (i + 1) (set now i (e.0, w)) ≡ take i now ++ (e.0, w) ∷ [] = take_more_set now i (e.0, w) within in
     record {
       keys = keys-set now i e w read ∙ h.keys;
       size = size-set now i (e.0, w) ∙ h.size;
-      same = λ to l. same_each to now i e w read same l ∙ h.same to l;
+      same = record { each = λ l. same_each to now i e w read same l ∙ h.same.each l };
       ordered = ap (list_all (λ x. in_order x.1)) front ∙ list_all-append (λ (x : K × Marks). in_order x.1) (take i now) ((e.0, w) ∷ []) ∙ rw (h.ordered, order);
       counted = sum ∙ omega (arith, h.counted, count, ap counts front, counts-append (take i now) ((e.0, w) ∷ []));
       rest = drop-set-lt (i + 1) now i (e.0, w) (omega arith) ∙ later now start i within h.size h.rest;
@@ -256,8 +256,8 @@ total-drop [] (suc i) = omega arith
 total-drop (e ∷ es) zero = omega arith
 total-drop (e ∷ es) (suc i) = omega (arith, total-drop es i)
 
-pub sofar_at : {K : Type 0} (start now : List (K × Marks)) (i n : ℕ) (e : K × Marks) → i < length now → e ≡ get_or now i e → Sofar start now i n → marks_count e.1 ≤ marks_total start
-sofar_at {K} start now i n e within read h =
+pub sofar_at : {K : Type 0} (to : K → Step) (start now : List (K × Marks)) (i n : ℕ) (e : K × Marks) → i < length now → e ≡ get_or now i e → Sofar to start now i n → marks_count e.1 ≤ marks_total start
+sofar_at {K} to start now i n e within read h =
     let all : drop i start ≡ get_or now i e ∷ drop (i + 1) now = sym h.rest ∙ drop_more now i e within in
     let first : marks_count (get_or now i e).1 ≡ marks_count e.1 = ap (λ (x : K × Marks). marks_count x.1) (sym read) in
     omega (arith, ap marks_total all, first, total-drop start i)
@@ -268,13 +268,16 @@ take_whole (suc i) [] h = refl
 take_whole zero (x ∷ xs) h = absurd (omega (arith, h))
 take_whole (suc i) (x ∷ xs) h = ap (λ ys. x ∷ ys) (take_whole i xs (omega (arith, h)))
 
-pub sofar_ordered : {K : Type 0} (compare : K → K → Ordering) (start now : List (K × Marks)) (i n : ℕ) → length now ≤ i → IsStrictlySortedBy compare (keys_of start) → Sofar start now i n → level_in_order compare now ≡ true
-sofar_ordered {K} compare start now i n past sorted h =
+pub sofar_ordered : {K : Type 0} (to : K → Step) (compare : K → K → Ordering) (start now : List (K × Marks)) (i n : ℕ) → length now ≤ i → IsStrictlySortedBy compare (keys_of start) → Sofar to start now i n → level_in_order compare now ≡ true
+sofar_ordered {K} to compare start now i n past sorted h =
     and_from _ _ (rise_from compare now (subst (IsStrictlySortedBy compare) (sym h.keys) sorted)) (ap (list_all (λ (e : K × Marks). in_order e.1)) (sym (take_whole i now past)) ∙ h.ordered)
 
-pub sofar_counted : {K : Type 0} (to : K → Step) (compare : K → K → Ordering) → TestsSteps to compare → (start now : List (K × Marks)) (i n : ℕ) → length now ≤ i → IsStrictlySortedBy compare (keys_of start) → Sofar start now i n → n ≡ distinct_count (listed_in to now)
+pub sofar_counted : {K : Type 0} (to : K → Step) (compare : K → K → Ordering) → TestsSteps to compare → (start now : List (K × Marks)) (i n : ℕ) → length now ≤ i → IsStrictlySortedBy compare (keys_of start) → Sofar to start now i n → n ≡ distinct_count (listed_in to now)
 sofar_counted to compare test start now i n past sorted h =
     h.counted ∙ ap counts (take_whole i now past) ∙ sym (level_count to now (are_keys to compare test now (subst (IsStrictlySortedBy compare) (sym h.keys) sorted)))
+
+pub same_then : (a b c : Location → Bool) → IsSameSet a b → IsSameSet b c → IsSameSet a c
+same_then a b c f g = record { each = λ l. g.each l ∙ f.each l }
 
 pub rolled_as : (a b : Bool) (ns ms : Vec (String Global × Marks) Global) (is : Vec (ℕ × Marks) Global) → a ≡ b → ns ≡ ms → rolled a ns is ≡ rolled b ms is
 rolled_as a b ns ms is e f = ap₂ (λ x y. rolled x y is) e f

@@ -32,14 +32,27 @@ fn outermost(marks: &Marks) -> Result<usize, AllocError>
     if marks.here {
         return Ok(1);
     }
-    let names = outermost_below(&marks.names)?;
-    let indexes = outermost_below(&marks.indexes)?;
+    let names = outermost_members(&marks.names)?;
+    let indexes = outermost_elements(&marks.indexes)?;
     sum(names, indexes)
 }
 
-/// The same of the locations below keys.
+/// The same of the locations below members.
 #[cycle(outermost)]
-fn outermost_below<K>(below: &[(K, Marks)]) -> Result<usize, AllocError>
+fn outermost_members(below: &[(String, Marks)]) -> Result<usize, AllocError>
+    ensures { IfOk result (λ n. n ≡ outermost_total below.now) }
+{
+    let mut count = 0;
+    for (_, marks) in below {
+        let held = outermost(marks)?;
+        count = sum(count, held)?;
+    }
+    Ok(count)
+}
+
+/// The same of the locations below elements.
+#[cycle(outermost)]
+fn outermost_elements(below: &[(usize, Marks)]) -> Result<usize, AllocError>
     ensures { IfOk result (λ n. n ≡ outermost_total below.now) }
 {
     let mut count = 0;

@@ -1,8 +1,8 @@
 //! Marks in order: at each level the steps rise, and each stands once.
-ghost use Rattle.std.specs.Prelude.{◌≡◌, ◌≤◌, ◌+◌, true, if◌then◌else◌, IfOk, OnOk, IsTrue};
-ghost use Rattle.jsonpath_base.specs.Prelude.{distinct_count, HoldsAlso, in_order, IsJoined, IsSameSet, IsStrictlySortedBy, keys_of, level_in_order, listed, listed_in, marked, marked_in, marks_count, marks_total};
-ghost use Rattle.jsonpath_parser.specs.Location.{Step};
-ghost use Rattle.jsonpath_base.specs.inner.Marks.{HoldsSame, TestsSteps};
+ghost use Rattle.std.specs.Prelude.{◌≡◌, ◌≤◌, ◌+◌, true, if◌then◌else◌, IfOk, OnOk, IsTrue, string_cmp};
+ghost use Rattle.jsonpath_base.specs.Prelude.{distinct_count, HoldsAlso, in_order, IsJoined, IsSameSet, IsStrictlySortedBy, keys_of, level_in_order, listed, listed_in, marked, marked_in, marks_count, marks_total, nat_cmp, to_member};
+ghost use Rattle.jsonpath_parser.specs.Location as location;
+ghost use Rattle.jsonpath_base.specs.inner.Marks.{HoldsSame};
 
 use crate::marks::Marks;
 use std::alloc::{AllocError, Global};
@@ -16,17 +16,33 @@ pub fn put_in_order(alloc: Global, marks: &mut Marks) -> Result<usize, AllocErro
     ensures ordered { OnOk result (IsTrue (in_order marks.new)) }
     ensures count { IfOk result (λ n. n ≡ distinct_count (listed marks.new)) }
 {
-    let names = order_below(alloc, &mut marks.names)?;
-    let indexes = order_below(alloc, &mut marks.indexes)?;
+    let names = order_members(alloc, &mut marks.names)?;
+    let indexes = order_elements(alloc, &mut marks.indexes)?;
     sum(ones(marks.here), sum(names, indexes)?)
 }
 
-/// Puts the marks below keys in order, whatever steps these are. The result says how many locations they hold.
+/// Puts the marks below members in order. The result says how many locations they hold.
 #[cycle(order)]
-fn order_below<K: Ord + Drop>(alloc: Global, below: &mut Vec<(K, Marks)>) -> Result<usize, AllocError>
-    ensures same { OnOk result (HoldsSame K.cmp below.old.items below.new.items) }
-    ensures ordered { OnOk result (IsTrue (level_in_order K.cmp below.new.items)) }
-    ensures count { IfOk result (λ n. (to : K → Step) → TestsSteps to K.cmp → n ≡ distinct_count (listed_in to below.new.items)) }
+fn order_members(alloc: Global, below: &mut Vec<(String, Marks)>) -> Result<usize, AllocError>
+    ensures same { OnOk result (IsSameSet (marked_in to_member below.old.items) (marked_in to_member below.new.items)) }
+    ensures ordered { OnOk result (IsTrue (level_in_order string_cmp below.new.items)) }
+    ensures count { IfOk result (λ n. n ≡ distinct_count (listed_in to_member below.new.items)) }
+{
+    order_keys(alloc, below)?;
+    let mut count = 0;
+    for i in 0..below.len() {
+        let held = put_in_order(alloc, &mut below[i].1)?;
+        count = sum(count, held)?;
+    }
+    Ok(count)
+}
+
+/// Puts the marks below elements in order. The result says how many locations they hold.
+#[cycle(order)]
+fn order_elements(alloc: Global, below: &mut Vec<(usize, Marks)>) -> Result<usize, AllocError>
+    ensures same { OnOk result (IsSameSet (marked_in location.index below.old.items) (marked_in location.index below.new.items)) }
+    ensures ordered { OnOk result (IsTrue (level_in_order nat_cmp below.new.items)) }
+    ensures count { IfOk result (λ n. n ≡ distinct_count (listed_in location.index below.new.items)) }
 {
     order_keys(alloc, below)?;
     let mut count = 0;

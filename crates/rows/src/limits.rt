@@ -87,7 +87,14 @@ fn is_enough(alloc: Global, runner: &mut Bounded<'_>, document: Lent<'_>) -> Giv
             && done(runner.values(alloc, document))?
             && done(runner.paths(alloc, document))?
             && done(runner.locations(alloc, document))?
-            && done(runner.first(alloc, document))?
+            && is_enough_for_less(alloc, runner, document)?,
+    )
+}
+
+/// The same of the queries that return no list.
+fn is_enough_for_less(alloc: Global, runner: &mut Bounded<'_>, document: Lent<'_>) -> Given<bool> {
+    Ok(
+        done(runner.first(alloc, document))?
             && done(runner.only(alloc, document))?
             && done(runner.count(alloc, document))?
             && done(runner.has_node(alloc, document))?,

@@ -68,6 +68,18 @@ fn of_front<T: Document>(ground: &Ground<'_, T>, part: &str, at: &mut Cursor<'_>
         "child_segment" => by(ground, child_segment(alloc, at)),
         "segment" => by(ground, segment(alloc, at)),
         "selector" => by(ground, selector(alloc, at)),
+        _ => of_filter_part(ground, part, at),
+    }
+}
+
+/// The same of a part of a filter.
+fn of_filter_part<T: Document>(
+    ground: &Ground<'_, T>,
+    part: &str,
+    at: &mut Cursor<'_>,
+) -> Given<Value> {
+    let alloc = ground.alloc;
+    match part {
         "singular_query" => by(ground, singular_query(alloc, at)),
         "singular_query_segments" => by(ground, singular_query_segments(alloc, at)),
         "step" => by(

@@ -60,6 +60,14 @@ fn of_state<T: Document>(ground: &Ground<'_, T>, name: &str, argument: &Value) -
         "State::i64" => content_of(ground, State::i64(alloc, number(argument)?, root)?),
         "State::str" => content_of(ground, State::str(alloc, text(argument)?, root)?),
         "Data::default" => content_of(ground, State::data(root, Data::default())),
+        _ => of_content(ground, name, argument),
+    }
+}
+
+/// What the call makes of the state, or tells of it.
+fn of_content<T: Document>(ground: &Ground<'_, T>, name: &str, argument: &Value) -> Given<Value> {
+    let alloc = ground.alloc;
+    match name {
         "State::is_nothing" => Ok(Value::from(state_of(ground)?.is_nothing())),
         "State::to_string" => {
             let state = state_of(ground)?;
