@@ -1,25 +1,31 @@
-"""Tells the links of docs/CALLING.md whose line is not the head of the item that they name.
+"""Tells the links of the pages, those at the top, in docs/ and in the crates, that lead nowhere: to no file, to no heading
+of a page, or, where a link names an item of a file, as [`name`](file#L12), to a line that is not the head of that item.
 
     python3 docs/links.py          names each, and ends with status 1 where there is one
-    python3 docs/links.py --fix    gives each the line of the nearest item of that name
+    python3 docs/links.py --fix    gives each link of an item the line of the nearest item of that name
 """
 
+import glob
 import os
 import re
 import sys
 
-HERE = os.path.dirname(os.path.realpath(__file__))
-PAGE = os.path.join(HERE, "CALLING.md")
-LINK = re.compile(r"\[`([^`\]]+)`\]\(([^)#]+)#L(\d+)\)")
+HERE = os.path.dirname(os.path.dirname(os.path.realpath(__file__)))
+PAGES = ["*.md", "docs/*.md", "crates/*/README.md"]
+LINK = re.compile(r"\]\(([^()\s]+)\)")
+ITEM = re.compile(r"\[`([^`]+)`\]\(([^()\s#]+)#L(\d+)\)")
+CODE = re.compile(r"^```.*?^```|^ {4}.*?$", re.M | re.S)
+
+
+def read(path):
+    with open(path, encoding="utf-8") as file:
+        return file.read()
 
 
 def heads_of(path, name):
     """The lines of a file at which an item of that name begins."""
     head = re.compile(rf"\s*(?:pub )?(?:const )?(?:fn|struct|enum|trait|type) {re.escape(name)}\b")
-    if not os.path.exists(os.path.join(HERE, path)):
-        return []
-    with open(os.path.join(HERE, path), encoding="utf-8") as file:
-        return [at for at, line in enumerate(file, 1) if head.match(line)]
+    return [at for at, line in enumerate(read(path).splitlines(), 1) if head.match(line)]
 
 
 def name_of(text):
@@ -27,26 +33,54 @@ def name_of(text):
     return re.split(r"\.|::", re.sub(r"\([^()]*\)", "", text))[-1]
 
 
-def main(words):
-    with open(PAGE, encoding="utf-8") as file:
-        page = file.read()
-    wrong = []
+def headings_of(path):
+    """The anchors of a page's headings."""
+    found = []
+    for title in re.findall(r"^#+ (.*)$", CODE.sub("", read(path)), re.M):
+        words = re.sub(r"[^\w\- ]", "", re.sub(r"\[([^\]]*)\]\([^)]*\)", r"\1", title).lower())
+        found.append(words.strip().replace(" ", "-"))
+    return found
+
+
+def is_there(page, target):
+    """Whether a link of a page leads to a file, and to a heading where it names one."""
+    path, _, anchor = target.partition("#")
+    path = os.path.join(os.path.dirname(page), path) if path else page
+    if not os.path.exists(path):
+        return False
+    return not anchor or not path.endswith(".md") or anchor in headings_of(path)
+
+
+def asked(page):
+    """What is wrong on a page, and its text with the lines of items mended."""
+    text, wrong = read(page), []
 
     def right(link):
-        text, path, line = link[1], link[2], int(link[3])
-        heads = heads_of(path, name_of(text))
+        named, path, line = link[1], link[2], int(link[3])
+        file = os.path.join(os.path.dirname(page), path)
+        heads = heads_of(file, name_of(named)) if os.path.isfile(file) else [line]
         if line in heads:
             return link[0]
-        wrong.append(f"{text}: {path}#L{line}, and the item begins at {heads or 'no line'}")
-        nearest = min(heads, key=lambda head: abs(head - line), default=line)
-        return f"[`{text}`]({path}#L{nearest})"
+        wrong.append(f"{named}: {path}#L{line}, and the item begins at {heads or 'no line'}")
+        return f"[`{named}`]({path}#L{min(heads, key=lambda head: abs(head - line), default=line)})"
 
-    mended = LINK.sub(right, page)
-    if words == ["--fix"]:
-        with open(PAGE, "w", encoding="utf-8") as file:
-            file.write(mended)
-    print(*wrong, sep="\n", end="\n" if wrong else "")
-    return 1 if wrong and words != ["--fix"] else 0
+    mended = ITEM.sub(right, text)
+    targets = [it for it in LINK.findall(CODE.sub("", text)) if not re.match(r"\w+:", it)]
+    wrong += [f"{it}: leads nowhere" for it in targets if not is_there(page, it)]
+    return wrong, mended
+
+
+def main(words):
+    count = 0
+    for page in sorted(it for pages in PAGES for it in glob.glob(os.path.join(HERE, pages))):
+        wrong, mended = asked(page)
+        count += len(wrong)
+        for it in wrong:
+            print(f"{os.path.relpath(page, HERE)}: {it}")
+        if words == ["--fix"] and mended != read(page):
+            with open(page, "w", encoding="utf-8") as file:
+                file.write(mended)
+    return 1 if count and words != ["--fix"] else 0
 
 
 if __name__ == "__main__":
