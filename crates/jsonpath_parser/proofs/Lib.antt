@@ -29,3 +29,5 @@ pub mod Unambiguous
 pub mod ValuelessLaws
 pub mod Whole
 pub mod Widening
+pub mod SliceLemmas
+pub mod TextOrder

@@ -11,6 +11,9 @@ pub mod Values
 pub mod Parts
 pub mod Derives
 pub mod Unambiguous
+pub mod Slice
+pub mod SliceSteps
+pub mod Texts
 pub use Rattle.jsonpath_parser.specs.declared.errors.JsonPathError
 pub use Rattle.jsonpath_parser.specs.words.Lexical
 pub use Rattle.jsonpath_parser.specs.words.Strings

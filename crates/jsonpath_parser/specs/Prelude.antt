@@ -58,3 +58,8 @@ pub use Rattle.std.specs.List.{concat, list_all, prefix_len}
 pub use Rattle.std.specs.Option.{option_map}
 pub use Rattle.std.specs.Str.{IsCharBoundary, IsUtf8}
 pub use Rattle.std.specs.Str.Parse.{digits_value, digits_value_after, ParsesUnsigned}
+pub use Rattle.jsonpath_parser.specs.inner.Picked.{picked_of}
+pub use Rattle.jsonpath_parser.specs.Slice.{clamped, normalized, slice_by}
+unfoldable pub use Rattle.jsonpath_parser.specs.Slice.{slice_of}
+unfoldable pub use Rattle.jsonpath_parser.specs.SliceSteps.{places_left}
+pub use Rattle.jsonpath_parser.specs.Texts.{is_less}

@@ -4,3 +4,4 @@ pub mod ReadingGrammar
 pub mod ReadingQuery
 pub mod ReadingParts
 pub mod Faults
+pub mod Picked

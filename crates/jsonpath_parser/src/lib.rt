@@ -2,6 +2,7 @@
 //!
 //! A text is read by its words (`words`), along the grammar (`grammar`), into a tree (`tree`); `parse` reads a whole query, and
 //! `cursor` a part of one. Where that fails, `errors` has why. `query_text` is a tree as a text that reads back.
+//! `slice` and `text` have what slices, `length` and `<` mean of lengths and texts alone.
 #![tactic(auto)]
 
 mod cursor;
@@ -11,6 +12,8 @@ mod grammar;
 mod one_tree;
 mod parse;
 mod query_text;
+mod slice;
+mod text;
 mod tree;
 mod words;
 
@@ -24,6 +27,8 @@ pub use crate::errors::Parsed;
 pub use crate::one_tree::{no_text_derives_two_trees, no_text_spells_two_trees};
 pub use crate::parse::{MAX_NESTING_DEPTH, parse_json_path, parse_json_path_within};
 pub use crate::query_text::to_query_text;
+pub use crate::slice::{SlicePlaces, picked, slice_places};
+pub use crate::text::{text_length, text_less};
 pub use crate::tree::{
     calls_only, equal_parts_are_one_tree, is_local, is_singular, is_typed, let_go, model,
 };
