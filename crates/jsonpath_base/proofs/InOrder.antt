@@ -1,18 +1,13 @@
 -- Marks that are put in order.
-use Rattle.std.proofs.Common.{◌≡◌, ℕ, zero, suc, ◌+◌, ◌≤◌, ◌<◌, List, [], ◌∷◌, ◌++◌, map, length, take, drop, set, get_or, Bool, true, false, true≢false, cond, ◌&&◌, ◌||◌, if◌then◌else◌, Option, Some, None, option_map, unwrap_or, Ordering, Less, Equal, Greater, is_eq, nat_cmp, string_cmp, String, Global, Vec, Result, Ok, Err, OnOk, ◌⊎◌, inl, inr, refl, sym, ap, ap₂, ◌∙◌, subst, rules, arith}
+use Rattle.std.proofs.Common.{◌≡◌, ℕ, zero, suc, ◌+◌, ◌≤◌, ◌<◌, List, [], ◌∷◌, ◌++◌, map, length, take, drop, set, get_or, Bool, true, false, true≢false, ◌&&◌, ◌||◌, if◌then◌else◌, None, Ordering, Less, Equal, Greater, nat_cmp, string_cmp, String, Global, Vec, Result, Ok, Err, OnOk, ◌⊎◌, inl, inr, refl, sym, ap, ap₂, ◌∙◌, subst, rules, arith}
 use Rattle.std.proofs.lemmas.Bool.{and_parts, and_from, cases_lt}
 use Rattle.std.proofs.lemmas.Map.Keys.{sorted_from_all_adjacent}
 use Rattle.std.proofs.lemmas.List.{drop_more, take_more_set, drop-set-lt}
 use Rattle.std.proofs.lemmas.List.Folds.{list_all-append, list_all-map}
-use Rattle.std.proofs.lemmas.List.Sums.{sum_by-cons}
-use Rattle.std.proofs.lemmas.Map.{lookup-none}
-use Rattle.std.proofs.lemmas.Map.Entries.{none_below_head, sum_by-insert_entry}
-use Rattle.jsonpath_base.specs.Prelude.{AllByRecursion, distinct_count, HoldsAlso, in_order, index, insert_entry, is_among, is_at, is_key, is_lt, is_same_step, IsJoined, IsSameSet, IsStrictlySortedBy, keys_of, level_in_order, list_all, listed, listed_in, Location, lookup, marked, marked_by, marked_in, Marks, marks_count, marks_total, match_ordering, name, out-Marks, Step, TestsSteps, the_lemmas, to_member}
+use Rattle.jsonpath_base.specs.Prelude.{AllByRecursion, distinct_count, in_order, index, is_among, is_key, is_lt, is_same_step, IsJoined, IsSameSet, IsStrictlySortedBy, keys_of, level_in_order, list_all, listed, listed_in, Location, lookup, marked, marked_in, Marks, marks_count, marks_total, name, out-Marks, Step, TestsSteps, the_lemmas, to_member}
 use Rattle.std.specs.Cmp.{IsTotalOrder}
-use Rattle.std.specs.List.{sum_by}
-use Rattle.std.specs.Map.{values_of}
 use Rattle.jsonpath_base.specs.inner.Marks.{keys_rise}
-use Rattle.jsonpath_base.proofs.Marking.{same_step, in_here, in_step, in_append, parts, parts_here, parts_member, parts_element, rolled, listed_out, listed_rolled, count_out, count_rolled, are_keys, AreKeys}
+use Rattle.jsonpath_base.proofs.Marking.{in_here, in_step, in_append, parts, parts_here, parts_member, parts_element, rolled, listed_out, listed_rolled, count_out, count_rolled, are_keys, AreKeys}
 use Rattle.jsonpath_base.proofs.Counting.{counts, level_count, parts_count}
 
 -- ---- keys that rise
@@ -114,7 +109,7 @@ joined_rolled m other b ns is e f g = record {
       ∙ ap₂ (λ x y. is_among x l || is_among y l) (sym (listed_out m)) (sym (listed_out other));
 }
 
-total-append : {K : Type 0} (es fs : List (K × Marks)) → marks_total (es ++ fs) ≡ marks_total es + marks_total fs
+pub total-append : {K : Type 0} (es fs : List (K × Marks)) → marks_total (es ++ fs) ≡ marks_total es + marks_total fs
 total-append [] fs = omega arith
 total-append (e ∷ es) fs = omega (arith, total-append es fs)
 
@@ -122,79 +117,6 @@ pub fewer_rolled : (m other : Marks) (b : Bool) (ns : Vec (String Global × Mark
     → ns.items ≡ (out-Marks m).names.items ++ (out-Marks other).names.items → is.items ≡ (out-Marks m).indexes.items ++ (out-Marks other).indexes.items → marks_count (rolled b ns is) + 1 ≤ marks_count m + marks_count other
 fewer_rolled m other b ns is f g =
     omega (arith, count_rolled b ns is, count_out m, count_out other, ap marks_total f, ap marks_total g, total-append (out-Marks m).names.items (out-Marks other).names.items, total-append (out-Marks m).indexes.items (out-Marks other).indexes.items)
-
--- ---- entries by their keys
-
-total-values : {K : Type 0} (es : List (K × Marks)) → marks_total es ≡ sum_by marks_count (values_of es)
-total-values [] = refl
-total-values (e ∷ es) = ap (λ n. marks_count e.1 + n) (total-values es) ∙ sym (sum_by-cons marks_count e.1 (values_of es))
-
-insert_step : {K : Type 0} (to : K → Step) (compare : K → K → Ordering) → IsTotalOrder compare → TestsSteps to compare → (es : List (K × Marks)) (k : K) (m w : Marks) → IsStrictlySortedBy compare (keys_of es)
-    → ((l : Location) → marked w l ≡ (marked_by (lookup (is_at (compare k)) es) l || marked m l))
-    → (t : Step) (l : Location) → marked_in to (insert_entry compare es k w) (t ∷ l) ≡ (marked_in to es (t ∷ l) || marked_in to ((k, m) ∷ []) (t ∷ l))
-unfolding IsStrictlySortedBy
-insert_step to compare order test [] k m w sorted is t l = in_step to (k, w) [] t l ∙ ap (λ b. (is_same_step (to k) t && b) || false) (is l) ∙ sym (in_step to (k, m) [] t l)
-insert_step {K} to compare order test (e ∷ es) k m w sorted is t l = pick (compare k e.0) refl is (λ h. insert_step to compare order test es k m w sorted.1 h t l)
-  where
-    same : (a b c d r : Bool) → d ≡ (b || c) → ((a && d) || r) ≡ (((a && b) || r) || ((a && c) || false))
-    same true true c d r e = ap (λ z. z || r) e
-    same true false true d true e = ap (λ z. z || true) e
-    same true false true d false e = ap (λ z. z || false) e
-    same true false false d true e = ap (λ z. z || true) e
-    same true false false d false e = ap (λ z. z || false) e
-    same false b c d true e = refl
-    same false b c d false e = refl
-
-    later : (a b c d : Bool) → d ≡ (b || c) → (a || d) ≡ ((a || b) || c)
-    later true b c d e = refl
-    later false b c d e = e
-
-    first : (a b : Bool) → (a || b) ≡ (b || (a || false))
-    first true true = refl
-    first true false = refl
-    first false true = refl
-    first false false = refl
-
-    pick : (o : Ordering) → compare k e.0 ≡ o → ((x : Location) → marked w x ≡ (marked_by (cond (is_eq (compare k e.0)) (Some e.1) (lookup (is_at (compare k)) es)) x || marked m x))
-        → (((x : Location) → marked w x ≡ (marked_by (lookup (is_at (compare k)) es) x || marked m x)) → marked_in to (insert_entry compare es k w) (t ∷ l) ≡ (marked_in to es (t ∷ l) || marked_in to ((k, m) ∷ []) (t ∷ l)))
-        → marked_in to (match_ordering o ((k, w) ∷ e ∷ es) ((e.0, w) ∷ es) (e ∷ insert_entry compare es k w)) (t ∷ l) ≡ (marked_in to (e ∷ es) (t ∷ l) || marked_in to ((k, m) ∷ []) (t ∷ l))
-    pick Less f h more =
-        let none : lookup (is_at (compare k)) (e ∷ es) ≡ None = lookup-none (is_at (compare k)) (e ∷ es) (none_below_head order k e es sorted f) in
-        let this : marked w l ≡ marked m l = h l ∙ ap (λ x. marked_by x l || marked m l) none in
-        in_step to (k, w) (e ∷ es) t l ∙ ap (λ b. (is_same_step (to k) t && b) || marked_in to (e ∷ es) (t ∷ l)) this
-        ∙ first (is_same_step (to k) t && marked m l) (marked_in to (e ∷ es) (t ∷ l)) ∙ ap (λ b. marked_in to (e ∷ es) (t ∷ l) || b) (sym (in_step to (k, m) [] t l))
-    pick Equal f h more =
-        let step : to k ≡ to e.0 = same_step (to k) (to e.0) (sym (test k e.0) ∙ ap is_eq f) in
-        let this : marked w l ≡ (marked e.1 l || marked m l) = h l ∙ ap (λ b. marked_by (cond b (Some e.1) (lookup (is_at (compare k)) es)) l || marked m l) (ap is_eq f) in
-        in_step to (e.0, w) es t l ∙ same (is_same_step (to e.0) t) (marked e.1 l) (marked m l) (marked w l) (marked_in to es (t ∷ l)) this
-        ∙ ap₂ (λ x y. x || y) (sym (in_step to e es t l)) (ap (λ s. (is_same_step s t && marked m l) || false) (sym step) ∙ sym (in_step to (k, m) [] t l))
-    pick Greater f h more =
-        let passed : (x : Location) → marked w x ≡ (marked_by (lookup (is_at (compare k)) es) x || marked m x) = λ x. h x ∙ ap (λ b. marked_by (cond b (Some e.1) (lookup (is_at (compare k)) es)) x || marked m x) (ap is_eq f) in
-        in_step to e (insert_entry compare es k w) t l ∙ later (is_same_step (to e.0) t && marked e.1 l) (marked_in to es (t ∷ l)) (marked_in to ((k, m) ∷ []) (t ∷ l)) _ (more passed)
-        ∙ ap (λ b. b || marked_in to ((k, m) ∷ []) (t ∷ l)) (sym (in_step to e es t l))
-
-pub inserted : {K : Type 0} (compare : K → K → Ordering) → IsTotalOrder compare → (es new : List (K × Marks)) (k : K) (m w : Marks) → new ≡ insert_entry compare es k w → IsStrictlySortedBy compare (keys_of es)
-    → ((l : Location) → marked w l ≡ (marked_by (lookup (is_at (compare k)) es) l || marked m l)) → HoldsAlso compare es k m new
-inserted {K} compare order es new k m w now sorted is = record { each = each }
-  where
-    each : (to : K → Step) → TestsSteps to compare → (l : Location) → marked_in to new l ≡ (marked_in to es l || marked_in to ((k, m) ∷ []) l)
-    each to test [] = in_here to new ∙ sym (ap₂ (λ a b. a || b) (in_here to es) (in_here to ((k, m) ∷ [])))
-    each to test (t ∷ l) = ap (λ x. marked_in to x (t ∷ l)) now ∙ insert_step to compare order test es k m w sorted is t l
-
-pub inserted_total : {K : Type 0} (compare : K → K → Ordering) → IsTotalOrder compare → (es new : List (K × Marks)) (k : K) (m w empty : Marks) → new ≡ insert_entry compare es k w → IsStrictlySortedBy compare (keys_of es)
-    → marks_count empty ≡ 1 → marks_count w + 1 ≤ marks_count (unwrap_or (lookup (is_at (compare k)) es) empty) + marks_count m → marks_total new ≤ marks_total es + marks_count m
-inserted_total compare order es new k m w empty now sorted one le =
-    pick (lookup (is_at (compare k)) es) (sum_by-insert_entry marks_count order es k w sorted) le
-  where
-    pick : (o : Option Marks) → sum_by marks_count (values_of (insert_entry compare es k w)) + unwrap_or (option_map marks_count o) 0 ≡ sum_by marks_count (values_of es) + marks_count w
-        → marks_count w + 1 ≤ marks_count (unwrap_or o empty) + marks_count m → marks_total new ≤ marks_total es + marks_count m
-    pick None e f = omega (arith, e, f, one, total-values es, ap marks_total now ∙ total-values (insert_entry compare es k w))
-    pick (Some v) e f = omega (arith, e, f, total-values es, ap marks_total now ∙ total-values (insert_entry compare es k w))
-
--- of so many entries those in front are gathered
-pub record Gathered {K : Type 0} (compare : K → K → Ordering) (all got rest : List (K × Marks)) : Type 0 where
-  pub each : (to : K → Step) → TestsSteps to compare → (l : Location) → marked_in to all l ≡ (marked_in to got l || marked_in to rest l)
-  pub fewer : marks_total got + marks_total rest ≤ marks_total all
 
 -- ---- the entries of a level, one after the other
 

@@ -6,9 +6,6 @@ pub mod PatternReading
 pub mod PatternText
 pub mod SameLaws
 pub mod SameWalks
-pub mod SliceLemmas
-pub mod TextLength
-pub mod TextOrder
 pub mod Placing
 pub mod PutLaws
 pub mod Putting
@@ -22,6 +19,7 @@ pub mod PointerLaws
 pub mod PutWhole
 pub mod Marking
 pub mod Counting
+pub mod Gathering
 pub mod InOrder
 pub mod Removing
 pub mod Removed
@@ -38,3 +36,4 @@ pub mod LoanWords
 pub mod LastMarks
 pub mod LoanOut
 pub mod WayLaws
+pub mod lemmas

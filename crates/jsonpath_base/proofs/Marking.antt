@@ -41,7 +41,7 @@ index_test i j = unsigned_tied i j
 
 -- ---- lists of locations
 
-or_none : (b : Bool) → (b || false) ≡ b
+pub or_none : (b : Bool) → (b || false) ≡ b
 or_none true = refl
 or_none false = refl
 

@@ -1,5 +1,5 @@
--- Two values walked side by side: what is left to compare in each loop of `same`, and that a walk in the order of names decides objects.
-use Rattle.std.proofs.Common.{◌⊎◌, inl, inr, Ordering, Less, Equal, Greater, ◌≡◌, ◌≢◌, ◌+◌, ◌<◌, ◌≤◌, ℕ, suc, List, [], ◌∷◌, length, None, All, String, Vec, BTreeMap, Global, string_bytes, string_cmp, nat_cmp, bytes_eq, Bool, true, false, not, IsTrue, ◌&&◌, refl, sym, ap, ◌∙◌, subst, arith}
+-- Two values walked side by side: what is left to compare in each loop of `same`, of any type of document, and that a walk in the order of names decides objects.
+use Rattle.std.proofs.Common.{◌⊎◌, inl, inr, Ordering, Less, Equal, Greater, ◌≡◌, ◌≢◌, ◌+◌, ◌<◌, ◌≤◌, ℕ, suc, List, [], ◌∷◌, length, None, All, String, Vec, BTreeMap, Global, string_bytes, string_cmp, nat_cmp, bytes_eq, Bool, true, false, not, IsTrue, ◌&&◌, refl, sym, ap, ◌∙◌, subst, arith, le_trans}
 use Rattle.std.proofs.Math.Bool.{and_assoc, and-false}
 use Rattle.std.proofs.lemmas.Cmp.{nat_list_cmp_total}
 use Rattle.std.proofs.lemmas.List.Elements.{All-head, All-tail}
@@ -49,15 +49,56 @@ array_weight v a e = rw (e, view-Array a) (omega arith)
 pub object_weight : (v : Value) (m : BTreeMap (String Global) Value) → v ≡ Object m → members_weight (members m.entries) < weight (value_tree v)
 object_weight v m e = rw (e, view-Object m) (omega arith)
 
--- ---- two lists
+-- ---- two lists that are walked side by side
 
--- the answer for all is the answer for those that are left
-pub record LeftToCompare (xs ys left right : List Value) : Type 0 where
-  pub answer : same_trees (trees xs) (trees ys) ≡ same_trees (trees left) (trees right)
+-- the answer for all is the answer for those that are left, which weigh no more
+pub record ToCompare {E : Type 0} (Fits : E → Type 0) (all : Bool) (most : ℕ) (answer_of : List E → List E → Bool) (weight_of : List E → ℕ) (left right : List E) : Type 0 where
+  pub answer : all ≡ answer_of left right
   pub long : length left ≡ length right
-  pub lighter : trees_weight (trees left) ≤ trees_weight (trees xs)
-  pub left_whole : All (λ v. IsTrue (value_is_whole v)) left
-  pub right_whole : All (λ v. IsTrue (value_is_whole v)) right
+  pub lighter : weight_of left ≤ most
+  pub left_fit : All Fits left
+  pub right_fit : All Fits right
+
+module _ {E : Type 0} {F : E → Type 0} {b : Bool} {n : ℕ} {a : List E → List E → Bool} {w : List E → ℕ} where
+  -- before the first turn
+  pub compare_first : (xs ys left right : List E) → b ≡ a xs ys → w xs ≤ n → All F xs → All F ys → left ≡ xs → right ≡ ys → length xs ≡ length ys → ToCompare F b n a w left right
+  compare_first xs ys left right i m f g e h l = record {
+    answer = i ∙ sym (rw (e, h));
+    long = ap length e ∙ l ∙ sym (ap length h);
+    lighter = subst (λ vs. w vs ≤ n) (sym e) m;
+    left_fit = subst (All F) (sym e) f;
+    right_fit = subst (All F) (sym h) g;
+  }
+
+  pub compare_here : {left right xs ys : List E} → ToCompare F b n a w left right → left ≡ xs → right ≡ ys → ToCompare F b n a w xs ys
+  compare_here {left} {ys} c e h = subst (λ vs. ToCompare F b n a w vs ys) e (subst (ToCompare F b n a w left) h c)
+
+  pub compare_fit : {more rest : List E} {x y : E} → ToCompare F b n a w (x ∷ more) (y ∷ rest) → F x × F y
+  compare_fit {more} {rest} {x} {y} c = (All-head F x more c.left_fit, All-head F y rest c.right_fit)
+
+  -- where the first two decide nothing
+  pub compare_next : {more rest : List E} {x y : E} → ToCompare F b n a w (x ∷ more) (y ∷ rest) → a (x ∷ more) (y ∷ rest) ≡ a more rest → w more ≤ w (x ∷ more) → ToCompare F b n a w more rest
+  compare_next {more} {rest} {x} {y} c i m = record {
+    answer = c.answer ∙ i;
+    long = let l = c.long in omega (arith, l);
+    lighter = le_trans m c.lighter;
+    left_fit = All-tail F x more c.left_fit;
+    right_fit = All-tail F y rest c.right_fit;
+  }
+
+  pub compare_end : (left right : List E) → ToCompare F b n a w left right → (length left ≡ 0) ⊎ (length right ≡ 0) → b ≡ a [] []
+  compare_end [] [] c h = c.answer
+  compare_end [] (y ∷ ys) c h = absurd (let l = c.long in omega (arith, l))
+  compare_end (x ∷ xs) [] c h = absurd (let l = c.long in omega (arith, l))
+  compare_end (x ∷ xs) (y ∷ ys) c h = absurd (elim h [ inl p ↦ omega (arith, p) | inr p ↦ omega (arith, p) ])
+
+pub and_then : (x y : Bool) → true ≡ x → (x && y) ≡ y
+and_then x y e = rw (← e) refl
+
+-- ---- two lists of values
+
+abbrev pub ItemsToCompare : (xs ys left right : List Value) → Type 0
+ItemsToCompare xs ys = ToCompare (λ v. IsTrue (value_is_whole v)) (same_trees (trees xs) (trees ys)) (trees_weight (trees xs)) (λ l r. same_trees (trees l) (trees r)) (λ l. trees_weight (trees l))
 
 -- lists of two lengths are not the same
 pub other_length : (xs ys : List Value) → length xs ≢ length ys → false ≡ same_trees (trees xs) (trees ys)
@@ -144,13 +185,8 @@ unfolding IsStrictlySortedBy
 ascends [] h = tt
 ascends (e ∷ es) h = (below_entries e.0 es h.0, ascends es h.1)
 
--- the answer for all is the answer for those that are left
-pub record EntriesToCompare (xs ys left right : List Entry) : Type 0 where
-  pub answer : same (object (members xs)) (object (members ys)) ≡ walk (members left) (members right)
-  pub long : length left ≡ length right
-  pub lighter : members_weight (members left) ≤ members_weight (members xs)
-  pub left_whole : All (λ e. IsTrue (value_is_whole e.1)) left
-  pub right_whole : All (λ e. IsTrue (value_is_whole e.1)) right
+abbrev pub EntriesToCompare : (xs ys left right : List Entry) → Type 0
+EntriesToCompare xs ys = ToCompare (λ e. IsTrue (value_is_whole e.1)) (same (object (members xs)) (object (members ys))) (members_weight (members xs)) (λ l r. walk (members l) (members r)) (λ l. members_weight (members l))
 
 pub entries_walk : (xs ys : List Entry) → IsStrictlySortedBy string_cmp (keys_of xs) → IsStrictlySortedBy string_cmp (keys_of ys) → same (object (members xs)) (object (members ys)) ≡ walk (members xs) (members ys)
 entries_walk xs ys a b = walk_same (members xs) (members ys) (ascends xs a) (ascends ys b)
@@ -167,28 +203,7 @@ walk_length (x ∷ xs) (y ∷ ys) h =
 pub other_count : (xs ys : List Entry) → IsStrictlySortedBy string_cmp (keys_of xs) → IsStrictlySortedBy string_cmp (keys_of ys) → length xs ≢ length ys → false ≡ same (object (members xs)) (object (members ys))
 other_count xs ys a b h = sym (entries_walk xs ys a b ∙ walk_length xs ys h)
 
--- ---- the start of each walk
-
-pub items_first : (xs ys left right : List Value) → All (λ v. IsTrue (value_is_whole v)) xs → All (λ v. IsTrue (value_is_whole v)) ys → left ≡ xs → right ≡ ys → length xs ≡ length ys → LeftToCompare xs ys left right
-items_first xs ys left right a b e f l = record {
-  answer = rw (e, f);
-  long = ap length e ∙ l ∙ sym (ap length f);
-  lighter = rw e (omega arith);
-  left_whole = subst (λ vs. All (λ v. IsTrue (value_is_whole v)) vs) (sym e) a;
-  right_whole = subst (λ vs. All (λ v. IsTrue (value_is_whole v)) vs) (sym f) b;
-}
-
-pub entries_first : (xs ys left right : List Entry) → IsStrictlySortedBy string_cmp (keys_of xs) → IsStrictlySortedBy string_cmp (keys_of ys)
-    → All (λ e. IsTrue (value_is_whole e.1)) xs → All (λ e. IsTrue (value_is_whole e.1)) ys → left ≡ xs → right ≡ ys → length xs ≡ length ys → EntriesToCompare xs ys left right
-entries_first xs ys left right s t a b e f l = record {
-  answer = entries_walk xs ys s t ∙ sym (rw (e, f));
-  long = ap length e ∙ l ∙ sym (ap length f);
-  lighter = rw e (omega arith);
-  left_whole = subst (λ es. All (λ m. IsTrue (value_is_whole m.1)) es) (sym e) a;
-  right_whole = subst (λ es. All (λ m. IsTrue (value_is_whole m.1)) es) (sym f) b;
-}
-
--- ---- one turn of each walk
+-- ---- answers of a test
 
 pub not_true : (b : Bool) → true ≡ not b → b ≡ false
 not_true true h = h
@@ -197,63 +212,3 @@ not_true false h = refl
 pub not_false : (b : Bool) → false ≡ not b → b ≡ true
 not_false true h = refl
 not_false false h = h
-
-pub whole_of_items : (xs ys left right more rest : List Value) (x y : Value) → LeftToCompare xs ys left right → left ≡ x ∷ more → right ≡ y ∷ rest → IsTrue (value_is_whole x) × IsTrue (value_is_whole y)
-whole_of_items xs ys left right more rest x y c e f = (
-  All-head (λ v. IsTrue (value_is_whole v)) x more (subst (λ vs. All (λ v. IsTrue (value_is_whole v)) vs) e c.left_whole),
-  All-head (λ v. IsTrue (value_is_whole v)) y rest (subst (λ vs. All (λ v. IsTrue (value_is_whole v)) vs) f c.right_whole),
-)
-
-pub item_lighter : (xs ys left right more : List Value) (x : Value) → LeftToCompare xs ys left right → left ≡ x ∷ more → weight (value_tree x) < trees_weight (trees xs)
-item_lighter xs ys left right more x c e = let w = subst (λ vs. trees_weight (trees vs) ≤ trees_weight (trees xs)) e c.lighter in omega (arith, w)
-
-pub items_differ : (xs ys left right more rest : List Value) (x y : Value) → LeftToCompare xs ys left right → left ≡ x ∷ more → right ≡ y ∷ rest → same (value_tree x) (value_tree y) ≡ false → false ≡ same_trees (trees xs) (trees ys)
-items_differ xs ys left right more rest x y c e f h = sym (c.answer ∙ rw (e, f, h))
-
-pub items_next : (xs ys left right more rest : List Value) (x y : Value) → LeftToCompare xs ys left right → left ≡ x ∷ more → right ≡ y ∷ rest → same (value_tree x) (value_tree y) ≡ true → LeftToCompare xs ys more rest
-items_next xs ys left right more rest x y c e f h = record {
-  answer = c.answer ∙ rw (e, f, h);
-  long = let l : length (x ∷ more) ≡ length (y ∷ rest) = sym (ap length e) ∙ c.long ∙ ap length f in omega (arith, l);
-  lighter = let w = subst (λ vs. trees_weight (trees vs) ≤ trees_weight (trees xs)) e c.lighter in omega (arith, w);
-  left_whole = All-tail (λ v. IsTrue (value_is_whole v)) x more (subst (λ vs. All (λ v. IsTrue (value_is_whole v)) vs) e c.left_whole);
-  right_whole = All-tail (λ v. IsTrue (value_is_whole v)) y rest (subst (λ vs. All (λ v. IsTrue (value_is_whole v)) vs) f c.right_whole);
-}
-
-none_left : {A B : Type 0} (xs : List A) (ys : List B) → length xs ≡ length ys → (length xs ≡ 0) ⊎ (length ys ≡ 0) → (xs ≡ []) × (ys ≡ [])
-none_left [] [] e h = (refl, refl)
-none_left [] (y ∷ ys) e h = absurd (omega (arith, e))
-none_left (x ∷ xs) [] e h = absurd (omega (arith, e))
-none_left (x ∷ xs) (y ∷ ys) e h = absurd (elim h [ inl p ↦ omega (arith, p) | inr p ↦ omega (arith, p) ])
-
-pub items_end : (xs ys left right : List Value) → LeftToCompare xs ys left right → (length left ≡ 0) ⊎ (length right ≡ 0) → true ≡ same_trees (trees xs) (trees ys)
-items_end xs ys left right c h = let e = none_left left right c.long h in sym (c.answer ∙ rw (e.0, e.1))
-
-pub whole_of_entries : (xs ys left right more rest : List Entry) (x y : Entry) → EntriesToCompare xs ys left right → left ≡ x ∷ more → right ≡ y ∷ rest → IsTrue (value_is_whole x.1) × IsTrue (value_is_whole y.1)
-whole_of_entries xs ys left right more rest x y c e f = (
-  All-head (λ m. IsTrue (value_is_whole m.1)) x more (subst (λ es. All (λ m. IsTrue (value_is_whole m.1)) es) e c.left_whole),
-  All-head (λ m. IsTrue (value_is_whole m.1)) y rest (subst (λ es. All (λ m. IsTrue (value_is_whole m.1)) es) f c.right_whole),
-)
-
-pub entry_lighter : (xs ys left right more : List Entry) (x : Entry) → EntriesToCompare xs ys left right → left ≡ x ∷ more → weight (value_tree x.1) < members_weight (members xs)
-entry_lighter xs ys left right more x c e = let w = subst (λ es. members_weight (members es) ≤ members_weight (members xs)) e c.lighter in omega (arith, w)
-
-pub names_differ : (xs ys left right more rest : List Entry) (x y : Entry) → EntriesToCompare xs ys left right → left ≡ x ∷ more → right ≡ y ∷ rest → bytes_eq (string_bytes x.0) (string_bytes y.0) ≡ false
-    → false ≡ same (object (members xs)) (object (members ys))
-names_differ xs ys left right more rest x y c e f h = sym (c.answer ∙ rw (e, f, h))
-
-pub entries_differ : (xs ys left right more rest : List Entry) (x y : Entry) → EntriesToCompare xs ys left right → left ≡ x ∷ more → right ≡ y ∷ rest → same (value_tree x.1) (value_tree y.1) ≡ false
-    → false ≡ same (object (members xs)) (object (members ys))
-entries_differ xs ys left right more rest x y c e f h = sym (c.answer ∙ rw (e, f, h) (and-false _))
-
-pub entries_next : (xs ys left right more rest : List Entry) (x y : Entry) → EntriesToCompare xs ys left right → left ≡ x ∷ more → right ≡ y ∷ rest → bytes_eq (string_bytes x.0) (string_bytes y.0) ≡ true
-    → same (value_tree x.1) (value_tree y.1) ≡ true → EntriesToCompare xs ys more rest
-entries_next xs ys left right more rest x y c e f n h = record {
-  answer = c.answer ∙ rw (e, f, n, h);
-  long = let l : length (x ∷ more) ≡ length (y ∷ rest) = sym (ap length e) ∙ c.long ∙ ap length f in omega (arith, l);
-  lighter = let w = subst (λ es. members_weight (members es) ≤ members_weight (members xs)) e c.lighter in omega (arith, w);
-  left_whole = All-tail (λ m. IsTrue (value_is_whole m.1)) x more (subst (λ es. All (λ m. IsTrue (value_is_whole m.1)) es) e c.left_whole);
-  right_whole = All-tail (λ m. IsTrue (value_is_whole m.1)) y rest (subst (λ es. All (λ m. IsTrue (value_is_whole m.1)) es) f c.right_whole);
-}
-
-pub entries_end : (xs ys left right : List Entry) → EntriesToCompare xs ys left right → (length left ≡ 0) ⊎ (length right ≡ 0) → true ≡ same (object (members xs)) (object (members ys))
-entries_end xs ys left right c h = let e = none_left left right c.long h in sym (c.answer ∙ rw (e.0, e.1))

@@ -16,15 +16,15 @@ abbrev pub names : List Entry → List (List ℕ)
 names es = map (λ m. m.0) (pairs (members_of (members_view es)))
 
 -- a name below all of these is none of them
-pub below_all : (k : String Global) (es : List Entry) → AllByRecursion (λ l. string_cmp k l ≡ Less) (keys_of es) → list_any (bytes_eq (string_bytes k)) (names es) ≡ false
+below_all : (k : List ℕ) (ks : List (List ℕ)) → AllByRecursion (λ l. slice_cmp nat_cmp k l ≡ Less) ks → list_any (bytes_eq k) ks ≡ false
 below_all k [] h = refl
-below_all k (e ∷ es) h = rw (← is_eq-slice_cmp (string_bytes k) (string_bytes e.0), h.0) (below_all k es h.1)
+below_all k (l ∷ ks) h = rw (← is_eq-slice_cmp k l, h.0) (below_all k ks h.1)
 
 -- names that ascend are distinct
-pub ordered_names : (es : List Entry) → IsStrictlySortedBy string_cmp (keys_of es) → are_distinct (names es) ≡ true
+pub ascending_distinct : (ks : List (List ℕ)) → IsStrictlySortedBy (slice_cmp nat_cmp) ks → are_distinct ks ≡ true
 unfolding IsStrictlySortedBy
-ordered_names [] h = refl
-ordered_names (e ∷ es) h = rw (below_all e.0 es h.0) (ordered_names es h.1)
+ascending_distinct [] h = refl
+ascending_distinct (k ∷ ks) h = rw (below_all k ks h.0) (ascending_distinct ks h.1)
 
 below_names : (k : String Global) (es : List Entry) → AllByRecursion (λ l. string_cmp k l ≡ Less) (keys_of es) → AllByRecursion (λ l. slice_cmp nat_cmp (string_bytes k) l ≡ Less) (names es)
 below_names k [] h = tt
@@ -35,6 +35,9 @@ pub names_ascend : (es : List Entry) → IsStrictlySortedBy string_cmp (keys_of 
 unfolding IsStrictlySortedBy
 names_ascend [] h = tt
 names_ascend (e ∷ es) h = (below_names e.0 es h.0, names_ascend es h.1)
+
+pub ordered_names : (es : List Entry) → IsStrictlySortedBy string_cmp (keys_of es) → are_distinct (names es) ≡ true
+ordered_names es h = ascending_distinct (names es) (names_ascend es h)
 
 lent_names : (vs : List (Bor (List ℕ) × Bor Value)) → map (λ m. m.0) (map {B = List ℕ × Tree} (λ m. (m.0.now, value_tree m.1.now)) vs) ≡ map (λ m. m.0.now) vs
 lent_names [] = refl
@@ -98,12 +101,8 @@ number_no_list None = refl
 number_no_list (Some n) = refl
 
 as_list-tree_of : (d : Data) → as_list (tree_of d) ≡ option_map (λ ds. elements (trees_of ds)) (json_find.as_array d)
-as_list-tree_of json.null = refl
-as_list-tree_of (json.boolean b) = refl
 as_list-tree_of (json.number n) = number_no_list (json_find.as_i64 n)
-as_list-tree_of (json.string s) = refl
-as_list-tree_of (json.array ds) = refl
-as_list-tree_of (json.object ms) = refl
+as_list-tree_of _ = refl
 
 items_as_list : (r : Option (Bor (Vec Value Global))) → option_map (λ ds. elements (trees_of ds)) (option_map (λ v. items_view v.now.items) r) ≡ option_map (λ v. map value_tree v.now.items) r
 items_as_list None = refl
@@ -118,12 +117,8 @@ all_items_whole [] h = All-nil (λ x. IsTrue (value_is_whole x))
 all_items_whole (v ∷ vs) h = All-cons (λ x. IsTrue (value_is_whole x)) v vs (first_item_whole (view v) (items_view vs) h) (all_items_whole vs (more_items_whole (view v) (items_view vs) h))
 
 pub array_whole : (d : Data) → data_whole d ≡ true → IfSome (json_find.as_array d) (λ ds. items_are_whole ds ≡ true)
-array_whole json.null h = tt
-array_whole (json.boolean b) h = tt
-array_whole (json.number n) h = tt
-array_whole (json.string s) h = tt
 array_whole (json.array ds) h = h
-array_whole (json.object ms) h = tt
+array_whole _ h = tt
 
 lent_items_whole : (r : Option (Bor (Vec Value Global))) → IfSome (option_map (λ x. items_view x.now.items) r) (λ ds. items_are_whole ds ≡ true) → IfSome r (λ v. All (λ x. IsTrue (value_is_whole x)) v.now.items)
 lent_items_whole None h = tt
@@ -149,13 +144,10 @@ find-members_of k json.no_members = refl
 find-members_of k (json.member l d ms) =
     ap (λ b. cond b (Some (tree_of d)) (find k (pairs (members_of ms)))) (sym (is_eq-slice_cmp k l)) ∙ found (slice_cmp nat_cmp k l) d _ _ (find-members_of k ms)
 
-get-tree_of : (k : List ℕ) (d : Data) → get k (tree_of d) ≡ option_map tree_of (json_find.get k d)
-get-tree_of k json.null = refl
-get-tree_of k (json.boolean b) = refl
+pub get-tree_of : (k : List ℕ) (d : Data) → get k (tree_of d) ≡ option_map tree_of (json_find.get k d)
 get-tree_of k (json.number n) = number_no_member k (json_find.as_i64 n)
-get-tree_of k (json.string s) = refl
-get-tree_of k (json.array ds) = refl
 get-tree_of k (json.object ms) = find-members_of k ms
+get-tree_of k _ = refl
 
 found_tree : (r : Option (Bor Value)) → option_map tree_of (option_map (λ v. view v.now) r) ≡ option_map (λ v. value_tree v.now) r
 found_tree None = refl
@@ -166,21 +158,16 @@ pub get-value_tree : (k : List ℕ) (v : Value) (r : Option (Bor Value)) → opt
 get-value_tree k v r e = sym (get-tree_of k (view v) ∙ ap (option_map tree_of) (sym e) ∙ found_tree r)
 
 member_whole_at : (o : Ordering) (d : Data) (rest : Option Data) → data_whole d ≡ true → IfSome rest (λ x. data_whole x ≡ true) → IfSome (match_ordering o rest (Some d) rest) (λ x. data_whole x ≡ true)
-member_whole_at Less d rest h r = r
 member_whole_at Equal d rest h r = h
-member_whole_at Greater d rest h r = r
+member_whole_at _ d rest h r = r
 
 member_whole : (k : List ℕ) (ms : json.Members) → members_are_whole ms ≡ true → IfSome (json_find.get_member k ms) (λ x. data_whole x ≡ true)
 member_whole k json.no_members h = tt
 member_whole k (json.member l d ms) h = member_whole_at (slice_cmp nat_cmp k l) d _ (first_member_whole l d ms h) (member_whole k ms (more_members_whole l d ms h))
 
-get_data_whole : (k : List ℕ) (d : Data) → data_whole d ≡ true → IfSome (json_find.get k d) (λ x. data_whole x ≡ true)
-get_data_whole k json.null h = tt
-get_data_whole k (json.boolean b) h = tt
-get_data_whole k (json.number n) h = tt
-get_data_whole k (json.string s) h = tt
-get_data_whole k (json.array ds) h = tt
+pub get_data_whole : (k : List ℕ) (d : Data) → data_whole d ≡ true → IfSome (json_find.get k d) (λ x. data_whole x ≡ true)
 get_data_whole k (json.object ms) h = member_whole k ms (object_members_whole ms h)
+get_data_whole k _ h = tt
 
 pub found_whole : (r : Option (Bor Value)) → IfSome (option_map (λ v. view v.now) r) (λ x. data_whole x ≡ true) → IfSome r (λ v. IsTrue (value_is_whole v.now))
 found_whole None h = tt
@@ -198,22 +185,17 @@ all_members_whole (e ∷ es) h =
     All-cons (λ e. IsTrue (value_is_whole e.1)) e es (first_member_whole (string_bytes e.0) (view e.1) (members_view es) h) (all_members_whole es (more_members_whole (string_bytes e.0) (view e.1) (members_view es) h))
 
 object_whole : (d : Data) → data_whole d ≡ true → IfSome (json_find.as_object d) (λ ms. members_are_whole ms ≡ true)
-object_whole json.null h = tt
-object_whole (json.boolean b) h = tt
-object_whole (json.number n) h = tt
-object_whole (json.string s) h = tt
-object_whole (json.array ds) h = tt
 object_whole (json.object ms) h = object_members_whole ms h
+object_whole _ h = tt
 
 -- they are whole
 pub as_members_whole : (v : Value) (es : List Entry) → Some (members_view es) ≡ json_find.as_object (view v) → IsTrue (value_is_whole v) → All (λ e. IsTrue (value_is_whole e.1)) es
 as_members_whole v es e h = all_members_whole es (subst (λ o. IfSome o (λ ms. members_are_whole ms ≡ true)) (sym e) (object_whole (view v) h))
 
--- lent members are whole where those in the map are
-pub lent_members_whole : (vs : List (Bor (List ℕ) × Bor Value)) (es : List Entry) → map (λ m. m.1.now) vs ≡ map (λ e. e.1) es → All (λ e. IsTrue (value_is_whole e.1)) es → All (λ m. IsTrue (value_is_whole m.1.now)) vs
-lent_members_whole [] es same h = All-nil (λ m. IsTrue (value_is_whole m.1.now))
-lent_members_whole (v ∷ vs) [] same h = absurd cc
-lent_members_whole (v ∷ vs) (e ∷ es) same h =
+-- what holds of the members of a map holds of those that are lent
+pub All-lent : {K N V : Type 0} (P : V → Type 0) (vs : List (N × Bor V)) (es : List (K × V)) → map (λ m. m.1.now) vs ≡ map (λ e. e.1) es → All (λ e. P e.1) es → All (λ m. P m.1.now) vs
+All-lent P [] es same h = All-nil (λ m. P m.1.now)
+All-lent P (v ∷ vs) [] same h = absurd cc
+All-lent P (v ∷ vs) (e ∷ es) same h =
     let first : e.1 ≡ v.1.now = cc in let more : map (λ m. m.1.now) vs ≡ map (λ e. e.1) es = cc in
-    All-cons (λ m. IsTrue (value_is_whole m.1.now)) v vs (subst (λ x. IsTrue (value_is_whole x)) first (All-head (λ e. IsTrue (value_is_whole e.1)) e es h))
-    (lent_members_whole vs es more (All-tail (λ e. IsTrue (value_is_whole e.1)) e es h))
+    All-cons (λ m. P m.1.now) v vs (subst P first (All-head (λ e. P e.1) e es h)) (All-lent P vs es more (All-tail (λ e. P e.1) e es h))

@@ -16,9 +16,7 @@ pub mod PatternViews
 pub mod Engine
 pub mod Same
 pub mod SetFunctions
-pub mod Slice
-pub mod SliceSteps
-pub mod Texts
+pub mod documents
 pub mod Prelude
 pub mod inner
 -- What the public contracts of this crate cite of jsonpath_parser, so that a caller names it here and lists this crate alone.
@@ -26,4 +24,7 @@ pub use Rattle.jsonpath_parser.specs.Errors
 pub use Rattle.jsonpath_parser.specs.Equality
 pub use Rattle.jsonpath_parser.specs.Location
 pub use Rattle.jsonpath_parser.specs.Normal
+pub use Rattle.jsonpath_parser.specs.Slice
+pub use Rattle.jsonpath_parser.specs.SliceSteps
+pub use Rattle.jsonpath_parser.specs.Texts
 pub use Rattle.jsonpath_parser.specs.declared.errors.JsonPathError

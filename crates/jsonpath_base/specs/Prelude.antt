@@ -1,4 +1,6 @@
 -- What contracts and proofs name, for one import a file. Nothing is declared here.
+pub mod Documents
+pub mod States
 pub use Rattle.fast_float.specs.Text.{scan}
 pub use Rattle.jsonpath_base.specs.Added.{added, AddedIndexMovesLater, AddedIsThere, AddedLeavesTheRest, AddedNameLeavesSiblings, takes, takes_at, with_new, with_new_element, with_new_member}
 pub use Rattle.jsonpath_base.specs.declared.marks.Marks.{Marks, the_lemmas}
@@ -10,7 +12,7 @@ pub use Rattle.jsonpath_base.specs.inner.Adding.{Adds}
 pub use Rattle.jsonpath_base.specs.inner.Lent.{has_index, index_in, is_entry, LendsMember, name_in, next, rest}
 pub use Rattle.jsonpath_base.specs.inner.Marks.{AddsIn, EndsWith, HoldsAlso, in_order, is_key, IsJoined, IsSameSet, level_in_order, LevelEnds, listed, listed_in, marked, marked_below, marked_by, marked_in, marks_count, marks_total, set_with, TestsSteps, to_member, total}
 pub use Rattle.jsonpath_base.specs.inner.Masking.{AreAll, data_below, data_overwritten, items_overwritten, members_overwritten, outermost_count, outermost_total}
-pub use Rattle.jsonpath_base.specs.inner.Picked.{picked_of}
+pub use Rattle.jsonpath_parser.specs.inner.Picked.{picked_of}
 pub use Rattle.jsonpath_base.specs.inner.Pointing.{GoesDown, tilde_escaped}
 pub use Rattle.jsonpath_base.specs.inner.Thinning.{data_thinned, items_thinned, members_thinned, sieved, thinned_below}
 pub use Rattle.jsonpath_base.specs.inner.Way.{IsSpelled}
@@ -22,11 +24,11 @@ pub use Rattle.jsonpath_base.specs.Put.{put, PutIsSeenAbove, PutIsThere, PutLeav
 pub use Rattle.jsonpath_base.specs.Remaining.{RemovedMemberIsGone, StayingKeepsIndexes, WithoutIsSeen, WithoutLeavesTheRest, WithoutNowhere}
 pub use Rattle.jsonpath_base.specs.Same.{has_name, same, same_members, same_trees, SameIsAnEquivalence}
 pub use Rattle.jsonpath_base.specs.SetFunctions.{is_in}
-pub use Rattle.jsonpath_base.specs.Slice.{clamped, normalized, slice_by}
-unfoldable pub use Rattle.jsonpath_base.specs.Slice.{slice_of}
-unfoldable pub use Rattle.jsonpath_base.specs.SliceSteps.{places_left}
+pub use Rattle.jsonpath_parser.specs.Slice.{clamped, normalized, slice_by}
+unfoldable pub use Rattle.jsonpath_parser.specs.Slice.{slice_of}
+unfoldable pub use Rattle.jsonpath_parser.specs.SliceSteps.{places_left}
 pub use Rattle.jsonpath_base.specs.Steps.{lent_location, lent_step, location_view, owned_step}
-pub use Rattle.jsonpath_base.specs.Texts.{is_less}
+pub use Rattle.jsonpath_parser.specs.Texts.{is_less}
 pub use Rattle.jsonpath_base.specs.Tree.{are_distinct, as_list, elements, find, has_distinct_names, list, member, Members, members_distinct, no_members, no_trees, null, number, object, pairs, text, Tree, tree, Trees, trees_distinct, truth}
 pub use Rattle.jsonpath_base.specs.Values.{has_whole_numbers, items_whole, members_of, members_whole, tree_of, tree_of_number, trees_of, value_is_whole, value_tree}
 pub use Rattle.jsonpath_base.specs.Without.{AmongIsListed, counted_with, distinct_count, elements_thinned, HasAlso, is_among, is_location, is_same_step, thinned, without}

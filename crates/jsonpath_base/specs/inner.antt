@@ -1,6 +1,5 @@
 -- What this crate's own contracts and proofs say. No public contract cites it.
 pub mod PatternParts
-pub mod Picked
 pub mod Marks
 pub mod Thinning
 pub mod Masking

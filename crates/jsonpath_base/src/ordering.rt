@@ -2,11 +2,10 @@
 ghost use Rattle.std.specs.Prelude.{◌≡◌, ◌≤◌, ◌+◌, true, if◌then◌else◌, IfOk, OnOk, IsTrue, string_cmp};
 ghost use Rattle.jsonpath_base.specs.Prelude.{distinct_count, HoldsAlso, in_order, IsJoined, IsSameSet, IsStrictlySortedBy, keys_of, level_in_order, listed, listed_in, marked, marked_in, marks_count, marks_total, nat_cmp, to_member};
 ghost use Rattle.jsonpath_parser.specs.Location as location;
-ghost use Rattle.jsonpath_base.specs.inner.Marks.{HoldsSame};
+ghost use Rattle.jsonpath_base.specs.inner.Marks.{HoldsSame, RisesTo};
 
 use crate::marks::Marks;
 use std::alloc::{AllocError, Global};
-use std::collections::BTreeMap;
 use std::mem;
 
 /// Puts marks in order. The result says how many locations they hold.
@@ -78,8 +77,7 @@ fn order_keys<K: Ord + Drop>(alloc: Global, entries: &mut Vec<(K, Marks)>) -> Re
 {
     if !keys_rise(entries) {
         let all = mem::replace(entries, Vec::new(alloc));
-        let map = gathered(alloc, all)?;
-        *entries = entries_of(alloc, map)?;
+        *entries = gathered(alloc, all)?;
     }
     Ok(())
 }
@@ -96,48 +94,45 @@ fn keys_rise<K: Ord>(entries: &[(K, Marks)]) -> bool
     true
 }
 
-/// The entries of a map, in its order.
-fn entries_of<K: Ord + Drop>(
-    alloc: Global,
-    map: BTreeMap<K, Marks>,
-) -> Result<Vec<(K, Marks)>, AllocError>
-    ensures entries { IfOk result (λ v. v.items ≡ map.entries) }
-    ensures sorted { IfOk result (λ v. IsStrictlySortedBy K.cmp (keys_of v.items)) }
-{
-    let mut entries = Vec::with_capacity(alloc, map.len())?;
-    for entry in map {
-        entries.push(entry)?;
-    }
-    Ok(entries)
-}
-
-/// The entries by their keys, those of one key joined.
+/// The entries in the order of their keys, those of one key joined. Runs of keys that rise are merged, as the two of `..*`.
 fn gathered<K: Ord + Drop>(
     alloc: Global,
-    entries: Vec<(K, Marks)>,
-) -> Result<BTreeMap<K, Marks>, AllocError>
-    ensures same { IfOk result (λ m. HoldsSame K.cmp entries.items m.entries) }
-    ensures fewer { IfOk result (λ m. marks_total m.entries ≤ marks_total entries.items) }
+    mut entries: Vec<(K, Marks)>,
+) -> Result<Vec<(K, Marks)>, AllocError>
+    ensures sorted { IfOk result (λ v. IsStrictlySortedBy K.cmp (keys_of v.items)) }
+    ensures same { IfOk result (λ v. HoldsSame K.cmp entries.items v.items) }
+    ensures fewer { IfOk result (λ v. marks_total v.items ≤ marks_total entries.items) }
 {
-    let mut map = BTreeMap::new(alloc);
+    entries.sort_by(|left, right| left.0.cmp(&right.0))?;
+    let mut all = Vec::new(alloc);
     for (key, marks) in entries {
-        gather(alloc, &mut map, key, marks)?;
+        gather(&mut all, key, marks)?;
     }
-    Ok(map)
+    Ok(all)
 }
 
-/// Adds an entry.
+/// Adds an entry whose key is less than none that is there: to the last one, where that has its key.
 fn gather<K: Ord + Drop>(
-    alloc: Global,
-    map: &mut BTreeMap<K, Marks>,
+    entries: &mut Vec<(K, Marks)>,
     key: K,
     marks: Marks,
 ) -> Result<(), AllocError>
-    ensures joined { OnOk result (HoldsAlso K.cmp map.old.entries key marks map.new.entries) }
-    ensures fewer { OnOk result (marks_total map.new.entries ≤ marks_total map.old.entries + marks_count marks) }
+    ensures joined { OnOk result (HoldsAlso K.cmp entries.old.items key marks entries.new.items) }
+    ensures rises { OnOk result (RisesTo K.cmp (keys_of entries.old.items) key (keys_of entries.new.items)) }
+    ensures fewer { OnOk result (marks_total entries.new.items ≤ marks_total entries.old.items + marks_count marks) }
 {
-    let there = map.entry(key)?.or_insert(Marks::new(alloc));
-    join(there, marks)
+    let Some((last, mut there)) = entries.pop() else {
+        entries.push((key, marks))?;
+        return Ok(());
+    };
+    if last.cmp(&key).is_eq() {
+        join(&mut there, marks)?;
+        entries.push((last, there))?;
+        return Ok(());
+    }
+    entries.push((last, there))?;
+    entries.push((key, marks))?;
+    Ok(())
 }
 
 /// Adds the locations of other marks to a set.

@@ -1,49 +1,84 @@
 //! The functions of sets that a filter can ask of values, an extension of RFC 9535, 2.4.
-ghost use Rattle.std.specs.Prelude.{◌≡◌, IsTrue, IfSome, All, map, option_map};
-ghost use Rattle.jsonpath_base.specs.Prelude.{as_list, is_in, list_all, list_any, same, value_is_whole, value_tree};
+ghost use Rattle.std.specs.Prelude.{◌≡◌, IsTrue, IfSome, All, Bool, map, option_map};
+ghost use Rattle.jsonpath_base.specs.Prelude.{as_list, is_in, list_all, list_any, same, Tree, value_is_whole, value_tree};
 ghost use Rattle.jsonpath_base.specs.SetFunctions.{set_truth};
 
 use crate::equality::same;
 use serde_json::Value;
 
-/// What the function of this name says of two values: `in` and `nin`, whether the second, a list, holds the first or
-/// does not; `none_of`, `any_of` and `subset_of`, of two lists, whether no element, some element or every element of
-/// the first is in the second. None for other names and other kinds. Takes no memory. Each comparison takes the time of
-/// [`same`]: `in` and `nin` make at most one for each element of the list, the others at most as many as the product of
-/// the two lengths.
+/// What the functions of sets ask of a value. A value that is whole has one tree.
+pub trait SetValue: Sized {
+    /// The tree of a value.
+    ghost tree: { Self → Tree };
+
+    /// Whether it is one.
+    ghost is_whole: { Self → Bool };
+
+    /// The elements of a list.
+    fn elements(&self) -> Option<&Vec<Self>>
+        requires { IsTrue (is_whole self.now) }
+        ensures value { option_map (λ v. map tree v.now.items) result ≡ as_list (tree self.now) }
+        ensures whole { IfSome result (λ v. All (λ x. IsTrue (is_whole x)) v.now.items) };
+
+    /// Whether two values are the same (RFC 9535, 2.3.5.2.2).
+    fn is_same(&self, other: &Self) -> bool
+        requires left { IsTrue (is_whole self.now) }
+        requires right { IsTrue (is_whole other.now) }
+        ensures { result ≡ same (tree self.now) (tree other.now) };
+}
+
+impl SetValue for Value {
+    ghost tree = { value_tree };
+
+    ghost is_whole = { value_is_whole };
+
+    fn elements(&self) -> Option<&Vec<Value>> {
+        self.as_array()
+    }
+
+    fn is_same(&self, other: &Value) -> bool {
+        same(self, other)
+    }
+}
+
+/// What [`set_truth`] says of two values of `serde_json`.
 pub fn set_function(name: &str, left: &Value, right: &Value) -> Option<bool>
     requires left_whole { IsTrue (value_is_whole left.now) }
     requires right_whole { IsTrue (value_is_whole right.now) }
     ensures { result ≡ set_truth name.now (value_tree left.now) (value_tree right.now) }
 {
-    let list = list_of(right)?;
+    set_truth(name, left, right)
+}
+
+/// What the function of this name says of two values: `in` and `nin`, whether the second, a list, holds the first or
+/// does not; `none_of`, `any_of` and `subset_of`, of two lists, whether no element, some element or every element of
+/// the first is in the second. None for other names and other kinds. Takes no memory of its own. Each comparison is one
+/// of [`SetValue::is_same`]: `in` and `nin` make at most one for each element of the list, the others at most as many as
+/// the product of the two lengths.
+pub fn set_truth<T: SetValue>(name: &str, left: &T, right: &T) -> Option<bool>
+    requires left_whole { IsTrue (T.is_whole left.now) }
+    requires right_whole { IsTrue (T.is_whole right.now) }
+    ensures { result ≡ set_truth name.now (T.tree left.now) (T.tree right.now) }
+{
+    let list = right.elements()?;
     match name {
         "in" => Some(is_in(left, list)),
         "nin" => Some(!is_in(left, list)),
-        "none_of" => Some(!any_of(list_of(left)?, list)),
-        "any_of" => Some(any_of(list_of(left)?, list)),
-        "subset_of" => Some(subset_of(list_of(left)?, list)),
+        "none_of" => Some(!any_of(left.elements()?, list)),
+        "any_of" => Some(any_of(left.elements()?, list)),
+        "subset_of" => Some(subset_of(left.elements()?, list)),
         _ => None,
     }
 }
 
-/// The elements of a list.
-fn list_of(value: &Value) -> Option<&Vec<Value>>
-    requires { IsTrue (value_is_whole value.now) }
-    ensures value { option_map (λ v. map value_tree v.now.items) result ≡ as_list (value_tree value.now) }
-    ensures whole { IfSome result (λ v. All (λ x. IsTrue (value_is_whole x)) v.now.items) }
-{
-    value.as_array()
-}
-
 /// Whether a list holds something that is the same.
-fn is_in(value: &Value, list: &Vec<Value>) -> bool
-    requires value_whole { IsTrue (value_is_whole value.now) }
-    requires list_whole { All (λ v. IsTrue (value_is_whole v)) list.now.items }
-    ensures { result ≡ is_in (value_tree value.now) (map value_tree list.now.items) }
+fn is_in<T: SetValue>(value: &T, list: &Vec<T>) -> bool
+    requires value_whole { IsTrue (T.is_whole value.now) }
+    requires list_whole { All (λ v. IsTrue (T.is_whole v)) list.now.items }
+    ensures { result ≡ is_in (T.tree value.now) (map T.tree list.now.items) }
 {
     for item in list {
-        if same(value, item) {
+        if value.is_same(item) {
             return true;
         }
     }
@@ -51,10 +86,10 @@ fn is_in(value: &Value, list: &Vec<Value>) -> bool
 }
 
 /// Whether some element of the first list is in the second.
-fn any_of(left: &Vec<Value>, right: &Vec<Value>) -> bool
-    requires left_whole { All (λ v. IsTrue (value_is_whole v)) left.now.items }
-    requires right_whole { All (λ v. IsTrue (value_is_whole v)) right.now.items }
-    ensures { result ≡ list_any (λ t. is_in t (map value_tree right.now.items)) (map value_tree left.now.items) }
+fn any_of<T: SetValue>(left: &Vec<T>, right: &Vec<T>) -> bool
+    requires left_whole { All (λ v. IsTrue (T.is_whole v)) left.now.items }
+    requires right_whole { All (λ v. IsTrue (T.is_whole v)) right.now.items }
+    ensures { result ≡ list_any (λ t. is_in t (map T.tree right.now.items)) (map T.tree left.now.items) }
 {
     for item in left {
         if is_in(item, right) {
@@ -65,10 +100,10 @@ fn any_of(left: &Vec<Value>, right: &Vec<Value>) -> bool
 }
 
 /// Whether every element of the first list is in the second.
-fn subset_of(left: &Vec<Value>, right: &Vec<Value>) -> bool
-    requires left_whole { All (λ v. IsTrue (value_is_whole v)) left.now.items }
-    requires right_whole { All (λ v. IsTrue (value_is_whole v)) right.now.items }
-    ensures { result ≡ list_all (λ t. is_in t (map value_tree right.now.items)) (map value_tree left.now.items) }
+fn subset_of<T: SetValue>(left: &Vec<T>, right: &Vec<T>) -> bool
+    requires left_whole { All (λ v. IsTrue (T.is_whole v)) left.now.items }
+    requires right_whole { All (λ v. IsTrue (T.is_whole v)) right.now.items }
+    ensures { result ≡ list_all (λ t. is_in t (map T.tree right.now.items)) (map T.tree left.now.items) }
 {
     for item in left {
         if !is_in(item, right) {

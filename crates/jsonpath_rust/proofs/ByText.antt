@@ -1,6 +1,6 @@
 -- What a call says of a query, said of the query's text, and what has the query that was read of a text.
 use Rattle.std.proofs.Common.{◌≡◌, ◌≤◌, ℕ, List, Result, Ok, Err, IfOk, IfErr, MatchResult, inl, inr, ap, sym, ◌∙◌, subst}
-use Rattle.jsonpath_rust.specs.Prelude.Documents.{Derives, Document, HasIndexesInRange, IsNormal, IsRefusal, IsStop, JsonPathError, Location, OutOfMemory, Query, segments_patterns, steps_query}
+use Rattle.jsonpath_base.specs.Prelude.Documents.{Derives, Document, HasIndexesInRange, IsNormal, IsRefusal, IsStop, JsonPathError, Location, OutOfMemory, Query, segments_patterns, steps_query}
 use Rattle.jsonpath_rust.specs.Prelude.Calls.{ByText}
 use Rattle.jsonpath_rust.proofs.laws.selection.{stop_is_memory}
 use Rattle.jsonpath_rust.proofs.NormalPaths.{steps_patterns}

@@ -1,6 +1,6 @@
 -- The law of a deletion by a query that selects nothing.
 use Rattle.std.proofs.Common.{◌∙◌, ap}
-use Rattle.jsonpath_rust.specs.Prelude.Documents.{distinct_count, is_among, without}
+use Rattle.jsonpath_base.specs.Prelude.Documents.{distinct_count, is_among, without}
 use Rattle.jsonpath_rust.specs.Prelude.Calls.{NothingSelectedDeletesNothing}
 use Rattle.jsonpath_base.proofs.WithoutLaws.{without_none}
 

@@ -1,6 +1,6 @@
 -- How many are listed of what a query selects.
 use Rattle.std.proofs.Common.{◌≡◌, suc, List, [], ◌∷◌, map, length, refl, ap, string_bytes}
-use Rattle.jsonpath_rust.specs.Prelude.Documents.{AllZip, AsManyAreListed, IsNodeAt, IsPathAt, IsValueAt, Tree}
+use Rattle.jsonpath_base.specs.Prelude.Documents.{AllZip, AsManyAreListed, IsNodeAt, IsPathAt, IsValueAt, Tree}
 
 -- a list that shows each element of another is as long
 as_long : {A B C : Type 0} (R : A → B → Type 0) (show : C → B) (xs : List A) (ys : List C) → AllZip R xs (map show ys) → length ys ≡ length xs

@@ -1,8 +1,8 @@
 -- What the Normalized Path of a location deletes, and what it puts another tree in the place of.
 use Rattle.std.proofs.Common.{◌≡◌, ℕ, [], ◌∷◌, map, Option, Some, None, is_some, option_to_list, if◌then◌else◌, IsTrue, true≢false, refl, sym, ap, ◌∙◌}
-use Rattle.jsonpath_rust.specs.Prelude.Documents.{at, distinct_count, Document, has_distinct_names, is_among, Location, overwritten, put, Query, selected, steps_query, Tree, without}
+use Rattle.jsonpath_base.specs.Prelude.Documents.{at, distinct_count, Document, has_distinct_names, is_among, Location, overwritten, put, Query, selected, steps_query, Tree, without}
 use Rattle.jsonpath_rust.specs.Prelude.Calls.{count_at, IsDeletion, IsDeletionAt, IsReplacement, IsReplacementAt}
-use Rattle.jsonpath_rust.proofs.laws.documents.{selected-steps}
+use Rattle.jsonpath_base.proofs.lemmas.documents.{selected-steps}
 use Rattle.jsonpath_base.proofs.Nowhere.{without_nowhere}
 use Rattle.jsonpath_base.proofs.OverwrittenLaws.{at_one_is_put, leaves_the_rest}
 use Rattle.jsonpath_base.proofs.PutLaws.{put_nowhere}

@@ -1,7 +1,7 @@
 -- A Normalized Path selects the node at its location.
 use Rattle.std.proofs.Common.{◌≡◌, ℕ, List, [], ◌∷◌, map, Option, Some, None, option_to_list, refl, sym, ap, ◌∙◌, subst}
-use Rattle.jsonpath_rust.specs.Prelude.Documents.{AllZip, at, Document, index, IsNodeAt, IsNormal, IsPathAt, IsValueAt, Location, name, node_there, Query, segments_patterns, selected, steps_query, Tree}
-use Rattle.jsonpath_rust.proofs.laws.documents.{selected-steps}
+use Rattle.jsonpath_base.specs.Prelude.Documents.{AllZip, at, Document, index, IsNodeAt, IsNormal, IsPathAt, IsValueAt, Location, name, node_there, Query, segments_patterns, selected, steps_query, Tree}
+use Rattle.jsonpath_base.proofs.lemmas.documents.{selected-steps}
 
 -- what is shown of the nodes of a location's query is the node there
 pub only_node : (l : Location) (doc : Document) (q : Query) (path : List ℕ) (answer : List (List ℕ × Tree)) → IsNormal l path → q ≡ steps_query l → AllZip (IsNodeAt doc) (selected q doc) answer → answer ≡ node_there doc l path

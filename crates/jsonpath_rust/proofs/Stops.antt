@@ -1,9 +1,10 @@
 -- What a caller is told of a walk that halted, under whatever limit.
 use Rattle.std.proofs.Common.{◌≡◌, [], ◌++◌, Bool, IsTrue, refl, ap, subst}
-use Rattle.jsonpath_rust.specs.Prelude.Documents.{absolute, and, call, compare, descendant, Document, Filter, filter, group, Halt, is_singular, no_segments, one, or, Query, relative, segment, segments_patterns, several, slice, test, wildcard}
+use Rattle.jsonpath_base.specs.Prelude.Documents.{absolute, and, call, compare, descendant, Document, Filter, filter, group, is_singular, no_segments, one, or, Query, relative, segment, segments_patterns, several, slice, test, wildcard}
+use Rattle.jsonpath_rust.specs.Prelude.Documents.{Halt}
 use Rattle.jsonpath_rust.specs.Prelude.Selection.{filter_query, IsConditionStop, IsHalt, IsStopOf, limit_of, Limit, tests_singular}
 use Rattle.jsonpath_parser.specs.tree.Syntax.{name, index}
-use Rattle.jsonpath_rust.specs.declared.documents.halt.Halt.TheVariants as halt
+use Rattle.jsonpath_base.specs.declared.documents.halt.Halt.TheVariants as halt
 
 -- ---- a call that is free asks no pattern
 

@@ -1,3 +1,2 @@
-pub mod documents
 pub mod selection
 pub mod states

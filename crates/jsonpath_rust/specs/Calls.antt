@@ -7,8 +7,8 @@ use Rattle.jsonpath_parser.specs.declared.errors.JsonPathError.{JsonPathError}
 use Rattle.jsonpath_parser.specs.declared.errors.JsonPathError.TheVariants.{OutOfMemory}
 use Rattle.jsonpath_parser.specs.tree.Steps.{HasIndexesInRange}
 use Rattle.jsonpath_parser.specs.tree.Syntax.{Query}
-use Rattle.jsonpath_rust.specs.documents.Document.{Document}
-use Rattle.jsonpath_rust.specs.documents.Patterns.{IsStop, IsQueryRefusal}
+use Rattle.jsonpath_base.specs.documents.Document.{Document}
+use Rattle.jsonpath_base.specs.documents.Patterns.{IsStop, IsQueryRefusal}
 use Rattle.jsonpath_rust.specs.selection.Stop.{IsStopOf}
 
 -- A call of a runner, whose query is `old` before and `new` after, under a limit with these stops. `Is` is what its result is, of a document and a query.

@@ -6,8 +6,8 @@ use Rattle.jsonpath_base.specs.Places.{at}
 use Rattle.jsonpath_base.specs.Tree.{Tree}
 use Rattle.jsonpath_base.specs.Without.{without, is_among, distinct_count}
 use Rattle.jsonpath_rust.specs.Calls.{OfText}
-use Rattle.jsonpath_rust.specs.documents.Document.{Document}
-use Rattle.jsonpath_rust.specs.documents.Meaning.{selected}
+use Rattle.jsonpath_base.specs.documents.Document.{Document}
+use Rattle.jsonpath_base.specs.documents.Meaning.{selected}
 
 -- The tree left is the document without all locations that the query selects, removed at once; and so many distinct ones there are.
 pub record IsDeletion (q : Query) (doc : Document) (left : Tree) (count : ℕ) : Type 0 where

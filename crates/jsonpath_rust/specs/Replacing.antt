@@ -7,8 +7,8 @@ use Rattle.jsonpath_base.specs.Put.{put}
 use Rattle.jsonpath_base.specs.Tree.{Tree}
 use Rattle.jsonpath_base.specs.Without.{is_among, distinct_count}
 use Rattle.jsonpath_rust.specs.Deleting.{count_at}
-use Rattle.jsonpath_rust.specs.documents.Document.{Document}
-use Rattle.jsonpath_rust.specs.documents.Meaning.{selected}
+use Rattle.jsonpath_base.specs.documents.Document.{Document}
+use Rattle.jsonpath_base.specs.documents.Meaning.{selected}
 
 -- The tree left is the document with `u` at all locations that the query selects, put at once; and so many distinct ones there are.
 pub record IsReplacement (q : Query) (u : Tree) (doc : Document) (left : Tree) (count : ℕ) : Type 0 where

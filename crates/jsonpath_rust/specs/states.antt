@@ -1,4 +1,4 @@
-pub mod State
+pub use Rattle.jsonpath_base.specs.documents.State
 pub mod Process
 pub mod Asking
 pub mod Processed

@@ -1,5 +1,5 @@
-//! Documents that were checked once. A [`Whole`] or a [`WholeRef`] is made by the check, and from
-//! then on nothing about it has to be checked or proved: its queries require nothing.
+//! Documents that were checked once. A [`Whole`] or a [`WholeRef`] is made by the check, and from then on nothing about
+//! it has to be checked or proved: its queries require nothing.
 ghost use Rattle.std.specs.Prelude.{◌≡◌, IfErr, IfOk, IsFalse, IsTrue};
 
 use crate::documents::queryable::Queryable;

@@ -1,24 +1,13 @@
-//! Documents and their nodes, and what a query means of them (RFC 9535, 2.1 to 2.4). A document is
-//! any type that is `Queryable`. `whole` has the values that are whole, `nodes` and `args` lists of
-//! them. `value`, `comparison` and `halt` serve the two evaluators, `selection` and `states`;
-//! `depth` serves the walk.
+//! What the two evaluators, `selection` and `states`, hold of a document: `whole` has the values that are whole,
+//! `nodes` and `args` lists of them, `operand` and `comparison` the values inside a filter. What a document is stands
+//! in `jsonpath_base`.
 pub mod args;
 pub mod comparison;
-pub mod depth;
-pub mod halt;
-mod lending;
-mod node;
 pub mod nodes;
 pub mod operand;
-pub mod queryable;
-mod reference;
-mod refusal;
 pub mod whole;
 
-pub use crate::documents::node::{QueryPath, QueryRef};
-pub use crate::documents::reference::{referred_location, replace_by_path};
-pub use crate::documents::refusal::not_a_reference;
-use jsonpath_parser::errors::JsonPathError;
-
-/// What a query returns.
-pub type Queried<T> = Result<T, JsonPathError>;
+pub use jsonpath_base::documents::{
+    Queried, QueryPath, QueryRef, depth, halt, not_a_reference, queryable, referred_location,
+    replace_by_path,
+};

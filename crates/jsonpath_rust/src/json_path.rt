@@ -1,6 +1,6 @@
 //! Queries as methods of a document.
 ghost use Rattle.std.specs.Prelude.{IsTrue};
-ghost use Rattle.jsonpath_rust.specs.Prelude.Documents.{AreNodes, ArePaths, AreValues, document_of, IsNodeThere, IsPathThere, IsValueThere};
+ghost use Rattle.jsonpath_base.specs.Prelude.Documents.{AreNodes, ArePaths, AreValues, document_of, IsNodeThere, IsPathThere, IsValueThere};
 ghost use Rattle.jsonpath_rust.specs.Prelude.Calls.{ByText};
 
 use crate::documents::queryable::Queryable;
@@ -12,8 +12,7 @@ use std::alloc::Global;
 
 /// A document that can be asked.
 ///
-/// Each call selects the nodes of a query text, in order (RFC 9535, 2.1.2), and refuses as
-/// [`js_path`] does.
+/// Each call selects the nodes of a query text, in order (RFC 9535, 2.1.2), and refuses as [`js_path`] does.
 pub trait JsonPath: Queryable {
     /// The nodes that a query text selects: their values and their Normalized Paths.
     fn query_with_path(&self, alloc: Global, path: &str) -> Queried<Vec<QueryRef<'_, Self>>>

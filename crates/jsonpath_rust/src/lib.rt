@@ -1,9 +1,8 @@
 //! JSONPath (RFC 9535) over documents of any type.
 //!
-//! `documents` has what a document is, and what a query means of it. Two evaluators work that out:
-//! `selection` walks to the nodes of a query, and `states` evaluates each part of a query by
-//! itself. `query` and `json_path` have the calls, and `checked` those of a document that was checked
-//! once.
+//! What a document is, and what a query means of it, stands in `jsonpath_base`. Two evaluators work that out: `selection`
+//! walks to the nodes of a query, and `states` evaluates each part of a query by itself; `documents` has what they hold.
+//! `query` and `json_path` have the calls, and `checked` those of a document that was checked once.
 #![tactic(auto)]
 
 mod checked;

@@ -1,6 +1,6 @@
 //! Queries on a document.
 ghost use Rattle.std.specs.Prelude.{◌≡◌, All, IfErr, IfOk, IsFalse, IsTrue, map};
-ghost use Rattle.jsonpath_rust.specs.Prelude.Documents.{AreNodes, ArePaths, AreValues, document_of, IsNodeThere, IsPathThere, IsStop, IsValueThere, query_view, segments_patterns, shown};
+ghost use Rattle.jsonpath_base.specs.Prelude.Documents.{AreNodes, ArePaths, AreValues, document_of, IsNodeThere, IsPathThere, IsStop, IsValueThere, query_view, segments_patterns, shown};
 ghost use Rattle.jsonpath_rust.specs.Prelude.Calls.{ByText};
 ghost use Rattle.jsonpath_rust.specs.Prelude.States.{IsProcessStop, processed, root_content};
 ghost use Rattle.jsonpath_parser.specs.tree.Typing as typing;
@@ -32,14 +32,14 @@ use jsonpath_parser::model::JpQuery;
 use jsonpath_parser::{MAX_NESTING_DEPTH, is_typed};
 use std::alloc::Global;
 
-/// The nodes that a query text selects in a document, in order (RFC 9535, 2.1.2): their values and
-/// their Normalized Paths.
+/// The nodes that a query text selects in a document, in order (RFC 9535, 2.1.2): their values and their Normalized
+/// Paths.
 ///
 /// # Errors
 ///
 /// - those of `parse_json_path`, where the text is no query.
-/// - `InvalidJsonPath` where `regex` refuses a pattern for its size: one that stands in the query, in a call of `match` or
-///   `search`, and whose value at some node of the document is a text that `regex` reads.
+/// - `InvalidJsonPath` where `regex` refuses a pattern for its size: one that stands in the query, in a call of `match`
+///   or `search`, and whose value at some node of the document is a text that `regex` reads.
 /// - `OutOfMemory` where memory ran out.
 pub fn js_path<'a, T: Queryable>(
     alloc: Global,
@@ -52,13 +52,11 @@ pub fn js_path<'a, T: Queryable>(
     js_path_within(alloc, path, MAX_NESTING_DEPTH, value)
 }
 
-/// The nodes that a query text selects in a document, as [`js_path`], which is this at a depth of
-/// 128.
+/// The nodes that a query text selects in a document, as [`js_path`], which is this at a depth of 128.
 ///
 /// # Errors
 ///
-/// As those of [`js_path`], but `MaxNestingDepthExceeded(depth)` where more than `depth` brackets
-/// stand open.
+/// As those of [`js_path`], but `MaxNestingDepthExceeded(depth)` where more than `depth` brackets stand open.
 pub fn js_path_within<'a, T: Queryable>(
     alloc: Global,
     path: &str,
@@ -102,22 +100,20 @@ pub fn js_path_path<T: Queryable>(alloc: Global, path: &str, value: &T) -> Queri
     query.runner(alloc).paths(alloc, WholeRef { value })
 }
 
-/// The nodes that a query selects in a document, in order (RFC 9535, 2.1.2): their values and their
-/// Normalized Paths.
+/// The nodes that a query selects in a document, in order (RFC 9535, 2.1.2): their values and their Normalized Paths.
 ///
-/// That holds for each tree that [`is_typed`], with any index and any slice; a tree that was read
-/// from a text is one. A tree made by hand may be refused by the typing of RFC 9535, 2.4.3, as one
-/// with `length(@.*)`, where `length` is given nodes in place of a value. It selects nothing by the
-/// RFC; here it is asked all the same, and [`Query::process`] gives that `length` the number of the
-/// nodes. Of every tree the nodes are those of [`Query::process`] from
-/// [`State::root`](state::State::root), which on a typed one are those that it selects
+/// That holds for each tree that [`is_typed`], with any index and any slice; a tree that was read from a text is one. A
+/// tree made by hand may be refused by the typing of RFC 9535, 2.4.3, as one with `length(@.*)`, where `length` is
+/// given nodes in place of a value. It selects nothing by the RFC; here it is asked all the same, and
+/// [`Query::process`] gives that `length` the number of the nodes. Of every tree the nodes are those of
+/// [`Query::process`] from [`State::root`](state::State::root), which on a typed one are those that it selects
 /// ([`laws::process_gives_the_nodelist`]).
 ///
 /// # Errors
 ///
-/// - `InvalidJsonPath` where `regex` refuses a pattern for its size: one that stands in the query, in a call of `match` or
-///   `search`, and whose value at some node of the document is a text that `regex` reads. Of a tree that is not typed, as
-///   [`Query::process`] refuses it.
+/// - `InvalidJsonPath` where `regex` refuses a pattern for its size: one that stands in the query, in a call of `match`
+///   or `search`, and whose value at some node of the document is a text that `regex` reads. Of a tree that is not
+///   typed, as [`Query::process`] refuses it.
 /// - `OutOfMemory` where memory ran out.
 pub fn js_path_process<'a, T: Queryable>(
     alloc: Global,
@@ -144,8 +140,7 @@ pub fn js_path_process<'a, T: Queryable>(
     }
 }
 
-/// The values of the nodes that [`js_path_process`] returns, in order. Of a tree that [`is_typed`]
-/// no path is made.
+/// The values of the nodes that [`js_path_process`] returns, in order. Of a tree that [`is_typed`] no path is made.
 ///
 /// # Errors
 ///

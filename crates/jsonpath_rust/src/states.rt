@@ -1,11 +1,11 @@
-//! States, and what each part of a query returns on any of them: an evaluator by itself, which
-//! takes nothing of the walk.
+//! States, and what each part of a query returns on any of them: an evaluator by itself, which takes nothing of the
+//! walk.
 mod evaluate;
 mod held;
 mod process;
 mod processed;
 pub mod selector;
-pub mod state;
 
 pub use crate::states::process::{Query, apply};
 pub use crate::states::processed::{processed_nodes, processed_values};
+pub use jsonpath_base::documents::state;

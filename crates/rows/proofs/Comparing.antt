@@ -11,7 +11,7 @@ use Rattle.rows.specs.declared.doc.Doc as doc
 use Rattle.rows.specs.declared.doc.Doc.{Doc}
 use Rattle.jsonpath_base.specs.Tree.{Tree, list, object, pairs, find, as_list, as_members, has_distinct_names, trees_distinct}
 use Rattle.jsonpath_base.specs.Same.{same, same_trees, same_members, has_name}
-use Rattle.jsonpath_rust.specs.documents.inner.Size.{size, trees_size, members_size}
+use Rattle.jsonpath_base.specs.documents.inner.Size.{size, trees_size, members_size}
 use Rattle.rows.specs.DocTree.{doc_tree, pairs_of, trees, members}
 use Rattle.rows.proofs.Docs.{Entry, pair, last_first, tree-List, tree-Members, pairs-members}
 use Rattle.rows.proofs.Parts.{is_list, is_object, has_member, get_member, object_names}

@@ -2,7 +2,6 @@ pub mod Asking
 pub mod Basic
 pub mod Found
 pub mod Lies
-pub mod Maps
 pub mod PartEffort
 pub mod ProcessedLaws
 pub mod Steps
@@ -15,6 +14,5 @@ pub mod Agreeing
 pub use Rattle.jsonpath_rust.proofs.laws.states.Agreeing.{process_gives_the_nodelist, typed-nodes, typed-values}
 pub use Rattle.jsonpath_rust.proofs.laws.states.Found.{are_trees-list, kept-parts, parents-some, part_size, targets-trees}
 pub use Rattle.jsonpath_rust.proofs.laws.states.Lies.{Stays, stays-itself}
-pub use Rattle.jsonpath_rust.proofs.laws.states.Maps.{completes_end, completes_step, made_whole}
 pub use Rattle.jsonpath_rust.proofs.laws.states.ProcessedLaws.{moved_all, moved_one, shown-targets, values-targets}
 pub use Rattle.jsonpath_rust.proofs.laws.states.Steps.{steps_as}

@@ -1,10 +1,3 @@
 -- What the crate's own contracts and proofs say. Nothing here is part of what a query means.
-pub mod Following
 pub mod Operands
-pub mod Parts
-pub mod Refusing
-pub mod Singular
-pub mod Size
-pub mod Sought
-pub mod Effort
 pub mod Whole

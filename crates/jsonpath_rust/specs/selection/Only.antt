@@ -3,13 +3,13 @@ use Rattle.std.specs.Prelude.{◌≡◌, ◌↔◌, ℕ, min, List, [], ◌∷�
 use Rattle.jsonpath_parser.specs.Location.{Location}
 use Rattle.jsonpath_parser.specs.tree.Syntax.{Query}
 use Rattle.jsonpath_base.specs.Tree.{Tree}
-use Rattle.jsonpath_rust.specs.documents.Answer.{IsNodeAt}
-use Rattle.jsonpath_rust.specs.documents.Document.{Document}
-use Rattle.jsonpath_rust.specs.documents.Functions.{greatest_count}
-use Rattle.jsonpath_rust.specs.documents.Meaning.{selected}
+use Rattle.jsonpath_base.specs.documents.Answer.{IsNodeAt}
+use Rattle.jsonpath_base.specs.documents.Document.{Document}
+use Rattle.jsonpath_base.specs.documents.Functions.{greatest_count}
+use Rattle.jsonpath_base.specs.documents.Meaning.{selected}
 use Rattle.jsonpath_rust.specs.selection.Prepared.{IsFirstNode}
-use Rattle.jsonpath_rust.specs.declared.documents.node.QueryRef.{QueryRef}
-use Rattle.jsonpath_rust.specs.declared.documents.queryable.Queryable.{Ghosts}
+use Rattle.jsonpath_base.specs.declared.documents.node.QueryRef.{QueryRef}
+use Rattle.jsonpath_base.specs.declared.documents.queryable.Queryable.{Ghosts}
 use Rattle.jsonpath_rust.specs.declared.selection.only.Only.{Only}
 use Rattle.jsonpath_rust.specs.declared.selection.only.Only.TheVariants.{Nothing, One, Several}
 

@@ -4,9 +4,9 @@ use Rattle.jsonpath_parser.specs.Location.{Location}
 use Rattle.jsonpath_parser.specs.tree.Syntax.{Filter, Query}
 use Rattle.jsonpath_parser.specs.tree.View.{query_view}
 use Rattle.jsonpath_base.specs.Tree.{Tree}
-use Rattle.jsonpath_rust.specs.documents.Answer.{IsNodeAt}
-use Rattle.jsonpath_rust.specs.documents.Document.{Document}
-use Rattle.jsonpath_rust.specs.documents.Meaning.{selected}
+use Rattle.jsonpath_base.specs.documents.Answer.{IsNodeAt}
+use Rattle.jsonpath_base.specs.documents.Document.{Document}
+use Rattle.jsonpath_base.specs.documents.Meaning.{selected}
 use Rattle.jsonpath_rust.specs.selection.Condition.{expression_of}
 use Rattle.jsonpath_rust.specs.declared.selection.condition.Condition.{Condition}
 use Rattle.jsonpath_rust.specs.declared.selection.condition.ConditionRunner.{ConditionRunner}

@@ -2,8 +2,8 @@
 use Rattle.std.specs.Prelude.{Bool, IsFalse}
 use Rattle.jsonpath_parser.specs.tree.Syntax.{Filter, Query}
 use Rattle.jsonpath_parser.specs.tree.Typing.{is_singular}
-use Rattle.jsonpath_rust.specs.documents.Document.{Document}
-use Rattle.jsonpath_rust.specs.documents.Patterns.{IsStop}
+use Rattle.jsonpath_base.specs.documents.Document.{Document}
+use Rattle.jsonpath_base.specs.documents.Patterns.{IsStop}
 use Rattle.jsonpath_rust.specs.selection.Condition.{filter_query, tests_singular}
 use Rattle.jsonpath_rust.specs.declared.selection.stop.Stop.{Stop}
 use Rattle.jsonpath_rust.specs.declared.selection.stop.Stop.TheVariants.{Spent, Refused}

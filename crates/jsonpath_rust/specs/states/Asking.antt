@@ -7,11 +7,11 @@ use Rattle.jsonpath_parser.specs.declared.errors.JsonPathError.{JsonPathError}
 use Rattle.jsonpath_parser.specs.declared.errors.JsonPathError.TheVariants.{OutOfMemory}
 use Rattle.jsonpath_base.specs.Places.{at}
 use Rattle.jsonpath_base.specs.Tree.{Tree}
-use Rattle.jsonpath_rust.specs.documents.Document.{Document}
+use Rattle.jsonpath_base.specs.documents.Document.{Document}
 use Rattle.jsonpath_base.specs.Pattern.{IsInvalid}
-use Rattle.jsonpath_rust.specs.documents.Patterns.{IsPattern}
+use Rattle.jsonpath_base.specs.documents.Patterns.{IsPattern}
 use Rattle.jsonpath_rust.specs.states.Process.{plain, argument_content}
-use Rattle.jsonpath_rust.specs.states.State.{Content, targets, inside}
+use Rattle.jsonpath_base.specs.documents.State.{Content, targets, inside}
 
 -- the trees in which the nodes of a state lie: that of the document, and those of its nodes
 abbrev pub tops : Document → Content → List Tree

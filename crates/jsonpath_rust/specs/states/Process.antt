@@ -6,11 +6,11 @@ use Rattle.jsonpath_parser.specs.tree.Syntax as syntax
 use Rattle.jsonpath_parser.specs.tree.Syntax.{Operator, equal, not_equal, greater, greater_or_equal, less, less_or_equal, Selector, wildcard, slice, Selectors, no_selectors, selector, Segment, several, descendant, Segments, no_segments, segment, Filter, or, and, Filters, no_filters, filter_then, group, test, compare, Test, relative, absolute, call, Call, custom_call, length_call, value_call, count_call, search_call, match_call, Argument, literal_argument, test_argument, filter_argument, Arguments, no_arguments, argument}
 use Rattle.jsonpath_base.specs.Same.{same}
 use Rattle.jsonpath_base.specs.Tree.{Tree, truth, list, elements}
-use Rattle.jsonpath_rust.specs.documents.Comparing.{is_below}
-use Rattle.jsonpath_rust.specs.documents.Document.{Document}
-use Rattle.jsonpath_rust.specs.documents.Functions.{length_of, count_value, is_matched, is_true}
-use Rattle.jsonpath_rust.specs.documents.Meaning.{literal_tree, negated}
-use Rattle.jsonpath_rust.specs.states.State.{Target, Content, ref, refs, value, nothing, targets, mapped, reduced, named_from, indexed_from, children_from, sliced_from, parents_from, kept_from, root_content, targets_same}
+use Rattle.jsonpath_base.specs.documents.Comparing.{is_below}
+use Rattle.jsonpath_base.specs.documents.Document.{Document}
+use Rattle.jsonpath_base.specs.documents.Functions.{length_of, count_value, is_matched, is_true}
+use Rattle.jsonpath_base.specs.documents.Meaning.{literal_tree, negated}
+use Rattle.jsonpath_base.specs.documents.State.{Target, Content, ref, refs, value, nothing, targets, mapped, reduced, named_from, indexed_from, children_from, sliced_from, parents_from, kept_from, root_content, targets_same}
 
 -- the value that it is or points to
 abbrev pub plain : Content → Option Tree

@@ -4,10 +4,10 @@ use Rattle.jsonpath_parser.specs.Normal.{normal}
 use Rattle.jsonpath_parser.specs.tree.Syntax.{Query}
 use Rattle.jsonpath_parser.specs.tree.Typing.{is_typed}
 use Rattle.jsonpath_base.specs.Tree.{Tree}
-use Rattle.jsonpath_rust.specs.documents.Document.{Document}
-use Rattle.jsonpath_rust.specs.documents.Meaning.{nodelist}
+use Rattle.jsonpath_base.specs.documents.Document.{Document}
+use Rattle.jsonpath_base.specs.documents.Meaning.{nodelist}
 use Rattle.jsonpath_rust.specs.states.Process.{segments_content}
-use Rattle.jsonpath_rust.specs.states.State.{targets, root_content}
+use Rattle.jsonpath_base.specs.documents.State.{targets, root_content}
 
 -- What is shown of each node that `process` of the query answers from the root: the text of its path, and its tree. On a tree that the
 -- typing of RFC 9535, 2.4.3 refuses this need not be what Meaning selects.

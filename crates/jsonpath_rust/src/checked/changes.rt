@@ -1,6 +1,6 @@
 //! What is changed in a whole `Value`.
 ghost use Rattle.std.specs.Prelude.{◌≡◌, false, IfErr, IfOk, is_some, map, OnErr, OnOk, option_map};
-ghost use Rattle.jsonpath_rust.specs.Prelude.Documents.{distinct_count, HasIndexesInRange, is_among, IsNormal, IsPut, IsReplaced, Location, location_view, null, OutOfMemory, overwritten, owned_step, put, value_document, value_tree, view, without};
+ghost use Rattle.jsonpath_base.specs.Prelude.Documents.{distinct_count, HasIndexesInRange, is_among, IsNormal, IsPut, IsReplaced, Location, location_view, null, OutOfMemory, overwritten, owned_step, put, value_document, value_tree, view, without};
 ghost use Rattle.jsonpath_rust.specs.Prelude.Calls.{ByText, Deletion, DeletionAt, Replacement, ReplacementAt};
 ghost use Rattle.jsonpath_base.specs.Added.{added, takes_at};
 ghost use Rattle.jsonpath_base.specs.Places as places;
@@ -14,8 +14,7 @@ use serde_json::Value;
 use std::alloc::Global;
 
 impl Whole<Value> {
-    /// Puts a value at the one location that a path of names and indexes means, as
-    /// [`replace_by_path`].
+    /// Puts a value at the one location that a path of names and indexes means, as [`replace_by_path`].
     pub fn replace_by_path(&mut self, alloc: Global, path: &str, new: Whole<Value>) -> Queried<bool>
         ensures replaced { IfOk result (λ found. IsReplaced path.now (value_document self.old.value)
             (value_tree new.value) found (value_tree self.new.value)) }
@@ -68,8 +67,7 @@ impl Whole<Value> {
         }
     }
 
-    /// Removes all locations that a query text selects, at once, as [`delete_within`] at a depth of
-    /// 128.
+    /// Removes all locations that a query text selects, at once, as [`delete_within`] at a depth of 128.
     pub fn delete_by_path(&mut self, alloc: Global, path: &str) -> Queried<usize>
         ensures deleted { ByText MAX_NESTING_DEPTH path.now (value_document self.old.value) (Deletion (value_tree self.new.value))
             (DeletionAt (value_tree self.new.value)) result }
@@ -99,8 +97,7 @@ impl Whole<Value> {
         remove_all(alloc, &mut self.value, places)
     }
 
-    /// Puts a copy of `new` at all locations that a query text selects, at once, as
-    /// [`replace_within`].
+    /// Puts a copy of `new` at all locations that a query text selects, at once, as [`replace_within`].
     pub fn replace_within(
         &mut self,
         alloc: Global,

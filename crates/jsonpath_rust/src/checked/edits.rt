@@ -1,6 +1,6 @@
 //! What a runner, under whatever limit, changes in a whole `Value`.
 ghost use Rattle.std.specs.Prelude.{◌≡◌, OnErr};
-ghost use Rattle.jsonpath_rust.specs.Prelude.Documents.{value_document, value_tree};
+ghost use Rattle.jsonpath_base.specs.Prelude.Documents.{value_document, value_tree};
 ghost use Rattle.jsonpath_rust.specs.Prelude.Selection.{runner_view};
 ghost use Rattle.jsonpath_rust.specs.Prelude.Calls.{Deletion, Replacement, Runs};
 
@@ -10,8 +10,8 @@ use serde_json::Value;
 use std::alloc::Global;
 
 impl Whole<Value> {
-    /// Removes all locations that the runner's query selects, at once and each by its original place,
-    /// and returns how many distinct ones there are, as [`delete_within`] does.
+    /// Removes all locations that the runner's query selects, at once and each by its original place, and returns how
+    /// many distinct ones there are, as [`delete_within`] does.
     ///
     /// # Errors
     ///
@@ -30,9 +30,8 @@ impl Whole<Value> {
         runner.delete(alloc, &mut self.value)
     }
 
-    /// Puts a copy of `new` at all locations that the runner's query selects, at once, and returns
-    /// how many distinct ones there are, as [`replace_within`] does. The size of the copies is not
-    /// limited.
+    /// Puts a copy of `new` at all locations that the runner's query selects, at once, and returns how many distinct
+    /// ones there are, as [`replace_within`] does. The size of the copies is not limited.
     ///
     /// # Errors
     ///

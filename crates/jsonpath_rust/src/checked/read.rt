@@ -1,6 +1,6 @@
 //! Reading a document from a text.
 ghost use Rattle.std.specs.Prelude.{◌≡◌, IfErr, IfOk, Some};
-ghost use Rattle.jsonpath_rust.specs.Prelude.Documents.{view};
+ghost use Rattle.jsonpath_base.specs.Prelude.Documents.{view};
 ghost use Rattle.serde_json.specs.Read.{read as read_text};
 ghost use Rattle.jsonpath_rust.specs.Reading.{IsReadRefusal};
 

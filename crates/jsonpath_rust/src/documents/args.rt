@@ -1,7 +1,7 @@
 //! The arguments of a custom function (RFC 9535, 2.4), each whole.
 ghost use Rattle.std.proofs.Props.{props};
 ghost use Rattle.std.specs.Prelude.{◌≡◌, ◌++◌, [], ◌∷◌, map, All, IsTrue, OnOk};
-ghost use Rattle.jsonpath_rust.specs.documents.Args.{arg_value};
+ghost use Rattle.jsonpath_base.specs.documents.Args.{arg_value};
 ghost use Rattle.jsonpath_rust.specs.documents.inner.Whole.{tree_of, own_tree};
 
 use crate::documents::queryable::{Arg, Queryable};

@@ -1,6 +1,7 @@
 //! How values compare (RFC 9535, 2.3.5.2.2).
 ghost use Rattle.std.specs.Prelude.{◌≡◌};
-ghost use Rattle.jsonpath_rust.specs.Prelude.Documents.{are_equal, compares, is_below, operator_view, same, scalar_tree, side_tree, tree_of};
+ghost use Rattle.jsonpath_base.specs.Prelude.Documents.{are_equal, compares, is_below, operator_view, same};
+ghost use Rattle.jsonpath_rust.specs.Prelude.Documents.{scalar_tree, side_tree, tree_of};
 
 use crate::documents::operand::{Scalar, Side};
 use crate::documents::queryable::Queryable;

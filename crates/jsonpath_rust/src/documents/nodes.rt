@@ -1,8 +1,7 @@
-//! Whole values and nodes of them: lists, and the only one. What they hold goes out as it is,
-//! with no copy.
+//! Whole values and nodes of them: lists, and the only one. What they hold goes out as it is, with no copy.
 ghost use Rattle.std.proofs.Props.{props};
 ghost use Rattle.std.specs.Prelude.{◌≡◌, ◌++◌, [], ◌∷◌, map, All, IsTrue, OnOk, string_bytes};
-ghost use Rattle.jsonpath_rust.specs.documents.Answer.{shown};
+ghost use Rattle.jsonpath_base.specs.documents.Answer.{shown};
 ghost use Rattle.jsonpath_rust.specs.documents.inner.Whole.{tree_of};
 
 use crate::documents::queryable::Queryable;

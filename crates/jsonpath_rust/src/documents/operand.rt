@@ -1,6 +1,7 @@
 //! Values inside the evaluator: the sides of a comparison, and what functions take and return.
 ghost use Rattle.std.specs.Prelude.{◌++◌, ◌≡◌, IfErr, IfOk, length, OnOk, option_and_then, option_map, option_to_list, Some};
-ghost use Rattle.jsonpath_rust.specs.Prelude.Documents.{arg_trees, as_int, as_text, count_value, is_true, length_of, literal_tree, literal_view, Memory, operand_tree, own_tree, scalar_tree, side_tree, tree_of};
+ghost use Rattle.jsonpath_base.specs.Prelude.Documents.{as_int, as_text, count_value, is_true, length_of, literal_tree, literal_view};
+ghost use Rattle.jsonpath_rust.specs.Prelude.Documents.{arg_trees, Memory, operand_tree, own_tree, scalar_tree, side_tree, tree_of};
 
 use crate::documents::args::Args;
 use crate::documents::halt::Walked;

@@ -40,8 +40,8 @@ impl<T: Queryable> Deref for Whole<T> {
     }
 }
 
-/// What a call borrows from the value lives no longer than this; of what [`WholeRef::get`] returns
-/// it lives as long as the value.
+/// What a call borrows from the value lives no longer than this; of what [`WholeRef::get`] returns it lives as long as
+/// the value.
 impl<'a, T: Queryable> Deref for WholeRef<'a, T> {
     type Target = T;
 

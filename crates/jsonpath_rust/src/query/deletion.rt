@@ -1,6 +1,6 @@
 //! Deletion of what a query selects.
 ghost use Rattle.std.specs.Prelude.{◌≡◌, Bool, false, IfOk, IsTrue, OnErr, true};
-ghost use Rattle.jsonpath_rust.specs.Prelude.Documents.{document_of, IsErrAnd, value_document, value_is_whole, value_tree};
+ghost use Rattle.jsonpath_base.specs.Prelude.Documents.{document_of, IsErrAnd, value_document, value_is_whole, value_tree};
 ghost use Rattle.jsonpath_rust.specs.Prelude.Selection.{runner_view};
 ghost use Rattle.jsonpath_rust.specs.Calls.{ByText, Runs};
 ghost use Rattle.jsonpath_rust.specs.Defaults.{IsUnsupported};
@@ -20,9 +20,8 @@ pub trait Deletable: Queryable {
     /// Whether `delete_by_path` removes anything. Where it does not, it refuses.
     ghost deletes: { Bool } = { false };
 
-    /// Removes all locations that a query text selects, and returns how many distinct ones there
-    /// were; by default it refuses by `InvalidJsonPath`. After any refusal the value has the tree
-    /// it had.
+    /// Removes all locations that a query text selects, and returns how many distinct ones there were; by default it
+    /// refuses by `InvalidJsonPath`. After any refusal the value has the tree it had.
     fn delete_by_path(&mut self, alloc: Global, _path: &str) -> Queried<usize>
         requires { IsTrue (Self.is_whole self.old) }
         ensures kept { OnErr result (Self.tree self.new ≡ Self.tree self.old) }
@@ -37,8 +36,7 @@ pub trait Deletable: Queryable {
 impl Deletable for Value {
     ghost deletes = { true };
 
-    /// Removes all locations that a query text selects, as [`delete_within`], which this is at a
-    /// depth of 128.
+    /// Removes all locations that a query text selects, as [`delete_within`], which this is at a depth of 128.
     fn delete_by_path(&mut self, alloc: Global, path: &str) -> Queried<usize>
         requires { IsTrue (value_is_whole self.old) }
         ensures deleted { ByText MAX_NESTING_DEPTH path.now (value_document self.old) (Deletion (value_tree self.new))
@@ -50,14 +48,13 @@ impl Deletable for Value {
     }
 }
 
-/// Removes all locations that a query text selects in a document, at once and each by its original
-/// place, and returns how many distinct ones there are, those inside other ones counted too. Where
-/// the root is selected, null is left.
+/// Removes all locations that a query text selects in a document, at once and each by its original place, and returns
+/// how many distinct ones there are, those inside other ones counted too. Where the root is selected, null is left.
 ///
-/// All nodes are found, and all memory is taken, before anything is removed: a step that many
-/// locations begin with is held once. Time as [`js_path_within`], and n log n in the steps of the
-/// locations, of which the first that a location has from the one before count without their names;
-/// in a list that loses elements, each element behind the first of them is moved once.
+/// All nodes are found, and all memory is taken, before anything is removed: a step that many locations begin with is
+/// held once. Time as [`js_path_within`], and n log n in the steps of the locations, of which the first that a location
+/// has from the one before count without their names; in a list that loses elements, each element behind the first of
+/// them is moved once.
 ///
 /// # Errors
 ///
@@ -76,8 +73,7 @@ pub fn delete_within(alloc: Global, value: &mut Value, path: &str, depth: usize)
 }
 
 impl<'p, L: Limits> Runner<'p, L> {
-    /// Removes all locations that the query selects in a document, and returns how many distinct
-    /// ones there are.
+    /// Removes all locations that the query selects in a document, and returns how many distinct ones there are.
     pub(crate) fn delete(&mut self, alloc: Global, value: &mut Value) -> Result<usize, L::Stop>
         requires { IsTrue (value_is_whole value.old) }
         ensures deleted { Runs L.stops (runner_view self.old) (runner_view self.new) (value_document value.old)

@@ -1,7 +1,6 @@
-//! Locations, and the queries that are theirs: each segment is one name, or one index from 0 on
-//! (RFC 9535, 2.7).
+//! Locations, and the queries that are theirs: each segment is one name, or one index from 0 on (RFC 9535, 2.7).
 ghost use Rattle.std.specs.Prelude.{◌≡◌, IfErr, IfOk, MatchResult, option_map, Some};
-ghost use Rattle.jsonpath_rust.specs.Prelude.Documents.{Derives, HasIndexesInRange, IsLocationByPath, IsLocationOf, IsNormal, IsRefusal, Location, location_view, OutOfMemory, Query, query_view};
+ghost use Rattle.jsonpath_base.specs.Prelude.Documents.{Derives, HasIndexesInRange, IsLocationByPath, IsLocationOf, IsNormal, IsRefusal, Location, location_view, OutOfMemory, Query, query_view};
 
 use crate::documents::Queried;
 use jsonpath_base::{Step, fixed_steps};
@@ -9,8 +8,8 @@ use jsonpath_parser::model::JpQuery;
 use jsonpath_parser::{MAX_NESTING_DEPTH, let_go, parse_json_path};
 use std::alloc::Global;
 
-/// The location that a query means in every document, or None: each of its segments is one name, or
-/// one index from 0 on. It refuses by `OutOfMemory` alone.
+/// The location that a query means in every document, or None: each of its segments is one name, or one index from 0
+/// on. It refuses by `OutOfMemory` alone.
 ///
 /// The time is linear in the query.
 pub fn location_of(alloc: Global, query: &JpQuery) -> Queried<Option<Vec<Step>>>
@@ -25,9 +24,8 @@ pub fn location_of(alloc: Global, query: &JpQuery) -> Queried<Option<Vec<Step>>>
     }
 }
 
-/// The location that a query text means in every document, as [`location_of`]; of a Normalized Path
-/// with indexes below 2^53 it is the path's own. It asks no document, so it leads from the paths
-/// that queries return to their steps.
+/// The location that a query text means in every document, as [`location_of`]; of a Normalized Path with indexes below
+/// 2^53 it is the path's own. It asks no document, so it leads from the paths that queries return to their steps.
 ///
 /// # Errors
 ///

@@ -1,6 +1,6 @@
 //! Masking: a value in the place of all that a query selects.
 ghost use Rattle.std.specs.Prelude.{◌≡◌, IsTrue, OnErr};
-ghost use Rattle.jsonpath_rust.specs.Prelude.Documents.{value_document, value_is_whole, value_tree};
+ghost use Rattle.jsonpath_base.specs.Prelude.Documents.{value_document, value_is_whole, value_tree};
 ghost use Rattle.jsonpath_rust.specs.Prelude.Selection.{runner_view};
 ghost use Rattle.jsonpath_rust.specs.Prelude.Calls.{ByText, Replacement, ReplacementAt, Runs};
 
@@ -12,13 +12,12 @@ use jsonpath_parser::MAX_NESTING_DEPTH;
 use serde_json::Value;
 use std::alloc::Global;
 
-/// Puts a copy of `new` at all locations that a query text selects in a document, at once, and
-/// returns how many distinct ones there are. Of locations that lie inside one another the outermost
-/// is replaced; the others are counted too.
+/// Puts a copy of `new` at all locations that a query text selects in a document, at once, and returns how many
+/// distinct ones there are. Of locations that lie inside one another the outermost is replaced; the others are counted
+/// too.
 ///
-/// All nodes are found, and all memory is taken, before anything is replaced. Time as
-/// [`js_path_within`], n log n in the steps of the locations as [`delete_within`], and the size of
-/// `new` for each location that lies inside no other.
+/// All nodes are found, and all memory is taken, before anything is replaced. Time as [`js_path_within`], n log n in
+/// the steps of the locations as [`delete_within`], and the size of `new` for each location that lies inside no other.
 ///
 /// # Errors
 ///
@@ -63,8 +62,8 @@ pub fn replace_all_by_path(
 }
 
 impl<'p, L: Limits> Runner<'p, L> {
-    /// Puts a copy of `new` at all locations that the query selects in a document, and returns how
-    /// many distinct ones there are.
+    /// Puts a copy of `new` at all locations that the query selects in a document, and returns how many distinct ones
+    /// there are.
     pub(crate) fn replace(
         &mut self,
         alloc: Global,

@@ -1,6 +1,7 @@
 //! What a walk does at a value.
 ghost use Rattle.std.specs.Prelude.{◌≡◌, [], IfSome, IsTrue};
-ghost use Rattle.jsonpath_rust.specs.Prelude.Documents.{Document, Location, tree_of};
+ghost use Rattle.jsonpath_base.specs.Prelude.Documents.{Document, Location};
+ghost use Rattle.jsonpath_rust.specs.Prelude.Documents.{tree_of};
 ghost use Rattle.jsonpath_rust.specs.Prelude.Selection.{acted, Constants, GoesToEachChild, segment_view};
 
 use crate::documents::queryable::Queryable;
@@ -40,8 +41,8 @@ pub fn visit_cost(action: Action<'_>, count: usize) -> usize {
     }
 }
 
-/// What a look at so many elements costs: what is spent before the first, and what at each. Where the
-/// walk may end at any node each is paid for when it is looked at, for the others may never be.
+/// What a look at so many elements costs: what is spent before the first, and what at each. Where the walk may end at
+/// any node each is paid for when it is looked at, for the others may never be.
 #[inline(always)]
 pub fn element_costs<T: Queryable>(
     action: Action<'_>,

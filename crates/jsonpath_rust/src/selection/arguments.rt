@@ -44,8 +44,7 @@ impl<'a: 's, 's, T: Queryable> Task<'a, 's, T> {
         given.push_to(self.alloc, args)
     }
 
-    /// Adds what the constant of this number gave, if it is worked out, for a unit each, and for
-    /// what a copy costs.
+    /// Adds what the constant of this number gave, if it is worked out, for a unit each, and for what a copy costs.
     pub fn push_kept(
         &self,
         number: usize,

@@ -1,5 +1,4 @@
-//! How much work a walk may take. Who lets strangers ask limits it: their queries can be dear by
-//! what they mean.
+//! How much work a walk may take. Who lets strangers ask limits it: their queries can be dear by what they mean.
 ghost use Rattle.std.specs.Prelude.{◌+◌, ◌<◌, ◌≡◌, IfErr, OnErr, OnOk};
 ghost use Rattle.jsonpath_rust.specs.Prelude.Selection.{IsSpent, Limited, Unlimited};
 
@@ -46,8 +45,8 @@ impl Budget {
         self.left
     }
 
-    /// Takes so many units from what is left. Where less is left, a limited walk halts, and nothing
-    /// is left then; one without a limit begins to count anew.
+    /// Takes so many units from what is left. Where less is left, a limited walk halts, and nothing is left then; one
+    /// without a limit begins to count anew.
     #[inline(always)]
     pub fn spend(&mut self, limit: Limit, units: usize) -> Walked<()>
         ensures paid { OnOk result (limit ≡ Limited → self.new.left + units ≡ self.old.left) }

@@ -1,6 +1,7 @@
 //! What one call of the evaluator keeps: what was worked out once, by the number of its constant.
 ghost use Rattle.std.specs.Prelude.{◌++◌, ◌<◌, ◌≡◌, IfErr, IfOk, IsTrue, length, map, None, OnOk, option_map, Some};
-ghost use Rattle.jsonpath_rust.specs.Prelude.Documents.{arg_trees, Document, is_true, Memory, operand_tree};
+ghost use Rattle.jsonpath_base.specs.Prelude.Documents.{Document, is_true};
+ghost use Rattle.jsonpath_rust.specs.Prelude.Documents.{arg_trees, Memory, operand_tree};
 ghost use Rattle.jsonpath_rust.specs.Prelude.Selection.{AreEmpty, Constants, gave, given_by, given_value, IsGiven, IsHalt, Keeps, Limit, part_at, part_patterns, slot_at, slots_of, trees_in};
 
 use crate::documents::args::Args;
@@ -107,8 +108,7 @@ impl<'a, 's, T: Queryable> Cache<'a, 's, T> {
         }
     }
 
-    /// Whether the constant of this number is worked out. Where a pattern in it is too large, the
-    /// walk halts.
+    /// Whether the constant of this number is worked out. Where a pattern in it is too large, the walk halts.
     #[inline(always)]
     pub fn has(&self, number: usize) -> Walked<bool>
         ensures given { (kept : Constants) (doc : Document) → Keeps kept doc self.now →
@@ -158,8 +158,7 @@ impl<'a, 's, T: Queryable> Cache<'a, 's, T> {
         self.slots[number] = Some(given);
     }
 
-    /// Keeps that the constant of this number is refused, where that is why the walk halts. Nothing
-    /// works it out again.
+    /// Keeps that the constant of this number is refused, where that is why the walk halts. Nothing works it out again.
     pub fn keep_halt(&mut self, number: usize, halt: Halt) -> Halt
         requires { number < length (slots_of self.old) }
         ensures same { result ≡ halt }

@@ -1,6 +1,7 @@
 //! Functions and their arguments (RFC 9535, 2.4).
 ghost use Rattle.std.specs.Prelude.{◌++◌, ◌∷◌, ◌≡◌, IfErr, IfOk, Some, string_bytes};
-ghost use Rattle.jsonpath_rust.specs.Prelude.Documents.{all_trees, answer, argued, argument_patterns, arguments_patterns, as_value, call_patterns, is_entire, is_matched, IsPattern, Memory, operand_tree, truth};
+ghost use Rattle.jsonpath_base.specs.Prelude.Documents.{all_trees, answer, argued, argument_patterns, arguments_patterns, as_value, call_patterns, is_entire, is_matched, IsPattern, truth};
+ghost use Rattle.jsonpath_rust.specs.Prelude.Documents.{Memory, operand_tree};
 ghost use Rattle.jsonpath_rust.specs.Prelude.Selection.{arguments_meant, call_view, Comes, document, here, kept_of, Sole, part_view, StandsAt};
 
 use crate::documents::args::Args;
@@ -62,8 +63,8 @@ impl<'a: 's, 's, T: Queryable> Task<'a, 's, T> {
         }
     }
 
-    /// What `match` or `search` returns of a text and a pattern: `match` asks of the entire text,
-    /// `search` of its substrings (RFC 9535, 2.4.6 and 2.4.7).
+    /// What `match` or `search` returns of a text and a pattern: `match` asks of the entire text, `search` of its
+    /// substrings (RFC 9535, 2.4.6 and 2.4.7).
     #[cycle(walk)]
     fn match_or_search(
         &self,
@@ -122,8 +123,7 @@ impl<'a: 's, 's, T: Queryable> Task<'a, 's, T> {
     }
 }
 
-/// The number of the pattern that this argument is, where it has one; else it counts as one of the
-/// document.
+/// The number of the pattern that this argument is, where it has one; else it counts as one of the document.
 #[inline(always)]
 fn origin_of(arg: &Part) -> Origin {
     match arg {
@@ -132,8 +132,8 @@ fn origin_of(arg: &Part) -> Origin {
     }
 }
 
-/// What `match` or `search` returns for a value and a pattern. It refuses where the pattern is too
-/// large, and where memory ran out.
+/// What `match` or `search` returns for a value and a pattern. It refuses where the pattern is too large, and where
+/// memory ran out.
 fn is_matched<T: Queryable>(
     alloc: Global,
     finders: &mut Finders<'_, '_>,

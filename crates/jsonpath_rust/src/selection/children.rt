@@ -1,6 +1,7 @@
 //! The children of a value, one after the other, and what is done at each of them.
 ghost use Rattle.std.specs.Prelude.{◌++◌, ◌∷◌, []};
-ghost use Rattle.jsonpath_rust.specs.Prelude.Documents.{below, children, flat_map, lent_location, lent_step, replaced, segment_patterns, subtree, tree_of};
+ghost use Rattle.jsonpath_base.specs.Prelude.Documents.{below, children, flat_map, lent_location, lent_step, replaced, segment_patterns, subtree};
+ghost use Rattle.jsonpath_rust.specs.Prelude.Documents.{tree_of};
 ghost use Rattle.jsonpath_rust.specs.Prelude.Selection.{acted, action_patterns, AreMembers, Comes, document, here, kept_of, node_at, onward_from, rest_patterns, segment_view, Stands, StandsAt, TakesAlong};
 
 use crate::documents::halt::Walked;
@@ -159,8 +160,8 @@ impl<'a: 's, 's, T: Queryable> Task<'a, 's, T> {
         }
     }
 
-    /// The segment and then the rest, here and at each node below. Where the segment goes to each
-    /// child, the members of an object are listed once for both.
+    /// The segment and then the rest, here and at each node below. Where the segment goes to each child, the members of
+    /// an object are listed once for both.
     #[cycle(walk)]
     fn descend(
         &self,

@@ -1,6 +1,7 @@
 //! Conditions on a document itself.
 ghost use Rattle.std.specs.Prelude.{◌++◌, ◌≡◌, codes, IfErr, IfOk, is_some, MatchResult, Some, string_bytes, ℕ};
-ghost use Rattle.jsonpath_rust.specs.Prelude.Documents.{Derives, document_at, filter_view, holds, IsCharBoundary, IsRefusal, IsStop, OutOfMemory, query_shown, query_view, root_node, segment_view, tree_of};
+ghost use Rattle.jsonpath_base.specs.Prelude.Documents.{Derives, filter_view, holds, IsCharBoundary, IsRefusal, IsStop, OutOfMemory, query_shown, query_view, root_node, segment_view};
+ghost use Rattle.jsonpath_rust.specs.Prelude.Documents.{document_at, tree_of};
 ghost use Rattle.jsonpath_rust.specs.Prelude.Selection.{condition_runner_view, condition_view, filter_of, filter_query, in_filter, IsConditionRefusal, IsConditionStop, prepared_view, runner_view, segment_filter};
 ghost use Rattle.jsonpath_parser.specs.tree.Syntax as syntax;
 
@@ -20,9 +21,8 @@ use std::fmt::{Debug, Formatter, Write};
 /// What stands before a filter in a query.
 const OPENING: &str = "$[?";
 
-/// A logical expression (RFC 9535, 2.3.5) that is asked of a document itself: `@` and `$` both are
-/// its root. A query cannot say that, for `$[?!$.error]` tests the children of the root, and
-/// selects nothing in `{}`.
+/// A logical expression (RFC 9535, 2.3.5) that is asked of a document itself: `@` and `$` both are its root. A query
+/// cannot say that, for `$[?!$.error]` tests the children of the root, and selects nothing in `{}`.
 ///
 /// What its patterns are built of stays from one document to the next, as in [`Prepared`].
 #[derive(Drop)]
@@ -31,8 +31,8 @@ pub struct Condition {
 }
 
 impl Condition {
-    /// The condition that is this expression, such as a tree of `jsonpath_build`. It refuses by
-    /// `OutOfMemory` alone. The cost is linear in the expression.
+    /// The condition that is this expression, such as a tree of `jsonpath_build`. It refuses by `OutOfMemory` alone.
+    /// The cost is linear in the expression.
     pub fn new(alloc: Global, filter: Filter) -> Queried<Self>
         ensures filter { IfOk result (λ c. condition_view c ≡ filter_view filter) }
         ensures memory { IfErr result (λ e. e ≡ OutOfMemory) }
@@ -48,9 +48,9 @@ impl Condition {
     ///
     /// # Errors
     ///
-    /// Those of `parse_json_path_within` of the query `$[?..]` around the text, whose `[` counts as
-    /// one bracket; the place of `PestError` is one in the text. A text whose query is not this one
-    /// filter, such as `@.a][?@.b`, is refused by `PestError`, at the text's end.
+    /// Those of `parse_json_path_within` of the query `$[?..]` around the text, whose `[` counts as one bracket; the
+    /// place of `PestError` is one in the text. A text whose query is not this one filter, such as `@.a][?@.b`, is
+    /// refused by `PestError`, at the text's end.
     pub fn read(alloc: Global, text: &str, depth: usize) -> Queried<Self>
         ensures read { IfOk result (λ c. Derives depth (in_filter text.now) (filter_query (condition_view c))) }
 
@@ -86,8 +86,8 @@ impl Condition {
         self.runner(alloc).holds(alloc, value)
     }
 
-    /// What asks the condition of one document after another, and keeps what searches for its
-    /// patterns. Nothing is allocated yet.
+    /// What asks the condition of one document after another, and keeps what searches for its patterns. Nothing is
+    /// allocated yet.
     pub fn runner(&self, alloc: Global) -> ConditionRunner<'_>
         ensures { condition_runner_view result ≡ condition_view self.now }
     {
@@ -108,16 +108,15 @@ impl Debug for Condition {
 
 /// What asks a [`Condition`] of one document after another, under a limit of work or none.
 ///
-/// For conditions of strangers the work of each call can be limited, by
-/// [`ConditionRunner::limited`].
+/// For conditions of strangers the work of each call can be limited, by [`ConditionRunner::limited`].
 #[derive(Drop)]
 pub struct ConditionRunner<'c, L: Limits = Unlimited> {
     runner: Runner<'c, L>,
 }
 
 impl<'c, L: Limits> ConditionRunner<'c, L> {
-    /// The runner, with a limit: each of its calls may take so many units of work. What these are
-    /// spent for stands at [`Units`].
+    /// The runner, with a limit: each of its calls may take so many units of work. What these are spent for stands at
+    /// [`Units`].
     pub fn limited(self, units: usize) -> ConditionRunner<'c, Units>
         ensures { condition_runner_view result ≡ condition_runner_view self.entry }
     {

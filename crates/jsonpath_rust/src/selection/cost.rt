@@ -1,5 +1,4 @@
-//! What work is spent for values: where a walk is limited, comparisons, functions and patterns cost
-//! what they look at.
+//! What work is spent for values: where a walk is limited, comparisons, functions and patterns cost what they look at.
 ghost use Rattle.std.specs.Prelude.{◌-◌, ◌≡◌, ◌≤◌, IfErr, IfOk, map, min, option_map};
 ghost use Rattle.jsonpath_rust.specs.Prelude.Documents.{Memory, tree_of};
 ghost use Rattle.jsonpath_rust.specs.Prelude.Selection.{compared_cost, cost, elements_cost, IsSpent, Limited, pairs_cost, smaller_cost, valued};
@@ -26,8 +25,8 @@ const COPIED: usize = 64;
 const STEPS: usize = 16;
 
 impl Limit {
-    /// What `length` costs: a unit for each byte of a text and for each member of an object, of the
-    /// document or made by a custom function.
+    /// What `length` costs: a unit for each byte of a text and for each member of an object, of the document or made by
+    /// a custom function.
     #[inline(always)]
     pub fn length_cost<T: Queryable>(self, alloc: Global, side: &Side<'_, '_, T>) -> Walked<usize>
         ensures memory { IfErr result (λ h. h ≡ Memory) }
@@ -38,8 +37,7 @@ impl Limit {
         }
     }
 
-    /// What `match` or `search` costs: what it costs to read both texts, and to ask the pattern
-    /// ([`Finders::cost`]).
+    /// What `match` or `search` costs: what it costs to read both texts, and to ask the pattern ([`Finders::cost`]).
     #[inline(always)]
     pub fn search_cost<T: Queryable>(
         self,
@@ -56,8 +54,8 @@ impl Limit {
         }
     }
 
-    /// What a comparison costs: the size of the smaller side, or `most` where that is less. No more
-    /// of them is looked at.
+    /// What a comparison costs: the size of the smaller side, or `most` where that is less. No more of them is looked
+    /// at.
     #[inline(always)]
     pub fn comparison_cost<T: Queryable>(
         self,
@@ -78,8 +76,8 @@ impl Limit {
         }
     }
 
-    /// What a custom function costs beside the unit that each value is added for: the product of
-    /// their sizes, or at least `most`, where no more of them is looked at.
+    /// What a custom function costs beside the unit that each value is added for: the product of their sizes, or at
+    /// least `most`, where no more of them is looked at.
     #[inline(always)]
     pub fn custom_cost<T: Queryable>(
         self,
@@ -95,8 +93,7 @@ impl Limit {
         }
     }
 
-    /// What a copy of a value costs: its size, or `most` where that is less. No more of it is looked
-    /// at.
+    /// What a copy of a value costs: its size, or `most` where that is less. No more of it is looked at.
     pub fn copy_cost<T: Queryable>(
         self,
         alloc: Global,
@@ -112,8 +109,7 @@ impl Limit {
     }
 }
 
-/// How many bytes the text has, if it is one of the document or one that a custom function made;
-/// else 0.
+/// How many bytes the text has, if it is one of the document or one that a custom function made; else 0.
 fn text_bytes<T: Queryable>(side: &Side<'_, '_, T>) -> usize {
     match value_in(side) {
         Some(value) => match value.as_str() {
@@ -124,8 +120,8 @@ fn text_bytes<T: Queryable>(side: &Side<'_, '_, T>) -> usize {
     }
 }
 
-/// How many bytes the text has, or how many members the object, if it is one of the document or one
-/// that a custom function made; else 0.
+/// How many bytes the text has, or how many members the object, if it is one of the document or one that a custom
+/// function made; else 0.
 #[inline(never)]
 fn cost_of_length<T: Queryable>(alloc: Global, side: &Side<'_, '_, T>) -> Walked<usize>
     ensures memory { IfErr result (λ h. h ≡ Memory) }
@@ -157,10 +153,9 @@ impl Budget {
     }
 }
 
-/// What it costs to give a node to a sink: where that keeps a path or a location, a unit for each
-/// few bytes of names in it, and for each few steps of a location, each of which is a copy of its
-/// own; where it marks one, a unit for each step that is not settled, and for each few bytes of its
-/// name.
+/// What it costs to give a node to a sink: where that keeps a path or a location, a unit for each few bytes of names in
+/// it, and for each few steps of a location, each of which is a copy of its own; where it marks one, a unit for each
+/// step that is not settled, and for each few bytes of its name.
 fn path_cost<T: Queryable>(sink: &Sink<'_, T>, way: &Way<'_>) -> usize {
     match sink {
         Sink::Nodes(_) => name_bytes(way) / COPIED,
@@ -183,8 +178,8 @@ fn name_bytes(way: &Way<'_>) -> usize {
     bytes
 }
 
-/// What it costs to read these texts, a unit for each byte of one of the document or made by a
-/// custom function, and to ask the second as a pattern of the first.
+/// What it costs to read these texts, a unit for each byte of one of the document or made by a custom function, and to
+/// ask the second as a pattern of the first.
 fn cost_of_search<T: Queryable>(
     alloc: Global,
     finders: &Finders<'_, '_>,
@@ -214,8 +209,8 @@ fn value_in<'k, T: Queryable>(side: &Side<'k, '_, T>) -> Option<WholeRef<'k, T>>
     }
 }
 
-/// The size of the smaller of two values, or `most` where that is less. The time goes with that,
-/// not with the larger one.
+/// The size of the smaller of two values, or `most` where that is less. The time goes with that, not with the larger
+/// one.
 #[inline(never)]
 fn smaller_size<T: Queryable>(
     alloc: Global,
@@ -231,8 +226,8 @@ fn smaller_size<T: Queryable>(
     size_within(alloc, right, size)
 }
 
-/// A bound that the size of the smaller of two values keeps, or `most`. Each is counted as far as
-/// some bound, which is raised until one of them lies below it.
+/// A bound that the size of the smaller of two values keeps, or `most`. Each is counted as far as some bound, which is
+/// raised until one of them lies below it.
 fn bound_of_smaller<T: Queryable>(
     alloc: Global,
     left: WholeRef<'_, T>,
@@ -271,9 +266,8 @@ fn size_of_arguments<T: Queryable>(alloc: Global, args: &Args<'_, T>, most: usiz
     Ok(product)
 }
 
-/// The size of a value, or `most` where that is less: one for each value in it, and for each few
-/// bytes of its texts and names. It is not counted further than that, and where `most` is 0 or 1
-/// the value is not looked at.
+/// The size of a value, or `most` where that is less: one for each value in it, and for each few bytes of its texts and
+/// names. It is not counted further than that, and where `most` is 0 or 1 the value is not looked at.
 #[cycle(size)]
 fn size_within<T: Queryable>(alloc: Global, value: WholeRef<'_, T>, most: usize) -> Walked<usize>
     ensures size { IfOk result (λ n. n ≡ min (cost (tree_of value.entry)) most) }
@@ -286,8 +280,8 @@ fn size_within<T: Queryable>(alloc: Global, value: WholeRef<'_, T>, most: usize)
     Ok(inside.saturating_add(1))
 }
 
-/// The size of a value without the one for itself, or `most` where that is less. Where `most` is 0
-/// the value is not looked at, and where an object has so many members, they are not listed.
+/// The size of a value without the one for itself, or `most` where that is less. Where `most` is 0 the value is not
+/// looked at, and where an object has so many members, they are not listed.
 #[cycle(size)]
 fn inside_size<T: Queryable>(alloc: Global, value: WholeRef<'_, T>, most: usize) -> Walked<usize>
     ensures size { IfOk result (λ n. n ≡ min (cost (tree_of value.entry) - 1) most) }
@@ -336,9 +330,9 @@ fn elements_size<T: Queryable>(
     Ok(size)
 }
 
-/// The sizes of these members together, with their names, or `most` where that is less. Each counts
-/// one from the beginning, for it is listed: so all the lists that are made of objects in one
-/// another have fewer than `most` members.
+/// The sizes of these members together, with their names, or `most` where that is less. Each counts one from the
+/// beginning, for it is listed: so all the lists that are made of objects in one another have fewer than `most`
+/// members.
 #[cycle(size)]
 fn members_size<T: Queryable>(
     alloc: Global,

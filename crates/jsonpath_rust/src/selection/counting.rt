@@ -1,6 +1,7 @@
 //! Children that are counted, and not walked.
 ghost use Rattle.std.specs.Prelude.{◌≡◌, [], IfErr, IfOk, length, map};
-ghost use Rattle.jsonpath_rust.specs.Prelude.Documents.{children, Document, Node, root_node, step_view, tree_of};
+ghost use Rattle.jsonpath_base.specs.Prelude.Documents.{children, Document, Node, root_node, step_view};
+ghost use Rattle.jsonpath_rust.specs.Prelude.Documents.{tree_of};
 ghost use Rattle.jsonpath_rust.specs.Prelude.Selection.{children_query, document, IsHalt, through};
 
 use crate::documents::halt::Walked;
@@ -12,8 +13,8 @@ use crate::selection::walk::Task;
 use jsonpath_parser::model::SingularQuerySegment;
 
 impl<'a: 's, 's, T: Queryable> Task<'a, 's, T> {
-    /// How many children the value that these steps lead to has; 0 where there is no such value.
-    /// Each member of an object costs a unit, for the type may have to list them all.
+    /// How many children the value that these steps lead to has; 0 where there is no such value. Each member of an
+    /// object costs a unit, for the type may have to list them all.
     pub fn count_children(
         &self,
         steps: &[SingularQuerySegment],

@@ -1,6 +1,7 @@
 //! Whether the one filter that a plan is of holds at the root of a document.
 ghost use Rattle.std.specs.Prelude.{◌≡◌, IfErr, IfOk, option_map};
-ghost use Rattle.jsonpath_rust.specs.Prelude.Documents.{document_at, holds, root_node, segments_patterns, tree_of};
+ghost use Rattle.jsonpath_base.specs.Prelude.Documents.{holds, root_node, segments_patterns};
+ghost use Rattle.jsonpath_rust.specs.Prelude.Documents.{document_at, tree_of};
 ghost use Rattle.jsonpath_rust.specs.Prelude.Selection.{Constants, expression_of, filter_of, filter_query, filter_view, IsHalt, plan_view, segment_filter, segment_view, segments_meant};
 
 use crate::documents::halt::Walked;
@@ -13,8 +14,7 @@ use crate::selection::walk::Task;
 use jsonpath_base::engine::{Finders, KeptFinders, LentCells};
 use std::alloc::Global;
 
-/// Whether the filter holds. The second result asks the patterns of the plan, and can do so for the
-/// next document.
+/// Whether the filter holds. The second result asks the patterns of the plan, and can do so for the next document.
 pub fn decide<'a, 'p, T: Queryable>(
     alloc: Global,
     request: Request<'_, 'p>,

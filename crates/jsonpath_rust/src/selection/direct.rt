@@ -1,10 +1,11 @@
-//! What is found without a walk, and makes no value: `length` and `value` of a node that is looked
-//! up, and `count` of its children (RFC 9535, 2.4).
+//! What is found without a walk, and makes no value: `length` and `value` of a node that is looked up, and `count` of
+//! its children (RFC 9535, 2.4).
 ghost use Rattle.std.specs.Prelude.{◌≡◌, [], IfErr, IfOk, IfSome, map};
-ghost use Rattle.jsonpath_rust.specs.Prelude.Documents.{answer, Document, Node, relative, side_tree, step_view, test_argument, tree_of};
+ghost use Rattle.jsonpath_base.specs.Prelude.Documents.{answer, Document, Node, relative, step_view, test_argument};
+ghost use Rattle.jsonpath_rust.specs.Prelude.Documents.{side_tree, tree_of};
 ghost use Rattle.jsonpath_rust.specs.Prelude.Selection.{call_view, children_query, Constants, Count, document, IsHalt, part_view, steps_query, Wanted};
-ghost use Rattle.jsonpath_rust.specs.documents.Functions as functions;
-ghost use Rattle.jsonpath_rust.specs.documents.inner.Singular as singular;
+ghost use Rattle.jsonpath_base.specs.documents.Functions as functions;
+ghost use Rattle.jsonpath_base.specs.documents.inner.Singular as singular;
 
 use crate::documents::halt::Walked;
 use crate::documents::operand::{Side, count_scalar, length_of};

@@ -1,6 +1,6 @@
 //! Whether filters hold (RFC 9535, 2.3.5).
 ghost use Rattle.std.specs.Prelude.{◌++◌, ◌≡◌, IfOk};
-ghost use Rattle.jsonpath_rust.specs.Prelude.Documents.{argued, argument_patterns, as_truth, compares, each_holds, filter_patterns, filters_patterns, holds, operator_view, some_holds, value_of};
+ghost use Rattle.jsonpath_base.specs.Prelude.Documents.{argued, argument_patterns, as_truth, compares, each_holds, filter_patterns, filters_patterns, holds, operator_view, some_holds, value_of};
 ghost use Rattle.jsonpath_rust.specs.Prelude.Selection.{Any, Comes, filter_view, filters_meant, here, kept_of, Sole, part_view, StandsAt};
 
 use crate::documents::halt::Walked;
@@ -13,8 +13,8 @@ use crate::selection::trail::Trail;
 use crate::selection::walk::Task;
 
 impl<'a: 's, 's, T: Queryable> Task<'a, 's, T> {
-    /// Whether a filter holds at a value, to which the way leads. A comparison is asked at once,
-    /// without `filter_holds` between.
+    /// Whether a filter holds at a value, to which the way leads. A comparison is asked at once, without `filter_holds`
+    /// between.
     #[cycle(walk)]
     #[tactic(auto, using(crate::proofs::laws::selection::PlanEquations::plan_equations))]
     #[inline(always)]
@@ -34,8 +34,7 @@ impl<'a: 's, 's, T: Queryable> Task<'a, 's, T> {
         self.filter_holds(filter, at, trail)
     }
 
-    /// Whether a filter holds at a value, to which the way leads; `is_met` is the faster way to ask
-    /// a comparison.
+    /// Whether a filter holds at a value, to which the way leads; `is_met` is the faster way to ask a comparison.
     #[cycle(walk)]
     #[tactic(auto, using(crate::proofs::laws::selection::PlanEquations::plan_equations))]
     pub fn filter_holds(
@@ -108,8 +107,8 @@ impl<'a: 's, 's, T: Queryable> Task<'a, 's, T> {
         Ok(true)
     }
 
-    /// Whether a part tests true: a query has a node (RFC 9535, 2.3.5.2.1), a call returns true.
-    /// Names and indexes are looked up, and nothing is made for them.
+    /// Whether a part tests true: a query has a node (RFC 9535, 2.3.5.2.1), a call returns true. Names and indexes are
+    /// looked up, and nothing is made for them.
     #[cycle(walk)]
     #[tactic(auto, using(crate::proofs::laws::selection::PlanEquations::plan_equations))]
     #[inline(always)]
@@ -139,8 +138,8 @@ impl<'a: 's, 's, T: Queryable> Task<'a, 's, T> {
         }
     }
 
-    /// Whether a comparison holds. Where both sides are at hand they are compared as they are lent,
-    /// and nothing is made for them.
+    /// Whether a comparison holds. Where both sides are at hand they are compared as they are lent, and nothing is made
+    /// for them.
     #[cycle(walk)]
     pub fn comparison_holds(
         &self,

@@ -1,6 +1,7 @@
 //! A walk from its beginning to its end: the nodes of a query, given to a sink.
 ghost use Rattle.std.specs.Prelude.{IfErr};
-ghost use Rattle.jsonpath_rust.specs.Prelude.Documents.{document_at, nodelist, segments_patterns};
+ghost use Rattle.jsonpath_base.specs.Prelude.Documents.{nodelist, segments_patterns};
+ghost use Rattle.jsonpath_rust.specs.Prelude.Documents.{document_at};
 ghost use Rattle.jsonpath_rust.specs.Prelude.Selection.{IsHalt, plan_view, Takes};
 
 use crate::documents::halt::Walked;
@@ -22,8 +23,8 @@ pub struct Request<'s, 'p> {
     pub budget: Budget,
 }
 
-/// Gives to the sink the nodes of what is asked. The first result says whether to go on; the second
-/// asks the patterns of the plan, and can do so for the next document.
+/// Gives to the sink the nodes of what is asked. The first result says whether to go on; the second asks the patterns
+/// of the plan, and can do so for the next document.
 pub fn give_requested<'a, 'p, T: Queryable>(
     alloc: Global,
     request: Request<'_, 'p>,

@@ -1,6 +1,7 @@
 //! Constants: each is worked out at the root when it is first asked, and then kept.
 ghost use Rattle.std.specs.Prelude.{◌≡◌, [], IfErr, IfOk, IsFalse, IsTrue, Some};
-ghost use Rattle.jsonpath_rust.specs.Prelude.Documents.{absolute, argument_patterns, no_segments, operand_tree, test_argument};
+ghost use Rattle.jsonpath_base.specs.Prelude.Documents.{absolute, argument_patterns, no_segments, test_argument};
+ghost use Rattle.jsonpath_rust.specs.Prelude.Documents.{operand_tree};
 ghost use Rattle.jsonpath_rust.specs.Prelude.Selection.{argument_at, Comes, constant_view, document, fits, gave, given_by, given_value, IsHalt, IsReady, kept_of, part_at, part_patterns, slot_at, slots_of, StandsAt};
 
 use crate::documents::halt::Walked;
@@ -16,10 +17,9 @@ use jsonpath_base::engine::Way;
 use std::mem;
 
 impl<'a: 's, 's, T: Queryable> Task<'a, 's, T> {
-    /// Keeps what the constant of this number gives. It is worked out when it is first asked; where a
-    /// pattern in it is too large, that is kept, and the walk halts. The result is false where the
-    /// plan has no such constant, or a query of which another is wanted: that counts as `$`, and
-    /// nothing is kept of it.
+    /// Keeps what the constant of this number gives. It is worked out when it is first asked; where a pattern in it is
+    /// too large, that is kept, and the walk halts. The result is false where the plan has no such constant, or a query
+    /// of which another is wanted: that counts as `$`, and nothing is kept of it.
     #[cycle(walk)]
     pub fn keep(
         &self,
@@ -80,8 +80,8 @@ impl<'a: 's, 's, T: Queryable> Task<'a, 's, T> {
         }
     }
 
-    /// The value that the constant of this number gave, absent where it gave none. A copy of one that
-    /// a custom function made is paid for.
+    /// The value that the constant of this number gave, absent where it gave none. A copy of one that a custom function
+    /// made is paid for.
     pub fn kept(
         &self,
         number: usize,

@@ -3,8 +3,8 @@ ghost use Rattle.std.specs.Prelude.{◌≡◌, [], Bool, false, is_some, IsTrue,
 ghost use Rattle.jsonpath_parser.specs.tree.Syntax.{Query};
 ghost use Rattle.jsonpath_parser.specs.tree.Typing.{is_singular};
 ghost use Rattle.jsonpath_parser.specs.tree.View.{query_view};
-ghost use Rattle.jsonpath_rust.specs.documents.Document.{Document};
-ghost use Rattle.jsonpath_rust.specs.documents.Patterns.{IsStop, segments_patterns};
+ghost use Rattle.jsonpath_base.specs.documents.Document.{Document};
+ghost use Rattle.jsonpath_base.specs.documents.Patterns.{IsStop, segments_patterns};
 ghost use Rattle.jsonpath_rust.specs.selection.Condition.{expression_of, tests_singular};
 ghost use Rattle.jsonpath_rust.specs.selection.Stop.{StopsUnits};
 ghost use Rattle.jsonpath_rust.specs.selection.inner.Halting.{IsHalt, limit_of};
@@ -33,8 +33,7 @@ pub trait Limits: Drop {
     fn units(&self) -> Option<usize>
         ensures { is_some result ≡ counts };
 
-    /// What a caller is told of a walk that halted. A call is free only where its query asks no
-    /// pattern.
+    /// What a caller is told of a walk that halted. A call is free only where its query asks no pattern.
     fn stop(alloc: Global, halt: Halt) -> Self::Stop
         ensures { (free : Bool) (q : Query) (doc : Document) → (IsTrue free → segments_patterns q ≡ []) →
             IsHalt (limit_of counts free) (segments_patterns q) doc halt → stops free q doc result };
@@ -44,42 +43,45 @@ pub trait Limits: Drop {
 #[derive(Debug, Drop)]
 pub struct Unlimited;
 
-/// So many units of work for each call: for queries of strangers. Where they are not enough, a call
-/// returns [`Stop::Spent`].
+/// So many units of work for each call: for queries of strangers. Where they are not enough, a call returns
+/// [`Stop::Spent`].
 ///
-/// A singular query, such as `$.a[0]` (RFC 9535, 2.3.5.1), looks up no more than the names and indexes
-/// that it has: it is free, and no call returns `Spent` for it; so is a condition that tests one,
-/// such as `!@.error[0]`. For others these are spent:
+/// A singular query, such as `$.a[0]` (RFC 9535, 2.3.5.1), looks up no more than the names and indexes that it has: it
+/// is free, and no call returns `Spent` for it; so is a condition that tests one, such as `!@.error[0]`. For others
+/// these are spent:
 ///
-/// - one for each child that a `*`, a slice or `..` looks at, and two for each that a filter is tried on: all members of an
-///   object, and all elements of a list, but those that `first`, `only`, `has_node` and existence tests do not look at;
+/// - one for each child that a `*`, a slice or `..` looks at, and two for each that a filter is tried on: all members
+///   of an object, and all elements of a list, but those that `first`, `only`, `has_node` and existence tests do not
+///   look at;
 /// - one for each selector of several in one segment, and for each operand of `&&` and `||`;
 /// - one for each value in the smaller side of a comparison, and for each 16 bytes of its texts and names;
-/// - one for each byte of a text, or of a pattern of the document, that `length`, `match` or `search` reads, and for each member
-///   of an object that `length` counts;
-/// - for a pattern that is not kept 256, and one for each of its characters where counted repetitions are written out, but
-///   2^20 at most: what is larger `regex` refuses. A class such as `\w` or `\p{L}` counts as 700, one such as `\d` as 71, and a
-///   pattern with the flag `x` as the largest. Beside these 100 for each group, 700 for each range behind the flag `i`, and
-///   one for each literal that `regex` copies to write out a choice of few, or to look for a run of them;
-/// - for each byte of a text that is searched, one for each eight of these characters, where a class such as `\w` has eight;
-/// - one for each value that a custom function is given, before it is, and the product of their sizes, counted so; `count` and
-///   `value` spend what their walks spend;
-/// - one for each 64 bytes of the names in a path or a location that is returned, and for each 16 steps of such a location;
-/// - one for each step of a location that is deleted or replaced, and for each 16 bytes of that step's name; none for the first
-///   steps that the location before it has too;
-/// - where three queries from the root stand in one another, one for each value of the document that is looked at to see how
-///   deep it is, for the members of an object before they are listed.
+/// - one for each byte of a text, or of a pattern of the document, that `length`, `match` or `search` reads, and for
+///   each member of an object that `length` counts;
+/// - for a pattern that is not kept 256, and one for each of its characters where counted repetitions are written out,
+///   but 2^20 at most: what is larger `regex` refuses. A class such as `\w` or `\p{L}` counts as 700, one such as `\d`
+///   as 71, and a pattern with the flag `x` as the largest. Beside these 100 for each group, 700 for each range behind
+///   the flag `i`, and one for each literal that `regex` copies to write out a choice of few, or to look for a run of
+///   them;
+/// - for each byte of a text that is searched, one for each eight of these characters, where a class such as `\w` has
+///   eight;
+/// - one for each value that a custom function is given, before it is, and the product of their sizes, counted so;
+///   `count` and `value` spend what their walks spend;
+/// - one for each 64 bytes of the names in a path or a location that is returned, and for each 16 steps of such a
+///   location;
+/// - one for each step of a location that is deleted or replaced, and for each 16 bytes of that step's name; none for
+///   the first steps that the location before it has too;
+/// - where three queries from the root stand in one another, one for each value of the document that is looked at to
+///   see how deep it is, for the members of an object before they are listed.
 ///
-/// Names and indexes cost nothing by themselves, so a unit takes longer where the query is longer.
-/// How long it takes is measured, and no clause says it. What is spent at once is counted first, as
-/// far as units are left; so a call that returns `Spent` may have listed the members of one object,
-/// and counted some times as many values as it had units. A type that leaves `member_count` to its
-/// default also lists an object each time that its size is asked for in a comparison, for a unit.
+/// Names and indexes cost nothing by themselves, so a unit takes longer where the query is longer. How long it takes is
+/// measured, and no clause says it. What is spent at once is counted first, as far as units are left; so a call that
+/// returns `Spent` may have listed the members of one object, and counted some times as many values as it had units. A
+/// type that leaves `member_count` to its default also lists an object each time that its size is asked for in a
+/// comparison, for a unit.
 ///
-/// A unit holds on to about a kilobyte of memory at the worst that was tried, of locations; patterns
-/// keep some hundred megabytes beside. The text of a query takes memory by its length, which no unit
-/// pays: bound that too. Where the system refuses a request, as under `ulimit -v`, a call is refused
-/// by `OutOfMemory`.
+/// A unit holds on to about a kilobyte of memory at the worst that was tried, of locations; patterns keep some hundred
+/// megabytes beside. The text of a query takes memory by its length, which no unit pays: bound that too. Where the
+/// system refuses a request, as under `ulimit -v`, a call is refused by `OutOfMemory`.
 #[derive(Debug, Drop)]
 pub struct Units {
     count: usize,

@@ -1,6 +1,7 @@
 //! Names and indexes that are looked up, and not walked (RFC 9535, 2.3.5.1).
 ghost use Rattle.std.specs.Prelude.{◌≡◌, map, option_map};
-ghost use Rattle.jsonpath_rust.specs.Prelude.Documents.{step_view, stepped, tree_of, value_at};
+ghost use Rattle.jsonpath_base.specs.Prelude.Documents.{step_view, stepped, value_at};
+ghost use Rattle.jsonpath_rust.specs.Prelude.Documents.{tree_of};
 
 use crate::documents::queryable::Queryable;
 use crate::documents::whole::WholeRef;

@@ -1,6 +1,6 @@
 //! The only node of a query.
 ghost use Rattle.std.specs.Prelude.{◌≡◌, IfSome, IsTrue};
-ghost use Rattle.jsonpath_rust.specs.Prelude.Documents.{shown};
+ghost use Rattle.jsonpath_base.specs.Prelude.Documents.{shown};
 ghost use Rattle.jsonpath_rust.specs.Prelude.Selection.{IsOnlyOf, sole_node};
 
 use crate::documents::QueryRef;
@@ -9,8 +9,8 @@ use crate::documents::queryable::Queryable;
 
 /// What is told of the only node that a query selects, where only one is wanted.
 ///
-/// Nodes are counted and not values, so a node that is selected twice counts twice: of `$['a','a']`
-/// there are several, where there is an `a`.
+/// Nodes are counted and not values, so a node that is selected twice counts twice: of `$['a','a']` there are several,
+/// where there is an `a`.
 #[derive(Debug, Drop)]
 pub enum Only<'a, T> {
     /// The query selects nothing.

@@ -1,6 +1,7 @@
 //! Parts of filters as values: literals, look-ups, walks, calls, filters and constants.
 ghost use Rattle.std.specs.Prelude.{◌++◌, ◌≡◌, IfOk, OnOk};
-ghost use Rattle.jsonpath_rust.specs.Prelude.Documents.{arg_trees, argued, argument_patterns, as_trees, as_value, of_nodes, operand_tree, segments_patterns};
+ghost use Rattle.jsonpath_base.specs.Prelude.Documents.{argued, argument_patterns, as_trees, as_value, of_nodes, segments_patterns};
+ghost use Rattle.jsonpath_rust.specs.Prelude.Documents.{arg_trees, operand_tree};
 ghost use Rattle.jsonpath_rust.specs.Prelude.Selection.{Comes, gave, given_of, here, IsOne, kept_of, part_view, segments_meant, Sole, StandsAt, through, told, Values};
 
 use crate::documents::args::Args;
@@ -80,8 +81,8 @@ impl<'a: 's, 's, T: Queryable> Task<'a, 's, T> {
         self.value(part, Wanted::Sole, at, trail)
     }
 
-    /// Adds a part to the arguments of a custom function: each value of a node of a query is one, as
-    /// in the Rust crate; else the value is one, if it is not absent. A unit is spent for each.
+    /// Adds a part to the arguments of a custom function: each value of a node of a query is one, as in the Rust crate;
+    /// else the value is one, if it is not absent. A unit is spent for each.
     #[cycle(walk)]
     #[tactic(auto, using(crate::proofs::laws::selection::PlanEquations::plan_equations))]
     pub fn push(

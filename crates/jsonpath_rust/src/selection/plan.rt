@@ -1,6 +1,5 @@
-//! A plan of a query: what is to be done at a node, found out once and not at each node. It says
-//! which queries inside filters are looked up and which are walked, which parts are
-//! constants, and which patterns are the same.
+//! A plan of a query: what is to be done at a node, found out once and not at each node. It says which queries inside
+//! filters are looked up and which are walked, which parts are constants, and which patterns are the same.
 ghost use Rattle.jsonpath_rust.specs.selection.inner.PlanViews.{IsSettled, IsSettled-prop, IsRooted, IsRooted-prop};
 
 mod constants;
@@ -23,11 +22,9 @@ pub fn release(plan: Plan) {
 #[derive(Drop)]
 pub struct Plan {
     pub segments: Vec<Segment>,
-    /// The constants of the query, by number. One that stands in the filters of another has the
-    /// smaller number.
+    /// The constants of the query, by number. One that stands in the filters of another has the smaller number.
     pub constants: Vec<Constant>,
-    /// How many queries from the root stand in one another inside filters, at most; the query itself
-    /// does not count.
+    /// How many queries from the root stand in one another inside filters, at most; the query itself does not count.
     pub nesting: usize,
     /// How many patterns have a number. Each is smaller than this.
     pub pattern_count: usize,
@@ -35,8 +32,8 @@ pub struct Plan {
     ghost rooted: { IsRooted constants.items } by { IsRooted-prop constants.items },
 }
 
-/// A part of a filter that does not depend on the value under test: each `@` in it belongs to a
-/// filter of a query from the root inside it. It is worked out once in a call.
+/// A part of a filter that does not depend on the value under test: each `@` in it belongs to a filter of a query from
+/// the root inside it. It is worked out once in a call.
 #[derive(Drop)]
 pub enum Constant {
     /// What is wanted of the nodes of a query from the root.
@@ -100,20 +97,19 @@ pub enum Filter {
     Constant(usize),
 }
 
-/// A test, a side of a comparison (2.3.5.1), or an argument of a call, by how it is found. The place
-/// where it stands tells what is wanted of the nodes of a query.
+/// A test, a side of a comparison (2.3.5.1), or an argument of a call, by how it is found. The place where it stands
+/// tells what is wanted of the nodes of a query.
 #[derive(Drop)]
 #[cycle(plan)]
 pub enum Part {
     /// A literal.
     Literal(Literal),
-    /// A text that is asked as a pattern. Equal texts have one number for `match`, and another for
-    /// `search`.
+    /// A text that is asked as a pattern. Equal texts have one number for `match`, and another for `search`.
     Pattern(String, usize),
     /// The node by these steps from the current node.
     Lookup(Vec<SingularQuerySegment>),
-    /// All children of what these steps from the current node lead to; where neither whether there
-    /// is one nor their count is wanted, their count as a value.
+    /// All children of what these steps from the current node lead to; where neither whether there is one nor their
+    /// count is wanted, their count as a value.
     Children(Vec<SingularQuerySegment>),
     /// The nodes by a walk of these segments from the current node.
     Walk(Vec<Segment>),

@@ -1,5 +1,5 @@
 //! A query beside its plan.
-ghost use Rattle.jsonpath_rust.specs.Prelude.Documents.{query_view};
+ghost use Rattle.jsonpath_base.specs.Prelude.Documents.{query_view};
 ghost use Rattle.jsonpath_rust.specs.selection.inner.Planned.{IsPlanOf, IsPlanOf-prop};
 
 use crate::selection::plan::Plan;

@@ -1,6 +1,6 @@
 //! A query that is prepared once, to be asked of many documents.
 ghost use Rattle.std.specs.Prelude.{◌++◌, ◌≡◌, ◌≤◌, codes, IfErr, IfOk, MatchResult, Some};
-ghost use Rattle.jsonpath_rust.specs.Prelude.Documents.{Derives, HasIndexesInRange, IsNormal, IsRefusal, Location, OutOfMemory, Query, query_shown, query_view, steps_query};
+ghost use Rattle.jsonpath_base.specs.Prelude.Documents.{Derives, HasIndexesInRange, IsNormal, IsRefusal, Location, OutOfMemory, Query, query_shown, query_view, steps_query};
 ghost use Rattle.jsonpath_rust.specs.selection.inner.Planned.{IsPlanOf, IsPlanOf-prop, plan_view};
 
 use crate::documents::Queried;
@@ -14,12 +14,10 @@ use std::alloc::Global;
 use std::fmt;
 use std::fmt::{Debug, Formatter, Write};
 
-/// A query, to be run on any number of documents, of any types, by the [`Runner`]s that
-/// [`Prepared::runner`] makes.
+/// A query, to be run on any number of documents, of any types, by the [`Runner`]s that [`Prepared::runner`] makes.
 ///
-/// A pattern that stands in it, as the second argument of `match` or of `search` (RFC 9535, 2.4.6
-/// and 2.4.7), is built by the first call that needs it, and then stays built, for all its runners.
-/// Nothing of a document outlasts a call.
+/// A pattern that stands in it, as the second argument of `match` or of `search` (RFC 9535, 2.4.6 and 2.4.7), is built
+/// by the first call that needs it, and then stays built, for all its runners. Nothing of a document outlasts a call.
 #[derive(Drop)]
 pub struct Prepared {
     query: JpQuery,
@@ -42,8 +40,8 @@ pub struct PreparedRef<'q> {
 impl Prepared {
     ghost use Rattle.jsonpath_rust.specs.Prelude.Selection.{planned_view, prepared_ref_view, prepared_view, runner_view};
 
-    /// Prepares a query. No pattern is built yet: the cost is linear in the query. It refuses by
-    /// `OutOfMemory` alone, and lets the query go then.
+    /// Prepares a query. No pattern is built yet: the cost is linear in the query. It refuses by `OutOfMemory` alone,
+    /// and lets the query go then.
     pub fn new(alloc: Global, query: JpQuery) -> Queried<Self>
         ensures query { IfOk result (λ p. prepared_view p ≡ query_view query) }
         ensures memory { IfErr result (λ e. e ≡ OutOfMemory) }
@@ -57,8 +55,7 @@ impl Prepared {
         }
     }
 
-    /// Prepares a query that stays with its owner. The cost is linear in the query. It refuses by
-    /// `OutOfMemory` alone.
+    /// Prepares a query that stays with its owner. The cost is linear in the query. It refuses by `OutOfMemory` alone.
     ///
     /// A tree that is not well-typed is evaluated in the same way here, and not by `process`.
     pub fn of(alloc: Global, query: &JpQuery) -> Queried<PreparedRef<'_>>
@@ -116,8 +113,8 @@ impl Prepared {
         &self.query
     }
 
-    /// What asks the query of one document after another, and keeps what searches for its patterns.
-    /// Nothing is allocated yet.
+    /// What asks the query of one document after another, and keeps what searches for its patterns. Nothing is
+    /// allocated yet.
     pub fn runner(&self, alloc: Global) -> Runner<'_>
         ensures { runner_view result ≡ prepared_view self.now }
     {

@@ -1,6 +1,7 @@
 //! A prepared query that is asked of one document after another, under a limit of work or none.
 ghost use Rattle.std.specs.Prelude.{◌++◌, ◌≡◌, codes, IfErr, IfOk, Some};
-ghost use Rattle.jsonpath_rust.specs.Prelude.Documents.{AreLocations, AreNodes, ArePaths, AreValues, distinct_count, document_at, holds, is_among, nodelist, query_shown, query_view, root_node, selected, tree_of};
+ghost use Rattle.jsonpath_base.specs.Prelude.Documents.{AreLocations, AreNodes, ArePaths, AreValues, distinct_count, holds, is_among, nodelist, query_shown, query_view, root_node, selected};
+ghost use Rattle.jsonpath_rust.specs.Prelude.Documents.{document_at, tree_of};
 ghost use Rattle.jsonpath_rust.specs.Prelude.Selection.{expression_of, give, IsConditionStop, IsCount, IsFirst, IsOnlyNode, IsRemovalOf, IsStopOf, plan_view, planned_view, runner_view, seen, TellsWhether};
 ghost use Rattle.jsonpath_rust.specs.Prelude.Calls.{Runs};
 ghost use Rattle.jsonpath_base.specs.RemovalViews.{ordered_count, ordered_set};
@@ -24,20 +25,19 @@ use std::alloc::Global;
 use std::fmt::{Debug, Formatter, Write};
 use std::{fmt, mem};
 
-/// What runs a prepared query on one document after another, under a limit of work or none.
-/// Beside what [`Prepared`] keeps, what searches for its patterns stays from one call to the next, so
-/// that only the first call makes it.
+/// What runs a prepared query on one document after another, under a limit of work or none. Beside what [`Prepared`]
+/// keeps, what searches for its patterns stays from one call to the next, so that only the first call makes it.
 ///
 /// For queries of strangers the work of each call can be limited, by [`Runner::limited`].
 ///
 /// # Errors
 ///
-/// - `InvalidJsonPath` where `regex` refuses a pattern for its size: one that stands in the query, in a call of `match` or
-///   `search`, and whose value at some node of the document is a text that `regex` reads.
+/// - `InvalidJsonPath` where `regex` refuses a pattern for its size: one that stands in the query, in a call of `match`
+///   or `search`, and whose value at some node of the document is a text that `regex` reads.
 /// - `OutOfMemory` where memory ran out.
 ///
-/// Under a limit these are [`Stop::Refused`], and [`Stop::Spent`] says that the units were not
-/// enough. The query can be run again after each.
+/// Under a limit these are [`Stop::Refused`], and [`Stop::Spent`] says that the units were not enough. The query can be
+/// run again after each.
 ///
 /// [`Prepared`]: crate::selection::Prepared
 /// [`Stop::Refused`]: crate::selection::Stop::Refused
@@ -71,8 +71,8 @@ impl<'p, L: Limits> Runner<'p, L> {
         self.planned.query
     }
 
-    /// The runner, with a limit: each of its calls may take so many units of work. What these are
-    /// spent for stands at [`Units`].
+    /// The runner, with a limit: each of its calls may take so many units of work. What these are spent for stands at
+    /// [`Units`].
     pub fn limited(self, units: usize) -> Runner<'p, Units>
         ensures { runner_view result ≡ runner_view self.entry }
     {
@@ -134,8 +134,8 @@ impl<'p, L: Limits> Runner<'p, L> {
         Ok(sink.into_locations(alloc))
     }
 
-    /// The first of these nodes, or None where the query selects none. The document is walked no
-    /// further than to that node.
+    /// The first of these nodes, or None where the query selects none. The document is walked no further than to that
+    /// node.
     pub fn first<'a, T: Queryable>(
         &mut self,
         alloc: Global,
@@ -148,8 +148,8 @@ impl<'p, L: Limits> Runner<'p, L> {
         Ok(only.one())
     }
 
-    /// The only one of these nodes, or that there is none, or several. The document is walked no
-    /// further than to the second node.
+    /// The only one of these nodes, or that there is none, or several. The document is walked no further than to the
+    /// second node.
     pub fn only<'a, T: Queryable>(
         &mut self,
         alloc: Global,
@@ -173,8 +173,7 @@ impl<'p, L: Limits> Runner<'p, L> {
         Ok(sink.into_count())
     }
 
-    /// Whether the query selects a node. The document is walked no further than to the first, and
-    /// no path is made.
+    /// Whether the query selects a node. The document is walked no further than to the first, and no path is made.
     pub fn has_node<T: Queryable>(
         &mut self,
         alloc: Global,

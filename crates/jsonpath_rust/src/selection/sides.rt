@@ -1,6 +1,7 @@
 //! The sides of a comparison, where both are at hand: they are lent, and nothing is made for them.
 ghost use Rattle.std.specs.Prelude.{◌≡◌, [], IfErr, IfOk, IfSome};
-ghost use Rattle.jsonpath_rust.specs.Prelude.Documents.{compares, Node, operator_view, side_tree, tree_of, value_of};
+ghost use Rattle.jsonpath_base.specs.Prelude.Documents.{compares, Node, operator_view, value_of};
+ghost use Rattle.jsonpath_rust.specs.Prelude.Documents.{side_tree, tree_of};
 ghost use Rattle.jsonpath_rust.specs.Prelude.Selection.{argument_at, document, IsHalt, IsReady, kept_of, Sole, part_view};
 
 use crate::documents::comparison::compares;

@@ -1,6 +1,6 @@
 //! Queries `$[?..]` whose filter is a test of a singular query (RFC 9535, 2.3.5.1).
 ghost use Rattle.std.specs.Prelude.{◌≡◌, map, unwrap_or};
-ghost use Rattle.jsonpath_rust.specs.Prelude.Documents.{atom_view, filter_view, no_filters, or, query_view, segment_view, segments_of, test_view};
+ghost use Rattle.jsonpath_base.specs.Prelude.Documents.{atom_view, filter_view, no_filters, or, query_view, segment_view, segments_of, test_view};
 ghost use Rattle.jsonpath_rust.specs.Prelude.Selection.{expression_of, segment_filter, tests_singular};
 ghost use Rattle.jsonpath_parser.specs.tree.Typing as typing;
 

@@ -1,6 +1,7 @@
 //! What is done with the nodes that a walk meets.
 ghost use Rattle.std.specs.Prelude.{◌∷◌, ◌≡◌, [], IfErr, IfOk, map, option_map, option_to_list, Some, ℕ};
-ghost use Rattle.jsonpath_rust.specs.Prelude.Documents.{location_view, Memory, Node, of_nodes, operand_tree, paths_of, removal_count, removal_set, root_node, shown, tree_of};
+ghost use Rattle.jsonpath_base.specs.Prelude.Documents.{location_view, Node, of_nodes, paths_of, removal_count, removal_set, root_node, shown};
+ghost use Rattle.jsonpath_rust.specs.Prelude.Documents.{Memory, operand_tree, tree_of};
 ghost use Rattle.jsonpath_rust.specs.Prelude.Selection.{count_in, counted, few, finished, gave, is_counted, locations_in, node_of, nodes_in, paths_in, removal_in, seen, seen_few, seen_sole, start, TakesAlong, told_of, Took, values_in, wanted_of};
 
 use crate::documents::QueryPath;
@@ -28,8 +29,7 @@ pub enum Wanted {
 }
 
 impl Wanted {
-    /// What is wanted of one node, which has this value, or of none, as a value. `Values` is no
-    /// single value: absent.
+    /// What is wanted of one node, which has this value, or of none, as a value. `Values` is no single value: absent.
     #[inline(always)]
     pub fn of<'a, 's, T: Queryable>(self, value: Option<WholeRef<'a, T>>) -> Operand<'a, 's, T>
         ensures { operand_tree result ≡ wanted_of self (of_nodes (map root_node (option_to_list (option_map tree_of value.entry)))) }
@@ -78,8 +78,7 @@ pub enum Sink<'a, T: Queryable> {
     Values(WholeValues<'a, T>),
     /// Keeps each node's location, with names of its own.
     Locations(Vec<Vec<Step>>),
-    /// Marks each node's location to be removed or replaced. It stands in a box, so that the other
-    /// sinks stay small.
+    /// Marks each node's location to be removed or replaced. It stands in a box, so that the other sinks stay small.
     Removal(Box<Removal>),
     /// Counts down from the second number, one for each node. It stops at 0.
     Count(usize, usize),
@@ -289,8 +288,7 @@ pub struct FirstNodes<'a, T: Queryable> {
 }
 
 impl<'a, T: Queryable> FirstNodes<'a, T> {
-    /// Takes a node, where there is room: true, so that the walk goes on, if there is room for
-    /// another.
+    /// Takes a node, where there is room: true, so that the walk goes on, if there is room for another.
     fn take(&mut self, alloc: Global, value: WholeRef<'a, T>, way: &mut Way<'_>) -> Walked<bool>
         ensures gave { IfOk result (λ b. Took (seen_few self.old)
             (node_of way.old.steps.items value.entry ∷ []) (seen_few self.new) b) }

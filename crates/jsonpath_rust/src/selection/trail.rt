@@ -5,8 +5,7 @@ use crate::selection::cache::Cache;
 use jsonpath_base::engine::{Finders, KeptFinders, Way};
 use std::alloc::Global;
 
-/// The way to the value at hand, what the call keeps, what asks its patterns, and the work that is
-/// left.
+/// The way to the value at hand, what the call keeps, what asks its patterns, and the work that is left.
 #[derive(Drop)]
 pub struct Trail<'a, 's, 'p, T: Queryable> {
     pub way: Way<'s>,

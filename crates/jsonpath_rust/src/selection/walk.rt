@@ -1,13 +1,11 @@
-//! The evaluator: a walk that meets the nodes of a query depth-first, in the order of its nodelist
-//! (RFC 9535, 2.1.2).
+//! The evaluator: a walk that meets the nodes of a query depth-first, in the order of its nodelist (RFC 9535, 2.1.2).
 //!
-//! The way to the value at hand stands on a stack of borrowed steps, so nothing is kept for a node
-//! that is only passed. Most methods of the cycle ask for a value at hand (`StandsAt`), those of
-//! constants only that what is kept is right (`IsReady`). Each comes back with the way as it was
-//! and what is kept still right (`Comes`). Where it halts, what is kept is right too, and it says
-//! why; the way may then be another.
+//! The way to the value at hand stands on a stack of borrowed steps, so nothing is kept for a node that is only passed.
+//! Most methods of the cycle ask for a value at hand (`StandsAt`), those of constants only that what is kept is right
+//! (`IsReady`). Each comes back with the way as it was and what is kept still right (`Comes`). Where it halts, what is
+//! kept is right too, and it says why; the way may then be another.
 ghost use Rattle.std.specs.Prelude.{◌++◌};
-ghost use Rattle.jsonpath_rust.specs.Prelude.Documents.{all_pick, picks, replaced, segment_patterns, segments_patterns, selector_patterns, selectors_patterns, sliced};
+ghost use Rattle.jsonpath_base.specs.Prelude.Documents.{all_pick, picks, replaced, segment_patterns, segments_patterns, selector_patterns, selectors_patterns, sliced};
 ghost use Rattle.jsonpath_rust.specs.Prelude.Selection.{Comes, here, kept_of, node_at, onward_from, rest_patterns, segment_view, segments_meant, selector_view, selectors_meant, StandsAt, TakesAlong, through};
 
 use crate::documents::halt::Walked;
@@ -37,9 +35,8 @@ pub struct Task<'a, 's, T: Queryable> {
 }
 
 impl<'a: 's, 's, T: Queryable> Task<'a, 's, T> {
-    /// Gives to the sink what the segments select from a value on, to which the way leads. The
-    /// result says whether to go on. Where no segment is left the value is taken here, with no call
-    /// for it.
+    /// Gives to the sink what the segments select from a value on, to which the way leads. The result says whether to
+    /// go on. Where no segment is left the value is taken here, with no call for it.
     #[cycle(walk)]
     #[inline(always)]
     pub fn walk(
@@ -176,8 +173,7 @@ impl<'a: 's, 's, T: Queryable> Task<'a, 's, T> {
         }
     }
 
-    /// The rest from each element that a slice of these bounds picks, in its order (RFC 9535,
-    /// 2.3.4).
+    /// The rest from each element that a slice of these bounds picks, in its order (RFC 9535, 2.3.4).
     #[cycle(walk)]
     fn pick_slice(
         &self,

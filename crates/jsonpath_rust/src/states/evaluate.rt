@@ -1,10 +1,9 @@
-//! What the parts of a query return on any state: the evaluator behind
-//! [`Query`](crate::states::process::Query). It goes by recursion over the query and makes each
-//! nodelist whole; `walk` is what is quick.
+//! What the parts of a query return on any state: the evaluator behind [`Query`](crate::states::process::Query). It
+//! goes by recursion over the query and makes each nodelist whole; `walk` is what is quick.
 //!
-//! A part that reads a state as a whole, as `count` or a comparison does, has a result here on
-//! every state, so this cannot be made of the walk, which knows one node at a time. The recursion,
-//! in `segments` and `filters`, stands on one `Evaluation`.
+//! A part that reads a state as a whole, as `count` or a comparison does, has a result here on every state, so this
+//! cannot be made of the walk, which knows one node at a time. The recursion, in `segments` and `filters`, stands on
+//! one `Evaluation`.
 
 pub mod calls;
 pub mod compare;

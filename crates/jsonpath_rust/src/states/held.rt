@@ -1,9 +1,8 @@
-//! Data, and pointers, whose values are whole. A type says so, so that no part of the evaluator
-//! asks for it.
+//! Data, and pointers, whose values are whole. A type says so, so that no part of the evaluator asks for it.
 ghost use Rattle.std.specs.Prelude.{IsTrue};
 ghost use Rattle.std.proofs.Props.{props};
-ghost use Rattle.jsonpath_rust.specs.states.State.{PointersAreWhole, DataIsWhole};
-ghost use Rattle.jsonpath_rust.specs.states.inner.Whole.{DataIsWhole-prop};
+ghost use Rattle.jsonpath_base.specs.documents.State.{PointersAreWhole, DataIsWhole};
+ghost use Rattle.jsonpath_base.specs.documents.inner.WholeData.{DataIsWhole-prop};
 
 use crate::documents::queryable::Queryable;
 use crate::states::state::{Data, Pointer};

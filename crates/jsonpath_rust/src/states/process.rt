@@ -1,12 +1,13 @@
 //! What can be asked of a state: each part of a query.
 ghost use Rattle.std.specs.Prelude.{◌≡◌, [], Bool, IfErr, IfOk, IsTrue, List};
-ghost use Rattle.jsonpath_rust.specs.Prelude.Documents.{Argument, argument_patterns, argument_view, atom_view, call_patterns, call_view, comparable_view, comparison_view, Document, document_of, filter_patterns, filter_view, literal_tree, literal_view, Memory, query_view, segment_patterns, segment_view, segments_patterns, selector_patterns, selector_view, singular_view, step_view, test_patterns, test_view, truth};
+ghost use Rattle.jsonpath_base.specs.Prelude.Documents.{Argument, argument_patterns, argument_view, atom_view, call_patterns, call_view, comparable_view, comparison_view, Document, document_of, filter_patterns, filter_view, literal_tree, literal_view, query_view, segment_patterns, segment_view, segments_patterns, selector_patterns, selector_view, singular_view, step_view, test_patterns, test_view, truth};
+ghost use Rattle.jsonpath_rust.specs.Prelude.Documents.{Memory};
 ghost use Rattle.jsonpath_parser.specs.tree.View.{steps_view, segments_view};
 ghost use Rattle.jsonpath_rust.specs.states.Asking.{IsProcessStop};
 ghost use Rattle.jsonpath_rust.specs.states.Process.{segments_content, segment_content, selector_content, filter_content};
 ghost use Rattle.jsonpath_rust.specs.states.Process.{basic_content, holds_at, test_content};
 ghost use Rattle.jsonpath_rust.specs.states.Process.{call_content, argument_content};
-ghost use Rattle.jsonpath_rust.specs.states.State.{Content, value, content_of, DataIsWhole};
+ghost use Rattle.jsonpath_base.specs.documents.State.{Content, value, content_of, DataIsWhole};
 ghost use Rattle.jsonpath_rust.specs.states.inner.Evaluating.{content_at, document, HaltsAt, HaltsBelow};
 
 use crate::documents::Queried;
@@ -24,22 +25,22 @@ use jsonpath_parser::model::{
 };
 use std::alloc::Global;
 
-/// What can be asked of a state: a query, and each part of one. It has a result on every state,
-/// hand-made ones included, and on trees that the typing of RFC 9535, 2.4.3 refuses.
+/// What can be asked of a state: a query, and each part of one. It has a result on every state, hand-made ones
+/// included, and on trees that the typing of RFC 9535, 2.4.3 refuses.
 pub trait Query {
     /// What it returns, of a document and what a state holds.
     ghost answers: { Self → Document → Content → Content };
 
-    /// The patterns that stand in it: the second argument of each call of `match`, with true, and
-    /// of `search`, with false.
+    /// The patterns that stand in it: the second argument of each call of `match`, with true, and of `search`, with
+    /// false.
     ghost patterns: { Self → List (Bool × Argument) };
 
     /// The result, in the same document.
     ///
     /// # Errors
     ///
-    /// - `InvalidJsonPath` where `regex` refuses a pattern for its size: one that stands in the query, and that has, at the
-    ///   state or at a value in the document or in the state's nodes, a text that `regex` reads.
+    /// - `InvalidJsonPath` where `regex` refuses a pattern for its size: one that stands in the query, and that has, at
+    ///   the state or at a value in the document or in the state's nodes, a text that `regex` reads.
     /// - `OutOfMemory` where memory ran out.
     fn process<'a, T: Queryable>(&self, alloc: Global, state: State<'a, T>) -> Queried<State<'a, T>>
         requires root { IsTrue (T.is_whole state.root.now) }
@@ -120,8 +121,8 @@ impl Query for Vec<Segment> {
     }
 }
 
-/// Its selector; its selectors node by node; or, of a descendant segment, the inner one on the
-/// lists and objects there and below.
+/// Its selector; its selectors node by node; or, of a descendant segment, the inner one on the lists and objects there
+/// and below.
 impl Query for Segment {
     ghost answers = { λ q. segment_content (segment_view q) };
 

@@ -1,7 +1,6 @@
-//! The nodes that [`Query::process`] returns from the root, as a caller of `js_path_process` wants
-//! them.
+//! The nodes that [`Query::process`] returns from the root, as a caller of `js_path_process` wants them.
 ghost use Rattle.std.specs.Prelude.{◌≡◌, All, IfErr, IfOk, IsTrue, map};
-ghost use Rattle.jsonpath_rust.specs.Prelude.Documents.{document_of, query_view, segments_patterns, shown};
+ghost use Rattle.jsonpath_base.specs.Prelude.Documents.{document_of, query_view, segments_patterns, shown};
 ghost use Rattle.jsonpath_rust.specs.Prelude.States.{IsProcessStop, PointersAreWhole, processed, root_content, segments_content, targets, targets_of};
 
 use crate::documents::queryable::Queryable;
@@ -11,8 +10,7 @@ use crate::states::state::{Data, Pointer, State};
 use jsonpath_parser::model::JpQuery;
 use std::alloc::Global;
 
-/// The nodes, with their values and the texts of their paths. It refuses as [`Query::process`]
-/// does.
+/// The nodes, with their values and the texts of their paths. It refuses as [`Query::process`] does.
 pub fn processed_nodes<'a, T: Queryable>(
     alloc: Global,
     query: &JpQuery,

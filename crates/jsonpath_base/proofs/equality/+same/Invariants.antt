@@ -1,9 +1,9 @@
 use Rattle.jsonpath_base.specs.Prelude.{iter_rest, value_tree}
-use Rattle.jsonpath_base.proofs.SameWalks.{LeftToCompare, EntriesToCompare, weight, trees_weight, members_weight, trees, members}
+use Rattle.jsonpath_base.proofs.SameWalks.{ItemsToCompare, EntriesToCompare, weight, trees_weight, members_weight, trees, members}
 use Rattle.jsonpath_base.proofs.equality.+same.Given as goal
 
 abbrev pub invariant-same_items-loop-item : goal.invariant-same_items-loop-item
-invariant-same_items-loop-item l = LeftToCompare l.items.items l.others.items (iter_rest l.item-iterator.a) (iter_rest l.item-iterator.b)
+invariant-same_items-loop-item l = ItemsToCompare l.items.items l.others.items (iter_rest l.item-iterator.a) (iter_rest l.item-iterator.b)
 
 abbrev pub invariant-same_members-loop-name : goal.invariant-same_members-loop-name
 invariant-same_members-loop-name l = EntriesToCompare l.members.entries l.others.entries l.name-iterator.a l.name-iterator.b

@@ -1,20 +1,25 @@
-use Rattle.std.proofs.Common.{◌≡◌, ◌≤◌, ◌+◌, ◌||◌, ap, sym, ◌∙◌, unwrap_or, subst}
-use Rattle.jsonpath_base.specs.Prelude.{is_at, Location, lookup, marked, marked_by, marks_count}
-use Rattle.std.specs.BTreeMap.Entry.{entry_value}
-use Rattle.jsonpath_base.proofs.Marking.{on_ok, marked_or}
-use Rattle.jsonpath_base.proofs.InOrder.{inserted, inserted_total}
+use Rattle.std.proofs.Common.{◌∷◌, [], ◌++◌, is_eq, ap, sym, ◌∙◌, append-nil, arith}
+use Rattle.jsonpath_base.proofs.Gathering.{rises_first, rises_push, also_push, fewer_push, also_last, fewer_last}
 use Rattle.jsonpath_base.proofs.ordering.gather.Goals as goal
 
+pub returns-in_default-clause-rises : goal.returns-in_default-clause-rises
+returns-in_default-clause-rises g c = rises_first g.K.Ord.cmp c.args.entries.now.items c.push.new.self.items (c.args.key, c.args.marks) (omega (arith, c.in_default.ensures.cases.0, c.args.entries.now.ok.0))
+    (c.in_ok-push.ensures.items ∙ ap (λ es. es ++ (c.args.key, c.args.marks) ∷ []) (sym (append-nil c.pop.new.self.items) ∙ sym c.in_default.ensures.items))
+
+pub returns-then-is_eq-clause-joined : goal.returns-then-is_eq-clause-joined
+returns-then-is_eq-clause-joined g c =
+    also_last g.K.Ord.cmp c.pop.new.self.items _ _ c.in-Some.last c.args.key c.in-Some.there c.args.marks c.join.new.marks (ap is_eq (sym c.cmp.ensures) ∙ sym c.is_eq.ensures ∙ c.if-is_eq.true) c.in_ok-join.ensures.joined c.in-Some.ensures.items c.in_ok-push-2.ensures.items
+
+pub returns-then-is_eq-clause-fewer : goal.returns-then-is_eq-clause-fewer
+returns-then-is_eq-clause-fewer g c = fewer_last c.pop.new.self.items _ _ c.in-Some.last c.in-Some.there c.args.marks c.join.new.marks c.in_ok-join.ensures.fewer c.in-Some.ensures.items c.in_ok-push-2.ensures.items
+
 pub returns-clause-joined : goal.returns-clause-joined
-returns-clause-joined g c =
-    let old = c.args.map.now.entries in let w = c.join.new.marks in let o = entry_value c.in_ok-map.field-0 in
-    let written = ap (λ m. m.entries) (c.map-3-1.given.1 (sym c.in_ok-map.ensures.same_map)) ∙ c.in_ok-map.ensures.update.1 w in
-    let there : (l : Location) → marked c.or_insert-there.result.now l ≡ marked_by (lookup (is_at (g.K.Ord.cmp c.args.key)) old) l =
-    λ l. ap (λ m. marked m l) c.or_insert-there.ensures.value ∙ marked_or o c.new.result c.new.ensures.none l ∙ ap (λ x. marked_by x l) c.in_ok-map.ensures.value in
-    on_ok c.join.result (λ j. inserted g.K.Ord.cmp g.met.K.Ord.total old c.map-3-1.given.0.entries c.args.key c.args.marks w written c.in_ok-map.ensures.ordered (λ l. j.each l ∙ ap (λ b. b || marked c.args.marks l) (there l))) c.join.ensures.joined
+returns-clause-joined g c = also_push g.K.Ord.cmp _ _ (c.args.key, c.args.marks) (c.in_ok-push-4.ensures.items ∙ ap (λ es. es ++ (c.args.key, c.args.marks) ∷ []) (c.in_ok-push-3.ensures.items ∙ sym c.in-Some.ensures.items))
+
+pub returns-clause-rises : goal.returns-clause-rises
+returns-clause-rises g c =
+    rises_push g.K.Ord.cmp g.met.K.Ord.total c.pop.new.self.items _ _ (c.in-Some.last, c.in-Some.there) (c.args.key, c.args.marks) (ap is_eq (sym c.cmp.ensures) ∙ sym c.is_eq.ensures ∙ c.if-is_eq.false)
+    c.in-Some.ensures.items (c.in_ok-push-4.ensures.items ∙ ap (λ es. es ++ (c.args.key, c.args.marks) ∷ []) (c.in_ok-push-3.ensures.items ∙ sym c.in-Some.ensures.items))
 
 pub returns-clause-fewer : goal.returns-clause-fewer
-returns-clause-fewer g c =
-    let old = c.args.map.now.entries in let w = c.join.new.marks in let o = entry_value c.in_ok-map.field-0 in
-    let written = ap (λ m. m.entries) (c.map-3-1.given.1 (sym c.in_ok-map.ensures.same_map)) ∙ c.in_ok-map.ensures.update.1 w in
-    on_ok c.join.result (λ j. inserted_total g.K.Ord.cmp g.met.K.Ord.total old c.map-3-1.given.0.entries c.args.key c.args.marks w c.new.result written c.in_ok-map.ensures.ordered c.new.ensures.one (subst (λ x. marks_count w + 1 ≤ marks_count x + marks_count c.args.marks) (c.or_insert-there.ensures.value ∙ ap (λ x. unwrap_or x c.new.result) c.in_ok-map.ensures.value) j)) c.join.ensures.fewer
+returns-clause-fewer g c = fewer_push _ _ (c.args.key, c.args.marks) (c.in_ok-push-4.ensures.items ∙ ap (λ es. es ++ (c.args.key, c.args.marks) ∷ []) (c.in_ok-push-3.ensures.items ∙ sym c.in-Some.ensures.items))

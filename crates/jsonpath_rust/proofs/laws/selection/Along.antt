@@ -2,7 +2,8 @@
 use Rattle.std.proofs.Common.{◌≡◌, ℕ, ◌+◌, ◌<◌, ◌≤◌, List, [], ◌∷◌, ◌++◌, drop, take, length, map, get_or, append-nil, sym, ◌∙◌, ap, arith, subst, Bool, true, false, Some, Result, rules}
 use Rattle.std.proofs.lemmas.Result.{IfOk-weaker}
 use Rattle.std.proofs.lemmas.List.{take-append-le, take-take, take-append-drop, length-map, map-append}
-use Rattle.jsonpath_rust.specs.Prelude.Documents.{as_list, as_members, children_at, element_nodes, elements, flat_map, Ghosts, LastBegins, lent_location, lent_step, list, Location, member_nodes, Node, null, number, object, pairs, Removal, StepRef, text, Tree, truth}
+use Rattle.jsonpath_base.specs.Prelude.Documents.{as_list, as_members, children_at, element_nodes, elements, flat_map, LastBegins, lent_location, lent_step, list, Location, member_nodes, Node, null, number, object, pairs, text, Tree, truth}
+use Rattle.jsonpath_rust.specs.Prelude.Documents.{Ghosts, Removal, StepRef}
 use Rattle.jsonpath_rust.specs.Prelude.Selection.{give, IsTied, seen, start, Takes, TakesAlong, Took, TookAlong, Wanted}
 use Rattle.std.specs.declared.fmt.Debug as debug
 use Rattle.jsonpath_base.specs.declared.way.Way.{Way}

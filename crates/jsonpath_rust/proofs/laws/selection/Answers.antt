@@ -2,9 +2,9 @@
 use Rattle.std.proofs.Common.{◌≡◌, ◌↔◌, ◌≤◌, ℕ, min, nat_lt, length, arith, IfSome, IfNone, List, [], ◌∷◌, map, take, Bool, true, false, Some, IsTrue, IsFalse, sym, ◌∙◌, ap, subst, refl, string_bytes}
 use Rattle.std.proofs.lemmas.Bool.{false≢true}
 use Rattle.std.proofs.lemmas.List.{length-map}
-use Rattle.jsonpath_rust.specs.Prelude.Documents.{AllByRecursion, AllZip, at, Document, greatest_count, has_distinct_names, IsNodeAt, IsPathAt, IsValueAt, Node, nodelist, normal, Query, selected, Tree}
+use Rattle.jsonpath_base.specs.Prelude.Documents.{AllByRecursion, AllZip, at, Document, greatest_count, has_distinct_names, IsNodeAt, IsPathAt, IsValueAt, Node, nodelist, normal, Query, selected, Tree}
 use Rattle.jsonpath_rust.specs.Prelude.Selection.{count_in, counted, give, IsFirstNode, IsOnly, IsOnlyOf, node_count, path_and_tree, sole_node}
-use Rattle.jsonpath_rust.proofs.laws.documents.{nodes_at}
+use Rattle.jsonpath_base.proofs.lemmas.documents.{nodes_at}
 use Rattle.jsonpath_parser.proofs.NormalLemmas.{only_path}
 use Rattle.jsonpath_rust.specs.declared.selection.only.Only.{Only}
 use Rattle.jsonpath_rust.specs.declared.selection.only.Only.TheVariants.{Nothing, One, Several}

@@ -1,6 +1,7 @@
 -- The query of an expression, and the expression of a query.
 use Rattle.std.proofs.Common.{◌≡◌, nat_eq, List, [], ◌∷◌, map, length, Bool, true, false, Some, None, Result, Ok, Err, IfOk, IfErr, is_some, unwrap_or, sym, ap, ◌∙◌, subst}
-use Rattle.jsonpath_rust.specs.Prelude.Documents.{AsksPattern, Document, Filter, filter_patterns, Halt, holds, no_filters, Node, or, Query, Segment, segments_of, segments_patterns}
+use Rattle.jsonpath_base.specs.Prelude.Documents.{AsksPattern, Document, Filter, filter_patterns, holds, no_filters, Node, or, Query, Segment, segments_of, segments_patterns}
+use Rattle.jsonpath_rust.specs.Prelude.Documents.{Halt}
 use Rattle.jsonpath_rust.specs.Prelude.Selection.{expression_of, filter_of, filter_query, IsHalt, Limit}
 use Rattle.jsonpath_rust.proofs.laws.selection.HaltingLaws.{asked_left, halts_as}
 

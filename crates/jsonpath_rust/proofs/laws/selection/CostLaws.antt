@@ -1,6 +1,6 @@
 -- What a value costs, by its kind, and what a loop over its parts finds.
 use Rattle.std.proofs.Common.{◌≡◌, ℕ, suc, min, ◌+◌, ◌-◌, ◌/◌, ◌<◌, ◌≤◌, map, get_or, drop, drop-cons, add-one, List, [], ◌∷◌, length, refl, sym, ◌∙◌, ap, arith, Option, Some, None, option_map, unwrap_or}
-use Rattle.jsonpath_rust.specs.Prelude.Documents.{as_list, as_members, elements, list, member, Members, no_members, no_trees, null, number, object, pairs, text, Tree, tree, Trees, truth}
+use Rattle.jsonpath_base.specs.Prelude.Documents.{as_list, as_members, elements, list, member, Members, no_members, no_trees, null, number, object, pairs, text, Tree, tree, Trees, truth}
 use Rattle.jsonpath_rust.specs.Prelude.Selection.{cost, elements_cost, members_cost, pairs_cost, trees_cost}
 
 trees-elements : (ts : Trees) → trees_cost ts ≡ elements_cost (elements ts)

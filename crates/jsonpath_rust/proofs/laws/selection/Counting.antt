@@ -1,6 +1,6 @@
 -- Children that are counted are those that the walk would select.
 use Rattle.std.proofs.Common.{◌≡◌, ℕ, suc, List, [], ◌∷◌, length, map, append-nil, refl, sym, ◌∙◌, ap, Option, None, Some, option_map, option_to_list}
-use Rattle.jsonpath_rust.specs.Prelude.Documents.{all_applied, as_list, as_members, children, children_at, Document, element_nodes, elements, flat_map, list, Location, member_nodes, Node, null, number, object, pairs, replaced, root_node, Segment, SingularQuerySegment, step_view, text, Tree, truth, value_at}
+use Rattle.jsonpath_base.specs.Prelude.Documents.{all_applied, as_list, as_members, children, children_at, Document, element_nodes, elements, flat_map, list, Location, member_nodes, Node, null, number, object, pairs, replaced, root_node, Segment, SingularQuerySegment, step_view, text, Tree, truth, value_at}
 use Rattle.jsonpath_rust.specs.Prelude.Selection.{children_query, steps_query, through}
 use Rattle.jsonpath_rust.proofs.laws.selection.NodelistLaws.{through-applied}
 use Rattle.jsonpath_rust.proofs.laws.selection.StepLaws.{steps_there, trees_of}

@@ -1,9 +1,9 @@
 -- What is worked out of a look-up is what the meaning makes of its nodes.
 use Rattle.std.proofs.Common.{◌≡◌, ℕ, List, [], ◌∷◌, map, length, nat_lt, ◌∙◌, ap, arith, Option, Some, None, Result, Ok, Err, IfOk, IfSome}
-use Rattle.jsonpath_rust.specs.Prelude.Documents.{argued, as_nodes, as_truth, as_value, count_of, count_value, Document, has_node, Node, Query, relative, Segment, SingularQuerySegment, step_view, tested, Tree, truth, value_at}
+use Rattle.jsonpath_base.specs.Prelude.Documents.{argued, as_nodes, as_truth, as_value, count_of, count_value, Document, has_node, Node, Query, relative, Segment, SingularQuerySegment, step_view, tested, Tree, truth, value_at}
 use Rattle.jsonpath_rust.specs.Prelude.Selection.{children_argument, children_query, steps_query, through, told, told_of, Wanted}
 use Rattle.jsonpath_rust.specs.declared.selection.sink.Wanted.TheVariants as wanted
-use Rattle.jsonpath_rust.proofs.laws.documents.{relative_value}
+use Rattle.jsonpath_base.proofs.lemmas.documents.{relative_value}
 use Rattle.jsonpath_parser.proofs.laws.tree.Steps.{steps_singular}
 use Rattle.jsonpath_rust.proofs.laws.selection.NodelistLaws.{through-applied}
 

@@ -1,9 +1,10 @@
 -- A pattern of a part of a query is one of the query, and a halt for it one of the query.
 use Rattle.std.proofs.Common.{◌≡◌, ℕ, ◌<◌, List, [], ◌∷◌, ◌++◌, length, get_or, arith, refl, sym, subst, Bool, Option, Result, IfErr, inl, inr, ◌⊎◌}
 use Rattle.std.proofs.lemmas.List.Elements.{Contains-append_left, Contains-append_right, Contains-append_cases}
-use Rattle.jsonpath_rust.specs.Prelude.Documents.{argued, Argument, as_value, AsksPattern, Contains, Document, Halt, IsPattern, IsStop, IsValueAt, JsonPathError, Node, OutOfMemory, Query, segments_patterns, Tree}
+use Rattle.jsonpath_base.specs.Prelude.Documents.{argued, Argument, as_value, AsksPattern, Contains, Document, IsPattern, IsStop, IsValueAt, JsonPathError, Node, OutOfMemory, Query, segments_patterns, Tree}
+use Rattle.jsonpath_rust.specs.Prelude.Documents.{Halt}
 use Rattle.jsonpath_rust.specs.Prelude.Selection.{IsHalt, Limit}
-use Rattle.jsonpath_rust.proofs.laws.documents.{contains_part, err_so}
+use Rattle.jsonpath_base.proofs.lemmas.documents.{contains_part, err_so}
 
 -- ---- more patterns
 

@@ -1,7 +1,8 @@
 -- What the answers of the walk name at every turn.
 use Rattle.std.proofs.Common.{ℕ, List}
 use Rattle.std.specs.declared.fmt.Debug as debug
-use Rattle.jsonpath_rust.specs.Prelude.Documents.{Document, Ghosts, Node, size, tree_of, WholeRef}
+use Rattle.jsonpath_base.specs.Prelude.Documents.{Document, Node, size}
+use Rattle.jsonpath_rust.specs.Prelude.Documents.{Ghosts, tree_of, WholeRef}
 use Rattle.jsonpath_rust.specs.Prelude.Selection.{Constants, document, kept_of, node_at, segments_meant, Task, through, Trail}
 use Rattle.jsonpath_rust.specs.declared.selection.onward.Onward.{Onward}
 

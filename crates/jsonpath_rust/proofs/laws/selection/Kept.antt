@@ -4,7 +4,8 @@ use Rattle.std.proofs.lemmas.List.{get_or-set_same, map-set, length-set}
 use Rattle.std.proofs.lemmas.List.Elements.{All-head, All-tail}
 use Rattle.std.proofs.Math.ListN.{length-map}
 use Rattle.std.specs.declared.fmt.Debug as debug
-use Rattle.jsonpath_rust.specs.Prelude.Documents.{Document, Evaluated, Ghosts}
+use Rattle.jsonpath_base.specs.Prelude.Documents.{Document, Evaluated}
+use Rattle.jsonpath_rust.specs.Prelude.Documents.{Ghosts}
 use Rattle.jsonpath_rust.specs.Prelude.Selection.{answered, AreEmpty, Cache, compared, ConstantPart, Constants, Gave, gave, given_by, given_of, given_value, IsGiven, Keeps, nodes, part_at, slot_at, slots_of, Wanted, wanted_of}
 use Rattle.jsonpath_rust.specs.declared.selection.cache.Given.{Given}
 use Rattle.jsonpath_rust.specs.declared.selection.sink.Wanted.TheVariants as wanted

@@ -1,8 +1,9 @@
 -- Steps on the way of a walk lead to the value at hand.
 use Rattle.std.proofs.Common.{◌≡◌, ℕ, ℤ, List, [], ◌∷◌, ◌++◌, sym, ◌∙◌, ap, subst, Some, IsTrue}
 use Rattle.std.proofs.lemmas.List.{map-append}
-use Rattle.jsonpath_rust.specs.Prelude.Documents.{AllByRecursion, at, below, child, has_distinct_names, Index, index, indexed, lent_location, lent_step, Node, StepRef, Tree}
-use Rattle.jsonpath_rust.proofs.laws.documents.{at-below, Stands, stands-indexed}
+use Rattle.jsonpath_base.specs.Prelude.Documents.{AllByRecursion, at, below, child, has_distinct_names, index, indexed, lent_location, lent_step, Node, Tree}
+use Rattle.jsonpath_rust.specs.Prelude.Documents.{Index, StepRef}
+use Rattle.jsonpath_base.proofs.lemmas.documents.{at-below, Stands, stands-indexed}
 
 -- the same steps lead to the same value
 pub leads_as : (p q : List StepRef) (root t : Tree) → p ≡ q → at (lent_location q) root ≡ Some t → at (lent_location p) root ≡ Some t

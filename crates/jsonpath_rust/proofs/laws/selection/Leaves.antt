@@ -1,7 +1,7 @@
 -- A value that is no list and no object: nothing is selected below it.
 use Rattle.std.proofs.Common.{◌≡◌, ℕ, List, [], ◌∷◌, ◌++◌, filter, length, refl, sym, ◌∙◌, ap, None, option_and_then, option_to_list}
-use Rattle.jsonpath_rust.specs.Prelude.Documents.{all_pick, as_list, as_members, descendant, Document, element, element_of, flat_map, get, holds, list, Location, no_selectors, Node, null, number, object, one, picks, replaced, Segment, Selector, selector, Selectors, several, slice, slice_of, subtree, subtree_at, text, Tree, truth, wildcard}
-use Rattle.jsonpath_rust.proofs.laws.documents.{children_at-none, named_none, subtree-children}
+use Rattle.jsonpath_base.specs.Prelude.Documents.{all_pick, as_list, as_members, descendant, Document, element, element_of, flat_map, get, holds, list, Location, no_selectors, Node, null, number, object, one, picks, replaced, Segment, Selector, selector, Selectors, several, slice, slice_of, subtree, subtree_at, text, Tree, truth, wildcard}
+use Rattle.jsonpath_base.proofs.lemmas.documents.{children_at-none, named_none, subtree-children}
 use Rattle.jsonpath_parser.specs.tree.Syntax as syntax
 
 get-none : (k : List ℕ) (t : Tree) → None ≡ as_members t → None ≡ get k t

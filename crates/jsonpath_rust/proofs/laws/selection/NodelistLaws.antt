@@ -1,6 +1,6 @@
 -- The nodelist of a query, reached node by node.
 use Rattle.std.proofs.Common.{◌≡◌, List, [], ◌∷◌, append-nil, sym, ◌∙◌}
-use Rattle.jsonpath_rust.specs.Prelude.Documents.{all_applied, Document, flat_map, no_segments, Node, nodelist, Query, replaced, root_node, segment, Segments}
+use Rattle.jsonpath_base.specs.Prelude.Documents.{all_applied, Document, flat_map, no_segments, Node, nodelist, Query, replaced, root_node, segment, Segments}
 use Rattle.jsonpath_rust.specs.Prelude.Selection.{through}
 use Rattle.jsonpath_rust.proofs.laws.selection.Walks.{flat_map-flat_map, flat_map-alone}
 

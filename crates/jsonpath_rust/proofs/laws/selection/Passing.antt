@@ -1,6 +1,6 @@
 -- Segments that go to each child.
 use Rattle.std.proofs.Common.{◌≡◌, arith, sym, ◌∙◌, ap}
-use Rattle.jsonpath_rust.specs.Prelude.Documents.{children, one, replaced, Segment, segment_effort, segment_patterns, wildcard}
+use Rattle.jsonpath_base.specs.Prelude.Documents.{children, one, replaced, Segment, segment_effort, segment_patterns, wildcard}
 use Rattle.jsonpath_rust.specs.Prelude.Selection.{Constants, GoesToEachChild}
 use Rattle.jsonpath_rust.proofs.laws.selection.Walks.{flat_map-alone}
 use Rattle.jsonpath_rust.specs.declared.selection.action.Action.TheVariants.{All}

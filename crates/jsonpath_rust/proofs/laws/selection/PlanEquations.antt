@@ -2,7 +2,7 @@
 use Rattle.std.proofs.lemmas.Simd.{map-map}
 use Rattle.std.proofs.Common.{◌≡◌, ◌∙◌, ap, ℕ, ℤ, map, Option, Bool, Box, Vec, String, Global, string_bytes, rules}
 use Rattle.jsonpath_parser.specs.tree.Syntax as tree
-use Rattle.jsonpath_rust.specs.Prelude.Documents.{arguments_of, filters_of, literal_view, Operator, operator_view, selectors_of, SingularQuerySegment, step_view}
+use Rattle.jsonpath_base.specs.Prelude.Documents.{arguments_of, filters_of, literal_view, Operator, operator_view, selectors_of, SingularQuerySegment, step_view}
 use Rattle.jsonpath_rust.specs.Prelude.Selection.{Any, argument_at, arguments_meant, asked, Call, call_view, children_argument, Constants, Count, Filter, filter_view, Sole, Part, part_view, Segment, segment_view, segments_meant, Selector, selector_view, steps_query, the_lemmas, truth_of, Values, Wanted}
 use Rattle.jsonpath_parser.specs.declared.tree.model.Literal.{Literal}
 use Rattle.jsonpath_rust.specs.declared.selection.plan.Call

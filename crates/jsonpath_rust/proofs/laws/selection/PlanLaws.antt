@@ -5,7 +5,7 @@ use Rattle.std.proofs.lemmas.List.{map-append, map_more, take_all}
 use Rattle.std.proofs.Math.ListN.{length-map}
 use Rattle.std.proofs.lemmas.Bool.{and_from, and_parts, both_ways}
 use Rattle.std.proofs.lemmas.List.Folds.{list_all-append}
-use Rattle.jsonpath_rust.specs.Prelude.Documents.{arguments_of, filters_of, list_all, segments_of}
+use Rattle.jsonpath_base.specs.Prelude.Documents.{arguments_of, filters_of, list_all, segments_of}
 use Rattle.jsonpath_rust.specs.Prelude.Selection.{Any, argument_in, argument_is_rooted, arguments_are_rooted, Constant, constant_view, ConstantPart, Constants, Count, Extends, filter_is_rooted, filters_are_rooted, is_same_wanted, IsBeside, IsKept, IsNumbered, IsRight, IsRooted, IsSettled, kept_from, kept_in, kept_view, Made, nodes, Sole, part_at, part_is_rooted, parts_where, Segment, segment_view, segments_meant, Values, Wanted}
 use Rattle.jsonpath_parser.specs.tree.Syntax as tree
 use Rattle.jsonpath_rust.specs.declared.selection.plan.make.Maker.{Maker}

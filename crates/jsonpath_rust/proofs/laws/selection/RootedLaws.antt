@@ -1,7 +1,7 @@
 -- What has no `@` is the same at all nodes, and what is kept of it is what it stands for.
 use Rattle.std.proofs.Common.{◌≡◌, ◌+◌, ℕ, suc, zero, List, [], ◌∷◌, ◌++◌, refl, sym, ◌∙◌, ap, Bool, true, false, ◌&&◌, ◌||◌, Option, Some, option_to_list, IsTrue, if◌then◌else◌}
 use Rattle.std.proofs.lemmas.Bool.{and_parts}
-use Rattle.jsonpath_rust.specs.Prelude.Documents.{absolute, all_trees, and, answer, argued, Argument, argument, argument_patterns, Arguments, as_nodes, as_trees, as_truth, as_value, Call, call, compare, compares, count_call, count_of, custom_call, Document, each_holds, equal, Evaluated, Filter, filter_argument, segments_patterns, filter_then, Filters, group, holds, is_matched, is_true, length_call, length_of, list, list_all, literal_argument, literal_tree, match_call, negated, no_arguments, no_filters, no_segments, Node, nodelist, null, number, object, of_nodes, of_value, only_value, or, Query, relative, root_node, search_call, some_holds, Test, test, test_argument, tested, text, Tree, truth, value_call}
+use Rattle.jsonpath_base.specs.Prelude.Documents.{absolute, all_trees, and, answer, argued, Argument, argument, argument_patterns, Arguments, as_nodes, as_trees, as_truth, as_value, Call, call, compare, compares, count_call, count_of, custom_call, Document, each_holds, equal, Evaluated, Filter, filter_argument, segments_patterns, filter_then, Filters, group, holds, is_matched, is_true, length_call, length_of, list, list_all, literal_argument, literal_tree, match_call, negated, no_arguments, no_filters, no_segments, Node, nodelist, null, number, object, of_nodes, of_value, only_value, or, Query, relative, root_node, search_call, some_holds, Test, test, test_argument, tested, text, Tree, truth, value_call}
 use Rattle.jsonpath_rust.specs.Prelude.Selection.{answered, AreRooted, argument_at, argument_in, argument_is_rooted, arguments_are_rooted, asked, call_is_rooted, compared, ConstantPart, Constants, filter_is_rooted, filters_are_rooted, fits, given_by, given_value, is_same_wanted, nodes, part_at, part_is_rooted, part_patterns, test_is_rooted, told, trees_in, truth_of, Wanted, wanted_of}
 use Rattle.jsonpath_rust.specs.declared.selection.sink.Wanted.TheVariants as wanted
 use Rattle.jsonpath_rust.proofs.laws.selection.Kept.{wanted_given}

@@ -2,7 +2,8 @@
 use Rattle.std.proofs.Common.{◌≡◌, ℕ, zero, suc, pos, min, take, ◌-◌, List, [], ◌∷◌, ◌++◌, map, length, append-nil, append_assoc, refl, sym, ◌∙◌, ap, arith, Bool, true, false, Result, IfOk, Some, None, unwrap_or}
 use Rattle.std.proofs.lemmas.Result.{IfOk-weaker}
 use Rattle.std.proofs.lemmas.Bool.{false≢true}
-use Rattle.jsonpath_rust.specs.Prelude.Documents.{also, counted_with, distinct_count, greatest_count, is_among, Location, Node, normal, number, of_nodes, Removal, removal_count, removal_set, Tree}
+use Rattle.jsonpath_base.specs.Prelude.Documents.{also, counted_with, distinct_count, greatest_count, is_among, Location, Node, normal, number, of_nodes, removal_count, removal_set, Tree}
+use Rattle.jsonpath_rust.specs.Prelude.Documents.{Removal}
 use Rattle.jsonpath_rust.specs.Prelude.Selection.{add, count_in, counted, few, finished, full, give, given_of, IsRemovalOf, locations, locations_in, nodes_in, nothing, one, path_and_tree, paths, paths_in, removal, removal_in, Seen, several, start, Took, values, values_in, Wanted}
 use Rattle.jsonpath_base.specs.inner.Marks.{set_with}
 use Rattle.jsonpath_base.proofs.Removed.{set_begun}

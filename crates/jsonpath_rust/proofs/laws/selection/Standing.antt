@@ -1,6 +1,7 @@
 -- Where a walk stands, and how it comes back, one call after another.
 use Rattle.std.proofs.Common.{◌≡◌, List, [], refl, ◌∙◌, Bool, Result, Ok, Err, IfErr, OnOk}
-use Rattle.jsonpath_rust.specs.Prelude.Documents.{Argument, AsksPattern, Ghosts, Halt, IsErrAnd, StepRef, WholeRef}
+use Rattle.jsonpath_base.specs.Prelude.Documents.{Argument, AsksPattern, IsErrAnd}
+use Rattle.jsonpath_rust.specs.Prelude.Documents.{Ghosts, Halt, StepRef, WholeRef}
 use Rattle.jsonpath_rust.specs.Prelude.Selection.{Cache, Comes, document, IsHalt, IsReady, Returns, Stands, Task, Trail}
 use Rattle.std.specs.declared.fmt.Debug as debug
 use Rattle.jsonpath_rust.proofs.laws.selection.HaltingLaws.{asked_none, halts_as}

@@ -1,8 +1,8 @@
 -- Names and indexes that are looked up lead where the walk would.
 use Rattle.std.proofs.Common.{◌≡◌, List, [], ◌∷◌, map, refl, sym, ◌∙◌, ap, Option, None, Some, is_some, option_map, option_to_list}
-use Rattle.jsonpath_rust.specs.Prelude.Documents.{all_applied, argued, Argument, as_trees, as_truth, as_value, Document, has_node, Node, of_nodes, only_value, relative, root_node, SingularQuerySegment, step_view, tested, Tree, value_at}
+use Rattle.jsonpath_base.specs.Prelude.Documents.{all_applied, argued, Argument, as_trees, as_truth, as_value, Document, has_node, Node, of_nodes, only_value, relative, root_node, SingularQuerySegment, step_view, tested, Tree, value_at}
 use Rattle.jsonpath_rust.specs.Prelude.Selection.{Constants, IsOne, Part, part_view, steps_query, Wanted, wanted_of}
-use Rattle.jsonpath_rust.proofs.laws.documents.{singular_trees}
+use Rattle.jsonpath_base.proofs.lemmas.documents.{singular_trees}
 use Rattle.jsonpath_parser.proofs.laws.tree.Steps.{steps_singular}
 use Rattle.jsonpath_rust.specs.declared.selection.sink.Wanted.TheVariants as wanted
 

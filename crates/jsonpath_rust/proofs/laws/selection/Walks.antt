@@ -3,9 +3,9 @@ use Rattle.std.proofs.Common.{◌≡◌, ℕ, suc, ◌+◌, ◌<◌, ◌≤◌, 
 use Rattle.std.proofs.lemmas.Grind.{flat_map-append}
 use Rattle.std.proofs.lemmas.List.{at_drop_all}
 use Rattle.std.proofs.lemmas.List.Elements.{All-head, All-tail}
-use Rattle.jsonpath_rust.specs.Prelude.Documents.{all_pick, below, children_at, Document, element_nodes, flat_map, index, Location, member_nodes, name, Node, picks, subtree, subtree_at, Tree}
+use Rattle.jsonpath_base.specs.Prelude.Documents.{all_pick, below, children_at, Document, element_nodes, flat_map, index, Location, member_nodes, name, Node, picks, subtree, subtree_at, Tree}
 use Rattle.jsonpath_rust.specs.Prelude.Selection.{Constants, give, Seen, selector_view, selectors_meant, Took}
-use Rattle.jsonpath_rust.proofs.laws.documents.{subtree-children}
+use Rattle.jsonpath_base.proofs.lemmas.documents.{subtree-children}
 use Rattle.jsonpath_rust.proofs.laws.selection.Sinks.{give-append, give-full}
 
 -- ---- a loop: G k gives what is left of the list from its k-th element on, g k gives that element

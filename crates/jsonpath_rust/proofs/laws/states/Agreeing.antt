@@ -2,9 +2,9 @@
 use Rattle.std.proofs.Common.{◌≡◌, ℕ, List, [], ◌∷◌, ◌++◌, map, append_assoc, append-nil, refl, sym, ◌∙◌, ap, Bool, true, false, ◌||◌, ◌&&◌, Option, Some, Result, Ok, Err, IfOk, IsTrue}
 use Rattle.std.proofs.lemmas.Bool.{and_parts}
 use Rattle.std.specs.Prelude.{codes}
-use Rattle.jsonpath_rust.specs.Prelude.Documents.{absolute, all_applied, all_pick, all_trees, AllByRecursion, AllZip, and, answer, are_typed_arguments, are_typed_filters, are_typed_selectors, argued, Argument, argument, Arguments, as_nodes, as_trees, as_value, at, Call, call, children, compare, compares, count_call, custom_call, descendant, Document, each_holds, Filter, filter_argument, filter_then, Filters, flat_map, group, has_distinct_names, holds, indexed, is_matched, is_truth_test, is_typed, is_typed_argument, is_typed_call, is_typed_filter, is_typed_segment, is_typed_selector, is_typed_side, is_typed_test, is_value_argument, IsNodeAt, IsValueAt, length_call, length_of, literal_argument, match_call, named, negated, no_arguments, no_filters, no_segments, no_selectors, Node, nodelist, normal, one, or, picks, Query, relative, replaced, root_node, search_call, Segment, segment, Segments, selected, Selector, selector, Selectors, several, slice, sliced, some_holds, takes, Test, test, test_argument, tested, Tree, truth, value_call, wildcard}
+use Rattle.jsonpath_base.specs.Prelude.Documents.{absolute, all_applied, all_pick, all_trees, AllByRecursion, AllZip, and, answer, are_typed_arguments, are_typed_filters, are_typed_selectors, argued, Argument, argument, Arguments, as_nodes, as_trees, as_value, at, Call, call, children, compare, compares, count_call, custom_call, descendant, Document, each_holds, Filter, filter_argument, filter_then, Filters, flat_map, group, has_distinct_names, holds, indexed, is_matched, is_truth_test, is_typed, is_typed_argument, is_typed_call, is_typed_filter, is_typed_segment, is_typed_selector, is_typed_side, is_typed_test, is_value_argument, IsNodeAt, IsValueAt, length_call, length_of, literal_argument, match_call, named, negated, no_arguments, no_filters, no_segments, no_selectors, Node, nodelist, normal, one, or, picks, Query, relative, replaced, root_node, search_call, Segment, segment, Segments, selected, Selector, selector, Selectors, several, slice, sliced, some_holds, takes, Test, test, test_argument, tested, Tree, truth, value_call, wildcard}
 use Rattle.jsonpath_rust.specs.Prelude.States.{argument_content, arguments_trees, call_content, Content, each_holds_at, found_from, holds_at, inside, joined_from, mapped, nothing, parents_from, plain, processed, ProcessGivesTheNodelist, reduced, ref, root_content, segment_content, segments_content, selector_content, some_holds_at, Target, targets, test_content, unless_none}
-use Rattle.jsonpath_rust.proofs.laws.documents.{nodes_at}
+use Rattle.jsonpath_base.proofs.lemmas.documents.{nodes_at}
 use Rattle.jsonpath_parser.specs.tree.Syntax as syntax
 use Rattle.jsonpath_rust.proofs.laws.states.Contents.{IsNodes, IsPlain, targets-mapped, reduced-nodes, targets-reduced, targets-named, targets-some, targets-indexed, targets-sliced, targets-kept, targets-selector, selector-nodes, segments-nodes, length-value, call-plain, value_argument-plain, compare-plain}
 use Rattle.jsonpath_rust.proofs.laws.states.Finders.{Shows, alone, finds, named-by_tree, indexed-by_tree, sliced-by_tree, children-by_tree, shows-append, shows-each, shows-kept, shows-as, shows-same}

@@ -3,9 +3,10 @@
 use Rattle.std.proofs.Common.{◌≡◌, ℕ, zero, suc, ◌<◌, List, [], ◌∷◌, ◌++◌, length, get_or, map, cond, refl, sym, ◌∙◌, ap, subst, arith, Bool, true, false, Option, Some, None, option_and_then, Result, IfErr, IsTrue, inl, inr}
 use Rattle.std.proofs.lemmas.List.{length-map}
 use Rattle.std.proofs.lemmas.List.Elements.{Contains-append_left, Contains-append_right, All-head, All-tail}
-use Rattle.jsonpath_rust.specs.Prelude.Documents.{AllByRecursion, Argument, at, children, Contains, Document, Halt, has_distinct_names, IsErrAnd, IsPattern, Memory, Pattern, Segment, Spent, Tree}
+use Rattle.jsonpath_base.specs.Prelude.Documents.{AllByRecursion, Argument, at, children, Contains, Document, has_distinct_names, IsErrAnd, IsPattern, Segment, Tree}
+use Rattle.jsonpath_rust.specs.Prelude.Documents.{Halt, Memory, Pattern, Spent}
 use Rattle.jsonpath_rust.specs.Prelude.States.{argument_content, AsksPatternAt, Content, content_of, Data, DataIsWhole, found_from, HaltsBelow, has_parts, inside, IsAsked, IsBelow, mapped, Nothing, parents_from, parts_from, plain, Pointer, PointersAreWhole, Ref, ref, Refs, root_content, segment_content, Target, target_of, targets, tops, Value}
-use Rattle.jsonpath_rust.proofs.laws.documents.{at-append, contains_part, each_at, err_so, passed_on}
+use Rattle.jsonpath_base.proofs.lemmas.documents.{at-append, contains_part, each_at, err_so, passed_on}
 use Rattle.jsonpath_rust.proofs.laws.states.Lies.{LiesIn, Stays, IsDistinct, segment-stays, mapped-parents-stays, stays-children, stays-itself, lies-target}
 
 -- ---- fewer patterns, or fewer states

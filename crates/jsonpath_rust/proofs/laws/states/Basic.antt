@@ -2,7 +2,7 @@
 use Rattle.std.proofs.Common.{◌≡◌, refl, IsTrue}
 use Rattle.std.proofs.lemmas.Bool.{false≢true}
 use Rattle.jsonpath_parser.specs.Parts.{is_comparison}
-use Rattle.jsonpath_rust.specs.Prelude.Documents.{Document, Filter, test, truth}
+use Rattle.jsonpath_base.specs.Prelude.Documents.{Document, Filter, test, truth}
 use Rattle.jsonpath_rust.specs.Prelude.States.{basic_content, Content, holds_at, is_truth, value}
 
 -- it is true where the filter holds

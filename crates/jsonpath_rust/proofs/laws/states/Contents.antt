@@ -1,7 +1,7 @@
 -- The contents that the parts of a query make: which are nodes, which are no list of nodes, and what their targets and values are.
 use Rattle.std.proofs.Common.{◌≡◌, ℕ, ℤ, List, [], ◌∷◌, ◌++◌, map, filter, length, append-nil, refl, sym, ap, Bool, true, false, not, ◌||◌, Option, Some, None, option_and_then, option_to_list, IsTrue}
 use Rattle.std.proofs.lemmas.Bool.{false≢true, and_parts}
-use Rattle.jsonpath_rust.specs.Prelude.Documents.{absolute, are_equal, Argument, as_list, below, Call, call, child, children, children_at, compares, count_call, custom_call, descendant, Document, element, element_of, equal, filter_argument, flat_map, greater, greater_or_equal, index, indexed, is_below, is_singular, is_step, is_value_argument, is_value_test, length_call, length_of, less, less_or_equal, list, literal_argument, match_call, name, named, no_segments, no_selectors, not_equal, null, number, object, relative, root_node, search_call, Segment, segment, Segments, Selector, selector, Selectors, several, slice, sliced, Step, subtree_at, Test, test_argument, text, Tree, truth, value_call, wildcard}
+use Rattle.jsonpath_base.specs.Prelude.Documents.{absolute, are_equal, Argument, as_list, below, Call, call, child, children, children_at, compares, count_call, custom_call, descendant, Document, element, element_of, equal, filter_argument, flat_map, greater, greater_or_equal, index, indexed, is_below, is_singular, is_step, is_value_argument, is_value_test, length_call, length_of, less, less_or_equal, list, literal_argument, match_call, name, named, no_segments, no_selectors, not_equal, null, number, object, relative, root_node, search_call, Segment, segment, Segments, Selector, selector, Selectors, several, slice, sliced, Step, subtree_at, Test, test_argument, text, Tree, truth, value_call, wildcard}
 use Rattle.jsonpath_rust.specs.Prelude.States.{argument_content, call_content, children_from, Content, contents_compare, contents_equal, count_content, found_from, has_parts, holds_at, in_list, in_parts, indexed_from, inside, joined_from, kept_from, length_content, mapped, named_from, nothing, only, optional, parents_from, parents_in, plain, reduced, ref, refs, root_content, segment_content, segments_content, selector_content, sliced_from, some, Target, targets, test_content, under, unless_none, value, value_content}
 use Rattle.jsonpath_parser.specs.tree.Syntax as syntax
 use Rattle.jsonpath_parser.specs.tree.Syntax.{Operator}

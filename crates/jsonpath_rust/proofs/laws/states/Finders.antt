@@ -4,7 +4,7 @@ use Rattle.std.proofs.Common.{◌≡◌, ℕ, suc, ℤ, List, [], ◌∷◌, ◌
 use Rattle.std.proofs.lemmas.Bool.{false≢true}
 use Rattle.std.proofs.lemmas.List.{map-append}
 use Rattle.std.specs.Prelude.{codes}
-use Rattle.jsonpath_rust.specs.Prelude.Documents.{AllZip, as_list, below, child, children, element, element_nodes, element_of, elements, flat_map, index, indexed, IsNormal, list, Location, member_nodes, name, named, Node, null, number, object, pairs, root_node, slice_of, sliced, Step, steps_text, subtree, subtree_at, text, Tree, truth}
+use Rattle.jsonpath_base.specs.Prelude.Documents.{AllZip, as_list, below, child, children, element, element_nodes, element_of, elements, flat_map, index, indexed, IsNormal, list, Location, member_nodes, name, named, Node, null, number, object, pairs, root_node, slice_of, sliced, Step, steps_text, subtree, subtree_at, text, Tree, truth}
 use Rattle.jsonpath_rust.specs.Prelude.States.{found_from, Target, under}
 use Rattle.jsonpath_rust.proofs.laws.states.Found.{shift, subtree-shift, steps_text-append}
 

@@ -1,9 +1,9 @@
 -- What is found below a pointer: the children of its value, and the lists and objects there and below.
 use Rattle.std.proofs.Common.{◌≡◌, ℕ, suc, ◌+◌, ◌<◌, List, [], ◌∷◌, ◌++◌, map, filter, cond, length, get_or, append_assoc, append-nil, refl, sym, ◌∙◌, ap, arith, Bool, true, false, Option, Some, None}
 use Rattle.std.proofs.lemmas.List.{map-append}
-use Rattle.jsonpath_rust.specs.Prelude.Documents.{as_list, children, children_at, element_nodes, elements, flat_map, index, list, Location, member_nodes, member_subtrees, Members, members_size, name, no_members, no_trees, Node, null, number, object, pairs, root_node, size, step_text, steps_text, subtree, subtree_at, subtrees_at, text, Tree, Trees, trees_size, truth}
+use Rattle.jsonpath_base.specs.Prelude.Documents.{as_list, children, children_at, element_nodes, elements, flat_map, index, list, Location, member_nodes, member_subtrees, Members, members_size, name, no_members, no_trees, Node, null, number, object, pairs, root_node, size, step_text, steps_text, subtree, subtree_at, subtrees_at, text, Tree, Trees, trees_size, truth}
 use Rattle.jsonpath_rust.specs.Prelude.States.{found_from, has_parts, in_parts, lists_same, lists_targets, parents_in, parts_from, Pointer, refs, Target, target_of, under}
-use Rattle.jsonpath_rust.proofs.laws.documents.{filter_more, sizes_at, subtree-children, total}
+use Rattle.jsonpath_base.proofs.lemmas.documents.{filter_more, sizes_at, subtree-children, total}
 use Rattle.jsonpath_base.specs.Tree as base
 
 -- ---- the nodes of a subtree, from another path

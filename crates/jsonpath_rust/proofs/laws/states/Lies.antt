@@ -1,8 +1,8 @@
 -- Every node that a query answers on a state lies in the document or in a node of the state.
 use Rattle.std.proofs.Common.{◌≡◌, ℕ, zero, suc, ◌<◌, List, [], ◌∷◌, ◌++◌, length, get_or, map, refl, ◌∙◌, ap, subst, arith, Bool, true, false, Some, option_and_then, IsTrue}
-use Rattle.jsonpath_rust.specs.Prelude.Documents.{AllByRecursion, at, children, Contains, descendant, Document, has_distinct_names, list, Location, no_selectors, Node, null, number, object, picks, root_node, Segment, Selector, selector, Selectors, several, size, slice, subtree, text, Tree, truth, wildcard}
+use Rattle.jsonpath_base.specs.Prelude.Documents.{AllByRecursion, at, children, Contains, descendant, Document, has_distinct_names, list, Location, no_selectors, Node, null, number, object, picks, root_node, Segment, Selector, selector, Selectors, several, size, slice, subtree, text, Tree, truth, wildcard}
 use Rattle.jsonpath_rust.specs.Prelude.States.{children_from, Content, found_from, has_parts, holds_at, in_list, in_parts, indexed_from, inside, joined_from, kept_from, mapped, named_from, nothing, only, parents_from, parents_in, reduced, ref, refs, segment_content, selector_content, sliced_from, some, Target, targets, tops, under, unless_none, value}
-use Rattle.jsonpath_rust.proofs.laws.documents.{at-append, each-append, each-filter, each-flat_map, Stands, stands-picks, stands-subtree}
+use Rattle.jsonpath_base.proofs.lemmas.documents.{at-append, each-append, each-filter, each-flat_map, Stands, stands-picks, stands-subtree}
 use Rattle.jsonpath_parser.specs.tree.Syntax as syntax
 
 -- the tree is at some location in one of these

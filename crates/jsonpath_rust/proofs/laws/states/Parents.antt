@@ -1,7 +1,7 @@
 -- A segment selects nothing at a value that is no list and no object, so a descendant segment may pass over it.
 use Rattle.std.proofs.Common.{◌≡◌, ℕ, List, [], ◌∷◌, ◌++◌, map, filter, cond, length, refl, sym, ◌∙◌, ap, Bool, true, false, None, option_and_then, option_to_list}
 use Rattle.std.proofs.lemmas.Bool.{true≢false}
-use Rattle.jsonpath_rust.specs.Prelude.Documents.{all_pick, AllZip, as_list, below, children_at, descendant, Document, element, element_of, flat_map, get, holds, list, Location, name, no_selectors, Node, null, number, object, one, picks, replaced, Segment, Selector, selector, Selectors, several, slice, slice_of, subtree, subtree_at, text, Tree, truth, wildcard}
+use Rattle.jsonpath_base.specs.Prelude.Documents.{all_pick, AllZip, as_list, below, children_at, descendant, Document, element, element_of, flat_map, get, holds, list, Location, name, no_selectors, Node, null, number, object, one, picks, replaced, Segment, Selector, selector, Selectors, several, slice, slice_of, subtree, subtree_at, text, Tree, truth, wildcard}
 use Rattle.jsonpath_rust.specs.Prelude.States.{has_parts, parents_from, Target, targets}
 use Rattle.jsonpath_rust.proofs.laws.selection.{flat_map-flat_map}
 use Rattle.jsonpath_parser.specs.tree.Syntax as syntax

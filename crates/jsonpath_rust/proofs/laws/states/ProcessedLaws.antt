@@ -1,7 +1,7 @@
 -- What is shown of pointers: a loop over them, and what it made in the end.
 use Rattle.std.proofs.Common.{◌≡◌, ℕ, length, List, [], ◌∷◌, ◌++◌, append_assoc, append-nil, arith, map, ap, refl, sym, ◌∙◌, string_bytes}
 use Rattle.std.proofs.lemmas.List.{map-append}
-use Rattle.jsonpath_rust.specs.Prelude.Documents.{Tree}
+use Rattle.jsonpath_base.specs.Prelude.Documents.{Tree}
 use Rattle.jsonpath_rust.specs.Prelude.States.{Pointer, Target, targets_of}
 
 -- one element was moved from the front of what is left behind what there is

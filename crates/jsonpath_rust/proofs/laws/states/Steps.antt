@@ -1,6 +1,6 @@
 -- The steps of a singular query.
 use Rattle.std.proofs.Common.{◌≡◌, List, map, ap, ◌∙◌}
-use Rattle.jsonpath_rust.specs.Prelude.Documents.{Document, segments_of, SingularQuerySegment, step_view}
+use Rattle.jsonpath_base.specs.Prelude.Documents.{Document, segments_of, SingularQuerySegment, step_view}
 use Rattle.jsonpath_rust.specs.Prelude.States.{Content, segments_content}
 
 -- the same steps on the same content

@@ -1,6 +1,6 @@
 use Rattle.std.proofs.Common.{IfOk, subst, sym, ◌∙◌}
 use Rattle.std.proofs.lemmas.Result.{IfOk-weaker}
-use Rattle.jsonpath_rust.specs.Prelude.Documents.{AllZip, AreNodes, document_of, IsNodeAt, query_view, selected, shown}
+use Rattle.jsonpath_base.specs.Prelude.Documents.{AllZip, AreNodes, document_of, IsNodeAt, query_view, selected, shown}
 use Rattle.jsonpath_rust.proofs.laws.states.{typed-nodes}
 use Rattle.jsonpath_rust.proofs.query.js_path_process.Goals as goal
 

@@ -1,6 +1,6 @@
 use Rattle.std.proofs.Common.{IfOk, map, subst, sym, ◌∙◌}
 use Rattle.std.proofs.lemmas.Result.{IfOk-weaker}
-use Rattle.jsonpath_rust.specs.Prelude.Documents.{AllZip, AreValues, document_of, IsValueAt, query_view, selected}
+use Rattle.jsonpath_base.specs.Prelude.Documents.{AllZip, AreValues, document_of, IsValueAt, query_view, selected}
 use Rattle.jsonpath_rust.proofs.laws.states.{typed-values}
 use Rattle.jsonpath_rust.proofs.query.js_path_process_vals.Goals as goal
 

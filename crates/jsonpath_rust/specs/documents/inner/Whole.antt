@@ -1,8 +1,8 @@
 -- What a value that is whole is, for the crate's own contracts and proofs: the definitions here are no part of what a query means.
 use Rattle.std.specs.declared.fmt.Debug as debug
 use Rattle.jsonpath_base.specs.Tree.{Tree}
-use Rattle.jsonpath_rust.specs.documents.Document.{Document, document_of}
-use Rattle.jsonpath_rust.specs.declared.documents.queryable.Queryable.{Ghosts}
+use Rattle.jsonpath_base.specs.documents.Document.{Document, document_of}
+use Rattle.jsonpath_base.specs.declared.documents.queryable.Queryable.{Ghosts}
 use Rattle.jsonpath_rust.specs.declared.documents.whole.Whole.{Whole}
 use Rattle.jsonpath_rust.specs.declared.documents.whole.WholeRef.{WholeRef}
 

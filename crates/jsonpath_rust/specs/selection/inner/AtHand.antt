@@ -3,14 +3,14 @@ use Rattle.std.specs.Prelude.{List, Bool}
 use Rattle.std.specs.declared.fmt.Debug as debug
 use Rattle.std.specs.List.{flat_map}
 use Rattle.jsonpath_parser.specs.tree.Syntax.{Argument}
-use Rattle.jsonpath_rust.specs.documents.Document.{Document}
-use Rattle.jsonpath_rust.specs.documents.Node.{Node}
-use Rattle.jsonpath_rust.specs.documents.Patterns.{segments_patterns}
+use Rattle.jsonpath_base.specs.documents.Document.{Document}
+use Rattle.jsonpath_base.specs.documents.Node.{Node}
+use Rattle.jsonpath_base.specs.documents.Patterns.{segments_patterns}
 use Rattle.jsonpath_rust.specs.selection.inner.Keeping.{document, kept_of}
 use Rattle.jsonpath_rust.specs.selection.inner.PlanViews.{segments_meant}
 use Rattle.jsonpath_rust.specs.selection.inner.Standing.{Stands}
 use Rattle.jsonpath_rust.specs.selection.inner.Walking.{node_of, through}
-use Rattle.jsonpath_rust.specs.declared.documents.queryable.Queryable.{Ghosts}
+use Rattle.jsonpath_base.specs.declared.documents.queryable.Queryable.{Ghosts}
 use Rattle.jsonpath_rust.specs.declared.documents.whole.WholeRef.{WholeRef}
 use Rattle.jsonpath_rust.specs.declared.selection.onward.Onward.{Onward}
 use Rattle.jsonpath_rust.specs.declared.selection.trail.Trail.{Trail}

@@ -3,7 +3,7 @@ use Rattle.std.specs.Prelude.{ℕ, ◌+◌, ◌-◌, ◌/◌, ◌^◌, min, List
 use Rattle.std.specs.declared.fmt.Debug as debug
 use Rattle.jsonpath_base.specs.Tree.{Tree, text, list, object, Trees, no_trees, tree, Members, no_members, member}
 use Rattle.jsonpath_rust.specs.documents.inner.Whole.{tree_of}
-use Rattle.jsonpath_rust.specs.declared.documents.queryable.Queryable.{Ghosts}
+use Rattle.jsonpath_base.specs.declared.documents.queryable.Queryable.{Ghosts}
 use Rattle.jsonpath_rust.specs.declared.documents.operand.Side.{Side}
 use Rattle.jsonpath_rust.specs.declared.documents.operand.Side.TheVariants as side
 

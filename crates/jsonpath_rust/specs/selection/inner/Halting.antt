@@ -1,10 +1,10 @@
 -- Why a walk halts, for the contracts of the walk alone: the definitions here are no part of what a query means.
 use Rattle.std.specs.Prelude.{◌≡◌, List, Bool, true, false}
 use Rattle.jsonpath_parser.specs.tree.Syntax.{Argument}
-use Rattle.jsonpath_rust.specs.documents.Document.{Document}
-use Rattle.jsonpath_rust.specs.documents.Patterns.{AsksPattern}
-use Rattle.jsonpath_rust.specs.declared.documents.halt.Halt.{Halt}
-use Rattle.jsonpath_rust.specs.declared.documents.halt.Halt.TheVariants.{Memory, Spent}
+use Rattle.jsonpath_base.specs.documents.Document.{Document}
+use Rattle.jsonpath_base.specs.documents.Patterns.{AsksPattern}
+use Rattle.jsonpath_base.specs.declared.documents.halt.Halt.{Halt}
+use Rattle.jsonpath_base.specs.declared.documents.halt.Halt.TheVariants.{Memory, Spent}
 use Rattle.jsonpath_rust.specs.declared.selection.budget.Limit.{Limit}
 use Rattle.jsonpath_rust.specs.declared.selection.budget.Limit.TheVariants.{Limited, Unlimited}
 

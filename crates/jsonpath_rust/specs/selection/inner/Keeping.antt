@@ -3,16 +3,16 @@ use Rattle.std.specs.Prelude.{◌≡◌, ℕ, List, map, length, get_or, Bool, O
 use Rattle.std.specs.declared.fmt.Debug as debug
 use Rattle.jsonpath_parser.specs.tree.Syntax.{Argument}
 use Rattle.jsonpath_base.specs.Tree.{truth}
-use Rattle.jsonpath_rust.specs.documents.Document.{Document}
-use Rattle.jsonpath_rust.specs.documents.Functions.{of_nodes}
-use Rattle.jsonpath_rust.specs.documents.Meaning.{nodelist, holds, answer}
-use Rattle.jsonpath_rust.specs.documents.Node.{root_node}
-use Rattle.jsonpath_rust.specs.documents.Patterns.{AsksPattern, segments_patterns, filter_patterns, call_patterns}
+use Rattle.jsonpath_base.specs.documents.Document.{Document}
+use Rattle.jsonpath_base.specs.documents.Functions.{of_nodes}
+use Rattle.jsonpath_base.specs.documents.Meaning.{nodelist, holds, answer}
+use Rattle.jsonpath_base.specs.documents.Node.{root_node}
+use Rattle.jsonpath_base.specs.documents.Patterns.{AsksPattern, segments_patterns, filter_patterns, call_patterns}
 use Rattle.jsonpath_rust.specs.documents.inner.Whole.{document_at}
 use Rattle.jsonpath_rust.specs.selection.inner.PlanViews.{Constants, ConstantPart, kept_view, part_at}
 use Rattle.jsonpath_rust.specs.selection.inner.PlanViews as plan
 use Rattle.jsonpath_rust.specs.selection.inner.Wanting.{Gave, value, values, refused, gave, given_of}
-use Rattle.jsonpath_rust.specs.declared.documents.queryable.Queryable.{Ghosts}
+use Rattle.jsonpath_base.specs.declared.documents.queryable.Queryable.{Ghosts}
 use Rattle.jsonpath_rust.specs.declared.selection.cache.Cache.{Cache}
 use Rattle.jsonpath_rust.specs.declared.selection.cache.Given.{Given}
 use Rattle.jsonpath_rust.specs.declared.selection.walk.Task.{Task}

@@ -2,11 +2,11 @@
 use Rattle.std.specs.Prelude.{◌≡◌, ◌≤◌, ◌+◌, ◌-◌, ◌*◌, ℕ}
 use Rattle.std.specs.List.{flat_map}
 use Rattle.jsonpath_parser.specs.tree.Syntax.{Segment, Argument, literal_argument, test_argument, filter_argument}
-use Rattle.jsonpath_rust.specs.documents.inner.Effort.{call_effort, filter_effort, segment_effort, segments_effort, test_effort}
-use Rattle.jsonpath_rust.specs.documents.Document.{Document}
-use Rattle.jsonpath_rust.specs.documents.Meaning.{replaced}
-use Rattle.jsonpath_rust.specs.documents.Node.{Node, children}
-use Rattle.jsonpath_rust.specs.documents.Patterns.{segment_patterns}
+use Rattle.jsonpath_base.specs.documents.inner.Effort.{call_effort, filter_effort, segment_effort, segments_effort, test_effort}
+use Rattle.jsonpath_base.specs.documents.Document.{Document}
+use Rattle.jsonpath_base.specs.documents.Meaning.{replaced}
+use Rattle.jsonpath_base.specs.documents.Node.{Node, children}
+use Rattle.jsonpath_base.specs.documents.Patterns.{segment_patterns}
 use Rattle.jsonpath_rust.specs.selection.inner.PlanViews.{answered, compared, ConstantPart, Constants, filter_view, nodes, segment_view}
 use Rattle.jsonpath_rust.specs.selection.inner.Walking.{acted, action_patterns}
 use Rattle.jsonpath_rust.specs.declared.selection.action.Action.{Action}

@@ -9,9 +9,9 @@ use Rattle.jsonpath_base.specs.RemovalViews.{removal_set, removal_count, LastBeg
 use Rattle.jsonpath_base.specs.Without.{is_among, distinct_count, also, counted_with}
 use Rattle.jsonpath_base.specs.declared.removal.Removal.{Removal}
 use Rattle.jsonpath_base.specs.declared.way.Way.{Way}
-use Rattle.jsonpath_rust.specs.documents.Node.{Node}
-use Rattle.jsonpath_rust.specs.documents.Answer.{shown, paths_of}
-use Rattle.jsonpath_rust.specs.documents.Functions.{greatest_count}
+use Rattle.jsonpath_base.specs.documents.Node.{Node}
+use Rattle.jsonpath_base.specs.documents.Answer.{shown, paths_of}
+use Rattle.jsonpath_base.specs.documents.Functions.{greatest_count}
 use Rattle.jsonpath_rust.specs.documents.inner.Whole.{tree_of}
 use Rattle.jsonpath_rust.specs.declared.selection.sink.FirstNodes.{FirstNodes}
 use Rattle.jsonpath_rust.specs.declared.selection.sink.Sink.{Sink}
@@ -20,7 +20,7 @@ use Rattle.jsonpath_rust.specs.declared.selection.sink.Wanted.{Wanted}
 use Rattle.jsonpath_rust.specs.declared.selection.sink.Wanted.TheVariants as wanted
 use Rattle.jsonpath_rust.specs.declared.documents.nodes.WholeSole.{WholeSole}
 use Rattle.jsonpath_rust.specs.declared.documents.nodes.WholeSole.TheVariants.{Nothing, One, Several}
-use Rattle.jsonpath_rust.specs.declared.documents.queryable.Queryable.{Ghosts}
+use Rattle.jsonpath_base.specs.declared.documents.queryable.Queryable.{Ghosts}
 
 -- a node as it is answered: its Normalized Path and its tree
 abbrev pub path_and_tree : Node → List ℕ × Tree

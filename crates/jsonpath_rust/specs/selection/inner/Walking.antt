@@ -5,14 +5,14 @@ use Rattle.std.specs.List.{flat_map}
 use Rattle.jsonpath_base.specs.Steps.{lent_location}
 use Rattle.jsonpath_parser.specs.tree.Syntax.{Argument, Segments, no_segments, segment}
 use Rattle.jsonpath_base.specs.Places.{at}
-use Rattle.jsonpath_rust.specs.documents.Node.{Node, subtree}
-use Rattle.jsonpath_rust.specs.documents.Document.{Document}
-use Rattle.jsonpath_rust.specs.documents.Meaning.{replaced, holds}
-use Rattle.jsonpath_rust.specs.documents.Patterns.{segment_patterns, filter_patterns}
+use Rattle.jsonpath_base.specs.documents.Node.{Node, subtree}
+use Rattle.jsonpath_base.specs.documents.Document.{Document}
+use Rattle.jsonpath_base.specs.documents.Meaning.{replaced, holds}
+use Rattle.jsonpath_base.specs.documents.Patterns.{segment_patterns, filter_patterns}
 use Rattle.jsonpath_rust.specs.selection.inner.PlanViews.{Constants, segment_view, filter_view}
 use Rattle.jsonpath_rust.specs.documents.inner.Whole.{tree_of}
 use Rattle.jsonpath_base.specs.declared.step.StepRef.{StepRef}
-use Rattle.jsonpath_rust.specs.declared.documents.queryable.Queryable.{Ghosts}
+use Rattle.jsonpath_base.specs.declared.documents.queryable.Queryable.{Ghosts}
 use Rattle.jsonpath_rust.specs.declared.documents.whole.WholeRef.{WholeRef}
 use Rattle.jsonpath_rust.specs.declared.selection.action.Action.{Action}
 use Rattle.jsonpath_rust.specs.declared.selection.action.Action.TheVariants.{All, If, Below}

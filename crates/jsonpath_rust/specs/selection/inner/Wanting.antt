@@ -2,15 +2,15 @@
 use Rattle.std.specs.Prelude.{◌≡◌, ◌-◌, ℕ, nat_lt, List, [], map, Option, None, Some, option_to_list}
 use Rattle.std.specs.declared.fmt.Debug as debug
 use Rattle.jsonpath_base.specs.Tree.{Tree, truth}
-use Rattle.jsonpath_rust.specs.documents.Document.{Document}
-use Rattle.jsonpath_rust.specs.documents.Functions.{Evaluated, of_nodes, of_value, as_value, as_nodes, as_trees, as_truth, count_of, count_value}
-use Rattle.jsonpath_rust.specs.documents.Meaning.{argued}
-use Rattle.jsonpath_rust.specs.documents.Node.{Node}
+use Rattle.jsonpath_base.specs.documents.Document.{Document}
+use Rattle.jsonpath_base.specs.documents.Functions.{Evaluated, of_nodes, of_value, as_value, as_nodes, as_trees, as_truth, count_of, count_value}
+use Rattle.jsonpath_base.specs.documents.Meaning.{argued}
+use Rattle.jsonpath_base.specs.documents.Node.{Node}
 use Rattle.jsonpath_rust.specs.documents.inner.Operands.{operand_tree}
 use Rattle.jsonpath_rust.specs.selection.inner.PlanViews.{Constants, part_view}
 use Rattle.jsonpath_rust.specs.selection.inner.Sinks.{Seen, counted, one}
 use Rattle.jsonpath_rust.specs.selection.inner.Sinks as sinks
-use Rattle.jsonpath_rust.specs.declared.documents.queryable.Queryable.{Ghosts}
+use Rattle.jsonpath_base.specs.declared.documents.queryable.Queryable.{Ghosts}
 use Rattle.jsonpath_rust.specs.declared.selection.cache.Given.{Given}
 use Rattle.jsonpath_rust.specs.declared.selection.cache.Given.TheVariants as given
 use Rattle.jsonpath_rust.specs.declared.selection.plan.Part.{Part}

@@ -5,21 +5,21 @@ use Rattle.std.specs.declared.fmt.Debug as debug
 use Rattle.jsonpath_parser.specs.tree.Syntax.{Argument}
 use Rattle.jsonpath_parser.specs.tree.View.{filter_view}
 use Rattle.jsonpath_rust.specs.states.Asking.{IsBelow, IsAsked, AsksPatternAt}
-use Rattle.jsonpath_rust.specs.documents.Document.{Document}
-use Rattle.jsonpath_rust.specs.documents.Node.{children}
-use Rattle.jsonpath_rust.specs.documents.Patterns.{filter_patterns, selectors_patterns}
+use Rattle.jsonpath_base.specs.documents.Document.{Document}
+use Rattle.jsonpath_base.specs.documents.Node.{children}
+use Rattle.jsonpath_base.specs.documents.Patterns.{filter_patterns, selectors_patterns}
 use Rattle.jsonpath_rust.specs.states.Process.{holds_at, joined_from}
-use Rattle.jsonpath_rust.specs.states.State.{Target, Content, nothing, named_from, children_from, indexed_from, sliced_from, parents_from, kept_from, found_from, has_parts, pointers, target_of, targets_of, content_of}
-use Rattle.jsonpath_rust.specs.documents.inner.Parts.{selectors_in}
+use Rattle.jsonpath_base.specs.documents.State.{Target, Content, nothing, named_from, children_from, indexed_from, sliced_from, parents_from, kept_from, found_from, has_parts, pointers, target_of, targets_of, content_of}
+use Rattle.jsonpath_base.specs.documents.inner.Parts.{selectors_in}
 use Rattle.jsonpath_rust.specs.documents.inner.Whole.{document_at}
-use Rattle.jsonpath_rust.specs.declared.documents.queryable.Queryable.{Ghosts}
+use Rattle.jsonpath_base.specs.declared.documents.queryable.Queryable.{Ghosts}
 use Rattle.jsonpath_rust.specs.declared.states.evaluate.Evaluation.{Evaluation}
 use Rattle.jsonpath_rust.specs.declared.states.evaluate.segments.Part.{Part}
 use Rattle.jsonpath_rust.specs.declared.states.evaluate.segments.Part.TheVariants.{Name, Wildcard, Index, Slice, Parents, Kept, Joined}
-use Rattle.jsonpath_rust.specs.declared.documents.halt.Halt.{Halt}
-use Rattle.jsonpath_rust.specs.declared.documents.halt.Halt.TheVariants.{Memory}
-use Rattle.jsonpath_rust.specs.declared.states.state.data.Data.{Data}
-use Rattle.jsonpath_rust.specs.declared.states.state.pointer.Pointer.{Pointer}
+use Rattle.jsonpath_base.specs.declared.documents.halt.Halt.{Halt}
+use Rattle.jsonpath_base.specs.declared.documents.halt.Halt.TheVariants.{Memory}
+use Rattle.jsonpath_base.specs.declared.documents.state.data.Data.{Data}
+use Rattle.jsonpath_base.specs.declared.documents.state.pointer.Pointer.{Pointer}
 use Rattle.jsonpath_rust.specs.declared.states.held.WholeData.{WholeData}
 use Rattle.jsonpath_rust.specs.declared.states.held.WholePointer.{WholePointer}
 use Rattle.jsonpath_rust.specs.declared.states.held.WholePointerRef.{WholePointerRef}
@@ -71,9 +71,3 @@ HaltsBelow patterns d c halt = (halt ≡ Memory → ⊥) → AsksPatternAt patte
 -- the same, or it was asked at the state itself
 abbrev pub HaltsAt : List (Bool × Argument) → Document → Content → Halt → Type 0
 HaltsAt patterns d c halt = (halt ≡ Memory → ⊥) → AsksPatternAt patterns d (IsAsked d c)
-
--- ---- the turns of `flat_map`
-
--- answers at the rest can be completed to answers at all
-abbrev pub Completes : {A : Type 0} → (Pointer A → Data A → Type 0) → List (Pointer A) → List (Pointer A) → List (Pointer A) → Type 0
-Completes {A} Gives all rest got = (ds : List (Data A)) → AllZip Gives rest ds → (es : List (Data A)) × AllZip Gives all es × (flat_map pointers es ≡ got ++ flat_map pointers ds)

@@ -1,6 +1,7 @@
 //! What is read of a whole value: each call of [`Queryable`] agrees with its tree.
 ghost use Rattle.std.specs.Prelude.{◌<◌, ◌≡◌, All, IfErr, IfOk, IfSome, IsTrue, length, map, None, option_map, option_to_list};
-ghost use Rattle.jsonpath_rust.specs.Prelude.Documents.{as_bool, as_int, as_list, as_members, as_text, below, get, indexed, Location, MemoryAlone, OutOfMemory, own_tree, same, size, tree_of};
+ghost use Rattle.jsonpath_base.specs.Prelude.Documents.{as_bool, as_int, as_list, as_members, as_text, below, get, indexed, Location, MemoryAlone, OutOfMemory, same, size};
+ghost use Rattle.jsonpath_rust.specs.Prelude.Documents.{own_tree, tree_of};
 ghost use Rattle.jsonpath_parser.specs.Location as location;
 
 use crate::documents::Queried;
@@ -40,8 +41,7 @@ impl<'a, T: Queryable> WholeRef<'a, T> {
         }
     }
 
-    /// The element that an index means in a list, with its position, counted from 0 (RFC 9535,
-    /// 2.3.3).
+    /// The element that an index means in a list, with its position, counted from 0 (RFC 9535, 2.3.3).
     #[inline(always)]
     pub(crate) fn element(self, index: i64) -> Option<(usize, Self)>
         ensures value { (l : Location) → map (λ p. below l (location.index p.0) (tree_of p.1)) (option_to_list result)

@@ -1,6 +1,6 @@
 //! The constant of a number, and which parts are queries.
 ghost use Rattle.std.specs.Prelude.{◌<◌, ◌≡◌, IfNone, IfSome, IsFalse, IsTrue, length};
-ghost use Rattle.jsonpath_rust.specs.Prelude.Documents.{absolute, no_segments, test_argument};
+ghost use Rattle.jsonpath_base.specs.Prelude.Documents.{absolute, no_segments, test_argument};
 ghost use Rattle.jsonpath_rust.specs.Prelude.Selection.{argument_at, constant_view, Constants, fits, is_query_part, is_same_wanted, IsQuery, IsValue, kept_view, part_at};
 
 use super::{Constant, Part, Plan};

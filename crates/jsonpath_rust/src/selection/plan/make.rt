@@ -1,6 +1,6 @@
 //! How a plan is made: by one pass over the query.
 ghost use Rattle.std.specs.Prelude.{◌≡◌, IfOk, map};
-ghost use Rattle.jsonpath_rust.specs.Prelude.Documents.{list_all, MemoryAlone};
+ghost use Rattle.jsonpath_base.specs.Prelude.Documents.{list_all, MemoryAlone};
 ghost use Rattle.jsonpath_rust.specs.Prelude.Selection.{argument_is_rooted, call_is_rooted, every, filter_is_rooted, Made, Sole, plan_view, Values, Wanted};
 ghost use Rattle.jsonpath_parser.specs.tree.Syntax as syntax;
 ghost use Rattle.jsonpath_parser.specs.tree.View as tree;

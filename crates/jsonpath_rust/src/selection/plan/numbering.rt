@@ -1,6 +1,6 @@
 //! The numbers of constants, one after the other, and how deep they stand in one another.
 ghost use Rattle.std.specs.Prelude.{◌&&◌, ◌≡◌, false, IfOk};
-ghost use Rattle.jsonpath_rust.specs.Prelude.Documents.{MemoryAlone};
+ghost use Rattle.jsonpath_base.specs.Prelude.Documents.{MemoryAlone};
 ghost use Rattle.jsonpath_rust.specs.Prelude.Selection.{IsBeside, IsCompared, IsNumbered};
 ghost use Rattle.jsonpath_rust.specs.declared.selection.plan.Constant.TheVariants.{Comparison};
 
@@ -10,8 +10,8 @@ use jsonpath_parser::errors::Parsed;
 use jsonpath_parser::model::Operator;
 use std::mem;
 
-/// How many queries from the root may be walked at once when a constant is first asked: the
-/// constant, where it is one, and those that stand in it, one in the other. 0 where it is a value.
+/// How many queries from the root may be walked at once when a constant is first asked: the constant, where it is one,
+/// and those that stand in it, one in the other. 0 where it is a value.
 #[derive(Clone, Copy)]
 pub struct Nesting {
     /// Where the early ones are worked out before the walk. 0 where the constant is early itself.
@@ -20,8 +20,8 @@ pub struct Nesting {
     pub whole: usize,
 }
 
-/// The most walks at once: that of the query itself and, one inside the other, fewer than this many
-/// of queries from the root. A query from the root that would be one more is early.
+/// The most walks at once: that of the query itself and, one inside the other, fewer than this many of queries from the
+/// root. A query from the root that would be one more is early.
 pub const MOST_AT_ONCE: usize = 3;
 
 impl Nesting {
@@ -47,8 +47,8 @@ impl Nesting {
         }
     }
 
-    /// Whether a query from the root that has it is worked out before the walk, where the document
-    /// is deep: so never more than a few are on their way at once.
+    /// Whether a query from the root that has it is worked out before the walk, where the document is deep: so never
+    /// more than a few are on their way at once.
     pub fn is_early(self) -> bool {
         self.run == 0
     }
@@ -59,8 +59,7 @@ impl Nesting {
 pub struct Met {
     /// The greatest nesting of the constants.
     pub nesting: Nesting,
-    /// Whether no `@` of the filter around was met; that of a filter inside a query from the root
-    /// does not count.
+    /// Whether no `@` of the filter around was met; that of a filter inside a query from the root does not count.
     pub rooted: bool,
 }
 
@@ -100,8 +99,7 @@ impl<'q> Maker<'q> {
         part.rooted
     }
 
-    /// Ends a query from the root, each `@` of which is in a filter of its own. The result is its
-    /// nesting.
+    /// Ends a query from the root, each `@` of which is in a filter of its own. The result is its nesting.
     pub fn end_query(&mut self, around: Met) -> Nesting
         ensures { IsBeside self.old self.new around.rooted }
     {

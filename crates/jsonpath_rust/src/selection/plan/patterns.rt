@@ -1,7 +1,7 @@
-//! Numbers of the patterns that stand in a query. Each is where its finder is kept, and no more:
-//! whether a finder is one of the pattern is looked at where it is asked.
+//! Numbers of the patterns that stand in a query. Each is where its finder is kept, and no more: whether a finder is
+//! one of the pattern is looked at where it is asked.
 ghost use Rattle.std.specs.Prelude.{IfOk, OnOk};
-ghost use Rattle.jsonpath_rust.specs.Prelude.Documents.{MemoryAlone};
+ghost use Rattle.jsonpath_base.specs.Prelude.Documents.{MemoryAlone};
 ghost use Rattle.jsonpath_rust.specs.Prelude.Selection.{argument_is_rooted, IsBeside, Made, Sole};
 ghost use Rattle.jsonpath_parser.specs.tree.Syntax as syntax;
 ghost use Rattle.jsonpath_parser.specs.tree.View as tree;

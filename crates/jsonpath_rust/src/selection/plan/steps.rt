@@ -1,7 +1,6 @@
-//! Queries from the current node that are looked up: segments of one name or one index each, and
-//! steps.
+//! Queries from the current node that are looked up: segments of one name or one index each, and steps.
 ghost use Rattle.std.specs.Prelude.{◌≡◌, IfOk, IfSome, IsTrue, map};
-ghost use Rattle.jsonpath_rust.specs.Prelude.Documents.{MemoryAlone, one, relative, segment_view, segments_of, step_view, test_argument, wildcard};
+ghost use Rattle.jsonpath_base.specs.Prelude.Documents.{MemoryAlone, one, relative, segment_view, segments_of, step_view, test_argument, wildcard};
 ghost use Rattle.jsonpath_rust.specs.Prelude.Selection.{Constants};
 ghost use Rattle.jsonpath_rust.specs.selection.inner.PlanViews as plan;
 
@@ -12,8 +11,8 @@ use jsonpath_parser::model as tree;
 use jsonpath_parser::model::SingularQuerySegment;
 use std::alloc::Global;
 
-/// The part that these segments from the current node are where they need no walk: names and
-/// indexes, or these and then `[*]` where its children are counted.
+/// The part that these segments from the current node are where they need no walk: names and indexes, or these and then
+/// `[*]` where its children are counted.
 pub fn looked_up(alloc: Global, segments: &[tree::Segment], wanted: Wanted) -> Parsed<Option<Part>>
     ensures same { (kept : Constants) → IfOk result (λ o. IfSome o (λ p. plan.part_view kept p wanted
         ≡ test_argument (relative (segments_of (map segment_view segments.now))))) }

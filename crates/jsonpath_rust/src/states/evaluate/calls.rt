@@ -1,8 +1,9 @@
 //! What functions make of the data of their arguments (RFC 9535, 2.4.4 to 2.4.8).
 ghost use Rattle.std.specs.Prelude.{◌++◌, ◌≡◌, IfErr, IfOk, OnOk, option_map, Some, string_bytes};
-ghost use Rattle.jsonpath_rust.specs.Prelude.Documents.{arg_trees, is_entire, IsPattern, Memory, tree_of, truth};
+ghost use Rattle.jsonpath_base.specs.Prelude.Documents.{is_entire, IsPattern, truth};
+ghost use Rattle.jsonpath_rust.specs.Prelude.Documents.{arg_trees, Memory, tree_of};
 ghost use Rattle.jsonpath_rust.specs.Prelude.States.{content_at, content_trees, count_content, length_content, optional, plain, value, value_content};
-ghost use Rattle.jsonpath_rust.specs.documents.Functions as functions;
+ghost use Rattle.jsonpath_base.specs.documents.Functions as functions;
 
 use crate::documents::args::Args;
 use crate::documents::halt::Walked;
@@ -130,8 +131,7 @@ pub fn custom_data<'a, T: Queryable>(
     Ok(WholeData { content })
 }
 
-/// Adds what a result stands for to the arguments of a custom function: its value, or the values of
-/// its nodes.
+/// Adds what a result stands for to the arguments of a custom function: its value, or the values of its nodes.
 pub fn push_values<'a, T: Queryable>(
     values: &mut Args<'a, T>,
     answer: WholeData<'a, T>,

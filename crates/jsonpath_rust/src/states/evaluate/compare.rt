@@ -1,6 +1,7 @@
 //! How the data of two states compares.
 ghost use Rattle.std.specs.Prelude.{◌≡◌, All, IsTrue, map, Some};
-ghost use Rattle.jsonpath_rust.specs.Prelude.Documents.{operator_view, tree_of};
+ghost use Rattle.jsonpath_base.specs.Prelude.Documents.{operator_view};
+ghost use Rattle.jsonpath_rust.specs.Prelude.Documents.{tree_of};
 ghost use Rattle.jsonpath_rust.specs.Prelude.States.{content_at, contents_compare, contents_equal, is_content_below, lists_same, lists_targets, plain, PointersAreWhole, targets_of, values_same};
 
 use crate::documents::comparison::is_below;

@@ -1,6 +1,7 @@
 //! Filters, comparisons, functions and their arguments, at any state.
 ghost use Rattle.std.specs.Prelude.{◌≡◌, IfErr, IfOk};
-ghost use Rattle.jsonpath_rust.specs.Prelude.Documents.{arg_trees, argument_patterns, argument_view, arguments_in, arguments_patterns, atom_view, call_patterns, call_view, comparable_view, comparison_view, filter_patterns, filter_view, filters_in, filters_patterns, test_patterns, test_view, truth};
+ghost use Rattle.jsonpath_base.specs.Prelude.Documents.{argument_patterns, argument_view, arguments_in, arguments_patterns, atom_view, call_patterns, call_view, comparable_view, comparison_view, filter_patterns, filter_view, filters_in, filters_patterns, test_patterns, test_view, truth};
+ghost use Rattle.jsonpath_rust.specs.Prelude.Documents.{arg_trees};
 ghost use Rattle.jsonpath_rust.specs.Prelude.States.{argument_content, arguments_trees, basic_content, call_content, content_at, document, each_holds_at, HaltsAt, holds_at, some_holds_at, test_content, value};
 
 use crate::documents::args::Args;

@@ -1,7 +1,7 @@
-//! What is found from a pointer: nodes below its value, each under the pointer's path and the steps
-//! to it.
+//! What is found from a pointer: nodes below its value, each under the pointer's path and the steps to it.
 ghost use Rattle.std.specs.Prelude.{◌++◌, ◌≡◌, [], All, IfOk, IsTrue, map, OnOk, option_map};
-ghost use Rattle.jsonpath_rust.specs.Prelude.Documents.{below, element_nodes, member_nodes, MemoryAlone, tree_of};
+ghost use Rattle.jsonpath_base.specs.Prelude.Documents.{below, element_nodes, member_nodes, MemoryAlone};
+ghost use Rattle.jsonpath_rust.specs.Prelude.Documents.{tree_of};
 ghost use Rattle.jsonpath_rust.specs.Prelude.States.{children_from, content_at, indexed_from, named_from, own_target, parents_from, parents_in, parts_from, sliced_from, target_at, targets_at, under};
 ghost use Rattle.jsonpath_parser.specs.Location as location;
 

@@ -1,6 +1,6 @@
 //! Segments and selectors, on any state: each on the result before, node by node.
 ghost use Rattle.std.specs.Prelude.{◌≡◌, IfErr, IfOk};
-ghost use Rattle.jsonpath_rust.specs.Prelude.Documents.{filter_patterns, filter_view, segment_patterns, segment_view, segments_in, segments_patterns, selector_patterns, selector_view, selectors_in, selectors_patterns};
+ghost use Rattle.jsonpath_base.specs.Prelude.Documents.{filter_patterns, filter_view, segment_patterns, segment_view, segments_in, segments_patterns, selector_patterns, selector_view, selectors_in, selectors_patterns};
 ghost use Rattle.jsonpath_rust.specs.Prelude.States.{content_at, document, HaltsBelow, holds_at, joined_from, kept_from, mapped, nothing, part_content, part_patterns, ref, segment_content, segments_content, selector_content, several_content, target_at};
 
 use crate::documents::queryable::Queryable;

@@ -1,6 +1,7 @@
 //! Data of one value: truths, counts, literals, and the value that data is or points to.
 ghost use Rattle.std.specs.Prelude.{◌≡◌, IfErr, IfOk, IfSome, IsTrue, option_map};
-ghost use Rattle.jsonpath_rust.specs.Prelude.Documents.{count_value, literal_tree, literal_view, Memory, tree_of, truth};
+ghost use Rattle.jsonpath_base.specs.Prelude.Documents.{count_value, literal_tree, literal_view, truth};
+ghost use Rattle.jsonpath_rust.specs.Prelude.Documents.{Memory, tree_of};
 ghost use Rattle.jsonpath_rust.specs.Prelude.States.{content_at, plain, value};
 
 use crate::documents::operand::{count_scalar, made, scalar_of};

@@ -1,7 +1,8 @@
-//! Singular queries, from each node of a state or from the root (RFC 9535, 2.3.5.1). No pattern
-//! stands in them, so they halt for want of memory alone.
+//! Singular queries, from each node of a state or from the root (RFC 9535, 2.3.5.1). No pattern stands in them, so they
+//! halt for want of memory alone.
 ghost use Rattle.std.specs.Prelude.{◌≡◌, IfErr, IfOk, map};
-ghost use Rattle.jsonpath_rust.specs.Prelude.Documents.{Memory, segments_of, singular_view, step_view};
+ghost use Rattle.jsonpath_base.specs.Prelude.Documents.{segments_of, singular_view, step_view};
+ghost use Rattle.jsonpath_rust.specs.Prelude.Documents.{Memory};
 ghost use Rattle.jsonpath_rust.specs.Prelude.States.{content_at, document, segment_content, segments_content, test_content};
 
 use crate::documents::queryable::Queryable;

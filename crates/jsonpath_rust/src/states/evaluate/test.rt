@@ -1,6 +1,7 @@
 //! What tests make of data (RFC 9535, 2.3.5.2.1).
 ghost use Rattle.std.specs.Prelude.{◌++◌, ◌∷◌, ◌≡◌, [], cond, IfErr, IfOk, OnOk};
-ghost use Rattle.jsonpath_rust.specs.Prelude.Documents.{is_truth_call, Memory, MemoryAlone, test_view};
+ghost use Rattle.jsonpath_base.specs.Prelude.Documents.{is_truth_call, MemoryAlone, test_view};
+ghost use Rattle.jsonpath_rust.specs.Prelude.Documents.{Memory};
 ghost use Rattle.jsonpath_rust.specs.Prelude.States.{content_at, is_truth, target_at, targets, targets_at, test_truth};
 ghost use Rattle.jsonpath_rust.specs.states.Process as process;
 
@@ -34,8 +35,8 @@ fn has_target<'a, T: Queryable>(given: &WholeData<'a, T>) -> bool
     }
 }
 
-/// What a test in a filter returns: a call that returns a truth, that truth; else whether it
-/// exists. Both are turned round behind `!`.
+/// What a test in a filter returns: a call that returns a truth, that truth; else whether it exists. Both are turned
+/// round behind `!`.
 pub fn test_answer<'a, T: Queryable>(
     alloc: Global,
     not: bool,

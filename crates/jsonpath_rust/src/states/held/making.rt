@@ -1,6 +1,7 @@
 //! How whole data and pointers are made of one another.
 ghost use Rattle.std.specs.Prelude.{◌++◌, ◌∷◌, ◌≡◌, [], IfOk, OnOk};
-ghost use Rattle.jsonpath_rust.specs.Prelude.Documents.{document_at, MemoryAlone, own_tree, tree_of};
+ghost use Rattle.jsonpath_base.specs.Prelude.Documents.{MemoryAlone};
+ghost use Rattle.jsonpath_rust.specs.Prelude.Documents.{document_at, own_tree, tree_of};
 ghost use Rattle.jsonpath_rust.specs.Prelude.States.{content_at, nothing, own_target, reduced, ref, refs, root_content, target_at, targets, targets_at, value};
 
 use crate::documents::Queried;

@@ -1,5 +1,5 @@
 use Rattle.std.proofs.lemmas.Result.{err_from_is_err_and}
-use Rattle.jsonpath_rust.specs.Prelude.Documents.{value_document, value_tree}
+use Rattle.jsonpath_base.specs.Prelude.Documents.{value_document, value_tree}
 use Rattle.jsonpath_rust.specs.Prelude.Selection.{prepared_view, runner_view}
 use Rattle.jsonpath_base.proofs.Views.{whole_distinct}
 use Rattle.jsonpath_rust.proofs.ByText.{by_text, by_refusal}

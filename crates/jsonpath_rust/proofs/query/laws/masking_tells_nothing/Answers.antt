@@ -1,4 +1,4 @@
-use Rattle.jsonpath_rust.proofs.laws.documents.{masking_all_tells_nothing, masking_tells_nothing}
+use Rattle.jsonpath_base.proofs.lemmas.documents.{masking_all_tells_nothing, masking_tells_nothing}
 use Rattle.jsonpath_rust.proofs.query.laws.masking_tells_nothing.Goals as goal
 
 pub returns-clause-one : goal.returns-clause-one

@@ -1,4 +1,4 @@
-use Rattle.jsonpath_rust.proofs.laws.documents.MemberCounts.{ascends-no_object, ascends-value_tree}
+use Rattle.jsonpath_base.proofs.lemmas.documents.MemberCounts.{ascends-no_object, ascends-value_tree}
 use Rattle.jsonpath_rust.proofs.query.laws.members_are_ordered.Goals as goal
 
 pub returns-in_default : goal.returns-in_default

@@ -1,4 +1,4 @@
-use Rattle.jsonpath_rust.proofs.laws.documents.{named_below, named_is_masked}
+use Rattle.jsonpath_base.proofs.lemmas.documents.{named_below, named_is_masked}
 use Rattle.jsonpath_rust.proofs.query.laws.named_below.Goals as goal
 
 pub returns-clause-selected : goal.returns-clause-selected

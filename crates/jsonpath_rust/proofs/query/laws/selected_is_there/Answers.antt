@@ -1,4 +1,4 @@
-use Rattle.jsonpath_rust.proofs.laws.documents.{selected_is_there}
+use Rattle.jsonpath_base.proofs.lemmas.documents.{selected_is_there}
 use Rattle.jsonpath_rust.proofs.query.laws.selected_is_there.Goals as goal
 
 pub returns : goal.returns

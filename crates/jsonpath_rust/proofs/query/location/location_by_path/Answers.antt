@@ -1,6 +1,6 @@
 use Rattle.std.proofs.Common.{option_map}
-use Rattle.jsonpath_rust.specs.Prelude.Documents.{location_view, query_view}
-use Rattle.jsonpath_rust.proofs.laws.documents.{only_location, own_location}
+use Rattle.jsonpath_base.specs.Prelude.Documents.{location_view, query_view}
+use Rattle.jsonpath_base.proofs.lemmas.documents.{only_location, own_location}
 use Rattle.jsonpath_rust.proofs.query.location.location_by_path.Goals as goal
 
 pub returns-clause-only : goal.returns-clause-only

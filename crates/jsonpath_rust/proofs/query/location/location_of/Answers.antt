@@ -1,5 +1,5 @@
 use Rattle.std.proofs.Common.{arith}
-use Rattle.jsonpath_rust.proofs.laws.documents.{no_location, whole_location}
+use Rattle.jsonpath_base.proofs.lemmas.documents.{no_location, whole_location}
 use Rattle.jsonpath_rust.proofs.query.location.location_of.Goals as goal
 
 pub returns-then-len-clause-location : goal.returns-then-len-clause-location

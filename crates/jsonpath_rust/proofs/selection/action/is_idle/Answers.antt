@@ -1,5 +1,6 @@
 use Rattle.std.proofs.Common.{ap, ◌∙◌}
-use Rattle.jsonpath_rust.specs.Prelude.Documents.{descendant, Node, tree_of}
+use Rattle.jsonpath_base.specs.Prelude.Documents.{descendant, Node}
+use Rattle.jsonpath_rust.specs.Prelude.Documents.{tree_of}
 use Rattle.jsonpath_rust.specs.Prelude.Selection.{acted, segment_view}
 use Rattle.jsonpath_rust.proofs.laws.selection.Leaves.{replaced-none}
 use Rattle.jsonpath_rust.proofs.selection.action.is_idle.Goals as goal

@@ -1,5 +1,5 @@
 use Rattle.std.proofs.Common.{arith, sym, ◌∙◌, ap}
-use Rattle.jsonpath_rust.specs.Prelude.Documents.{children, holds, one, replaced, segment_effort, segment_patterns}
+use Rattle.jsonpath_base.specs.Prelude.Documents.{children, holds, one, replaced, segment_effort, segment_patterns}
 use Rattle.jsonpath_rust.specs.Prelude.Selection.{filter_view, segment_view, selector_view}
 use Rattle.jsonpath_rust.proofs.laws.selection.{flat_map-filter, segment_view-Selector, selector_view-Filter, selector_view-Wildcard}
 use Rattle.jsonpath_rust.proofs.laws.selection.Passing.{wildcard_goes}

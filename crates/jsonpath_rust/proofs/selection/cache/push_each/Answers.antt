@@ -1,5 +1,5 @@
 use Rattle.jsonpath_rust.specs.Prelude.Documents.{arg_trees}
-use Rattle.jsonpath_rust.proofs.laws.documents.Arguments.{values_next}
+use Rattle.jsonpath_base.proofs.lemmas.documents.Arguments.{values_next}
 use Rattle.jsonpath_rust.proofs.selection.cache.push_each.Goals as goal
 
 pub loop-value-preserved : goal.loop-value-preserved

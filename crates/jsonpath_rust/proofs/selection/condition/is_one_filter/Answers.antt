@@ -1,6 +1,6 @@
 use Rattle.std.proofs.Common.{is_some, sym, ap, ◌∙◌}
 use Rattle.jsonpath_parser.proofs.laws.tree.ViewEquations.{query_view-segments}
-use Rattle.jsonpath_rust.specs.Prelude.Documents.{segment_view, segments_in}
+use Rattle.jsonpath_base.specs.Prelude.Documents.{segment_view, segments_in}
 use Rattle.jsonpath_rust.specs.Prelude.Selection.{filter_of}
 use Rattle.jsonpath_rust.proofs.laws.selection.{none_of_more}
 use Rattle.jsonpath_rust.proofs.selection.condition.is_one_filter.Goals as goal

@@ -1,5 +1,5 @@
 use Rattle.std.proofs.Common.{subst}
-use Rattle.jsonpath_rust.specs.Prelude.Documents.{IsRefusal}
+use Rattle.jsonpath_base.specs.Prelude.Documents.{IsRefusal}
 use Rattle.jsonpath_rust.specs.Prelude.Selection.{filter_query, in_filter}
 use Rattle.jsonpath_rust.proofs.selection.condition.refusal.Goals as goal
 

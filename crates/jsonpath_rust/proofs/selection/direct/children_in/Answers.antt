@@ -1,5 +1,5 @@
 use Rattle.std.proofs.Common.{List, map, ap, sym, ◌∙◌}
-use Rattle.jsonpath_rust.specs.Prelude.Documents.{relative, SingularQuerySegment, step_view, test_argument}
+use Rattle.jsonpath_base.specs.Prelude.Documents.{relative, SingularQuerySegment, step_view, test_argument}
 use Rattle.jsonpath_rust.specs.Prelude.Selection.{children_query, Count, part_view}
 use Rattle.jsonpath_rust.proofs.laws.selection.{part_view-Children}
 use Rattle.jsonpath_rust.proofs.selection.direct.children_in.Goals as goal

@@ -1,5 +1,5 @@
 use Rattle.std.proofs.Common.{List, map, ap, sym, ◌∙◌}
-use Rattle.jsonpath_rust.specs.Prelude.Documents.{relative, SingularQuerySegment, step_view, test_argument}
+use Rattle.jsonpath_base.specs.Prelude.Documents.{relative, SingularQuerySegment, step_view, test_argument}
 use Rattle.jsonpath_rust.specs.Prelude.Selection.{part_view, steps_query}
 use Rattle.jsonpath_rust.proofs.laws.selection.{part_view-Lookup}
 use Rattle.jsonpath_rust.proofs.selection.direct.lookup_in.Goals as goal

@@ -1,7 +1,8 @@
 use Rattle.std.proofs.Common.{ap, sym, ◌∙◌, [], Some, None, w64, SFits, rules}
 use Rattle.std.proofs.lemmas.Int.{to_z-of_z}
-use Rattle.jsonpath_rust.specs.Prelude.Documents.{indexed, Node, step_view, stepped, tree_of}
-use Rattle.jsonpath_rust.proofs.laws.documents.{stepped-found}
+use Rattle.jsonpath_base.specs.Prelude.Documents.{indexed, Node, step_view, stepped}
+use Rattle.jsonpath_rust.specs.Prelude.Documents.{tree_of}
+use Rattle.jsonpath_base.proofs.lemmas.documents.{stepped-found}
 use Rattle.jsonpath_rust.proofs.selection.lookup.stepped.Goals as goal
 
 pub returns-in-Some : goal.returns-in-Some

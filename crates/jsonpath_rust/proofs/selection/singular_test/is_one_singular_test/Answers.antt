@@ -1,6 +1,6 @@
 use Rattle.std.proofs.Common.{unwrap_or, sym, ap, ◌∙◌}
 use Rattle.jsonpath_parser.proofs.laws.tree.ViewEquations.{query_view-segments}
-use Rattle.jsonpath_rust.specs.Prelude.Documents.{no_filters, or, segment_view, segments_in}
+use Rattle.jsonpath_base.specs.Prelude.Documents.{no_filters, or, segment_view, segments_in}
 use Rattle.jsonpath_rust.specs.Prelude.Selection.{expression_of, tests_singular}
 use Rattle.jsonpath_rust.proofs.laws.selection.{none_of_more}
 use Rattle.jsonpath_rust.proofs.selection.singular_test.is_one_singular_test.Goals as goal

@@ -1,7 +1,7 @@
 use Rattle.std.proofs.Common.{◌≡◌, ◌∙◌, length, map, ap, arith, refl, IsTrue, string_bytes}
 use Rattle.std.proofs.lemmas.List.Elements.{All-head, All-tail}
 use Rattle.jsonpath_rust.specs.Prelude.States.{Target}
-use Rattle.jsonpath_rust.proofs.laws.documents.{all_more}
+use Rattle.jsonpath_base.proofs.lemmas.documents.{all_more}
 use Rattle.jsonpath_rust.proofs.laws.states.{moved_all, moved_one, shown-targets}
 use Rattle.jsonpath_rust.proofs.states.processed.processed_nodes.Goals as goal
 

@@ -1,5 +1,5 @@
 use Rattle.std.proofs.Common.{◌≡◌, ◌++◌, map, length, All, IsTrue, string_bytes}
-use Rattle.jsonpath_rust.specs.Prelude.Documents.{into_iter_items, into_iter_len, shown}
+use Rattle.jsonpath_base.specs.Prelude.Documents.{into_iter_items, into_iter_len, shown}
 use Rattle.jsonpath_rust.specs.Prelude.States.{PointersAreWhole}
 use Rattle.jsonpath_rust.proofs.states.processed.processed_nodes.Given as goal
 

@@ -1,7 +1,7 @@
 use Rattle.std.proofs.Common.{◌∙◌, ℕ, List, map, ap, refl}
-use Rattle.jsonpath_rust.specs.Prelude.Documents.{Tree}
+use Rattle.jsonpath_base.specs.Prelude.Documents.{Tree}
 use Rattle.jsonpath_rust.specs.Prelude.States.{Target}
-use Rattle.jsonpath_rust.proofs.laws.documents.{joined_end}
+use Rattle.jsonpath_base.proofs.lemmas.documents.{joined_end}
 use Rattle.jsonpath_rust.proofs.laws.states.{values-targets}
 use Rattle.jsonpath_rust.proofs.states.processed.processed_values.Goals as goal
 

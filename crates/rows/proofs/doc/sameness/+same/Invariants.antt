@@ -1,6 +1,6 @@
 use Rattle.std.proofs.Common.{◌≡◌, ◌≤◌, ◌+◌, ◌*◌, map, reverse, drop}
 use Rattle.jsonpath_base.specs.Same.{same_members}
-use Rattle.jsonpath_rust.specs.documents.inner.Size.{size, trees_size, members_size}
+use Rattle.jsonpath_base.specs.documents.inner.Size.{size, trees_size, members_size}
 use Rattle.rows.specs.DocTree.{doc_tree, pairs_of, trees, members}
 use Rattle.rows.proofs.Comparing.{same_lists}
 use Rattle.rows.proofs.doc.sameness.+same.Given as goal

@@ -1,7 +1,7 @@
 use Rattle.std.proofs.Common.{ap, sym, ◌∙◌, Some, option_map}
 use Rattle.jsonpath_rust.specs.Prelude.Documents.{operand_tree}
 use Rattle.jsonpath_rust.specs.Prelude.Selection.{gave, given_value}
-use Rattle.jsonpath_rust.proofs.laws.documents.{ok_through}
+use Rattle.jsonpath_base.proofs.lemmas.documents.{ok_through}
 use Rattle.jsonpath_rust.proofs.selection.cache.Cache.value.Goals as goal
 
 pub returns-in-Some-Value-clause-value : goal.returns-in-Some-Value-clause-value

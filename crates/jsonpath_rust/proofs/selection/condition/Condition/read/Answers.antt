@@ -1,5 +1,5 @@
 use Rattle.std.proofs.Common.{◌≡◌, ◌≤◌, sym, ◌∙◌, subst}
-use Rattle.jsonpath_rust.specs.Prelude.Documents.{Derives, IsRefusal, query_view}
+use Rattle.jsonpath_base.specs.Prelude.Documents.{Derives, IsRefusal, query_view}
 use Rattle.jsonpath_rust.specs.Prelude.Selection.{filter_query, in_filter, prepared_view}
 use Rattle.jsonpath_rust.proofs.laws.selection.{expression_back, never_none}
 use Rattle.jsonpath_parser.specs.Grammar.{Spells}

@@ -1,6 +1,6 @@
 use Rattle.std.proofs.Common.{ap, map, take, ◌∙◌, ◌++◌, ◌∷◌, [], sym}
 use Rattle.std.proofs.lemmas.List.{map-append, map_more, take_all}
-use Rattle.jsonpath_rust.specs.Prelude.Documents.{step_view}
+use Rattle.jsonpath_base.specs.Prelude.Documents.{step_view}
 use Rattle.jsonpath_rust.specs.Prelude.Selection.{segment_view}
 use Rattle.jsonpath_rust.proofs.selection.plan.steps.segments_of_steps.Goals as goal
 

@@ -1,5 +1,5 @@
 use Rattle.std.proofs.Common.{◌≡◌, map, take}
-use Rattle.jsonpath_rust.specs.Prelude.Documents.{step_view}
+use Rattle.jsonpath_base.specs.Prelude.Documents.{step_view}
 use Rattle.jsonpath_rust.specs.Prelude.Selection.{Constants, segment_view}
 use Rattle.jsonpath_rust.proofs.selection.plan.steps.segments_of_steps.Given as goal
 

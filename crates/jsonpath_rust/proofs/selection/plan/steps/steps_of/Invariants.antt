@@ -1,5 +1,5 @@
 use Rattle.std.proofs.Common.{◌≡◌, map, take}
-use Rattle.jsonpath_rust.specs.Prelude.Documents.{segment_view, step_view}
+use Rattle.jsonpath_base.specs.Prelude.Documents.{segment_view, step_view}
 use Rattle.jsonpath_rust.proofs.selection.plan.steps.steps_of.Given as goal
 
 abbrev pub invariant-segments : goal.invariant-segments

@@ -2,7 +2,7 @@ use Rattle.std.proofs.Common.{[], ◌∷◌, ◌++◌, map, ap, sym, ◌∙◌}
 use Rattle.std.proofs.lemmas.List.{map-append}
 use Rattle.std.proofs.lemmas.Option.{IfSome_then}
 use Rattle.std.proofs.lemmas.Result.{IfOk-weaker}
-use Rattle.jsonpath_rust.specs.Prelude.Documents.{one, segment_view, segments_of, wildcard}
+use Rattle.jsonpath_base.specs.Prelude.Documents.{one, segment_view, segments_of, wildcard}
 use Rattle.jsonpath_rust.proofs.selection.plan.steps.steps_to_children.Goals as goal
 
 pub returns-then-is_wildcard-clause-same : goal.returns-then-is_wildcard-clause-same

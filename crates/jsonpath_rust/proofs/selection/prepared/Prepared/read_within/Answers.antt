@@ -1,4 +1,4 @@
-use Rattle.jsonpath_rust.specs.Prelude.Documents.{query_view, steps_query}
+use Rattle.jsonpath_base.specs.Prelude.Documents.{query_view, steps_query}
 use Rattle.jsonpath_rust.specs.Prelude.Selection.{prepared_view}
 use Rattle.jsonpath_rust.proofs.ByText.{read_derives, read_only, read_refused}
 use Rattle.jsonpath_rust.proofs.selection.prepared.Prepared.read_within.Goals as goal

@@ -1,5 +1,5 @@
 use Rattle.std.proofs.Common.{ap, ◌∙◌, rules}
-use Rattle.jsonpath_rust.specs.Prelude.Documents.{value_tree, without}
+use Rattle.jsonpath_base.specs.Prelude.Documents.{value_tree, without}
 use Rattle.jsonpath_rust.proofs.selection.runner.Runner.delete.Goals as goal
 
 pub returns-clause-deleted : goal.returns-clause-deleted

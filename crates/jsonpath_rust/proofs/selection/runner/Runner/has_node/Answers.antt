@@ -1,5 +1,6 @@
 use Rattle.std.proofs.Common.{◌∙◌, ap, refl, rules}
-use Rattle.jsonpath_rust.specs.Prelude.Documents.{document_at, nodelist}
+use Rattle.jsonpath_base.specs.Prelude.Documents.{nodelist}
+use Rattle.jsonpath_rust.specs.Prelude.Documents.{document_at}
 use Rattle.jsonpath_rust.specs.Prelude.Selection.{count_in, give, runner_view}
 use Rattle.jsonpath_rust.proofs.laws.selection.{no_node}
 use Rattle.jsonpath_rust.proofs.selection.runner.Runner.has_node.Goals as goal

@@ -1,5 +1,6 @@
 use Rattle.std.proofs.Common.{◌∙◌, rules}
-use Rattle.jsonpath_rust.specs.Prelude.Documents.{document_at, location_view, nodelist}
+use Rattle.jsonpath_base.specs.Prelude.Documents.{location_view, nodelist}
+use Rattle.jsonpath_rust.specs.Prelude.Documents.{document_at}
 use Rattle.jsonpath_rust.specs.Prelude.Selection.{runner_view}
 use Rattle.jsonpath_rust.proofs.laws.selection.{given_locations}
 use Rattle.jsonpath_rust.proofs.selection.runner.Runner.locations.Goals as goal

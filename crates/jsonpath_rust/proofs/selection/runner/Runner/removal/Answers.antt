@@ -1,5 +1,6 @@
 use Rattle.std.proofs.Common.{ap, ◌∙◌}
-use Rattle.jsonpath_rust.specs.Prelude.Documents.{document_at, nodelist, Removal, removal_count, removal_set}
+use Rattle.jsonpath_base.specs.Prelude.Documents.{nodelist, removal_count, removal_set}
+use Rattle.jsonpath_rust.specs.Prelude.Documents.{document_at, Removal}
 use Rattle.jsonpath_rust.specs.Prelude.Selection.{runner_view}
 use Rattle.jsonpath_rust.proofs.laws.selection.{removal_is, removal_there}
 use Rattle.jsonpath_rust.proofs.Stops.{memory_stops}

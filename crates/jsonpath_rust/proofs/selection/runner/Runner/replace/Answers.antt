@@ -1,5 +1,5 @@
 use Rattle.std.proofs.Common.{ap, ◌∙◌, rules}
-use Rattle.jsonpath_rust.specs.Prelude.Documents.{overwritten, value_document, value_tree}
+use Rattle.jsonpath_base.specs.Prelude.Documents.{overwritten, value_document, value_tree}
 use Rattle.jsonpath_rust.specs.Prelude.Selection.{runner_view}
 use Rattle.jsonpath_rust.proofs.Stops.{memory_stops}
 use Rattle.jsonpath_rust.proofs.selection.runner.Runner.replace.Goals as goal

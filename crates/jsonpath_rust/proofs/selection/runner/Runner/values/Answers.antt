@@ -1,5 +1,6 @@
 use Rattle.std.proofs.Common.{◌∙◌, rules}
-use Rattle.jsonpath_rust.specs.Prelude.Documents.{document_at, nodelist}
+use Rattle.jsonpath_base.specs.Prelude.Documents.{nodelist}
+use Rattle.jsonpath_rust.specs.Prelude.Documents.{document_at}
 use Rattle.jsonpath_rust.specs.Prelude.Selection.{runner_view}
 use Rattle.jsonpath_rust.proofs.laws.selection.{given_values, values_answered}
 use Rattle.jsonpath_rust.proofs.selection.runner.Runner.values.Goals as goal

@@ -1,13 +1,14 @@
 -- The answers of the walk: of segments and selectors, of filters, of functions and of subqueries.
 use Rattle.std.proofs.Common.{◌≡◌, ◌<◌, length, map, List, [], ◌∷◌, ◌++◌, append-nil, arith, Some, option_to_list, sym, ◌∙◌, ap, refl, subst, All, IsTrue, OnOk, string_bytes}
 use Rattle.std.proofs.lemmas.List.{map-append}
-use Rattle.jsonpath_rust.specs.Prelude.Documents.{all_trees, answer, arg_trees, argued, argument_effort, argument_patterns, arguments_effort, arguments_patterns, as_nodes, as_trees, as_truth, as_value, AsksPattern, below, call_effort, call_patterns, children, compares, count_of, each_holds, element, filter_effort, filter_patterns, filters_effort, filters_patterns, flat_map, get, holds, Index, index, is_entire, is_matched, is_true, lent_location, lent_step, Name, name, negated, nodelist, of_nodes, only_value, operand_tree, operator_view, picks, places_left, replaced, segments_patterns, selector_effort, selector_patterns, selectors_effort, selectors_patterns, side_tree, SingularQuerySegment, slice_of, some_holds, step_view, StepRef, subtree, tree_of, relative, tested, truth, value_at, value_of}
+use Rattle.jsonpath_base.specs.Prelude.Documents.{all_trees, answer, argued, argument_effort, argument_patterns, arguments_effort, arguments_patterns, as_nodes, as_trees, as_truth, as_value, AsksPattern, below, call_effort, call_patterns, children, compares, count_of, each_holds, element, filter_effort, filter_patterns, filters_effort, filters_patterns, flat_map, get, holds, index, is_entire, is_matched, is_true, lent_location, lent_step, name, negated, nodelist, of_nodes, only_value, operator_view, picks, places_left, replaced, segments_patterns, selector_effort, selector_patterns, selectors_effort, selectors_patterns, SingularQuerySegment, slice_of, some_holds, step_view, subtree, relative, tested, truth, value_at, value_of}
+use Rattle.jsonpath_rust.specs.Prelude.Documents.{arg_trees, Index, Name, operand_tree, side_tree, StepRef, tree_of}
 use Rattle.jsonpath_rust.specs.Prelude.Selection.{acted, action_effort, action_patterns, Any, argument_at, arguments_meant, asked, call_view, children_argument, children_query, constant_view, Count, document, Filter, filter_view, filters_meant, finished, gave, give, given_by, given_of, given_value, IsGiven, IsHalt, kept_of, node_of, Sole, Part, part_at, part_patterns, part_view, Segment, segment_view, segments_meant, Selector, selector_view, selectors_meant, through, told, trees_in, Values, Wanted}
-use Rattle.jsonpath_rust.proofs.laws.documents.{all_at, child_there, differs, each_failed, each_next, element_at, element_size, joined_next, kept_false, kept_true, member_size, member_there, ok_through, pair_size, part_of, parts_end, sliced-list, some_found, some_next}
+use Rattle.jsonpath_base.proofs.lemmas.documents.{all_at, child_there, differs, each_failed, each_next, element_at, element_size, joined_next, kept_false, kept_true, member_size, member_there, ok_through, pair_size, part_of, parts_end, sliced-list, some_found, some_next}
 use Rattle.jsonpath_rust.proofs.laws.selection.{along_as, along_between, along_idle, along_none, along_stop, asked_as, asked_at, asked_at_or, asked_held, asked_left, asked_none, asked_rest, asked_right, below_more, call_view-Count, call_view-Match, call_view-Search, call_view-Value, called, children-list, children-members, children_told, element_turns, filter_view-Constant, filter_view-Test, finished_all, first_below, fit_patterns, flat_map-alone, flat_map-filter, given_right, goes_no_more, goes_off, goes_on, goes_on_to_place, goes_past_places, goes_to_no_place, goes_to_the_end, is_there, kept_told, kept_trees, later_below, leads_below, leads_indexed, looked_up, member_turns, nodelist-through, of_some, one_as, part_view-Children, part_view-Constant, part_view-Lookup, part_view-Walk, pattern_asked, query_there, segment_view-Descendant, selector_turns, selector_view-Filter, selector_view-Index, selector_view-Name, selector_view-Wildcard, steps_alone, takes_as, takes_from, takes_then, through-applied, tied_back, tied_further, tied_inside, tied_still, told_nodes, told_truth, truth_held, wanted_found, wanted_given}
 use Rattle.jsonpath_rust.specs.selection.inner.PlanViews as plan
 use Rattle.jsonpath_rust.proofs.laws.selection.Hand.{hand, hand_on}
-use Rattle.jsonpath_rust.specs.documents.Args.{arg_value}
+use Rattle.jsonpath_base.specs.documents.Args.{arg_value}
 use Rattle.jsonpath_rust.proofs.laws.selection.Standing.{still, stands_as, stays, on, comes_as, comes_on, comes_after, comes_err, comes_halt, comes_so, comes_paid}
 use Rattle.jsonpath_rust.proofs.selection.walk.Task.+walk.Goals as goal
 

@@ -1,5 +1,6 @@
 use Rattle.std.proofs.Common.{◌+◌, ◌*◌, ◌≡◌, ◌<◌, ◌++◌, drop, map, length, All}
-use Rattle.jsonpath_rust.specs.Prelude.Documents.{all_pick, all_trees, arg_trees, argument_effort, arguments_effort, call_effort, children, each_holds, element, element_nodes, filter_effort, filters_effort, flat_map, member_nodes, places_left, segment_effort, segments_effort, selector_effort, selectors_effort, size, slice_of, some_holds, tree_of}
+use Rattle.jsonpath_base.specs.Prelude.Documents.{all_pick, all_trees, argument_effort, arguments_effort, call_effort, children, each_holds, element, element_nodes, filter_effort, filters_effort, flat_map, member_nodes, places_left, segment_effort, segments_effort, selector_effort, selectors_effort, size, slice_of, some_holds}
+use Rattle.jsonpath_rust.specs.Prelude.Documents.{arg_trees, tree_of}
 use Rattle.jsonpath_rust.specs.Prelude.Selection.{acted, action_effort, Any, argument_at, arguments_meant, call_view, constant_effort, constant_view, document, filter_view, filters_meant, kept_effort, kept_of, node_of, Sole, part_view, Returns, segment_view, segments_meant, selector_view, selectors_meant, through, Values}
 use Rattle.jsonpath_rust.proofs.laws.selection.{Goes}
 use Rattle.jsonpath_rust.proofs.selection.walk.Task.+walk.Given as goal

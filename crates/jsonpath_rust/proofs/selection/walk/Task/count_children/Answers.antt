@@ -1,6 +1,7 @@
 use Rattle.std.proofs.Common.{Some, None, map, option_map, ap, sym, ◌∙◌}
 use Rattle.std.proofs.lemmas.Result.{IfOk-weaker}
-use Rattle.jsonpath_rust.specs.Prelude.Documents.{step_view, tree_of, value_at}
+use Rattle.jsonpath_base.specs.Prelude.Documents.{step_view, value_at}
+use Rattle.jsonpath_rust.specs.Prelude.Documents.{tree_of}
 use Rattle.jsonpath_rust.proofs.laws.selection.{children_counted}
 use Rattle.jsonpath_rust.proofs.selection.walk.Task.count_children.Goals as goal
 

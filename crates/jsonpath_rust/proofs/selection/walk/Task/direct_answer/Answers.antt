@@ -1,5 +1,6 @@
 use Rattle.std.proofs.Common.{Some, ap, sym, ◌∙◌}
-use Rattle.jsonpath_rust.specs.Prelude.Documents.{answer, count_call, length_call, length_of, tree_of, value_call}
+use Rattle.jsonpath_base.specs.Prelude.Documents.{answer, count_call, length_call, length_of, value_call}
+use Rattle.jsonpath_rust.specs.Prelude.Documents.{tree_of}
 use Rattle.jsonpath_rust.specs.Prelude.Selection.{call_view, Sole}
 use Rattle.jsonpath_rust.proofs.laws.selection.{call_view-Count, call_view-Length, call_view-Value, looked_up, query_count}
 use Rattle.jsonpath_rust.proofs.selection.walk.Task.direct_answer.Goals as goal

@@ -1,5 +1,5 @@
 use Rattle.std.proofs.Common.{Some, option_map, ap, sym, ◌∙◌}
-use Rattle.jsonpath_rust.specs.Prelude.Documents.{count_value, length_of}
+use Rattle.jsonpath_base.specs.Prelude.Documents.{count_value, length_of}
 use Rattle.jsonpath_rust.proofs.selection.walk.Task.direct_length.Goals as goal
 
 pub returns-in_default-clause-value : goal.returns-in_default-clause-value

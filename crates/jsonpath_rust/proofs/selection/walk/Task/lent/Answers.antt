@@ -1,5 +1,6 @@
 use Rattle.std.proofs.Common.{List, map, ap, sym, ◌∙◌}
-use Rattle.jsonpath_rust.specs.Prelude.Documents.{call, side_tree, SingularQuerySegment, step_view, test_argument, tree_of, value_at, value_of}
+use Rattle.jsonpath_base.specs.Prelude.Documents.{call, SingularQuerySegment, step_view, test_argument, value_at, value_of}
+use Rattle.jsonpath_rust.specs.Prelude.Documents.{side_tree, tree_of}
 use Rattle.jsonpath_rust.specs.Prelude.Selection.{call_view, document, kept_of, Sole, part_view}
 use Rattle.jsonpath_rust.proofs.laws.selection.{at_hand_as, looked_up, part_view-Call, part_view-Lookup}
 use Rattle.jsonpath_rust.proofs.selection.walk.Task.lent.Goals as goal

@@ -1,5 +1,6 @@
 use Rattle.std.proofs.Common.{◌≡◌, ap, ◌∙◌}
-use Rattle.jsonpath_rust.specs.Prelude.Documents.{compares, operator_view, side_tree, value_of}
+use Rattle.jsonpath_base.specs.Prelude.Documents.{compares, operator_view, value_of}
+use Rattle.jsonpath_rust.specs.Prelude.Documents.{side_tree}
 use Rattle.jsonpath_rust.specs.Prelude.Selection.{document, kept_of, Sole, part_view}
 use Rattle.jsonpath_rust.proofs.laws.selection.{of_some}
 use Rattle.jsonpath_rust.proofs.selection.walk.Task.lent_compare.Goals as goal

@@ -1,8 +1,8 @@
 use Rattle.std.proofs.Common.{rules, refl, sym, ap, ◌∙◌, arith, ◌≡◌, ◌∷◌, ◌++◌, [], map, filter, cond, List, Bool, Some, option_map, w64, SFits, string_bytes, inl, true, false}
 use Rattle.std.proofs.lemmas.Int.{to_z-of_z}
-use Rattle.jsonpath_rust.specs.Prelude.Documents.{absolute, argument_effort, argument_patterns, argument_view, arguments_effort, arguments_in, arguments_patterns, atom_view, call_patterns, call_view, comparison_view, filter_effort, filter_patterns, filter_view, filters_effort, filters_in, filters_patterns, flat_map, segment_effort, segment_patterns, segment_view, segments_effort, segments_in, segments_of, segments_patterns, selector_effort, selector_patterns, selector_view, selectors_effort, selectors_in, selectors_patterns, singular_view, SingularQuerySegment, step_view, test_patterns, test_view, Tree, truth}
+use Rattle.jsonpath_base.specs.Prelude.Documents.{absolute, argument_effort, argument_patterns, argument_view, arguments_effort, arguments_in, arguments_patterns, atom_view, call_patterns, call_view, comparison_view, filter_effort, filter_patterns, filter_view, filters_effort, filters_in, filters_patterns, flat_map, segment_effort, segment_patterns, segment_view, segments_effort, segments_in, segments_of, segments_patterns, selector_effort, selector_patterns, selector_view, selectors_effort, selectors_in, selectors_patterns, singular_view, SingularQuerySegment, step_view, test_patterns, test_view, Tree, truth}
 use Rattle.jsonpath_rust.specs.Prelude.States.{arguments_trees, basic_content, call_content, Content, content_at, content_of, document, each_holds_at, holds_at, indexed_from, inside, is_truth, joined_from, mapped, part_content, parts_from, plain, reduced, ref, refs, root_content, segment_content, segments_content, selector_content, several_content, some_holds_at, Target, target_at, target_of, targets, targets_at, test_content, value}
-use Rattle.jsonpath_rust.proofs.laws.documents.{each_failed, each_next, filter_more, fold_next, joined_end, joined_next, ok_through, part_of, parts_end, some_found, some_next}
+use Rattle.jsonpath_base.proofs.lemmas.documents.{each_failed, each_next, filter_more, fold_next, joined_end, joined_next, ok_through, part_of, parts_end, some_found, some_next}
 use Rattle.jsonpath_rust.proofs.laws.states.{kept-parts, stays-itself, steps_as}
 use Rattle.jsonpath_parser.specs.declared.tree.model.Filter.{Filter}
 use Rattle.jsonpath_parser.specs.declared.tree.model.Segment.{Segment}

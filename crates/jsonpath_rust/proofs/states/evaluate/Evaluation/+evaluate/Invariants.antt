@@ -1,5 +1,6 @@
 use Rattle.std.proofs.Common.{◌≡◌, ◌++◌, ◌+◌, ◌*◌, drop, map, filter, List, Bool}
-use Rattle.jsonpath_rust.specs.Prelude.Documents.{AllByRecursion, arg_trees, argument_effort, argument_view, arguments_effort, arguments_in, atom_view, call_effort, call_view, comparable_view, comparison_view, filter_effort, filter_view, filters_effort, filters_in, flat_map, segment_effort, segment_view, segments_effort, segments_in, segments_of, selector_effort, selector_view, selectors_effort, selectors_in, singular_view, step_view, test_effort, test_view}
+use Rattle.jsonpath_base.specs.Prelude.Documents.{AllByRecursion, argument_effort, argument_view, arguments_effort, arguments_in, atom_view, call_effort, call_view, comparable_view, comparison_view, filter_effort, filter_view, filters_effort, filters_in, flat_map, segment_effort, segment_view, segments_effort, segments_in, segments_of, selector_effort, selector_view, selectors_effort, selectors_in, singular_view, step_view, test_effort, test_view}
+use Rattle.jsonpath_rust.specs.Prelude.Documents.{arg_trees}
 use Rattle.jsonpath_rust.specs.Prelude.States.{arguments_trees, content_at, document, each_holds_at, holds_at, inside, joined_from, nothing, part_content, segments_content, some_holds_at, Target, target_at, target_of, targets, targets_at, tops}
 use Rattle.jsonpath_rust.proofs.laws.states.{Stays}
 use Rattle.jsonpath_rust.proofs.laws.states.PartEffort.{part_effort}

@@ -1,7 +1,7 @@
 use Rattle.std.proofs.Common.{◌++◌, map, ap, ◌∙◌, sym, refl}
 use Rattle.jsonpath_rust.specs.Prelude.Documents.{arg_trees}
 use Rattle.jsonpath_rust.specs.Prelude.States.{content_of, content_trees}
-use Rattle.jsonpath_rust.proofs.laws.documents.{joined_end}
+use Rattle.jsonpath_base.proofs.lemmas.documents.{joined_end}
 use Rattle.jsonpath_rust.proofs.laws.states.{targets-trees}
 use Rattle.jsonpath_rust.proofs.states.evaluate.calls.push_values.Goals as goal
 

@@ -1,5 +1,6 @@
 use Rattle.std.proofs.Common.{◌≡◌, map, ap, ◌∙◌, sym, Some}
-use Rattle.jsonpath_rust.specs.Prelude.Documents.{as_list, tree_of}
+use Rattle.jsonpath_base.specs.Prelude.Documents.{as_list}
+use Rattle.jsonpath_rust.specs.Prelude.Documents.{tree_of}
 use Rattle.jsonpath_rust.specs.Prelude.States.{lists_same, target_of}
 use Rattle.jsonpath_rust.proofs.laws.states.{are_trees-list, targets-trees}
 use Rattle.jsonpath_rust.proofs.states.evaluate.compare.are_elements.Goals as goal

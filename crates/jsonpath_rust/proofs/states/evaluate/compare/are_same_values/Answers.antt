@@ -1,7 +1,7 @@
 use Rattle.std.proofs.Common.{rules, ◌≡◌, List, length, map, refl}
-use Rattle.jsonpath_rust.specs.Prelude.Documents.{same}
+use Rattle.jsonpath_base.specs.Prelude.Documents.{same}
 use Rattle.jsonpath_rust.specs.Prelude.States.{lists_same, Pointer}
-use Rattle.jsonpath_rust.proofs.laws.documents.{pairs_apart}
+use Rattle.jsonpath_base.proofs.lemmas.documents.{pairs_apart}
 use Rattle.jsonpath_rust.proofs.states.evaluate.compare.are_same_values.Goals as goal
 
 pub returns-then-items-nodes : goal.returns-then-items-nodes

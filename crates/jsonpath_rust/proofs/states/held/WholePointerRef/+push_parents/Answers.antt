@@ -1,7 +1,7 @@
 use Rattle.std.proofs.Common.{◌≡◌, ◌∷◌, ◌++◌, [], map, ap, ◌∙◌, sym, refl, append_assoc, arith, Some, option_map}
-use Rattle.jsonpath_rust.specs.Prelude.Documents.{flat_map}
+use Rattle.jsonpath_base.specs.Prelude.Documents.{flat_map}
 use Rattle.jsonpath_rust.specs.Prelude.States.{parents_in, parts_from, target_at, target_of, targets_at}
-use Rattle.jsonpath_rust.proofs.laws.documents.{joined_end}
+use Rattle.jsonpath_base.proofs.lemmas.documents.{joined_end}
 use Rattle.jsonpath_rust.proofs.laws.states.{parents-some, part_size}
 use Rattle.jsonpath_rust.proofs.states.held.WholePointerRef.+push_parents.Goals as goal
 

@@ -1,5 +1,5 @@
 use Rattle.std.proofs.Common.{◌≡◌, ◌++◌, map, drop}
-use Rattle.jsonpath_rust.specs.Prelude.Documents.{flat_map, size}
+use Rattle.jsonpath_base.specs.Prelude.Documents.{flat_map, size}
 use Rattle.jsonpath_rust.specs.Prelude.States.{parents_in, target_at, target_of, targets_at}
 use Rattle.jsonpath_rust.proofs.states.held.WholePointerRef.+push_parents.Given as goal
 

@@ -1,7 +1,7 @@
 use Rattle.std.proofs.Common.{◌∷◌, ◌++◌, [], map, ap, ◌∙◌, refl}
-use Rattle.jsonpath_rust.specs.Prelude.Documents.{below, member_nodes, name}
+use Rattle.jsonpath_base.specs.Prelude.Documents.{below, member_nodes, name}
 use Rattle.jsonpath_rust.specs.Prelude.States.{target_at, targets_at, under}
-use Rattle.jsonpath_rust.proofs.laws.documents.{joined_next}
+use Rattle.jsonpath_base.proofs.lemmas.documents.{joined_next}
 use Rattle.jsonpath_rust.proofs.states.held.WholePointerRef.members.Goals as goal
 
 pub loop-pair-preserved : goal.loop-pair-preserved

@@ -1,8 +1,8 @@
 use Rattle.std.proofs.Common.{◌<◌, ◌∷◌, ◌++◌, [], map, ap, ◌∙◌, sym, get_or, length, subst, All, rules}
 use Rattle.std.proofs.lemmas.List.{map-append}
-use Rattle.jsonpath_rust.specs.Prelude.Documents.{as_list, element, flat_map, root_node}
+use Rattle.jsonpath_base.specs.Prelude.Documents.{as_list, element, flat_map, root_node}
 use Rattle.jsonpath_rust.specs.Prelude.States.{target_at, targets_at, under}
-use Rattle.jsonpath_rust.proofs.laws.documents.{all_at, element_at, get_or-self, joined_next}
+use Rattle.jsonpath_base.proofs.lemmas.documents.{all_at, element_at, get_or-self, joined_next}
 use Rattle.jsonpath_rust.proofs.states.held.WholePointerRef.sliced.Goals as goal
 
 pub loop-at-preserved : goal.loop-at-preserved

@@ -1,5 +1,5 @@
 use Rattle.std.proofs.Common.{◌≡◌, ◌++◌, map, drop}
-use Rattle.jsonpath_rust.specs.Prelude.Documents.{element, flat_map, root_node}
+use Rattle.jsonpath_base.specs.Prelude.Documents.{element, flat_map, root_node}
 use Rattle.jsonpath_rust.specs.Prelude.States.{target_at, targets_at, under}
 use Rattle.jsonpath_rust.proofs.states.held.WholePointerRef.sliced.Given as goal
 

@@ -7,7 +7,7 @@ use Rattle.std.proofs.lemmas.Result.{IfOk-weaker}
 use Rattle.jsonpath_parser.specs.tree.Syntax as syntax
 use Rattle.jsonpath_parser.specs.tree.View as tree
 use Rattle.jsonpath_parser.proofs.laws.tree.ViewEquations as source
-use Rattle.jsonpath_rust.specs.Prelude.Documents.{Bor, Operator}
+use Rattle.jsonpath_base.specs.Prelude.Documents.{Bor, Operator}
 use Rattle.jsonpath_rust.specs.Prelude.Selection.{answered, argument_in, argument_is_rooted, asked, call_view, compared, every, filter_is_rooted, filter_view, nodes, Sole, part_is_rooted, part_view, segment_view, selector_view, Values}
 use Rattle.jsonpath_rust.proofs.laws.selection.{argument_in-nodes, arguments_rooted, filters_rooted, made_around, made_as, made_both, made_end, made_ended, made_here, made_next, made_none, made_start}
 use Rattle.jsonpath_rust.proofs.laws.selection.PlanEquations as plan

@@ -1,5 +1,5 @@
 use Rattle.std.proofs.Common.{map, take}
-use Rattle.jsonpath_rust.specs.Prelude.Documents.{list_all}
+use Rattle.jsonpath_base.specs.Prelude.Documents.{list_all}
 use Rattle.jsonpath_rust.specs.Prelude.Selection.{argument_is_rooted, every, filter_is_rooted, filter_view, Made, part_view, segment_view, selector_view, Values}
 use Rattle.jsonpath_parser.specs.tree.View as tree
 use Rattle.jsonpath_rust.proofs.selection.plan.make.Maker.+make.Given as goal

@@ -1,0 +1,15 @@
+pub mod Document
+pub mod Node
+pub mod Comparing
+pub mod Functions
+pub mod Meaning
+pub mod Answer
+pub mod Args
+pub mod Patterns
+pub mod Referring
+pub mod Lending
+pub mod Locating
+pub mod Confining
+pub mod Masking
+pub mod State
+pub mod inner
