@@ -2,7 +2,7 @@
 use Rattle.std.proofs.Common.{◌≡◌, ℕ, pos, ◌∷◌, Bool, true, false, Some, None, is_some, if◌then◌else◌, nat_lt, ◌^◌, decimal, refl, ap}
 use Rattle.std.proofs.lemmas.Bool.{and_parts}
 use Rattle.serde_json.specs.Data as json
-use Rattle.serde_json.specs.Data.{Data, Items, Members, unsigned, negative, float}
+use Rattle.serde_json.specs.Data.{Data, Items, Members, unsigned, float}
 use Rattle.serde_json.specs.Written.{has_float, items_have_float, members_have_float, compact_text, items_text, members_text as object_text}
 use Rattle.jsonpath_base.specs.Values.{tree_of, trees_of, members_of, tree_of_number, has_whole_numbers, items_whole, members_whole}
 use Rattle.jpath.specs.Json.{json_text, elements_text, members_text}
@@ -15,15 +15,13 @@ number_text-if false n h = cc
 -- serde_json writes a value of whole numbers as its tree's text
 mutual
   pub compact_text-whole : (d : Data) → has_whole_numbers d ≡ true → compact_text d ≡ json_text (tree_of d)
-  compact_text-whole json.null h = refl
   compact_text-whole (json.boolean true) h = refl
   compact_text-whole (json.boolean false) h = refl
   compact_text-whole (json.number (unsigned n)) h = number_text-if (nat_lt n (2 ^ 63)) n h
-  compact_text-whole (json.number (negative z)) h = refl
   compact_text-whole (json.number (float x)) h = cc
-  compact_text-whole (json.string s) h = refl
   compact_text-whole (json.array ds) h = ap (λ x. 91 ∷ x) (items_text-whole false ds h)
   compact_text-whole (json.object ms) h = ap (λ x. 123 ∷ x) (members_text-whole false ms h)
+  compact_text-whole _ h = refl
 
   items_text-whole : (later : Bool) (ds : Items) → items_whole ds ≡ true → items_text later ds ≡ elements_text later (trees_of ds)
   items_text-whole later json.no_items h = refl
@@ -40,14 +38,10 @@ mutual
 -- and it has no float
 mutual
   pub has_float-whole : (d : Data) → has_whole_numbers d ≡ true → has_float d ≡ false
-  has_float-whole json.null h = refl
-  has_float-whole (json.boolean b) h = refl
-  has_float-whole (json.number (unsigned n)) h = refl
-  has_float-whole (json.number (negative z)) h = refl
   has_float-whole (json.number (float x)) h = cc
-  has_float-whole (json.string s) h = refl
   has_float-whole (json.array ds) h = items_have_float-whole ds h
   has_float-whole (json.object ms) h = members_have_float-whole ms h
+  has_float-whole _ h = refl
 
   items_have_float-whole : (ds : Items) → items_whole ds ≡ true → items_have_float ds ≡ false
   items_have_float-whole json.no_items h = refl

@@ -3,3 +3,9 @@ pub mod KnownBytes
 pub mod Lines
 pub mod Depths
 pub mod Told
+pub mod DocumentViews
+pub mod DocumentReading
+pub mod DocumentCopies
+pub mod DocumentQueries
+pub mod DocumentPrinting
+pub mod SameWalks

@@ -2,4 +2,5 @@ pub mod Words
 pub mod Fault
 pub mod Json
 pub mod Output
-pub mod Refused
+pub mod Document
+pub mod Printed

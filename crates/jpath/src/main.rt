@@ -1,14 +1,15 @@
 //! The program `jpath`: it runs a JSONPath query on the JSON on standard input, and prints what the query selects, or what is left
-//! when that is deleted. `words` reads the command line, `run` does the work, `output` prints, `value` has the text of a value, and
-//! `fault` how a run ends.
+//! when that is deleted. `words` reads the command line, `run` does the work, `document` has what is asked, `output` prints what is
+//! selected, `deletion` what is left, and `fault` has how a run ends.
 #![tactic(auto)]
 
+mod deletion;
+mod document;
 mod fault;
 mod output;
 mod run;
 #[cfg(test)]
 mod tests;
-mod value;
 mod words;
 
 use crate::fault::Fault;

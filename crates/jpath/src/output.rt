@@ -1,39 +1,72 @@
-//! The text of what a query selects, and of what a deletion leaves.
-ghost use Rattle.std.specs.Prelude.{◌≡◌, ◌++◌, map, codes, decimal, All, IsTrue, IfOk, IfErr, OnOk, string_bytes};
+//! The text of what a command prints: of what a query selects, or of what a deletion leaves.
+ghost use Rattle.std.specs.Prelude.{◌≡◌, ◌++◌, map, codes, All, IsTrue, IfOk, IfErr, OnOk, string_bytes};
 ghost use Rattle.std.specs.List.{flat_map};
 ghost use Rattle.jsonpath_parser.specs.tree.View.{query_view};
-ghost use Rattle.jsonpath_base.specs.Values.{value_tree, value_is_whole};
-ghost use Rattle.jsonpath_rust.specs.documents.Document.{value_document};
 ghost use Rattle.jsonpath_rust.specs.documents.Answer.{shown};
+ghost use Rattle.jpath.specs.Document.{json_document, json_is_whole, json_tree};
 ghost use Rattle.jpath.specs.Json.{json_text};
-ghost use Rattle.jpath.specs.Output as output;
-ghost use Rattle.jpath.specs.Output.{line, listed, deletion_text};
-ghost use Rattle.jpath.specs.Refused.{IsNoAnswer};
+ghost use Rattle.jpath.specs.Output.{line, listed};
+ghost use Rattle.jpath.specs.Printed.{IsNoAnswer, IsNoOutput, IsPrinted};
 
+use crate::deletion::deletion;
+use crate::document::printing::push_json;
+use crate::document::{Json, document_of};
 use crate::fault::Fault;
-use crate::value::push_value;
 use crate::words::{Command, Listing};
+use json::Scratch;
 use jsonpath_parser::model::JpQuery;
+use jsonpath_rust::WholeRef;
 use jsonpath_rust::query::{Prepared, QueryRef};
-use jsonpath_rust::{Whole, WholeRef};
-use serde_json::Value;
 use std::alloc::{AllocError, Global};
-use std::fmt::Write;
+use std::mem;
 
-/// What the command prints of what the query selects in the document.
+/// What the command prints of what the query selects in the document of these bytes.
 pub fn printed(
     alloc: Global,
     command: Command,
     query: &JpQuery,
-    document: &mut Whole<Value>,
+    bytes: Vec<u8>,
 ) -> Result<String, Fault>
-    ensures text { IfOk result (λ text. string_bytes text ≡ output.printed command (query_view query.now) (value_document document.old.value)) }
-    ensures refused { IfErr result (IsNoAnswer (query_view query.now) (value_document document.old.value)) }
+    ensures text { IfOk result (λ text. IsPrinted command (query_view query.now) bytes.items (string_bytes text)) }
+    ensures refused { IfErr result (IsNoOutput (query_view query.now) bytes.items) }
 {
     match command {
-        Command::Print(Listing::Values) => values_printed(alloc, query, document.as_ref()),
-        Command::Print(listing) => nodes_printed(alloc, listing, query, document.as_ref()),
-        Command::Delete => deletion_printed(alloc, query, document),
+        Command::Print(listing) => listing_of(alloc, listing, query, bytes.as_slice()),
+        Command::Delete => deletion(alloc, query, bytes),
+    }
+}
+
+/// The lines of what the query selects in the document of these bytes.
+fn listing_of(
+    alloc: Global,
+    listing: Listing,
+    query: &JpQuery,
+    bytes: &[u8],
+) -> Result<String, Fault>
+    ensures text { IfOk result (λ text. IsPrinted (Command.Print listing) (query_view query.now) bytes.now (string_bytes text)) }
+    ensures refused { IfErr result (IsNoOutput (query_view query.now) bytes.now) }
+{
+    let mut scratch = Scratch::new(alloc);
+    let document = document_of(alloc, bytes, &mut scratch)?;
+    let text = lines_of(alloc, listing, query, document.as_ref());
+    // The process ends after a run, and its memory goes with it: no value is freed by itself.
+    mem::forget(document);
+    text
+}
+
+/// The lines of what the query selects in a document.
+fn lines_of(
+    alloc: Global,
+    listing: Listing,
+    query: &JpQuery,
+    document: WholeRef<'_, Json<'_>>,
+) -> Result<String, Fault>
+    ensures text { IfOk result (λ text. string_bytes text ≡ listed listing (query_view query.now) (json_document document.entry.value.now)) }
+    ensures refused { IfErr result (IsNoAnswer (query_view query.now) (json_document document.entry.value.now)) }
+{
+    match listing {
+        Listing::Values => values_printed(alloc, query, document),
+        listing => nodes_printed(alloc, listing, query, document),
     }
 }
 
@@ -42,10 +75,10 @@ fn nodes_printed(
     alloc: Global,
     listing: Listing,
     query: &JpQuery,
-    document: WholeRef<'_, Value>,
+    document: WholeRef<'_, Json<'_>>,
 ) -> Result<String, Fault>
-    ensures text { IfOk result (λ text. string_bytes text ≡ listed listing (query_view query.now) (value_document document.entry.value.now)) }
-    ensures refused { IfErr result (IsNoAnswer (query_view query.now) (value_document document.entry.value.now)) }
+    ensures text { IfOk result (λ text. string_bytes text ≡ listed listing (query_view query.now) (json_document document.entry.value.now)) }
+    ensures refused { IfErr result (IsNoAnswer (query_view query.now) (json_document document.entry.value.now)) }
 {
     let prepared = Prepared::of(alloc, query)?;
     let nodes = prepared.runner(alloc).nodes(alloc, document)?;
@@ -56,51 +89,24 @@ fn nodes_printed(
 fn values_printed(
     alloc: Global,
     query: &JpQuery,
-    document: WholeRef<'_, Value>,
+    document: WholeRef<'_, Json<'_>>,
 ) -> Result<String, Fault>
-    ensures text { IfOk result (λ text. string_bytes text ≡ listed Listing.Values (query_view query.now) (value_document document.entry.value.now)) }
-    ensures refused { IfErr result (IsNoAnswer (query_view query.now) (value_document document.entry.value.now)) }
+    ensures text { IfOk result (λ text. string_bytes text ≡ listed Listing.Values (query_view query.now) (json_document document.entry.value.now)) }
+    ensures refused { IfErr result (IsNoAnswer (query_view query.now) (json_document document.entry.value.now)) }
 {
     let prepared = Prepared::of(alloc, query)?;
     let values = prepared.runner(alloc).values(alloc, document)?;
-    Ok(values_text(alloc, values.as_slice())?)
-}
-
-/// How many locations were deleted, and the document that is left.
-fn deletion_printed(
-    alloc: Global,
-    query: &JpQuery,
-    document: &mut Whole<Value>,
-) -> Result<String, Fault>
-    ensures text { IfOk result (λ text. string_bytes text ≡ output.printed Command.Delete (query_view query.now) (value_document document.old.value)) }
-    ensures refused { IfErr result (IsNoAnswer (query_view query.now) (value_document document.old.value)) }
-{
-    let prepared = Prepared::of(alloc, query)?;
-    let count = document.delete(alloc, &mut prepared.runner(alloc))?;
-    Ok(rest_text(alloc, count, document.get())?)
-}
-
-/// A line for a count, and one for a document.
-fn rest_text(alloc: Global, count: usize, document: &Value) -> Result<String, AllocError>
-    requires { IsTrue (value_is_whole document.now) }
-    ensures { IfOk result (λ text. string_bytes text ≡ deletion_text count (value_tree document.now)) }
-{
-    let mut text = String::new(alloc);
-    push_count(&mut text, count)?;
-    text.push('\n')?;
-    push_value(alloc, &mut text, document)?;
-    text.push('\n')?;
-    Ok(text)
+    Ok(values_text(alloc, values)?)
 }
 
 /// A line for each node.
 fn nodes_text(
     alloc: Global,
     listing: Listing,
-    nodes: &[QueryRef<'_, Value>],
+    nodes: &[QueryRef<'_, Json<'_>>],
 ) -> Result<String, AllocError>
-    requires { All (λ r. IsTrue (value_is_whole r.val.now)) nodes.now }
-    ensures { IfOk result (λ text. string_bytes text ≡ flat_map (λ p. line listing p.0 (json_text p.1)) (shown value_tree nodes.now)) }
+    requires { All (λ r. IsTrue (json_is_whole r.val.now)) nodes.now }
+    ensures { IfOk result (λ text. string_bytes text ≡ flat_map (λ p. line listing p.0 (json_text p.1)) (shown json_tree nodes.now)) }
 {
     let mut text = String::new(alloc);
     for node in nodes {
@@ -110,13 +116,13 @@ fn nodes_text(
 }
 
 /// A line for each value.
-fn values_text(alloc: Global, values: &[&Value]) -> Result<String, AllocError>
-    requires { All (λ v. IsTrue (value_is_whole v.now)) values.now }
-    ensures { IfOk result (λ text. string_bytes text ≡ flat_map (λ t. json_text t ++ codes "\n") (map (λ v. value_tree v.now) values.now)) }
+fn values_text(alloc: Global, values: Vec<&Json<'_>>) -> Result<String, AllocError>
+    requires { All (λ v. IsTrue (json_is_whole v.now)) values.items }
+    ensures { IfOk result (λ text. string_bytes text ≡ flat_map (λ t. json_text t ++ codes "\n") (map (λ v. json_tree v.now) values.entry.items)) }
 {
     let mut text = String::new(alloc);
     for value in values {
-        push_value(alloc, &mut text, value)?;
+        push_json(alloc, &mut text, value)?;
         text.push('\n')?;
     }
     Ok(text)
@@ -127,27 +133,20 @@ fn push_node(
     alloc: Global,
     listing: Listing,
     text: &mut String,
-    node: &QueryRef<'_, Value>,
+    node: &QueryRef<'_, Json<'_>>,
 ) -> Result<(), AllocError>
-    requires { IsTrue (value_is_whole node.now.val.now) }
+    requires { IsTrue (json_is_whole node.now.val.now) }
     ensures { OnOk result (string_bytes text.new ≡ string_bytes text.old
-        ++ line listing (string_bytes node.now.path) (json_text (value_tree node.now.val.now))) }
+        ++ line listing (string_bytes node.now.path) (json_text (json_tree node.now.val.now))) }
 {
     match listing {
         Listing::Nodes => {
             text.push_str(node.path.as_str())?;
             text.push('\t')?;
-            push_value(alloc, text, node.val)?;
+            push_json(alloc, text, node.val)?;
         }
-        Listing::Values => push_value(alloc, text, node.val)?,
+        Listing::Values => push_json(alloc, text, node.val)?,
         Listing::Paths => text.push_str(node.path.as_str())?,
     }
     text.push('\n')
-}
-
-/// Appends a count in decimal.
-fn push_count(text: &mut String, count: usize) -> Result<(), AllocError>
-    ensures { OnOk result (string_bytes text.new ≡ string_bytes text.old ++ decimal count) }
-{
-    write!(text, "{count}").map_err(|_| AllocError)
 }

@@ -1,19 +1,15 @@
 //! One run: the words, the query, the document, what the query selects, the output.
 ghost use Rattle.std.specs.Prelude.{◌≡◌, ◌≢◌, ◌⊎◌, ◌↔◌, ℕ, ◌<◌, List, vec_len, Some, None, IfSome, IfOk, IfErr, OnOk, OnErr, IsErrOf, map, string_bytes};
-ghost use Rattle.std.specs.Io.KnownBytes.{Consumes, Appends, IsAtEnd};
-ghost use Rattle.serde_json.specs.View.{view};
+ghost use Rattle.std.specs.Io.KnownBytes.{Appends, IsAtEnd};
 ghost use Rattle.jpath.specs.Words.{asked_by};
-ghost use Rattle.jpath.specs.Output.{IsJson, IsNoDocument, IsOutput, AppendsFront, AsksQuery, IsFaultOf, IsOfWords, IsOfDocument};
+ghost use Rattle.jpath.specs.Output.{IsOutput, AppendsFront, AsksQuery, IsFaultOf, IsOfWords, IsOfDocument};
 
 use crate::fault::Fault;
 use crate::output::printed;
 use crate::words::request_of;
 use jsonpath_parser::{let_go, parse_json_path_within};
-use jsonpath_rust::Whole;
-use serde_json::Value;
 use std::alloc::{AllocError, Global};
 use std::io::{Read, Write};
-use std::mem;
 
 /// Asks the query of these words, those behind the program's name, of the JSON that the reader gives to its end,
 /// and writes what it selects, or what is left of it when that is deleted.
@@ -22,7 +18,7 @@ use std::mem;
 /// stands. Each fault comes in the case that it names, the first that holds in the order of work: words, query,
 /// reading, JSON, whole numbers, a pattern that `regex` refuses for its size, writing. `NotJson`, `NotWhole` and
 /// `Query(InvalidJsonPath)` come when all is read.
-#[tactic(auto, using(crate::proofs::Told::told, crate::proofs::Told::told_front, crate::proofs::Told::no_answer))]
+#[tactic(auto, using(crate::proofs::Told::told, crate::proofs::Told::told_front, crate::proofs::Told::no_output))]
 pub fn run<R: Read, W: Write>(
     alloc: Global,
     words: &[String],
@@ -49,35 +45,22 @@ pub fn run<R: Read, W: Write>(
         return Err(Fault::Usage);
     };
     let query = parse_json_path_within(alloc, request.query, request.depth)?;
-    let mut document = match read_document(alloc, reader) {
-        Ok(document) => document,
+    let bytes = match read_to_end(alloc, reader) {
+        Ok(bytes) => bytes,
         Err(fault) => {
             let_go(query);
             return Err(fault);
         }
     };
-    let printed = printed(alloc, request.command, &query, &mut document);
+    let printed = printed(alloc, request.command, &query, bytes);
     let_go(query);
-    // The process ends after a run, and its memory goes with it: no value is freed by itself.
-    mem::forget(document);
     let output = printed?;
     write_out(writer, output.as_bytes())
 }
 
-/// The document that the reader gives to its end.
-fn read_document<R: Read>(alloc: Global, reader: &mut R) -> Result<Whole<Value>, Fault>
-    ensures json { IfOk result (λ w. IfSome (R.remaining reader.old) (λ bytes. IsJson bytes (view w.value))) }
-    ensures end { OnOk result (IsAtEnd (R.remaining reader.new)) }
-    ensures fault { IfErr result (IsNoDocument (R.remaining reader.old)) }
-    ensures read { IfErr result (λ f. IsOfDocument f → IsAtEnd (R.remaining reader.new)) }
-{
-    let bytes = read_to_end(alloc, reader)?;
-    document_of(alloc, bytes.as_slice())
-}
-
 /// All that the reader has left.
 fn read_to_end<R: Read>(alloc: Global, reader: &mut R) -> Result<Vec<u8>, Fault>
-    ensures bytes { IfOk result (λ v. Consumes (R.remaining reader.old) (R.remaining reader.new) v.items) }
+    ensures bytes { IfOk result (λ v. IfSome (R.remaining reader.old) (λ bytes. bytes ≡ v.items)) }
     ensures end { OnOk result (IsAtEnd (R.remaining reader.new)) }
     ensures fault { IfErr result (λ f. (f ≡ Fault.Io) ⊎ (f ≡ Fault.Memory)) }
 {
@@ -103,26 +86,6 @@ fn read_buffer(alloc: Global) -> Result<Vec<u8>, AllocError>
 
 /// How many bytes are read at once.
 const BUFFER_SIZE: usize = 65536;
-
-/// The document of these bytes.
-fn document_of(alloc: Global, bytes: &[u8]) -> Result<Whole<Value>, Fault>
-    ensures json { IfOk result (λ w. IsJson bytes.now (view w.value)) }
-    ensures fault { IfErr result (IsNoDocument (Some bytes.now)) }
-{
-    let value = match Value::from_slice(alloc, bytes) {
-        Ok(value) => value,
-        Err(e) => return Err(if e.is_memory() {
-            Fault::Memory
-        } else {
-            Fault::NotJson
-        }),
-    };
-    if jsonpath_base::whole(&value) {
-        Ok(Whole::of(value))
-    } else {
-        Err(Fault::NotWhole)
-    }
-}
 
 /// Writes all bytes, and flushes once.
 fn write_out<W: Write>(writer: &mut W, bytes: &[u8]) -> Result<(), Fault>

@@ -1,9 +1,15 @@
-use Rattle.std.proofs.Common.{◌≡◌, ◌++◌, codes, map, take, string_bytes}
-use Rattle.std.specs.List.{flat_map}
-use Rattle.jsonpath_base.specs.Values.{value_tree}
-use Rattle.jpath.specs.Json.{json_text}
+use Rattle.std.proofs.Common.{◌≡◌, ◌++◌, length, All, IsTrue, string_bytes}
+use Rattle.std.specs.Vec.Iter.{into_iter_items, into_iter_len}
+use Rattle.jpath.specs.Document.{json_is_whole}
+use Rattle.jpath.proofs.Lines.{value_lines}
 use Rattle.jpath.proofs.output.values_text.Given as goal
 
--- the lines of the first values
+-- the lines so far, with those of the values that are left
 abbrev pub invariant-loop-value : goal.invariant-loop-value
-invariant-loop-value l = string_bytes l.text ≡ flat_map (λ t. json_text t ++ codes "\n") (map (λ v. value_tree v.now) (take l.value-index l.values))
+invariant-loop-value l =
+    let rest = into_iter_items l.value-iterator in
+    record {
+      len : into_iter_len l.value-iterator ≡ length rest;
+      whole : All (λ v. IsTrue (json_is_whole v.now)) rest;
+      text : string_bytes l.text ++ value_lines rest ≡ value_lines (into_iter_items l.initial.value-iterator);
+    }

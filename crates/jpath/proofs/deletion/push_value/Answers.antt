@@ -5,7 +5,7 @@ use Rattle.jsonpath_base.specs.Tree.{has_distinct_names}
 use Rattle.jsonpath_base.specs.Values.{has_whole_numbers, value_tree}
 use Rattle.jpath.specs.Json.{json_text}
 use Rattle.jpath.proofs.JsonTexts.{compact_text-whole, has_float-whole}
-use Rattle.jpath.proofs.value.push_printed.Goals as goal
+use Rattle.jpath.proofs.deletion.push_value.Goals as goal
 
 pub returns : goal.returns
 returns c =

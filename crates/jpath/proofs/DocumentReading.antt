@@ -1,0 +1,174 @@
+-- The grammar of `json` under the conversion to data: the value that begins with a token, and a turn of each loop.
+use Rattle.std.proofs.Common.{◌≡◌, ℕ, zero, suc, ◌-◌, ◌<◌, ◌≤◌, List, [], ◌∷◌, ◌++◌, length, Bor, Option, Some, None, option_map, option_and_then, Vec, Global, BTreeMap, refl, ap, ◌∙◌, rules}
+use Rattle.json.specs.Token as spec
+use Rattle.json.specs.Json as json
+use Rattle.json.specs.Json.{Parse, parse_map, after_end_array, read_key, items_step, items, members, value, if_last}
+use Rattle.json.specs.Reads.{token_of}
+use Rattle.json.specs.declared.token.Token.{Token}
+use Rattle.json.specs.declared.token.Token.TheVariants as token
+use Rattle.json.proofs.Grammar.{value_is, value-begin_array, value-begin_object, items_end, items_more, members_end, members_no_key, members_more}
+use Rattle.serde_json.specs.Data.{Data, array, object, Items, no_items, item, Members, no_members, put}
+use Rattle.serde_json.specs.Read.{number_of, of_json, of_items, of_members, converted}
+use Rattle.serde_json.specs.View.{number_view}
+use Rattle.serde_json.specs.declared.number.Number.{Number as Num}
+use Rattle.jpath.specs.Document.{json_data, items_data, members_data}
+use Rattle.jpath.specs.declared.document.Json.{Json, Null, Bool, Number, String, Array, Object, the_lemmas}
+use Rattle.jpath.proofs.DocumentViews.{data-Array, data-Object}
+
+abbrev pick : {A : Type 0} → A → Option A → A
+pick d None = d
+pick d (Some a) = a
+
+found : {A B : Type 0} (a : A) (r s : List spec.Token) (x : Option B) (b : B) → option_map {U = B × List spec.Token} (λ y. (y, r)) x ≡ Some (b, s) → (r ≡ s) × (x ≡ Some b)
+found a r s None b e = absurd (cc)
+found a r s (Some y) b e = let same = ap (pick (y, r)) e in (ap (λ p. p.1) same, ap (λ p. Some p.0) same)
+
+pub converted_some : {A B : Type 0} (f : A → Option B) (o : Option (A × List spec.Token)) (b : B) (r : List spec.Token) → converted f o ≡ Some (b, r) → (a : A) × (o ≡ Some (a, r)) × (f a ≡ Some b)
+converted_some f None b r e = absurd (cc)
+converted_some f (Some p) b r e = let both = found p.0 p.1 r (f p.0) b e in (p.0, ap (λ s. Some (p.0, s)) both.0, both.1)
+
+refused : {B : Type 0} (r : List spec.Token) (x : Option B) → option_map {U = B × List spec.Token} (λ y. (y, r)) x ≡ None → x ≡ None
+refused r None e = refl
+refused r (Some y) e = absurd (cc)
+
+twice : {A B : Type 0} (g : A → B) (r : List spec.Token) (x : Option A) → option_map (λ b. (b, r)) (option_map g x) ≡ parse_map g (option_map (λ a. (a, r)) x)
+twice g r None = refl
+twice g r (Some a) = refl
+
+converted-array : (o : Option (json.Items × List spec.Token)) → converted of_json (parse_map json.array o) ≡ parse_map array (converted of_items o)
+converted-array None = refl
+converted-array (Some p) = twice array p.1 (of_items p.0)
+
+converted-object : (o : Option (json.Members × List spec.Token)) → converted of_json (parse_map json.object o) ≡ parse_map object (converted (λ ms. of_members ms no_members) o)
+converted-object None = refl
+converted-object (Some p) = twice object p.1 (of_members p.0 no_members)
+
+-- ---- the value that begins with a token
+
+module _ (depth : ℕ) (ts r : List spec.Token) (k : Token) (first : ts ≡ token_of k ∷ r) where
+  pub null_read : k ≡ token.Null → converted of_json (value depth ts) ≡ Some (json_data Null, r)
+  null_read is = rw (first, is, value_is) (search (rules, the_lemmas))
+
+  pub bool_read : (b : _) → k ≡ token.Bool b → converted of_json (value depth ts) ≡ Some (json_data (Bool b), r)
+  bool_read b is = rw (first, is, value_is) (search (rules, the_lemmas))
+
+  pub string_read : (s : Bor (List ℕ)) → k ≡ token.String s → converted of_json (value depth ts) ≡ Some (json_data (String s), r)
+  string_read s is = rw (first, is, value_is) (search (rules, the_lemmas))
+
+  pub number_read : (s : Bor (List ℕ)) (n : Num) → k ≡ token.Number s → Some (number_view n) ≡ number_of s.now → converted of_json (value depth ts) ≡ Some (json_data (Number n), r)
+  number_read s n is e = rw (first, is, value_is, ← e) (search (rules, the_lemmas))
+
+  pub number_refused : (s : Bor (List ℕ)) → k ≡ token.Number s → None ≡ number_of s.now → converted of_json (value depth ts) ≡ None
+  number_refused s is e = rw (first, is, value_is, ← e)
+
+  opened_array : k ≡ token.BeginArray → 0 < depth → converted of_json (value depth ts) ≡ parse_map array (converted of_items (items (value (depth - 1)) (length r) r))
+  opened_array is some = rw (first, is, value-begin_array depth r some) (converted-array (items (value (depth - 1)) (length r) r))
+
+  opened_object : k ≡ token.BeginObject → 0 < depth → converted of_json (value depth ts) ≡ parse_map object (converted (λ ms. of_members ms no_members) (members (value (depth - 1)) (length r) r))
+  opened_object is some = rw (first, is, value-begin_object depth r some) (converted-object (members (value (depth - 1)) (length r) r))
+
+  pub array_read : (v : Vec Json Global) (s : List spec.Token) → k ≡ token.BeginArray → 0 < depth → converted of_items (items (value (depth - 1)) (length r) r) ≡ Some (items_data v.items, s)
+      → converted of_json (value depth ts) ≡ Some (json_data (Array v), s)
+  array_read v s is some e = opened_array is some ∙ rw (e, data-Array v)
+
+  pub array_refused : k ≡ token.BeginArray → 0 < depth → converted of_items (items (value (depth - 1)) (length r) r) ≡ None → converted of_json (value depth ts) ≡ None
+  array_refused is some e = opened_array is some ∙ rw e
+
+  pub object_read : (m : BTreeMap (Bor (List ℕ)) Json) (s : List spec.Token) → k ≡ token.BeginObject → 0 < depth
+      → converted (λ ms. of_members ms no_members) (members (value (depth - 1)) (length r) r) ≡ Some (members_data m.entries, s) → converted of_json (value depth ts) ≡ Some (json_data (Object m), s)
+  object_read m s is some e = opened_object is some ∙ rw (e, data-Object m)
+
+  pub object_refused : k ≡ token.BeginObject → 0 < depth → converted (λ ms. of_members ms no_members) (members (value (depth - 1)) (length r) r) ≡ None → converted of_json (value depth ts) ≡ None
+  object_refused is some e = opened_object is some ∙ rw e
+
+  pub array_too_deep : k ≡ token.BeginArray → depth ≡ 0 → converted of_json (value depth ts) ≡ None
+  unfolding value
+  array_too_deep is none = rw (first, is, none)
+
+  pub object_too_deep : k ≡ token.BeginObject → depth ≡ 0 → converted of_json (value depth ts) ≡ None
+  unfolding value
+  object_too_deep is none = rw (first, is, none)
+
+pub none_read : (depth : ℕ) (ts : List spec.Token) → ts ≡ [] → converted of_json (value depth ts) ≡ None
+none_read depth ts none = rw (none, value_is)
+
+-- ---- a turn of a loop
+
+with_item : (j : json.Json) (d : Data) → of_json j ≡ Some d → (o : Option (json.Items × List spec.Token)) → converted of_items (parse_map (json.item j) o) ≡ parse_map (item d) (converted of_items o)
+with_item j d e None = refl
+with_item j d e (Some p) = rw e (twice (item d) p.1 (of_items p.0))
+
+without_item : (j : json.Json) → of_json j ≡ None → (o : Option (json.Items × List spec.Token)) → converted of_items (parse_map (json.item j) o) ≡ None
+without_item j e None = refl
+without_item j e (Some p) = rw e
+
+with_member : (k : List ℕ) (j : json.Json) (d : Data) (old : Members) → of_json j ≡ Some d → (o : Option (json.Members × List spec.Token))
+    → converted (λ ms. of_members ms old) (parse_map (json.member k j) o) ≡ converted (λ ms. of_members ms (put k d old)) o
+with_member k j d old e None = refl
+with_member k j d old e (Some p) = rw e
+
+without_member : (k : List ℕ) (j : json.Json) (old : Members) → of_json j ≡ None → (o : Option (json.Members × List spec.Token)) → converted (λ ms. of_members ms old) (parse_map (json.member k j) o) ≡ None
+without_member k j old e None = refl
+without_member k j old e (Some p) = rw e
+
+module _ (p : Parse json.Json) where
+  pub item_read : (n : ℕ) (ts r : List spec.Token) (d : Data) → 0 < n → after_end_array ts ≡ None → converted of_json (p ts) ≡ Some (d, r)
+      → converted of_items (items p n ts) ≡ parse_map (item d) (converted of_items (items p (n - 1) r))
+  item_read n ts r d some going e = let j = converted_some of_json (p ts) d r e in ap (converted of_items) (items_more p n ts r j.0 some going j.1) ∙ with_item j.0 d j.2 _
+
+  no_item : (more : Parse json.Items) (o : Option (json.Json × List spec.Token)) → converted of_json o ≡ None → converted of_items (option_and_then (λ q. parse_map (json.item q.0) (more q.1)) o) ≡ None
+  no_item more None e = refl
+  no_item more (Some q) e = without_item q.0 (refused q.1 (of_json q.0) e) (more q.1)
+
+  pub item_refused : (n : ℕ) (ts : List spec.Token) → after_end_array ts ≡ None → converted of_json (p ts) ≡ None → converted of_items (items p n ts) ≡ None
+  unfolding items
+  item_refused zero ts going e = refl
+  item_refused (suc n) ts going e = ap (λ o. converted of_items (items_step p (items p n) ts o)) going ∙ no_item (items p n) (p ts) e
+
+  pub items_over : (n : ℕ) (ts r : List spec.Token) → length ts ≤ n → after_end_array ts ≡ Some r → converted of_items (items p n ts) ≡ Some (no_items, r)
+  items_over n ts r enough e = ap (converted of_items) (items_end p n ts r enough e)
+
+  module _ (old : Members) where
+    pub member_read : (n : ℕ) (k : List ℕ) (ts s r : List spec.Token) (d : Data) → 0 < n → read_key ts ≡ Some (Some k, s) → converted of_json (p s) ≡ Some (d, r)
+        → converted (λ ms. of_members ms old) (members p n ts) ≡ converted (λ ms. of_members ms (put k d old)) (members p (n - 1) r)
+    member_read n k ts s r d some key e =
+        let j = converted_some of_json (p s) d r e in
+        ap (converted (λ ms. of_members ms old)) (members_more p n k ts s r j.0 some key j.1) ∙ with_member k j.0 d old j.2 _
+
+    no_member : (k : List ℕ) (more : Parse json.Members) (o : Option (json.Json × List spec.Token)) → converted of_json o ≡ None
+        → converted (λ ms. of_members ms old) (option_and_then (λ q. parse_map (json.member k q.0) (more q.1)) o) ≡ None
+    no_member k more None e = refl
+    no_member k more (Some q) e = without_member k q.0 old (refused q.1 (of_json q.0) e) (more q.1)
+
+    pub member_refused : (n : ℕ) (k : List ℕ) (ts s : List spec.Token) → read_key ts ≡ Some (Some k, s) → converted of_json (p s) ≡ None → converted (λ ms. of_members ms old) (members p n ts) ≡ None
+    unfolding members
+    member_refused zero k ts s key e = refl
+    member_refused (suc n) k ts s key e = rw key (no_member k (members p n) (p s) e)
+
+    pub key_refused : (n : ℕ) (ts : List spec.Token) → read_key ts ≡ None → converted (λ ms. of_members ms old) (members p n ts) ≡ None
+    key_refused n ts e = ap (converted (λ ms. of_members ms old)) (members_no_key p n ts e)
+
+    pub members_over : (n : ℕ) (ts r : List spec.Token) → length ts ≤ n → read_key ts ≡ Some (None, r) → converted (λ ms. of_members ms old) (members p n ts) ≡ Some (old, r)
+    members_over n ts r enough e = ap (converted (λ ms. of_members ms old)) (members_end p n ts r enough e)
+
+-- ---- a list that grows at its end
+
+abbrev pub items_before : List Json → Items → Items
+items_before [] rest = rest
+items_before (v ∷ vs) rest = item (json_data v) (items_before vs rest)
+
+pub items_before-no_items : (vs : List Json) → items_before vs no_items ≡ items_data vs
+items_before-no_items [] = refl
+items_before-no_items (v ∷ vs) = ap (item (json_data v)) (items_before-no_items vs)
+
+items_push : (vs : List Json) (v : Json) (rest : Items) → items_before vs (item (json_data v) rest) ≡ items_before (vs ++ v ∷ []) rest
+items_push [] v rest = refl
+items_push (w ∷ vs) v rest = ap (item (json_data w)) (items_push vs v rest)
+
+pub one_more_item : (vs : List Json) (v : Json) (r : Option (Items × List spec.Token)) → parse_map (items_before vs) (parse_map (item (json_data v)) r) ≡ parse_map (items_before (vs ++ v ∷ [])) r
+one_more_item vs v None = refl
+one_more_item vs v (Some p) = ap (λ ds. Some (ds, p.1)) (items_push vs v p.0)
+
+pub none_before : (r : Option (Items × List spec.Token)) → r ≡ parse_map (λ a. a) r
+none_before None = refl
+none_before (Some p) = refl
