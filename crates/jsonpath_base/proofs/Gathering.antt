@@ -1,15 +1,16 @@
 -- Entries in the order of their keys, those of one key joined.
-use Rattle.std.proofs.Common.{◌≡◌, ℕ, suc, ◌+◌, ◌≤◌, ◌<◌, List, [], ◌∷◌, ◌++◌, length, get_or, Bool, true, false, true≢false, ◌&&◌, ◌||◌, Ordering, Less, Equal, Greater, is_eq, refl, sym, ap, ap₂, ◌∙◌, subst, arith}
-use Rattle.std.proofs.lemmas.List.Sorted.{list_any-IsPermutation, ranks_by, sorted_far, sum_by-IsPermutation}
+use Rattle.std.proofs.Common.{◌≡◌, ℕ, ◌+◌, ◌≤◌, ◌<◌, List, [], ◌∷◌, ◌++◌, length, take, drop, set, get_or, Bool, true, false, cond, ◌&&◌, ◌||◌, Ordering, is_eq, refl, sym, ap, ap₂, ◌∙◌, subst, append_assoc, append-nil, arith}
+use Rattle.std.proofs.lemmas.List.{drop_all, drop_more, drop-set, drop-set-lt, drop-take, get_or-map, get_or-set_other, get_or_default, length-map, length-set, length-take, map-append, take-append-drop, take-set, take-set-le, take-take, take_more}
+use Rattle.std.proofs.lemmas.List.Kept.{IsStrictlySortedBy-dedup}
+use Rattle.std.proofs.lemmas.List.Sorted.{list_any-IsPermutation, sum_by-IsPermutation}
 use Rattle.std.proofs.lemmas.List.Sums.{sum_by-cons}
 use Rattle.std.specs.Cmp.{IsTotalOrder}
-use Rattle.std.specs.List.{sum_by}
-use Rattle.std.specs.List.Sorted.{IsPermutation, IsSortedBy}
-use Rattle.std.specs.Ordering.{ordering_reverse}
-use Rattle.jsonpath_base.specs.Prelude.{AllByRecursion, HoldsAlso, is_lt, IsJoined, is_same_step, IsStrictlySortedBy, keys_of, list_any, Location, marked, marked_in, Marks, marks_count, marks_total, Step, TestsSteps}
-use Rattle.jsonpath_base.specs.inner.Marks.{HoldsSame, IsUpper, RisesTo}
+use Rattle.std.specs.List.{dedup, dedup_from, sum_by}
+use Rattle.std.specs.List.Sorted.{IsPermutation, IsSorted, IsSortedBy}
+use Rattle.jsonpath_base.specs.Prelude.{is_lt, IsJoined, is_same_step, IsStrictlySortedBy, keys_of, list_any, Location, marked, marked_in, Marks, marks_count, marks_total, Step}
+use Rattle.jsonpath_base.specs.inner.Marks.{HoldsSame}
 use Rattle.jsonpath_base.proofs.InOrder.{total-append}
-use Rattle.jsonpath_base.proofs.Marking.{same_step, or_none, in_here, in_step, in_append}
+use Rattle.jsonpath_base.proofs.Marking.{same_step, in_here, in_step, in_append}
 
 in_any : {K : Type 0} (to : K → Step) (es : List (K × Marks)) (s : Step) (l : Location) → marked_in to es (s ∷ l) ≡ list_any (λ e. is_same_step (to e.0) s && marked e.1 l) es
 in_any to [] s l = refl
@@ -27,144 +28,135 @@ moved_same {K} to es fs h (s ∷ l) = in_any to es s l ∙ list_any-IsPermutatio
 moved_total : {K : Type 0} (es fs : List (K × Marks)) → IsPermutation es fs → marks_total fs ≡ marks_total es
 moved_total {K} es fs h = total-sum fs ∙ sum_by-IsPermutation (λ (e : K × Marks). marks_count e.1) es fs h ∙ sym (total-sum es)
 
--- each of these keys is less than none before it
-abbrev pub Climbs : {K : Type 0} → (K → K → Ordering) → List K → Type 0
-Climbs compare [] = Unit {0}
-Climbs compare (k ∷ ks) = AllByRecursion (λ l. is_lt (compare l k) ≡ false) ks × Climbs compare ks
+-- ---- entries that are gathered
 
 abbrev pub Falls : {K : Type 0} → (K → K → Ordering) → K × Marks → K × Marks → Bool
 Falls compare x y = is_lt (compare x.0 y.0)
 
-none_lower : {K : Type 0} (compare : K → K → Ordering) (k : K) (es : List (K × Marks)) → ((j : ℕ) (d : K × Marks) → j < length es → is_lt (compare (get_or es j d).0 k) ≡ false) → AllByRecursion (λ l. is_lt (compare l k) ≡ false) (keys_of es)
-none_lower compare k [] h = tt
-none_lower compare k (e ∷ es) h = (h 0 e (omega arith), none_lower compare k es (λ j d lt. h (suc j) d (omega (arith, lt))))
+abbrev pub is_one : {K : Type 0} → (K → K → Ordering) → K → K → Bool
+is_one compare k l = is_eq (compare k l)
 
-climbs_from : {K : Type 0} (compare : K → K → Ordering) (es : List (K × Marks)) → ((i j : ℕ) (d : K × Marks) → i ≤ j → j < length es → is_lt (compare (get_or es j d).0 (get_or es i d).0) ≡ false) → Climbs compare (keys_of es)
-climbs_from compare [] h = tt
-climbs_from compare (e ∷ es) h = (none_lower compare e.0 es (λ j d lt. h 0 (suc j) d (omega arith) (omega (arith, lt))), climbs_from compare es (λ i j d le lt. h (suc i) (suc j) d (omega (arith, le)) (omega (arith, lt))))
+-- Those in front are gathered. The first of the rest is the last gathered one, to which others may be joined yet.
+pub record Gathered {K : Type 0} (compare : K → K → Ordering) (all front rest : List (K × Marks)) : Type 0 where
+  pub same : HoldsSame compare all (front ++ rest)
+  pub fewer : marks_total (front ++ rest) ≤ marks_total all
+  pub sorted : IsStrictlySortedBy compare (keys_of front ++ dedup (is_one compare) (keys_of rest))
 
--- of so many entries those in front are gathered
-pub record Gathered {K : Type 0} (compare : K → K → Ordering) (all got rest : List (K × Marks)) : Type 0 where
-  pub each : (to : K → Step) → TestsSteps to compare → (l : Location) → marked_in to all l ≡ (marked_in to got l || marked_in to rest l)
-  pub fewer : marks_total got + marks_total rest ≤ marks_total all
-  pub sorted : IsStrictlySortedBy compare (keys_of got)
-  pub upper : AllByRecursion (IsUpper compare (keys_of got)) (keys_of rest)
-  pub climbs : Climbs compare (keys_of rest)
+keys_sorted : {K : Type 0} (compare : K → K → Ordering) (es : List (K × Marks)) → IsSortedBy (Falls compare) es → IsSorted compare (keys_of es)
+keys_sorted compare [] h k d low lt = absurd (omega (arith, lt))
+keys_sorted {K} compare (e ∷ es) h k d low lt =
+    let key : K × Marks → K = λ x. x.0 in
+    let within : k + 1 < length (e ∷ es) = omega (arith, lt, length-map (e ∷ es) key) in
+    ap₂ (λ a b. is_lt (compare a b)) (get_or-map key (e ∷ es) (k + 1) e d within) (get_or-map key (e ∷ es) k e d (omega (arith, within))) ∙ h k e low within
 
-uppers : {K : Type 0} (compare : K → K → Ordering) (ks : List K) → AllByRecursion (IsUpper compare []) ks
-uppers compare [] = tt
-uppers compare (k ∷ ks) = (tt, uppers compare ks)
-
-pub gathered_start : {K : Type 0} (compare : K → K → Ordering) → IsTotalOrder compare → (all es got rest : List (K × Marks)) → got ≡ [] → rest ≡ es → IsPermutation all es → IsSortedBy (Falls compare) es → Gathered compare all got rest
-unfolding IsStrictlySortedBy
-gathered_start {K} compare order all es got rest e f moved h = subst (λ xs. Gathered compare all xs rest) (sym e) (subst (Gathered compare all []) (sym f) start)
-  where
-    start : Gathered compare all [] es
-    start = record {
-      each = λ to test l. moved_same to all es moved l;
-      fewer = omega (arith, moved_total all es moved);
-      sorted = tt;
-      upper = uppers compare (keys_of es);
-      climbs = climbs_from compare es (sorted_far (Falls compare) (ranks_by order (λ (x : K × Marks). x.0)) es h);
-    }
-
-still_upper : {K : Type 0} (compare : K → K → Ordering) (old : List K) (k : K) (new ks : List K) → RisesTo compare old k new → AllByRecursion (IsUpper compare old) ks → AllByRecursion (λ l. is_lt (compare l k) ≡ false) ks → AllByRecursion (IsUpper compare new) ks
-still_upper compare old k new [] rises h g = tt
-still_upper compare old k new (l ∷ ks) rises h g = (rises.upper l h.0 g.0, still_upper compare old k new ks rises h.1 g.1)
-
-or_assoc : (a b c : Bool) → ((a || b) || c) ≡ (a || (b || c))
-or_assoc true b c = refl
-or_assoc false b c = refl
-
-pub gathered_next : {K : Type 0} (compare : K → K → Ordering) (all got new rest : List (K × Marks)) (e : K × Marks) → HoldsAlso compare got e.0 e.1 new → RisesTo compare (keys_of got) e.0 (keys_of new) → marks_total new ≤ marks_total got + marks_count e.1
-    → Gathered compare all got (e ∷ rest) → Gathered compare all new rest
-gathered_next {K} compare all got new rest e also rises fewer h = record {
-  each = λ to test l. h.each to test l ∙ ap (λ b. marked_in to got l || b) (in_append to (e ∷ []) rest l) ∙ sym (or_assoc (marked_in to got l) (marked_in to (e ∷ []) l) (marked_in to rest l)) ∙ ap (λ b. b || marked_in to rest l) (sym (also.each to test l));
-  fewer = omega (arith, fewer, h.fewer);
-  sorted = rises.sorted h.upper.0 h.sorted;
-  upper = still_upper compare (keys_of got) e.0 (keys_of new) (keys_of rest) rises h.upper.1 h.climbs.0;
-  climbs = h.climbs.1;
+gathered_start : {K : Type 0} (compare : K → K → Ordering) → IsTotalOrder compare → (all es : List (K × Marks)) → IsPermutation all es → IsSortedBy (Falls compare) es → Gathered compare all [] es
+gathered_start compare order all es moved h = record {
+  same = record { each = λ to test l. sym (moved_same to all es moved l) };
+  fewer = omega (arith, moved_total all es moved);
+  sorted = IsStrictlySortedBy-dedup order (λ _ _. refl) (keys_of es) (keys_sorted compare es h);
 }
 
-pub gathered_end : {K : Type 0} (compare : K → K → Ordering) (all got rest : List (K × Marks)) → length rest ≡ 0 → Gathered compare all got rest → HoldsSame compare all got
-gathered_end compare all got [] none h = record { each = λ to test l. sym (h.each to test l ∙ or_none (marked_in to got l)) }
-gathered_end compare all got (e ∷ rest) none h = absurd (omega (arith, none))
-
--- ---- one more entry
-
-keys-append : {K : Type 0} (es fs : List (K × Marks)) → keys_of (es ++ fs) ≡ keys_of es ++ keys_of fs
-keys-append [] fs = refl
-keys-append (e ∷ es) fs = ap (λ ks. e.0 ∷ ks) (keys-append es fs)
-
-all_push : {K : Type 0} (P : K → Type 0) (ks : List K) (k : K) → AllByRecursion P ks → P k → AllByRecursion P (ks ++ k ∷ [])
-all_push P [] k h p = (p, tt)
-all_push P (x ∷ ks) k h p = (h.0, all_push P ks k h.1 p)
-
-all_last : {K : Type 0} (P : K → Type 0) (ks : List K) (k : K) → AllByRecursion P (ks ++ k ∷ []) → P k
-all_last P [] k h = h.0
-all_last P (x ∷ ks) k h = all_last P ks k h.1
-
--- behind the last one, which is less
-sorted_push : {K : Type 0} (compare : K → K → Ordering) → IsTotalOrder compare → (ks : List K) (a k : K) → compare a k ≡ Less → IsStrictlySortedBy compare (ks ++ a ∷ []) → IsStrictlySortedBy compare ((ks ++ a ∷ []) ++ k ∷ [])
-unfolding IsStrictlySortedBy
-sorted_push compare order [] a k less h = ((less, tt), (tt, tt))
-sorted_push compare order (x ∷ ks) a k less h =
-    (all_push (λ l. compare x l ≡ Less) (ks ++ a ∷ []) k h.0 (order.trans x a k (all_last (λ l. compare x l ≡ Less) ks a h.0) less), sorted_push compare order ks a k less h.1)
-
-less_then : (o p : Ordering) → p ≡ ordering_reverse o → is_lt p ≡ false → is_eq o ≡ false → o ≡ Less
-less_then Less p e f g = refl
-less_then Equal p e f g = absurd (true≢false g)
-less_then Greater p e f g = absurd (true≢false (ap is_lt (sym e) ∙ f))
-
--- the first of all
-pub rises_first : {K : Type 0} (compare : K → K → Ordering) (old new : List (K × Marks)) (e : K × Marks) → length old ≡ 0 → new ≡ old ++ e ∷ [] → RisesTo compare (keys_of old) e.0 (keys_of new)
-unfolding IsStrictlySortedBy
-rises_first compare [] new e none f = record {
-  sorted = λ _ _. subst (λ es. IsStrictlySortedBy compare (keys_of es)) (sym f) (tt, tt);
-  upper = λ k _ h. subst (λ es. IsUpper compare (keys_of es) k) (sym f) (h, tt);
-}
-rises_first compare (x ∷ old) new e none f = absurd (omega (arith, none))
-
--- another than the last one
-pub rises_push : {K : Type 0} (compare : K → K → Ordering) → IsTotalOrder compare → (front old new : List (K × Marks)) (last e : K × Marks) → is_eq (compare last.0 e.0) ≡ false → old ≡ front ++ last ∷ [] → new ≡ old ++ e ∷ [] → RisesTo compare (keys_of old) e.0 (keys_of new)
-rises_push compare order front old new last e other f g =
-    let ks = keys_of front in let a = last.0 in let k = e.0 in
-    let there : keys_of old ≡ ks ++ a ∷ [] = ap keys_of f ∙ keys-append front (last ∷ []) in
-    let now : keys_of new ≡ keys_of old ++ k ∷ [] = ap keys_of g ∙ keys-append old (e ∷ []) in
+-- an entry of another key than the last one
+gathered_next : {K : Type 0} (compare : K → K → Ordering) (all front rest : List (K × Marks)) (x y : K × Marks) → is_eq (compare y.0 x.0) ≡ false → Gathered compare all front (x ∷ (y ∷ rest)) → Gathered compare all (front ++ x ∷ []) (y ∷ rest)
+gathered_next {K} compare all front rest x y other h =
+    let is : front ++ (x ∷ (y ∷ rest)) ≡ (front ++ x ∷ []) ++ (y ∷ rest) = sym (append_assoc front (x ∷ []) (y ∷ rest)) in
+    let ks = keys_of rest in
     record {
-      sorted = λ up h. subst (IsStrictlySortedBy compare) (sym (now ∙ ap (λ xs. xs ++ k ∷ []) there))
-          (sorted_push compare order ks a k (less_then (compare a k) (compare k a) (order.antisymm k a) (all_last (λ l. is_lt (compare k l) ≡ false) ks a (subst (λ xs. IsUpper compare xs k) there up)) other) (subst (IsStrictlySortedBy compare) there h));
-      upper = λ l up h. subst (λ xs. IsUpper compare xs l) (sym now) (all_push (λ y. is_lt (compare l y) ≡ false) (keys_of old) k up h);
+      same = subst (HoldsSame compare all) is h.same;
+      fewer = subst (λ es. marks_total es ≤ marks_total all) is h.fewer;
+      sorted = subst (IsStrictlySortedBy compare)
+          (ap (λ b. keys_of front ++ cond b (dedup_from (is_one compare) x.0 ks) (x.0 ∷ dedup_from (is_one compare) y.0 ks)) other
+          ∙ sym (append_assoc (keys_of front) (x.0 ∷ []) (dedup_from (is_one compare) y.0 ks)) ∙ ap (λ fs. fs ++ dedup_from (is_one compare) y.0 ks) (sym (map-append (λ (e : K × Marks). e.0) front (x ∷ [])))) h.sorted;
     }
 
-pub also_push : {K : Type 0} (compare : K → K → Ordering) (old new : List (K × Marks)) (e : K × Marks) → new ≡ old ++ e ∷ [] → HoldsAlso compare old e.0 e.1 new
-also_push compare old new e h = record { each = λ to test l. ap (λ es. marked_in to es l) h ∙ in_append to old (e ∷ []) l }
+either : (a b c d : Bool) → ((a && (b || c)) || d) ≡ ((a && b) || ((a && c) || d))
+either true true c d = refl
+either true false c d = refl
+either false b c d = refl
 
-pub fewer_push : {K : Type 0} (old new : List (K × Marks)) (e : K × Marks) → new ≡ old ++ e ∷ [] → marks_total new ≤ marks_total old + marks_count e.1
-fewer_push old new e h = omega (arith, ap marks_total h, total-append old (e ∷ []))
+joined_first : {K : Type 0} (to : K → Step) (x y : K × Marks) (w : Marks) (rest : List (K × Marks)) → to y.0 ≡ to x.0 → IsJoined (marked x.1) (marked y.1) (marked w) → (l : Location) → marked_in to ((x.0, w) ∷ rest) l ≡ marked_in to (x ∷ (y ∷ rest)) l
+joined_first to x y w rest same h [] = in_here to ((x.0, w) ∷ rest) ∙ sym (in_here to (x ∷ (y ∷ rest)))
+joined_first to x y w rest same h (s ∷ l) =
+    let more = marked_in to rest (s ∷ l) in
+    in_step to (x.0, w) rest s l ∙ ap (λ b. (is_same_step (to x.0) s && b) || more) (h.each l) ∙ either (is_same_step (to x.0) s) (marked x.1 l) (marked y.1 l) more
+    ∙ sym (in_step to x (y ∷ rest) s l ∙ ap (λ b. (is_same_step (to x.0) s && marked x.1 l) || b) (in_step to y rest s l ∙ ap (λ r. (is_same_step r s && marked y.1 l) || more) same))
 
--- the last one, with those of another of its key
-either : (a b c : Bool) → ((a && (b || c)) || false) ≡ (((a && b) || false) || ((a && c) || false))
-either true true c = refl
-either true false c = refl
-either false b c = refl
+-- one of its key
+gathered_join : {K : Type 0} (compare : K → K → Ordering) (all front rest : List (K × Marks)) (x y : K × Marks) (w : Marks) → is_eq (compare y.0 x.0) ≡ true → IsJoined (marked x.1) (marked y.1) (marked w) → marks_count w + 1 ≤ marks_count x.1 + marks_count y.1
+    → Gathered compare all front (x ∷ (y ∷ rest)) → Gathered compare all front ((x.0, w) ∷ rest)
+gathered_join compare all front rest x y w equal joined fewer h = record {
+  same = record {
+    each = λ to test l. in_append to front ((x.0, w) ∷ rest) l ∙ ap (λ b. marked_in to front l || b) (joined_first to x y w rest (same_step (to y.0) (to x.0) (sym (test y.0 x.0) ∙ equal)) joined l)
+        ∙ sym (in_append to front (x ∷ (y ∷ rest)) l) ∙ h.same.each to test l;
+  };
+  fewer = omega (arith, fewer, h.fewer, total-append front (x ∷ (y ∷ rest)), total-append front ((x.0, w) ∷ rest));
+  sorted = subst (λ b. IsStrictlySortedBy compare (keys_of front ++ cond b (dedup_from (is_one compare) x.0 (keys_of rest)) (x.0 ∷ dedup_from (is_one compare) y.0 (keys_of rest)))) equal h.sorted;
+}
 
-joined_last : {K : Type 0} (to : K → Step) (a k : K) (m n w : Marks) → to a ≡ to k → IsJoined (marked m) (marked n) (marked w) → (l : Location) → marked_in to ((a, w) ∷ []) l ≡ (marked_in to ((a, m) ∷ []) l || marked_in to ((k, n) ∷ []) l)
-joined_last to a k m n w same h [] = in_here to ((a, w) ∷ []) ∙ sym (ap₂ (λ x y. x || y) (in_here to ((a, m) ∷ [])) (in_here to ((k, n) ∷ [])))
-joined_last to a k m n w same h (s ∷ l) =
-    in_step to (a, w) [] s l ∙ ap (λ b. (is_same_step (to a) s && b) || false) (h.each l) ∙ either (is_same_step (to a) s) (marked m l) (marked n l)
-    ∙ ap₂ (λ x y. x || y) (sym (in_step to (a, m) [] s l)) (ap (λ r. (is_same_step r s && marked n l) || false) same ∙ sym (in_step to (k, n) [] s l))
+gathered_end : {K : Type 0} (compare : K → K → Ordering) (all front rest : List (K × Marks)) → length rest ≤ 1 → Gathered compare all front rest → IsStrictlySortedBy compare (keys_of (front ++ rest))
+gathered_end {K} compare all front [] one h = subst (IsStrictlySortedBy compare) (sym (map-append (λ (e : K × Marks). e.0) front [])) h.sorted
+gathered_end {K} compare all front (x ∷ []) one h = subst (IsStrictlySortedBy compare) (sym (map-append (λ (e : K × Marks). e.0) front (x ∷ []))) h.sorted
+gathered_end compare all front (x ∷ (y ∷ rest)) one h = absurd (omega (arith, one))
 
-pub also_last : {K : Type 0} (compare : K → K → Ordering) (front old new : List (K × Marks)) (a k : K) (m n w : Marks) → is_eq (compare a k) ≡ true → IsJoined (marked m) (marked n) (marked w)
-    → old ≡ front ++ (a, m) ∷ [] → new ≡ front ++ (a, w) ∷ [] → HoldsAlso compare old k n new
-also_last {K} compare front old new a k m n w equal h e f = record { each = each }
-  where
-    each : (to : K → Step) → TestsSteps to compare → (l : Location) → marked_in to new l ≡ (marked_in to old l || marked_in to ((k, n) ∷ []) l)
-    each to test l =
-        ap (λ es. marked_in to es l) f ∙ in_append to front ((a, w) ∷ []) l
-        ∙ ap (λ b. marked_in to front l || b) (joined_last to a k m n w (same_step (to a) (to k) (sym (test a k) ∙ equal)) h l)
-        ∙ sym (or_assoc (marked_in to front l) (marked_in to ((a, m) ∷ []) l) (marked_in to ((k, n) ∷ []) l))
-        ∙ ap (λ b. b || marked_in to ((k, n) ∷ []) l) (sym (ap (λ es. marked_in to es l) e ∙ in_append to front ((a, m) ∷ []) l))
+-- ---- in their own place
 
-pub fewer_last : {K : Type 0} (front old new : List (K × Marks)) (a : K) (m n w : Marks) → marks_count w + 1 ≤ marks_count m + marks_count n → old ≡ front ++ (a, m) ∷ [] → new ≡ front ++ (a, w) ∷ [] → marks_total new ≤ marks_total old + marks_count n
-fewer_last front old new a m n w le e f = omega (arith, le, ap marks_total e, ap marks_total f, total-append front ((a, m) ∷ []), total-append front ((a, w) ∷ []))
+-- the last gathered entry, and those that are still to come
+abbrev pub rest_at : {X : Type 0} → List X → ℕ → ℕ → List X
+rest_at es kept i = take 1 (drop kept es) ++ drop i es
+
+abbrev pub GatheredAt : {K : Type 0} → (K → K → Ordering) → List (K × Marks) → List (K × Marks) → ℕ → ℕ → Type 0
+GatheredAt compare all es kept i = Gathered compare all (take kept es) (rest_at es kept i)
+
+pub at_start : {K : Type 0} (compare : K → K → Ordering) → IsTotalOrder compare → (all es : List (K × Marks)) → IsPermutation all es → IsSortedBy (Falls compare) es → GatheredAt compare all es 0 1
+at_start compare order all [] moved h = gathered_start compare order all [] moved h
+at_start compare order all (e ∷ es) moved h = gathered_start compare order all (e ∷ es) moved h
+
+read_at : {X : Type 0} (es : List X) (kept i : ℕ) (x y : X) → kept < length es → i < length es → x ≡ get_or es kept x → y ≡ get_or es i y → rest_at es kept i ≡ x ∷ (y ∷ drop (i + 1) es)
+read_at es kept i x y lt within first second =
+    ap₂ (λ a b. take 1 a ++ b) (drop_more es kept x lt ∙ ap (λ a. a ∷ drop (kept + 1) es) (sym first)) (drop_more es i y within ∙ ap (λ a. a ∷ drop (i + 1) es) (sym second))
+
+-- two entries are written, the first where nothing is read again
+put_at : {K : Type 0} (compare : K → K → Ordering) (all es : List (K × Marks)) (kept i : ℕ) (a b : K × Marks) → kept ≤ i → i < length es → Gathered compare all (take kept es) (b ∷ drop (i + 1) es) → GatheredAt compare all (set (set es i a) kept b) kept (i + 1)
+put_at {K} compare all es kept i a b le within h =
+    let once = set es i a in
+    subst (λ rest. Gathered compare all (take kept (set once kept b)) rest) (sym (ap₂ (λ x y. take 1 x ++ y) (drop-set once kept b (omega (arith, length-set es i a))) (drop-set-lt (i + 1) once kept b (omega arith) ∙ drop-set-lt (i + 1) es i a (omega arith))))
+    (subst (λ front. Gathered compare all front (b ∷ drop (i + 1) es)) (sym (take-set once kept b ∙ take-set-le kept es i a le)) h)
+
+same_read : {X : Type 0} (es : List X) (i : ℕ) (x y : X) → i < length es → x ≡ get_or es i x → y ≡ get_or es i y → x ≡ y
+same_read es i x y within first second = first ∙ get_or_default es i x y within ∙ sym second
+
+pub join_at : {K : Type 0} (compare : K → K → Ordering) (all es : List (K × Marks)) (kept i : ℕ) (a b x y : K × Marks) (n w : Marks) → kept < i → i < length es → a ≡ get_or es i a → b ≡ get_or es kept b → is_eq (compare a.0 b.0) ≡ true
+    → y ≡ get_or es i y → x ≡ get_or (set es i (y.0, n)) kept x → IsJoined (marked x.1) (marked y.1) (marked w) → marks_count w + 1 ≤ marks_count x.1 + marks_count y.1 → GatheredAt compare all es kept i → GatheredAt compare all (set (set es i (y.0, n)) kept (x.0, w)) kept (i + 1)
+join_at {K} compare all es kept i a b x y n w lt within second first equal later last joined fewer h =
+    let low : kept < length es = omega arith in
+    let read = last ∙ get_or-set_other es i kept (y.0, n) x (λ e. omega (arith, e)) in
+    let one = ap₂ (λ (u v : K × Marks). is_eq (compare u.0 v.0)) (same_read es i y a within later second) (same_read es kept x b low read first) ∙ equal in
+    put_at compare all es kept i (y.0, n) (x.0, w) (omega arith) within
+    (gathered_join compare all (take kept es) (drop (i + 1) es) x y w one joined fewer (subst (Gathered compare all (take kept es)) (read_at es kept i x y low within read later) h))
+
+pub next_at : {K : Type 0} (compare : K → K → Ordering) (all es new : List (K × Marks)) (kept i : ℕ) (y x : K × Marks) → kept < i → i < length es → y ≡ get_or es i y → x ≡ get_or es kept x → is_eq (compare y.0 x.0) ≡ false
+    → new ≡ set (set es i (get_or es (kept + 1) y)) (kept + 1) (get_or es i y) → GatheredAt compare all es kept i → GatheredAt compare all new (kept + 1) (i + 1)
+next_at {K} compare all es new kept i y x lt within second first other is h =
+    let front : take kept es ++ x ∷ [] ≡ take (kept + 1) es = sym (take_more es kept x (omega arith) ∙ ap (λ a. take kept es ++ a ∷ []) (sym first)) in
+    subst (λ xs. GatheredAt compare all xs (kept + 1) (i + 1)) (sym (is ∙ ap (set (set es i (get_or es (kept + 1) y)) (kept + 1)) (sym second)))
+    (put_at compare all es (kept + 1) i (get_or es (kept + 1) y) y (omega arith) within
+    (subst (λ xs. Gathered compare all xs (y ∷ drop (i + 1) es)) front
+    (gathered_next compare all (take kept es) (drop (i + 1) es) x y other (subst (Gathered compare all (take kept es)) (read_at es kept i x y (omega arith) within first second) h))))
+
+-- what is left of the rest is one entry at most
+pub record AllGathered {K : Type 0} (compare : K → K → Ordering) (all new : List (K × Marks)) : Type 0 where
+  pub same : HoldsSame compare all new
+  pub fewer : marks_total new ≤ marks_total all
+  pub sorted : IsStrictlySortedBy compare (keys_of new)
+
+pub at_end : {K : Type 0} (compare : K → K → Ordering) (all es new : List (K × Marks)) (kept i : ℕ) → length es ≤ i → new ≡ take (kept + 1) es → GatheredAt compare all es kept i → AllGathered compare all new
+at_end {K} compare all es new kept i past is h =
+    let last = take 1 (drop kept es) in
+    let none : rest_at es kept i ≡ last = ap (λ xs. last ++ xs) (drop_all i es past) ∙ append-nil last in
+    let whole : take kept es ++ last ≡ new = ap₂ (λ a b. a ++ b) (sym (take-take kept (kept + 1) es (omega arith))) (sym (drop-take kept 1 es)) ∙ take-append-drop kept (take (kept + 1) es) ∙ sym is in
+    let end = subst (Gathered compare all (take kept es)) none h in
+    record {
+      same = subst (HoldsSame compare all) whole end.same;
+      fewer = subst (λ xs. marks_total xs ≤ marks_total all) whole end.fewer;
+      sorted = subst (λ xs. IsStrictlySortedBy compare (keys_of xs)) whole (gathered_end compare all (take kept es) last (omega (arith, length-take 1 (drop kept es))) end);
+    }

@@ -3,6 +3,7 @@ pub mod StepEquality
 pub mod Views
 pub mod WholeParts
 pub mod PatternReading
+pub mod GroupLemmas
 pub mod PatternText
 pub mod SameLaws
 pub mod SameWalks

@@ -1,21 +1,20 @@
--- What the clauses of `Regex::new` and of the parser say of a text's reading.
-use Rattle.std.proofs.Common.{◌≡◌, ℕ, ◌<◌, ◌≤◌, Bool, true, false, nat_le, List, Option, None, Some, IsSomeAnd, IsSome, IfSome, is_some, option_and_then, ap, sym, refl, arith, inl, inr, length, get_or, rules, if◌then◌else◌}
+-- What the clauses of the parser say of a text's reading, and of the tree that it reads.
+use Rattle.std.proofs.Common.{◌≡◌, ℕ, ◌<◌, ◌≤◌, Bool, true, false, nat_le, List, Option, None, Some, IsSomeAnd, IsSome, IfSome, is_some, option_and_then, ap, sym, refl, arith, inl, inr, length, get_or, rules, ◌∙◌, subst, if◌then◌else◌}
 use Rattle.std.proofs.lemmas.Bool.{le-leb, leb-true, cond-false}
 use Rattle.jsonpath_base.specs.Prelude.{chars, Re}
+use Rattle.regex.specs.Writes.{HasTextParts}
 use Rattle.regex.specs.Patterns.{SameCaptures, Reads, Refuses, default_config, find_str}
-use Rattle.regex.specs.Strings.{regex_pattern, regex_source, regex_config, IsReadFromSource}
-use Rattle.regex.specs.Names.{names_of}
-use Rattle.regex.specs.Failures.{IsPattern}
-use Rattle.regex.specs.declared.string.regex.Regex.{Regex}
 use Rattle.regex.proofs.ForCallers.{is_match_alike}
 use Rattle.regex_hir.specs.declared.hir.Hir.{Hir}
 use Rattle.regex_hir.specs.Meaning.{meaning}
+use Rattle.regex_syntax.specs.WellFormed.{IsWellFormed}
 use Rattle.regex_syntax.specs.Brackets.{Nested}
 use Rattle.regex_syntax.specs.Grammar.{Names, read, group_count}
 use Rattle.regex_syntax.specs.declared.error.ErrorKind.{ErrorKind}
 use Rattle.regex_syntax.specs.declared.error.ErrorKind.TheVariants.{OutOfMemory}
 use Rattle.jsonpath_base.specs.Pattern.{reading, is_found}
-use Rattle.jsonpath_base.specs.inner.PatternParts.{FindsSame}
+use Rattle.jsonpath_base.specs.inner.Groups.{without_groups, IsTreeOf}
+use Rattle.jsonpath_base.proofs.GroupLemmas.{found_without, text_parts, HasTextParts-without}
 
 -- what is read, up to a depth
 within : ℕ → Option (Nested Re × Names) → Option Re
@@ -47,9 +46,6 @@ some_and : {A : Type 0} (o : Option A) (P : A → Type 0) → IsSomeAnd o P → 
 some_and None P h = absurd h
 some_and (Some x) P h = search rules
 
-pub IsSome-pattern : (source : List ℕ) → IsPattern default_config source → IsSome (reading (chars source))
-IsSome-pattern source h = some_and (reading (chars source)) (SameCaptures (meaning h.0)) (reading-Reads source h.0 h.1 h.2)
-
 is_some_and : {A : Type 0} (o : Option A) (P : A → Type 0) → IsSomeAnd o P → true ≡ is_some o
 is_some_and None P h = absurd h
 is_some_and (Some x) P h = refl
@@ -77,12 +73,22 @@ found_alike : (o : Option Re) (a : Re) (text : List ℕ) → ((k : ℕ) → get_
 found_alike None a text bytes h = absurd h
 found_alike (Some re) a text bytes h = is_match_alike h text bytes true 0
 
--- the regex of a text finds what the text's reading does
-pub FindsSame-made : (r : Regex) (source : List ℕ) → regex_source r ≡ source → regex_config r ≡ default_config → IsReadFromSource r →
-    FindsSame (reading (chars source)) (Some r)
-FindsSame-made r source is_source is_config is_read text bytes =
-    let h : Reads default_config source r.pattern.program.hir (names_of r.pattern.names.items) = rw (is_source, is_config) at is_read in
-    found_alike (reading (chars source)) (regex_pattern r) text bytes (reading-Reads source r.pattern.program.hir (names_of r.pattern.names.items) h)
+-- the tree that was read, as it is or without its groups
+pub IsTreeOf-read : (source : List ℕ) (hir : Hir) (names : Names) → Reads default_config source hir names → IsWellFormed true hir →
+    IsTreeOf (reading (chars source)) (Some hir)
+IsTreeOf-read source hir names reads formed =
+    let alike = reading-Reads source hir names reads in (
+      some_and (reading (chars source)) (SameCaptures (meaning hir)) alike,
+      (λ text bytes. found_alike (reading (chars source)) (meaning hir) text bytes alike),
+      ∣ text_parts hir formed ∣₁,
+    )
 
-pub FindsSame-none : (o : Option Re) → o ≡ None → FindsSame o None
-FindsSame-none o none text bytes = sym (ap (λ x. is_found x text) none)
+pub IsTreeOf-without : (source : List ℕ) (hir made : Hir) (names : Names) → Reads default_config source hir names → IsWellFormed true hir →
+    meaning made ≡ without_groups (meaning hir) → IsTreeOf (reading (chars source)) (Some made)
+IsTreeOf-without source hir made names reads formed is =
+    let alike = reading-Reads source hir names reads in (
+      some_and (reading (chars source)) (SameCaptures (meaning hir)) alike,
+      (λ text bytes. ap (λ re. is_some (find_str re text 0)) is ∙ found_without (meaning hir) text 0
+          ∙ found_alike (reading (chars source)) (meaning hir) text bytes alike),
+      ∣ subst HasTextParts (sym is) (HasTextParts-without (meaning hir) (text_parts hir formed)) ∣₁,
+    )

@@ -10,7 +10,7 @@ pub use Rattle.jsonpath_base.specs.declared.step.StepRef.{StepRef}
 pub use Rattle.jsonpath_base.specs.FixedPart.{fixed_part}
 pub use Rattle.jsonpath_base.specs.inner.Adding.{Adds}
 pub use Rattle.jsonpath_base.specs.inner.Lent.{has_index, index_in, is_entry, LendsMember, name_in, next, rest}
-pub use Rattle.jsonpath_base.specs.inner.Marks.{AddsIn, EndsWith, HoldsAlso, in_order, is_key, IsJoined, IsSameSet, level_in_order, LevelEnds, listed, listed_in, marked, marked_below, marked_by, marked_in, marks_count, marks_total, set_with, TestsSteps, to_member, total}
+pub use Rattle.jsonpath_base.specs.inner.Marks.{AddsIn, EndsWith, in_order, is_key, IsJoined, IsSameSet, level_in_order, LevelEnds, listed, listed_in, marked, marked_below, marked_by, marked_in, marks_count, marks_total, set_with, TestsSteps, to_member, total}
 pub use Rattle.jsonpath_base.specs.inner.Masking.{AreAll, data_below, data_overwritten, items_overwritten, members_overwritten, outermost_count, outermost_total}
 pub use Rattle.jsonpath_parser.specs.inner.Picked.{picked_of}
 pub use Rattle.jsonpath_base.specs.inner.Pointing.{GoesDown, tilde_escaped}

@@ -1,5 +1,6 @@
 -- What this crate's own contracts and proofs say. No public contract cites it.
 pub mod PatternParts
+pub mod Groups
 pub mod Marks
 pub mod Thinning
 pub mod Masking

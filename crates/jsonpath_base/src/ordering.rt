@@ -1,8 +1,8 @@
 //! Marks in order: at each level the steps rise, and each stands once.
-ghost use Rattle.std.specs.Prelude.{◌≡◌, ◌≤◌, ◌+◌, true, if◌then◌else◌, IfOk, OnOk, IsTrue, string_cmp};
-ghost use Rattle.jsonpath_base.specs.Prelude.{distinct_count, HoldsAlso, in_order, IsJoined, IsSameSet, IsStrictlySortedBy, keys_of, level_in_order, listed, listed_in, marked, marked_in, marks_count, marks_total, nat_cmp, to_member};
+ghost use Rattle.std.specs.Prelude.{◌≡◌, ◌≤◌, ◌+◌, ◌++◌, true, if◌then◌else◌, IfOk, OnOk, IsTrue, string_cmp};
+ghost use Rattle.jsonpath_base.specs.Prelude.{distinct_count, in_order, IsJoined, IsSameSet, IsStrictlySortedBy, keys_of, level_in_order, listed, listed_in, marked, marked_in, marks_count, marks_total, nat_cmp, to_member};
 ghost use Rattle.jsonpath_parser.specs.Location as location;
-ghost use Rattle.jsonpath_base.specs.inner.Marks.{HoldsSame, RisesTo};
+ghost use Rattle.jsonpath_base.specs.inner.Marks.{HoldsSame};
 
 use crate::marks::Marks;
 use std::alloc::{AllocError, Global};
@@ -69,16 +69,28 @@ pub fn sum(left: usize, right: usize) -> Result<usize, AllocError>
     }
 }
 
-/// Puts entries in the order of their keys, and joins those of one key. Where they are in order it takes linear time.
+/// Puts entries in the order of their keys, and joins those of one key, in place. Where they are in order it takes linear time.
+/// Runs of keys that rise are merged, as the two of `..*`.
 fn order_keys<K: Ord + Drop>(alloc: Global, entries: &mut Vec<(K, Marks)>) -> Result<(), AllocError>
     ensures sorted { OnOk result (IsStrictlySortedBy K.cmp (keys_of entries.new.items)) }
     ensures same { OnOk result (HoldsSame K.cmp entries.old.items entries.new.items) }
     ensures fewer { OnOk result (marks_total entries.new.items ≤ marks_total entries.old.items) }
 {
-    if !keys_rise(entries) {
-        let all = mem::replace(entries, Vec::new(alloc));
-        *entries = gathered(alloc, all)?;
+    if keys_rise(entries) {
+        return Ok(());
     }
+    entries.sort_by(|left, right| left.0.cmp(&right.0))?;
+    let mut kept = 0;
+    for next in 1..entries.len() {
+        if entries[next].0.cmp(&entries[kept].0).is_eq() {
+            let marks = mem::replace(&mut entries[next].1, Marks::new(alloc));
+            join(&mut entries[kept].1, marks)?;
+            continue;
+        }
+        kept += 1;
+        entries.swap(next, kept);
+    }
+    entries.truncate(kept + 1);
     Ok(())
 }
 
@@ -94,47 +106,6 @@ fn keys_rise<K: Ord>(entries: &[(K, Marks)]) -> bool
     true
 }
 
-/// The entries in the order of their keys, those of one key joined. Runs of keys that rise are merged, as the two of `..*`.
-fn gathered<K: Ord + Drop>(
-    alloc: Global,
-    mut entries: Vec<(K, Marks)>,
-) -> Result<Vec<(K, Marks)>, AllocError>
-    ensures sorted { IfOk result (λ v. IsStrictlySortedBy K.cmp (keys_of v.items)) }
-    ensures same { IfOk result (λ v. HoldsSame K.cmp entries.items v.items) }
-    ensures fewer { IfOk result (λ v. marks_total v.items ≤ marks_total entries.items) }
-{
-    entries.sort_by(|left, right| left.0.cmp(&right.0))?;
-    let mut all = Vec::new(alloc);
-    for (key, marks) in entries {
-        gather(&mut all, key, marks)?;
-    }
-    Ok(all)
-}
-
-/// Adds an entry whose key is less than none that is there: to the last one, where that has its key.
-fn gather<K: Ord + Drop>(
-    entries: &mut Vec<(K, Marks)>,
-    key: K,
-    marks: Marks,
-) -> Result<(), AllocError>
-    ensures joined { OnOk result (HoldsAlso K.cmp entries.old.items key marks entries.new.items) }
-    ensures rises { OnOk result (RisesTo K.cmp (keys_of entries.old.items) key (keys_of entries.new.items)) }
-    ensures fewer { OnOk result (marks_total entries.new.items ≤ marks_total entries.old.items + marks_count marks) }
-{
-    let Some((last, mut there)) = entries.pop() else {
-        entries.push((key, marks))?;
-        return Ok(());
-    };
-    if last.cmp(&key).is_eq() {
-        join(&mut there, marks)?;
-        entries.push((last, there))?;
-        return Ok(());
-    }
-    entries.push((last, there))?;
-    entries.push((key, marks))?;
-    Ok(())
-}
-
 /// Adds the locations of other marks to a set.
 fn join(marks: &mut Marks, others: Marks) -> Result<(), AllocError>
     ensures joined { OnOk result (IsJoined (marked marks.old) (marked others) (marked marks.new)) }
@@ -146,7 +117,17 @@ fn join(marks: &mut Marks, others: Marks) -> Result<(), AllocError>
         mut indexes,
     } = others;
     marks.here |= here;
-    marks.names.append(&mut names)?;
-    marks.indexes.append(&mut indexes)?;
+    append(&mut marks.names, &mut names)?;
+    append(&mut marks.indexes, &mut indexes)?;
     Ok(())
+}
+
+/// Moves other entries to the end. Where they are no fewer than those before them it makes room for them, and for no more.
+fn append<K>(below: &mut Vec<(K, Marks)>, others: &mut Vec<(K, Marks)>) -> Result<(), AllocError>
+    ensures { OnOk result (below.new.items ≡ below.old.items ++ others.old.items) }
+{
+    if below.len() <= others.len() {
+        below.reserve_exact(others.len())?;
+    }
+    below.append(others)
 }

@@ -1,19 +1,20 @@
 //! The patterns of `match` and `search` (RFC 9535, 2.4.6 and 2.4.7): read (`Pattern`), asked of many texts (`Finder`), and kept
-//! with what asks them for the length of a call (`cells`, `finders`). `weight` estimates what one takes, `unbuilt` has why one
-//! cannot be built.
+//! with what asks them for the length of a call (`cells`, `finders`). `groupless` builds one without its groups, `weight` estimates
+//! what one takes, `unbuilt` has why one cannot be built.
 ghost use Rattle.std.specs.Prelude.{◌≡◌, ◌↔◌, ◌++◌, ◌==◌, IsTrue, false, is_some, chars, IfOk, IfErr, OnOk, string_bytes, encode_utf8_all};
 ghost use Rattle.jsonpath_base.specs.Pattern.{translated, reading, wrapped, is_entire, pattern_sought, found, IsPatternRefusal, IsUnbuilt};
 ghost use Rattle.jsonpath_base.specs.inner.PatternParts.{written, inside_after, escaped_after, FindsSame, MatchesSame};
 
 pub mod cells;
 pub mod finders;
+pub mod groupless;
 pub mod unbuilt;
 pub mod weight;
 
-use crate::pattern::unbuilt::{Built, Unbuilt};
+use crate::pattern::groupless::{Matcher, Regex};
+use crate::pattern::unbuilt::Built;
 use crate::pattern::weight::byte_cost;
 use jsonpath_parser::errors::Parsed;
-use regex::{Error, Matcher, Regex};
 use regex_syntax::{Config, ErrorKind, parse};
 use std::alloc::{AllocError, Global};
 
@@ -199,27 +200,13 @@ fn built_for(alloc: Global, pattern: &str, extent: Extent) -> Built<Option<Regex
 {
     let text = translate(alloc, pattern)?;
     if !extent.is_entire() {
-        return built(alloc, text.as_str());
+        return Regex::new(alloc, text.as_str());
     }
     if !is_read(alloc, text.as_str())? {
         return Ok(None);
     }
     let text = wrap(alloc, text.as_str())?;
-    built(alloc, text.as_str())
-}
-
-/// The regex of a text, or None where it has no reading.
-fn built(alloc: Global, text: &str) -> Built<Option<Regex>>
-    ensures same { IfOk result (FindsSame (reading (chars text.now))) }
-    ensures refused { IfErr result (IsUnbuilt (reading (chars text.now))) }
-{
-    match Regex::new(alloc, text) {
-        Ok(regex) => Ok(Some(regex)),
-        Err(Error::Syntax(_)) => Ok(None),
-        Err(Error::OutOfMemory) => Err(Unbuilt::Memory),
-        Err(Error::CompiledTooBig) => Err(Unbuilt::TooLarge),
-        Err(Error::Internal) => Err(Unbuilt::TooLarge),
-    }
+    Regex::new(alloc, text.as_str())
 }
 
 /// Whether a text has a reading.

@@ -26,8 +26,9 @@ use std::mem;
 const LEAST: usize = 1024;
 
 /// Locations to be removed from a value, or replaced in it. A step that several of them begin with is held once where they come
-/// in order. Of others it may be held again, until as much was added as is held, or a small number: then the marks are put in
-/// order, and each step stands once. So memory grows with the distinct steps and with their names, up to twice these.
+/// in order. Where they do not, it may be held again, until a quarter of what is held was added, or a small number. Then the marks
+/// are put in order, each step once, and the sort takes room for what was added. So memory grows with the distinct steps and with
+/// their names, to about twice these at most.
 #[derive(Drop)]
 pub struct Removal {
     marks: Marks,
@@ -84,8 +85,8 @@ impl Removal {
         Ok(())
     }
 
-    /// Where as much was added out of order as is held, puts the marks in order, so that each step stands once. The result says
-    /// how many of the settled steps the marks still end with.
+    /// Puts the marks in order, each step once, where a quarter of what is held was added out of order. Returns how many of the
+    /// settled steps the marks still end with.
     fn joined(&mut self, alloc: Global, settled: usize) -> Result<usize, AllocError>
         ensures same { OnOk result (IsSameSet (removal_set self.old) (removal_set self.new)) }
         ensures known { (l : Location) → IfOk result (λ n. LastBegins self.old (take settled l) → LastBegins self.new (take n l)) }
@@ -95,7 +96,7 @@ impl Removal {
         }
         let _ = put_in_order(alloc, &mut self.marks)?;
         self.added = 0;
-        self.most = marks_size(&self.marks).max(LEAST);
+        self.most = (marks_size(&self.marks) / 4).max(LEAST);
         Ok(0)
     }
 

@@ -1,8 +1,7 @@
 -- The locations that marks hold, for the contracts of marks and of removal alone.
 use Rattle.std.specs.Prelude.{◌≡◌, ◌||◌, ℕ, ◌+◌, suc, List, [], ◌∷◌, ◌++◌, map, Bool, true, ◌&&◌, false, if◌then◌else◌, Option, Some, None, String, string_cmp, string_bytes}
 use Rattle.std.specs.Global.{Global}
-use Rattle.std.specs.List.{list_all, AllByRecursion}
-use Rattle.std.specs.List.Sorted.{IsStrictlySortedBy}
+use Rattle.std.specs.List.{list_all}
 use Rattle.std.specs.Map.{lookup}
 use Rattle.std.specs.Ordering.{nat_cmp, is_lt, is_eq}
 use Rattle.std.specs.declared.cmp.Ordering.{Ordering}
@@ -107,19 +106,6 @@ TestsSteps {K} to compare = (k l : K) → is_eq (compare k l) ≡ is_key to (to 
 -- The entries have the same locations, whatever steps their keys stand for.
 pub record HoldsSame {K : Type 0} (compare : K → K → Ordering) (old new : List (K × Marks)) : Type 0 where
   pub each : (to : K → Step) → TestsSteps to compare → (l : Location) → marked_in to new l ≡ marked_in to old l
-
--- The entries have those of one more entry too.
-pub record HoldsAlso {K : Type 0} (compare : K → K → Ordering) (old : List (K × Marks)) (key : K) (marks : Marks) (new : List (K × Marks)) : Type 0 where
-  pub each : (to : K → Step) → TestsSteps to compare → (l : Location) → marked_in to new l ≡ (marked_in to old l || marked_in to ((key, marks) ∷ []) l)
-
--- the key is less than none of these
-abbrev pub IsUpper : {K : Type 0} → (K → K → Ordering) → List K → K → Type 0
-IsUpper compare ks k = AllByRecursion (λ l. is_lt (compare k l) ≡ false) ks
-
--- The keys with one more, which is less than none of them, are in order, and what was less than none still is.
-pub record RisesTo {K : Type 0} (compare : K → K → Ordering) (old : List K) (key : K) (new : List K) : Type 0 where
-  pub sorted : IsUpper compare old key → IsStrictlySortedBy compare old → IsStrictlySortedBy compare new
-  pub upper : (k : K) → IsUpper compare old k → is_lt (compare k key) ≡ false → IsUpper compare new k
 
 -- the locations of the marks below a step, where there are any
 abbrev pub marked_by : Option Marks → Location → Bool

@@ -2,9 +2,9 @@
 use Rattle.std.specs.Prelude.{◌≡◌, ℕ, ◌<◌, Bool, false, not, ◌&&◌, ◌==◌, List, [], ◌∷◌, Option, None, Some, is_some, get_or, codes, if◌then◌else◌}
 use Rattle.std.specs.Str.{byte}
 use Rattle.regex.specs.Patterns.{Re, find_str}
-use Rattle.regex.specs.Strings.{regex_pattern, matcher_pattern}
-use Rattle.regex.specs.declared.string.regex.Regex.{Regex}
-use Rattle.regex.specs.declared.string.matcher.Matcher.{Matcher}
+use Rattle.regex_meta.specs.Programs.{pattern_of}
+use Rattle.jsonpath_base.specs.declared.pattern.groupless.Regex.{Regex}
+use Rattle.jsonpath_base.specs.declared.pattern.groupless.Matcher.{Matcher}
 use Rattle.jsonpath_base.specs.Pattern.{is_inside, is_found}
 
 -- what one character of a pattern becomes, inside a class or not, behind a backslash that counts or not
@@ -17,6 +17,13 @@ inside_after inside escaped c = if escaped then inside else (if c == byte "\\" t
 
 abbrev pub escaped_after : Bool → ℕ → Bool
 escaped_after escaped c = not escaped && c == byte "\\"
+
+-- what a regex looks for, and what searches with it
+abbrev pub regex_pattern : Regex → Re
+regex_pattern r = pattern_of r.program
+
+abbrev pub matcher_pattern : Matcher → Re
+matcher_pattern m = pattern_of m.searcher.program.now
 
 -- what the built regex finds
 abbrev pub is_found_by : Option Regex → List ℕ → Bool

@@ -10,12 +10,12 @@ const ALL_BUT_FEW: usize = 6;
 /// The length of the ends of a group.
 const ENDS: usize = 2;
 
-/// What a group costs, what the group of this number costs, and for how many others its name costs a unit.
+/// The length of a test for the end of a word. At a character beyond ASCII `regex` leaves its tables for it, so that each
+/// byte of a text costs a unit more.
+const WORD_END: usize = 8;
+
+/// What a group costs, and for how many others its name costs a unit: it is compared with theirs.
 const GROUP: usize = 100;
-
-const MANY_GROUPS: usize = 1_000;
-
-const MANY: usize = 1 << 20;
 
 const NAMES: usize = 64;
 
@@ -199,7 +199,8 @@ impl Scale {
             'w' | 'W' => Part::other(self.property),
             'd' | 'D' | 's' | 'S' => Part::other(self.property / 10 + 1),
             'x' | 'u' | 'U' => Part::some(ALL_BUT_FEW, 1),
-            'b' | 'B' | 'A' | 'z' => Part::other(1),
+            'b' | 'B' | '<' | '>' => Part::other(WORD_END),
+            'A' | 'z' => Part::other(1),
             _ if self.brackets > 0 => Part::some(1, 1),
             _ => Part::one(1, 1),
         });
@@ -327,12 +328,7 @@ impl Scale {
     fn add_group(&mut self) {
         self.before.length = self.before.length.saturating_add(ENDS);
         self.groups = self.groups.saturating_add(1);
-        let cost = if self.groups == MANY_GROUPS {
-            MANY
-        } else {
-            GROUP
-        };
-        self.more = self.more.saturating_add(cost);
+        self.more = self.more.saturating_add(GROUP);
     }
 
     fn open_class(&mut self) -> Result<(), AllocError> {
