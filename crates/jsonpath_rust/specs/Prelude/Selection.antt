@@ -17,7 +17,7 @@ pub use Rattle.jsonpath_rust.specs.selection.Only.{IsCount, IsFirst, IsOnly, IsO
 pub use Rattle.jsonpath_rust.specs.selection.Prepared.{condition_runner_view, condition_view, IsFirstNode, planned_view, prepared_ref_view, prepared_view, runner_view}
 pub use Rattle.jsonpath_rust.specs.selection.Stop.{IsConditionStop, IsStopOf, StopsUnits}
 pub use Rattle.jsonpath_rust.specs.selection.inner.AtHand.{here, node_at, onward_from, rest_patterns, StandsAt}
-pub use Rattle.jsonpath_rust.specs.selection.inner.Costs.{compared_cost, cost, elements_cost, members_cost, pairs_cost, smaller_cost, trees_cost, valued}
+pub use Rattle.jsonpath_rust.specs.selection.inner.Costs.{compared_cost, cost, elements_cost, members_cost, node_cost, pairs_cost, smaller_cost, text_bytes, trees_cost, valued}
 pub use Rattle.jsonpath_rust.specs.selection.inner.Halting.{IsHalt, IsSpent, limit_of}
 pub use Rattle.jsonpath_rust.specs.selection.inner.Keeping.{AreEmpty, document, given_by, IsGiven, IsReady, Keeps, kept_of, part_patterns, slot_at, slots_of}
 pub use Rattle.jsonpath_rust.specs.selection.inner.Only.{IsOnlyOf}

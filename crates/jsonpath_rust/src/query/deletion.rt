@@ -81,7 +81,7 @@ impl<'p, L: Limits> Runner<'p, L> {
         ensures kept { OnErr result (value.new ≡ value.old) }
         ensures whole { IsTrue (value_is_whole value.new) }
     {
-        let marked = self.marked(alloc, WholeRef { value })?;
+        let marked = self.marked(alloc, WholeRef { value }, 0)?;
         marked.remove_from(value);
         Ok(marked.count())
     }

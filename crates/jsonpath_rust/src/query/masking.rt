@@ -77,7 +77,8 @@ impl<'p, L: Limits> Runner<'p, L> {
         ensures kept { OnErr result (value.new ≡ value.old) }
         ensures whole { IsTrue (value_is_whole value.new) }
     {
-        let marked = self.marked(alloc, WholeRef { value })?;
+        let copy = self.copy_cost(alloc, WholeRef { value: new })?;
+        let marked = self.marked(alloc, WholeRef { value }, copy)?;
         match marked.replace_in(alloc, value, new) {
             Ok(()) => Ok(marked.count()),
             Err(_memory) => Err(L::stop(alloc, Halt::Memory)),

@@ -1,4 +1,4 @@
-//! How much work a walk may take. Who lets strangers ask limits it: their queries can be dear by what they mean.
+//! How much work a walk may take. It is limited for untrusted queries, which can be expensive by what they mean.
 ghost use Rattle.std.specs.Prelude.{◌+◌, ◌<◌, ◌≡◌, IfErr, OnErr, OnOk};
 ghost use Rattle.jsonpath_rust.specs.Prelude.Selection.{IsSpent, Limited, Unlimited};
 
@@ -72,6 +72,7 @@ impl Budget {
     /// The same, where it is often none: nothing is looked at for that.
     #[inline(always)]
     pub fn spend_some(&mut self, limit: Limit, units: usize) -> Walked<()>
+        ensures paid { OnOk result (limit ≡ Limited → self.new.left + units ≡ self.old.left) }
         ensures refused { IfErr result (IsSpent limit) }
     {
         if units == 0 {

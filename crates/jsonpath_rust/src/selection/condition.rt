@@ -108,7 +108,7 @@ impl Debug for Condition {
 
 /// What asks a [`Condition`] of one document after another, under a limit of work or none.
 ///
-/// For conditions of strangers the work of each call can be limited, by [`ConditionRunner::limited`].
+/// For untrusted conditions the work of each call can be limited, by [`ConditionRunner::limited`].
 #[derive(Drop)]
 pub struct ConditionRunner<'c, L: Limits = Unlimited> {
     runner: Runner<'c, L>,

@@ -1,7 +1,7 @@
 //! What work is spent for values: where a walk is limited, comparisons, functions and patterns cost what they look at.
-ghost use Rattle.std.specs.Prelude.{◌-◌, ◌≡◌, ◌≤◌, IfErr, IfOk, map, min, option_map};
-ghost use Rattle.jsonpath_rust.specs.Prelude.Documents.{Memory, tree_of};
-ghost use Rattle.jsonpath_rust.specs.Prelude.Selection.{compared_cost, cost, elements_cost, IsSpent, Limited, pairs_cost, smaller_cost, valued};
+ghost use Rattle.std.specs.Prelude.{◌-◌, ◌≡◌, ◌≤◌, IfErr, IfOk, length, map, min, option_map};
+ghost use Rattle.jsonpath_rust.specs.Prelude.Documents.{Memory, operand_tree, side_tree, tree_of};
+ghost use Rattle.jsonpath_rust.specs.Prelude.Selection.{compared_cost, cost, elements_cost, IsSpent, Limited, node_cost, pairs_cost, smaller_cost, text_bytes, valued};
 
 use crate::documents::args::Args;
 use crate::documents::halt::Walked;
@@ -21,8 +21,11 @@ const BYTES: usize = 16;
 /// How many bytes of names are copied for one unit.
 const COPIED: usize = 64;
 
-/// How many steps of a location are copied for one unit.
-const STEPS: usize = 16;
+/// How many steps of a location are copied for one unit. Each is a copy of its own.
+const STEPS: usize = 4;
+
+/// How many steps of a path are copied for one unit.
+const SPELLED: usize = 16;
 
 impl Limit {
     /// What `length` costs: a unit for each byte of a text and for each member of an object, of the document or made by
@@ -46,6 +49,7 @@ impl Limit {
         sides: (&Operand<'_, '_, T>, &Operand<'_, '_, T>),
         how: (Extent, Origin),
     ) -> Walked<usize>
+        ensures text { IfOk result (λ n. self ≡ Limited → text_bytes (operand_tree sides.entry.0.now) ≤ n) }
         ensures memory { IfErr result (λ h. h ≡ Memory) }
     {
         match self {
@@ -100,6 +104,7 @@ impl Limit {
         value: WholeRef<'_, T>,
         most: usize,
     ) -> Walked<usize>
+        ensures cost { IfOk result (λ n. self ≡ Limited → n ≡ min (cost (tree_of value.entry)) most) }
         ensures memory { IfErr result (λ h. h ≡ Memory) }
     {
         match self {
@@ -109,14 +114,21 @@ impl Limit {
     }
 }
 
-/// How many bytes the text has, if it is one of the document or one that a custom function made; else 0.
-fn text_bytes<T: Queryable>(side: &Side<'_, '_, T>) -> usize {
-    match value_in(side) {
-        Some(value) => match value.as_str() {
-            Some(text) => text.len(),
-            None => 0,
-        },
+/// How many bytes the text has, if it is one.
+fn text_bytes<T: Queryable>(side: &Side<'_, '_, T>) -> usize
+    ensures { result ≡ text_bytes (side_tree side.now) }
+{
+    match side.as_text() {
+        Some(text) => text.len(),
         None => 0,
+    }
+}
+
+/// What it costs to compare a pattern with one that is kept: a unit for each byte, of one in the query for each few.
+fn pattern_cost<T: Queryable>(side: &Side<'_, '_, T>) -> usize {
+    match value_in(side) {
+        Some(_value) => text_bytes(side),
+        None => text_bytes(side) / BYTES,
     }
 }
 
@@ -153,18 +165,28 @@ impl Budget {
     }
 }
 
-/// What it costs to give a node to a sink: where that keeps a path or a location, a unit for each few bytes of names in
-/// it, and for each few steps of a location, each of which is a copy of its own; where it marks one, a unit for each
-/// step that is not settled, and for each few bytes of its name.
-fn path_cost<T: Queryable>(sink: &Sink<'_, T>, way: &Way<'_>) -> usize {
+/// What it costs to give a node to a sink. Where that keeps a path or a location, it is a unit for each few bytes of
+/// names in it, and for each few steps. Where it marks a location, it is a unit for each step that is not settled and for
+/// each few bytes of its name, and what a copy costs that is put there.
+fn path_cost<T: Queryable>(sink: &Sink<'_, T>, way: &Way<'_>) -> usize
+    ensures { node_cost sink.now (length way.now.steps.items) ≤ result }
+{
+    let steps = way.steps.len();
     match sink {
-        Sink::Nodes(_) => name_bytes(way) / COPIED,
-        Sink::Paths(_) => name_bytes(way) / COPIED,
-        Sink::Locations(_) => { (name_bytes(way) / COPIED).saturating_add(way.steps.len() / STEPS) }
-        Sink::Few(_) => name_bytes(way) / COPIED,
-        Sink::Removal(_) => way.unsettled_size(),
+        Sink::Nodes(_) => names_cost(way, steps / SPELLED),
+        Sink::Paths(_) => names_cost(way, steps / SPELLED),
+        Sink::Few(_) => names_cost(way, steps / SPELLED),
+        Sink::Locations(_) => names_cost(way, steps / STEPS),
+        Sink::Removal(_, copy) => way.unsettled_size().saturating_add(*copy),
         _ => 0,
     }
+}
+
+/// What the names on the way cost, and what their steps do beside.
+fn names_cost(way: &Way<'_>, steps: usize) -> usize
+    ensures { steps ≤ result }
+{
+    (name_bytes(way) / COPIED).saturating_add(steps)
 }
 
 /// How many bytes the names on the way have.
@@ -178,18 +200,19 @@ fn name_bytes(way: &Way<'_>) -> usize {
     bytes
 }
 
-/// What it costs to read these texts, a unit for each byte of one of the document or made by a custom function, and to
-/// ask the second as a pattern of the first.
+/// What it costs to search a text for a pattern: a unit for each byte of the text, what comparing the pattern costs, and
+/// what asking it costs.
 fn cost_of_search<T: Queryable>(
     alloc: Global,
     finders: &Finders<'_, '_>,
     sides: (&Operand<'_, '_, T>, &Operand<'_, '_, T>),
     how: (Extent, Origin),
 ) -> Walked<usize>
+    ensures text { IfOk result (λ n. text_bytes (operand_tree sides.entry.0.now) ≤ n) }
     ensures memory { IfErr result (λ h. h ≡ Memory) }
 {
     let (text, pattern) = (sides.0.as_side(), sides.1.as_side());
-    let read = text_bytes(&text).saturating_add(text_bytes(&pattern));
+    let read = text_bytes(&text).saturating_add(pattern_cost(&pattern));
     let (Some(text), Some(pattern)) = (text.as_text(), pattern.as_text()) else {
         return Ok(read);
     };

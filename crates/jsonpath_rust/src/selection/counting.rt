@@ -8,7 +8,6 @@ use crate::documents::halt::Walked;
 use crate::documents::queryable::Queryable;
 use crate::documents::whole::WholeRef;
 use crate::selection::budget::Budget;
-use crate::selection::lookup::value_at;
 use crate::selection::walk::Task;
 use jsonpath_parser::model::SingularQuerySegment;
 
@@ -25,7 +24,7 @@ impl<'a: 's, 's, T: Queryable> Task<'a, 's, T> {
             IfOk result (λ k. k ≡ length (through (children_query (map step_view steps.now)) d n)) }
         ensures halts { IfErr result (IsHalt self.now.limit [] (document self.now)) }
     {
-        match value_at(steps, at) {
+        match self.look_up(steps, at, budget)? {
             Some(parent) => self.child_count(parent, budget),
             None => Ok(0),
         }

@@ -1,6 +1,6 @@
 //! What is found without a walk, and makes no value: `length` and `value` of a node that is looked up, and `count` of
 //! its children (RFC 9535, 2.4).
-ghost use Rattle.std.specs.Prelude.{◌≡◌, [], IfErr, IfOk, IfSome, map};
+ghost use Rattle.std.specs.Prelude.{◌≡◌, [], IfErr, IfOk, IfSome, map, Some};
 ghost use Rattle.jsonpath_base.specs.Prelude.Documents.{answer, Document, Node, relative, step_view, test_argument};
 ghost use Rattle.jsonpath_rust.specs.Prelude.Documents.{side_tree, tree_of};
 ghost use Rattle.jsonpath_rust.specs.Prelude.Selection.{call_view, children_query, Constants, Count, document, IsHalt, part_view, steps_query, Wanted};
@@ -12,7 +12,6 @@ use crate::documents::operand::{Side, count_scalar, length_of};
 use crate::documents::queryable::Queryable;
 use crate::documents::whole::WholeRef;
 use crate::selection::budget::Budget;
-use crate::selection::lookup::value_at;
 use crate::selection::plan::{Call, Part};
 use crate::selection::walk::Task;
 use jsonpath_parser::model::SingularQuerySegment;
@@ -36,7 +35,10 @@ impl<'a: 's, 's, T: Queryable> Task<'a, 's, T> {
                 None => Ok(None),
             },
             Call::Value(arg) => match lookup_in(arg) {
-                Some(steps) => Ok(Some(Side::lent(value_at(steps, at)))),
+                Some(steps) => {
+                    let found = self.look_up(steps, at, budget)?;
+                    Ok(Some(Side::lent(found)))
+                }
                 None => Ok(None),
             },
             Call::Count(arg) => match children_in(arg) {
@@ -62,9 +64,18 @@ impl<'a: 's, 's, T: Queryable> Task<'a, 's, T> {
             ≡ functions.length_of (singular.value_at (map step_view steps.now) (tree_of at.entry))) }
         ensures halts { IfErr result (IsHalt self.now.limit [] (document self.now)) }
     {
-        let Some(value) = value_at(steps, at) else {
-            return Ok(Side::Absent);
-        };
+        match self.look_up(steps, at, budget)? {
+            Some(value) => self.length_at(value, budget),
+            None => Ok(Side::Absent),
+        }
+    }
+
+    /// The length of a value (2.4.4).
+    #[inline(always)]
+    fn length_at<'k>(&self, value: WholeRef<'_, T>, budget: &mut Budget) -> Walked<Side<'k, 's, T>>
+        ensures value { IfOk result (λ s. side_tree s ≡ functions.length_of (Some (tree_of value.entry))) }
+        ensures halts { IfErr result (IsHalt self.now.limit [] (document self.now)) }
+    {
         let cost = self.limit.length_cost(self.alloc, &Side::Lent(value))?;
         budget.spend(self.limit, cost)?;
         match length_of(self.alloc, value)? {

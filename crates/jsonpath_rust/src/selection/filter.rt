@@ -6,7 +6,6 @@ ghost use Rattle.jsonpath_rust.specs.Prelude.Selection.{Any, Comes, filter_view,
 use crate::documents::halt::Walked;
 use crate::documents::queryable::Queryable;
 use crate::documents::whole::WholeRef;
-use crate::selection::lookup::value_at;
 use crate::selection::plan::{Comparison, Filter, Part};
 use crate::selection::sink::Wanted;
 use crate::selection::trail::Trail;
@@ -124,7 +123,10 @@ impl<'a: 's, 's, T: Queryable> Task<'a, 's, T> {
         ensures comes { Comes self.now trail.old trail.new (argument_patterns (part_view (kept_of self.now) part.now Any)) result }
     {
         match part {
-            Part::Lookup(steps) => Ok(value_at(steps, at).is_some()),
+            Part::Lookup(steps) => {
+                let found = self.look_up(steps, at, &mut trail.budget)?;
+                Ok(found.is_some())
+            }
             Part::Children(steps) => {
                 let count = self.count_children(steps, at, &mut trail.budget)?;
                 Ok(count > 0)

@@ -11,7 +11,6 @@ use crate::documents::queryable::Queryable;
 use crate::documents::whole::WholeRef;
 use crate::selection::cache::Given;
 use crate::selection::direct::lookup_in;
-use crate::selection::lookup::value_at;
 use crate::selection::plan::{Part, Segment};
 use crate::selection::sink::{Sink, Wanted};
 use crate::selection::trail::Trail;
@@ -37,7 +36,10 @@ impl<'a: 's, 's, T: Queryable> Task<'a, 's, T> {
         match part {
             Part::Literal(literal) => Ok(Operand::Side(Side::Plain(scalar_of(literal)))),
             Part::Pattern(text, _number) => Ok(Operand::Side(Side::Plain(Scalar::Text(text)))),
-            Part::Lookup(steps) => Ok(wanted.of(value_at(steps, at))),
+            Part::Lookup(steps) => {
+                let found = self.look_up(steps, at, &mut trail.budget)?;
+                Ok(wanted.of(found))
+            }
             Part::Children(steps) => {
                 let count = self.count_children(steps, at, &mut trail.budget)?;
                 Ok(wanted.of_count(count))
@@ -76,7 +78,8 @@ impl<'a: 's, 's, T: Queryable> Task<'a, 's, T> {
         ensures comes { Comes self.now trail.old trail.new (argument_patterns (part_view (kept_of self.now) part.now Sole)) result }
     {
         if let Some(steps) = lookup_in(part) {
-            return Ok(Operand::lent(value_at(steps, at)));
+            let found = self.look_up(steps, at, &mut trail.budget)?;
+            return Ok(Operand::lent(found));
         }
         self.value(part, Wanted::Sole, at, trail)
     }

@@ -9,7 +9,7 @@ mod patterns;
 mod steps;
 
 pub use self::make::plan_of;
-pub use self::numbering::{MOST_AT_ONCE, Nesting};
+pub use self::numbering::{DOCUMENT_LEVELS, Nesting, When};
 use crate::selection::sink::Wanted;
 use jsonpath_parser::model::{Literal, Operator, SingularQuerySegment};
 
@@ -24,8 +24,8 @@ pub struct Plan {
     pub segments: Vec<Segment>,
     /// The constants of the query, by number. One that stands in the filters of another has the smaller number.
     pub constants: Vec<Constant>,
-    /// How many queries from the root stand in one another inside filters, at most; the query itself does not count.
-    pub nesting: usize,
+    /// The queries from the root that are in one another inside filters; the query itself does not count.
+    pub nesting: Nesting,
     /// How many patterns have a number. Each is smaller than this.
     pub pattern_count: usize,
     ghost settled: { IsSettled constants.items } by { IsSettled-prop constants.items },
@@ -40,7 +40,7 @@ pub enum Constant {
     Nodes {
         segments: Vec<Segment>,
         wanted: Wanted,
-        nesting: Nesting,
+        when: When,
     },
     /// What a call returns.
     Answer(Call),

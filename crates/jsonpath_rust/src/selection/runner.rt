@@ -1,6 +1,6 @@
 //! A prepared query that is asked of one document after another, under a limit of work or none.
 ghost use Rattle.std.specs.Prelude.{◌++◌, ◌≡◌, codes, IfErr, IfOk, Some};
-ghost use Rattle.jsonpath_base.specs.Prelude.Documents.{AreLocations, AreNodes, ArePaths, AreValues, distinct_count, holds, is_among, nodelist, query_shown, query_view, root_node, selected};
+ghost use Rattle.jsonpath_base.specs.Prelude.Documents.{AreLocations, AreNodes, ArePaths, AreValues, distinct_count, Document, holds, is_among, nodelist, query_shown, query_view, root_node, selected};
 ghost use Rattle.jsonpath_rust.specs.Prelude.Documents.{document_at, tree_of};
 ghost use Rattle.jsonpath_rust.specs.Prelude.Selection.{expression_of, give, IsConditionStop, IsCount, IsFirst, IsOnlyNode, IsRemovalOf, IsStopOf, plan_view, planned_view, runner_view, seen, TellsWhether};
 ghost use Rattle.jsonpath_rust.specs.Prelude.Calls.{Runs};
@@ -28,7 +28,7 @@ use std::{fmt, mem};
 /// What runs a prepared query on one document after another, under a limit of work or none. Beside what [`Prepared`]
 /// keeps, what searches for its patterns stays from one call to the next, so that only the first call makes it.
 ///
-/// For queries of strangers the work of each call can be limited, by [`Runner::limited`].
+/// For untrusted queries the work of each call can be limited, by [`Runner::limited`].
 ///
 /// # Errors
 ///
@@ -185,18 +185,20 @@ impl<'p, L: Limits> Runner<'p, L> {
         Ok(sink.into_count() > 0)
     }
 
-    /// The locations of these nodes, in order, to be removed or replaced.
+    /// The locations of these nodes, in order, to be removed or replaced. Each of them costs `copy` units beside its
+    /// steps.
     pub(crate) fn marked<T: Queryable>(
         &mut self,
         alloc: Global,
         value: WholeRef<'_, T>,
+        copy: usize,
     ) -> Result<OrderedRemoval, L::Stop>
         ensures set { IfOk result (λ r. ordered_set r ≡ is_among (selected (runner_view self.old) (document_at value.entry))) }
         ensures count { IfOk result (λ r. ordered_count r ≡ distinct_count (selected (runner_view self.old) (document_at value.entry))) }
         ensures same { runner_view self.new ≡ runner_view self.old }
         ensures refused { IfErr result (IsStopOf L.stops (runner_view self.old) (document_at value.entry)) }
     {
-        let removal = self.removal(alloc, value)?;
+        let removal = self.removal(alloc, value, copy)?;
         match removal.ordered(alloc) {
             Ok(marked) => Ok(marked),
             Err(_memory) => Err(L::stop(alloc, Halt::Memory)),
@@ -208,19 +210,35 @@ impl<'p, L: Limits> Runner<'p, L> {
         &mut self,
         alloc: Global,
         value: WholeRef<'_, T>,
+        copy: usize,
     ) -> Result<Removal, L::Stop>
         ensures removal { IfOk result (λ r. IsRemovalOf r (selected (runner_view self.old) (document_at value.entry))) }
         ensures same { runner_view self.new ≡ runner_view self.old }
         ensures refused { IfErr result (IsStopOf L.stops (runner_view self.old) (document_at value.entry)) }
     {
         let begun = match Box::new(alloc, Removal::new(alloc)) {
-            Ok(removal) => Sink::Removal(removal),
+            Ok(removal) => Sink::Removal(removal, copy),
             Err(_memory) => return Err(L::stop(alloc, Halt::Memory)),
         };
         let sink = self.give_all(alloc, value, begun)?;
         match sink.into_removal() {
             Some(removal) => Ok(Box::into_inner(removal)),
             None => Ok(Removal::new(alloc)),
+        }
+    }
+
+    /// What a copy of a value costs, for each location where it is put.
+    pub(crate) fn copy_cost<T: Queryable>(
+        &self,
+        alloc: Global,
+        value: WholeRef<'_, T>,
+    ) -> Result<usize, L::Stop>
+        ensures refused { (doc : Document) → IfErr result (IsStopOf L.stops (runner_view self.now) doc) }
+    {
+        let budget = query_budget(&self.limits, self.planned.query);
+        match budget.limit.copy_cost(alloc, value, budget.left()) {
+            Ok(cost) => Ok(cost),
+            Err(_memory) => Err(L::stop(alloc, Halt::Memory)),
         }
     }
 

@@ -12,7 +12,6 @@ use crate::documents::whole::WholeRef;
 use crate::selection::budget::Budget;
 use crate::selection::cache::{Cache, Given};
 use crate::selection::direct::is_direct;
-use crate::selection::lookup::value_at;
 use crate::selection::plan::{Comparison, Part};
 use crate::selection::sink::Wanted;
 use crate::selection::walk::Task;
@@ -87,7 +86,10 @@ impl<'a: 's, 's, T: Queryable> Task<'a, 's, T> {
         match part {
             Part::Literal(literal) => Ok(Some(Side::Plain(scalar_of(literal)))),
             Part::Pattern(text, _number) => Ok(Some(Side::Plain(Scalar::Text(text)))),
-            Part::Lookup(steps) => Ok(Some(Side::lent(value_at(steps, at)))),
+            Part::Lookup(steps) => {
+                let found = self.look_up(steps, at, budget)?;
+                Ok(Some(Side::lent(found)))
+            }
             Part::Call(call) => self.direct_answer(call, at, budget),
             Part::Constant(number) => Ok(self.lent_value(*number, cache)),
             _ => Ok(None),

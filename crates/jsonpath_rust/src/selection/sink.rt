@@ -78,8 +78,9 @@ pub enum Sink<'a, T: Queryable> {
     Values(WholeValues<'a, T>),
     /// Keeps each node's location, with names of its own.
     Locations(Vec<Vec<Step>>),
-    /// Marks each node's location to be removed or replaced. It stands in a box, so that the other sinks stay small.
-    Removal(Box<Removal>),
+    /// Marks each node's location to be removed or replaced. The number is what a copy costs that is put there. The
+    /// removal is in a box, so that the other sinks stay small.
+    Removal(Box<Removal>, usize),
     /// Counts down from the second number, one for each node. It stops at 0.
     Count(usize, usize),
     /// The only node. It stops at the second.
@@ -136,7 +137,7 @@ impl<'a, T: Queryable> Sink<'a, T> {
                 locations.push(way.location(alloc)?)?;
                 Ok(true)
             }
-            Sink::Removal(removal) => {
+            Sink::Removal(removal, _copy) => {
                 removal.add_behind(alloc, &way.steps, way.settled)?;
                 way.settle();
                 Ok(true)
@@ -231,7 +232,7 @@ impl<'a, T: Queryable> Sink<'a, T> {
         ensures { option_map (λ r. (removal_set r.value, removal_count r.value)) result ≡ removal_in (seen self.entry) }
     {
         match self {
-            Sink::Removal(removal) => Some(removal),
+            Sink::Removal(removal, _copy) => Some(removal),
             other => {
                 drop(other);
                 None

@@ -21,7 +21,7 @@ abbrev settled_steps : Way → Location
 settled_steps w = take w.settled (lent_location w.steps.items)
 
 tied_by : {A : Type 0} {R : Ghosts A} {D : debug.Ghosts A} (s : Sink A R D) (w v : Way) → ((r : Removal) → LastBegins r (settled_steps w) → LastBegins r (settled_steps v)) → IsTied s w → IsTied s v
-tied_by (sink.Removal r) w v f t = f r.value t
+tied_by (sink.Removal r copy) w v f t = f r.value t
 tied_by (sink.Nodes ns) w v f t = tt
 tied_by (sink.Paths ps) w v f t = tt
 tied_by (sink.Values vs) w v f t = tt
@@ -32,7 +32,7 @@ tied_by (sink.Few ns) w v f t = tt
 
 -- at the root
 pub tied_at_root : {A : Type 0} {R : Ghosts A} {D : debug.Ghosts A} (s : Sink A R D) (w : Way) → w.steps.items ≡ [] → IsTied s w
-tied_at_root (sink.Removal r) w e = subst (LastBegins r.value) (sym (none w.settled (lent_location w.steps.items) (ap lent_location e))) tt
+tied_at_root (sink.Removal r copy) w e = subst (LastBegins r.value) (sym (none w.settled (lent_location w.steps.items) (ap lent_location e))) tt
   where
     none : (n : ℕ) (l : Location) → l ≡ [] → take n l ≡ []
     none n l e = search (rules, e)
@@ -46,10 +46,10 @@ tied_at_root (sink.Few ns) w e = tt
 
 -- a sink of a filter marks nothing
 pub tied_inside : {A : Type 0} {R : Ghosts A} {D : debug.Ghosts A} (s : Sink A R D) (w : Way) (of : Wanted) → seen s ≡ start of → IsTied s w
-tied_inside (sink.Removal r) w wanted.Any e = absurd cc
-tied_inside (sink.Removal r) w wanted.Count e = absurd cc
-tied_inside (sink.Removal r) w wanted.Sole e = absurd cc
-tied_inside (sink.Removal r) w wanted.Values e = absurd cc
+tied_inside (sink.Removal r copy) w wanted.Any e = absurd cc
+tied_inside (sink.Removal r copy) w wanted.Count e = absurd cc
+tied_inside (sink.Removal r copy) w wanted.Sole e = absurd cc
+tied_inside (sink.Removal r copy) w wanted.Values e = absurd cc
 tied_inside (sink.Nodes ns) w of e = tt
 tied_inside (sink.Paths ps) w of e = tt
 tied_inside (sink.Values vs) w of e = tt

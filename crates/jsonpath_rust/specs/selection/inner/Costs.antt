@@ -6,6 +6,8 @@ use Rattle.jsonpath_rust.specs.documents.inner.Whole.{tree_of}
 use Rattle.jsonpath_base.specs.declared.documents.queryable.Queryable.{Ghosts}
 use Rattle.jsonpath_rust.specs.declared.documents.operand.Side.{Side}
 use Rattle.jsonpath_rust.specs.declared.documents.operand.Side.TheVariants as side
+use Rattle.jsonpath_rust.specs.declared.selection.sink.Sink.{Sink}
+use Rattle.jsonpath_rust.specs.declared.selection.sink.Sink.TheVariants as sink
 
 -- one for each value in it, and for each 16 bytes of its texts and names
 abbrev mutual
@@ -47,3 +49,17 @@ valued (side.Plain s) = None
 abbrev pub compared_cost : Option Tree → Option Tree → ℕ
 compared_cost (Some t) (Some u) = smaller_cost t u
 compared_cost _ _ = 1
+
+-- the bytes of a value that is a text
+abbrev pub text_bytes : Option Tree → ℕ
+text_bytes (Some (text s)) = length s
+text_bytes _ = 0
+
+-- what a node costs at least that is given to a sink, at a location of so many steps
+abbrev pub node_cost : {A : Type 0} {R : Ghosts A} {D : debug.Ghosts A} → Sink A R D → ℕ → ℕ
+node_cost (sink.Nodes ns) n = n / 16
+node_cost (sink.Paths ps) n = n / 16
+node_cost (sink.Few f) n = n / 16
+node_cost (sink.Locations ls) n = n / 4
+node_cost (sink.Removal r copy) n = copy
+node_cost _ n = 0

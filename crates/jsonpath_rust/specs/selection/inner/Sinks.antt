@@ -52,7 +52,7 @@ seen {R = R} (sink.Nodes ns) = nodes (shown R.tree ns.list.items)
 seen (sink.Paths ps) = paths (paths_of ps.items)
 seen {R = R} (sink.Values vs) = values (map (λ v. R.tree v.now) vs.list.items)
 seen (sink.Locations ls) = locations (map (λ l. location_view l.items) ls.items)
-seen (sink.Removal r) = removal (removal_set r.value) (removal_count r.value)
+seen (sink.Removal r copy) = removal (removal_set r.value) (removal_count r.value)
 seen (sink.Count room most) = counted room most
 seen (sink.Sole o) = seen_sole o
 seen (sink.Few f) = seen_few f
@@ -128,7 +128,7 @@ Takes old new ns result = IfOk result (λ b. Took (seen old) ns (seen new) b)
 
 -- where it marks, the steps that are settled are the first of the location that it marked last
 abbrev pub IsTied : {A : Type 0} {R : Ghosts A} {D : debug.Ghosts A} → Sink A R D → Way → Type 0
-IsTied (sink.Removal r) way = LastBegins r.value (take way.settled (lent_location way.steps.items))
+IsTied (sink.Removal r copy) way = LastBegins r.value (take way.settled (lent_location way.steps.items))
 IsTied _ way = Unit {0}
 
 -- Where that is so, it was given these nodes, and it is so again.

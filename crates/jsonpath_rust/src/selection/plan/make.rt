@@ -6,7 +6,7 @@ ghost use Rattle.jsonpath_parser.specs.tree.Syntax as syntax;
 ghost use Rattle.jsonpath_parser.specs.tree.View as tree;
 ghost use Rattle.jsonpath_rust.specs.selection.inner.PlanViews as plan;
 
-use super::numbering::{Met, Nesting};
+use super::numbering::{Met, When};
 use super::patterns::Numbers;
 use super::steps::{looked_up, segments_of_steps, steps_again};
 use super::{Call, Constant, Filter, Part, Plan, Segment, Selector};
@@ -33,7 +33,7 @@ pub fn plan_of(alloc: Global, query: &JpQuery) -> Parsed<Plan>
     Ok(Plan {
         segments,
         constants: maker.constants,
-        nesting: maker.met.nesting.whole,
+        nesting: maker.met.nesting,
         pattern_count,
     })
 }
@@ -212,7 +212,7 @@ impl<'q> Maker<'q> {
                 let number = self.number(Constant::Nodes {
                     segments,
                     wanted: Wanted::Sole,
-                    nesting: Nesting::OF_STEPS,
+                    when: When::Asked,
                 })?;
                 Ok(Part::Constant(number))
             }
@@ -230,6 +230,7 @@ impl<'q> Maker<'q> {
         if let Some(part) = looked_up(self.alloc, segments, wanted)? {
             return Ok(part);
         }
+        self.meet_walk();
         Ok(Part::Walk(self.segments(segments)?))
     }
 
@@ -242,11 +243,11 @@ impl<'q> Maker<'q> {
     {
         let around = self.begin();
         let segments = self.segments(&query.segments)?;
-        let nesting = self.end_query(around);
+        let when = self.end_query(around, &query.segments);
         let number = self.number(Constant::Nodes {
             segments,
             wanted,
-            nesting,
+            when,
         })?;
         Ok(Part::Constant(number))
     }

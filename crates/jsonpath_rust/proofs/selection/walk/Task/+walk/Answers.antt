@@ -625,12 +625,12 @@ filter_holds-returns-then-branch-clause-holds g t c =
     let asked = argued (argument_at h.kept Any k) h.d h.n in
     c.is_true.ensures ∙ ap (λ s. is_true (given_value s)) (keeps.kept c.if-branch.true) ∙ ap is_true (kept_told h.kept k Any h.d h.n c.args.self.now.plan.now.rooted (keeps.fits c.if-branch.true)) ∙ told_truth asked ∙ sym (ap (λ f. holds f h.d h.n) e ∙ truth_held (argument_at h.kept Any k) h.d h.n)
 
-pub tests_true-returns-in-Lookup-clause-holds : goal.tests_true-returns-in-Lookup-clause-holds
-tests_true-returns-in-Lookup-clause-holds g t c =
+pub tests_true-returns-in_ok-found-in-Lookup-clause-holds : goal.tests_true-returns-in_ok-found-in-Lookup-clause-holds
+tests_true-returns-in_ok-found-in-Lookup-clause-holds g t c =
     let h = hand c.args.self.now c.args.trail.now c.args.at in
     let e = ap (λ p. part_view h.kept p Any) c.in-Lookup.is ∙ part_view-Lookup h.kept c.in-Lookup.steps Any in
-    let there = c.value_at.ensures ∙ ap (λ (ss : List SingularQuerySegment). value_at (map step_view ss) h.n.tree) c.deref.ensures.value in
-    c.is_some.ensures ∙ is_there tree_of c.value_at.result c.in-Lookup.steps.items h.d h.n there ∙ sym (ap (λ a. as_truth (argued a h.d h.n)) e)
+    let there = c.in_ok-found-in-Lookup.ensures.value ∙ ap (λ (ss : List SingularQuerySegment). value_at (map step_view ss) h.n.tree) c.deref.ensures.value in
+    c.is_some.ensures ∙ is_there tree_of c.in_ok-found-in-Lookup.found c.in-Lookup.steps.items h.d h.n there ∙ sym (ap (λ a. as_truth (argued a h.d h.n)) e)
 
 pub tests_true-returns-in_ok-count-in-Children-clause-holds : goal.tests_true-returns-in_ok-count-in-Children-clause-holds
 tests_true-returns-in_ok-count-in-Children-clause-holds g t c =
@@ -678,14 +678,14 @@ pub operand-returns-in-Some-clause-value : goal.operand-returns-in-Some-clause-v
 operand-returns-in-Some-clause-value g t c =
     let h = hand c.args.self.now c.args.trail.now c.args.at in
     let query = c.in-Some.ensures h.kept Sole in
-    c.lent.ensures ∙ c.value_at.ensures ∙ sym (ap (λ a. as_value (argued a h.d h.n)) query ∙ looked_up c.in-Some.steps.now h.d h.n h.n.tree refl)
+    c.lent.ensures ∙ c.in_ok-found.ensures.value ∙ sym (ap (λ a. as_value (argued a h.d h.n)) query ∙ looked_up c.in-Some.steps.now h.d h.n h.n.tree refl)
 
-pub value-returns-in-Lookup-clause-value : goal.value-returns-in-Lookup-clause-value
-value-returns-in-Lookup-clause-value g t c =
+pub value-returns-in_ok-found-in-Lookup-clause-value : goal.value-returns-in_ok-found-in-Lookup-clause-value
+value-returns-in_ok-found-in-Lookup-clause-value g t c =
     let h = hand c.args.self.now c.args.trail.now c.args.at in
     let w = c.args.wanted in
     let e = ap (λ p. part_view h.kept p w) c.in-Lookup.is ∙ part_view-Lookup h.kept c.in-Lookup.steps w in
-    let there = c.value_at.ensures ∙ ap (λ (ss : List SingularQuerySegment). value_at (map step_view ss) h.n.tree) c.deref-in-Lookup.ensures.value in
+    let there = c.in_ok-found-in-Lookup.ensures.value ∙ ap (λ (ss : List SingularQuerySegment). value_at (map step_view ss) h.n.tree) c.deref-in-Lookup.ensures.value in
     c.of.ensures ∙ wanted_found w _ c.in-Lookup.steps.items h.d h.n there ∙ sym (told_nodes w _) ∙ sym (ap (λ a. told w (argued a h.d h.n)) e)
 
 pub value-returns-in_ok-count-in-Children-clause-value : goal.value-returns-in_ok-count-in-Children-clause-value

@@ -8,10 +8,10 @@ use Rattle.jsonpath_rust.proofs.selection.walk.Task.count_children.Goals as goal
 pub returns-in-Some-clause-count : goal.returns-in-Some-clause-count
 returns-in-Some-clause-count g c = λ d n e.
     let ss = map step_view c.args.steps.now in
-    let there = ap (option_map tree_of) (sym c.in-Some.is) ∙ c.value_at.ensures ∙ ap (value_at ss) (sym e) in
+    let there = ap (option_map tree_of) (sym c.in-Some.is) ∙ c.in_ok-parent.ensures.value ∙ ap (value_at ss) (sym e) in
     IfOk-weaker c.child_count.result _ _ (λ k h. h ∙ sym (children_counted c.args.steps.now d n (Some (tree_of c.in-Some.parent)) there)) c.child_count.ensures.count
 
 pub returns-in-None-clause-count : goal.returns-in-None-clause-count
 returns-in-None-clause-count g c = λ d n e.
     let ss = map step_view c.args.steps.now in
-    sym (children_counted c.args.steps.now d n None (ap (option_map tree_of) (sym c.in-None.is) ∙ c.value_at.ensures ∙ ap (value_at ss) (sym e)))
+    sym (children_counted c.args.steps.now d n None (ap (option_map tree_of) (sym c.in-None.is) ∙ c.in_ok-parent.ensures.value ∙ ap (value_at ss) (sym e)))

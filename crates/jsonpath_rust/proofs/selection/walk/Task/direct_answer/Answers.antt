@@ -11,11 +11,11 @@ returns-in_ok-direct_length-in-Some-clause-value g c = λ kept d n e.
     let found = looked_up c.in-Some.steps.now d n (tree_of c.args.at) e in
     c.in_ok-direct_length-in-Some.ensures.value ∙ sym (ap (λ f. answer f d n) is ∙ ap length_of found)
 
-pub returns-in-Some-lookup_in-clause-value : goal.returns-in-Some-lookup_in-clause-value
-returns-in-Some-lookup_in-clause-value g c = λ kept d n e.
+pub returns-in_ok-found-in-Some-lookup_in-clause-value : goal.returns-in_ok-found-in-Some-lookup_in-clause-value
+returns-in_ok-found-in-Some-lookup_in-clause-value g c = λ kept d n e.
     let is = ap (call_view kept) c.in-Value.is ∙ call_view-Value kept c.in-Value.arg ∙ ap value_call (c.in-Some-lookup_in.ensures kept Sole) in
     let found = looked_up c.in-Some-lookup_in.steps.now d n (tree_of c.args.at) e in
-    c.lent.ensures ∙ c.value_at.ensures ∙ sym (ap (λ f. answer f d n) is ∙ found)
+    c.lent.ensures ∙ c.in_ok-found-in-Some-lookup_in.ensures.value ∙ sym (ap (λ f. answer f d n) is ∙ found)
 
 pub returns-in_ok-count-in-Some-children_in-clause-value : goal.returns-in_ok-count-in-Some-children_in-clause-value
 returns-in_ok-count-in-Some-children_in-clause-value g c = λ kept d n e.

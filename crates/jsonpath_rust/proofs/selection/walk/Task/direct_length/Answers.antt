@@ -1,12 +1,13 @@
-use Rattle.std.proofs.Common.{Some, option_map, ap, sym, ◌∙◌}
-use Rattle.jsonpath_base.specs.Prelude.Documents.{count_value, length_of}
+use Rattle.std.proofs.Common.{option_map, ap, sym, ◌∙◌}
+use Rattle.std.proofs.lemmas.Result.{IfOk-weaker}
+use Rattle.jsonpath_base.specs.Prelude.Documents.{length_of}
+use Rattle.jsonpath_rust.specs.Prelude.Documents.{tree_of}
 use Rattle.jsonpath_rust.proofs.selection.walk.Task.direct_length.Goals as goal
 
-pub returns-in_default-clause-value : goal.returns-in_default-clause-value
-returns-in_default-clause-value g c = ap length_of c.in_default.ensures
-
-pub returns-in-Some-2-clause-value : goal.returns-in-Some-2-clause-value
-returns-in-Some-2-clause-value g c = ap Some c.count_scalar.ensures ∙ ap (option_map count_value) (sym c.in-Some-2.is) ∙ c.in_ok-length.ensures.value ∙ ap length_of c.in-Some.ensures
+pub returns-in-Some-clause-value : goal.returns-in-Some-clause-value
+returns-in-Some-clause-value g c =
+    let there = ap (option_map tree_of) (sym c.in-Some.is) ∙ c.in_ok-value.ensures.value in
+    IfOk-weaker c.length_at.result _ _ (λ s h. h ∙ ap length_of there) c.length_at.ensures.value
 
 pub returns-in-None-clause-value : goal.returns-in-None-clause-value
-returns-in-None-clause-value g c = ap (option_map count_value) (sym c.in-None.is) ∙ c.in_ok-length.ensures.value ∙ ap length_of c.in-Some.ensures
+returns-in-None-clause-value g c = ap length_of (ap (option_map tree_of) (sym c.in-None.is) ∙ c.in_ok-value.ensures.value)

@@ -5,13 +5,13 @@ use Rattle.jsonpath_rust.specs.Prelude.Selection.{call_view, document, kept_of, 
 use Rattle.jsonpath_rust.proofs.laws.selection.{at_hand_as, looked_up, part_view-Call, part_view-Lookup}
 use Rattle.jsonpath_rust.proofs.selection.walk.Task.lent.Goals as goal
 
-pub returns-in-Lookup-clause-value : goal.returns-in-Lookup-clause-value
-returns-in-Lookup-clause-value g c = λ n e.
+pub returns-in_ok-found-in-Lookup-clause-value : goal.returns-in_ok-found-in-Lookup-clause-value
+returns-in_ok-found-in-Lookup-clause-value g c = λ n e.
     let kept = kept_of c.args.self.now in
     let d = document c.args.self.now in
     let is = ap (λ p. part_view kept p Sole) c.in-Lookup.is ∙ part_view-Lookup kept c.in-Lookup.steps Sole in
     let found = looked_up c.in-Lookup.steps.items d n (tree_of c.args.at) e in
-    c.lent.ensures ∙ c.value_at.ensures ∙ ap (λ (ss : List SingularQuerySegment). value_at (map step_view ss) (tree_of c.args.at)) c.deref-in-Lookup.ensures.value ∙ sym (ap (λ x. value_of x d n) is ∙ found)
+    c.lent.ensures ∙ c.in_ok-found-in-Lookup.ensures.value ∙ ap (λ (ss : List SingularQuerySegment). value_at (map step_view ss) (tree_of c.args.at)) c.deref-in-Lookup.ensures.value ∙ sym (ap (λ x. value_of x d n) is ∙ found)
 
 pub returns-in-Call-clause-value : goal.returns-in-Call-clause-value
 returns-in-Call-clause-value g c = λ n e.

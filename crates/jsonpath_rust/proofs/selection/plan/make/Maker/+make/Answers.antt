@@ -181,13 +181,13 @@ relative-returns-in-Some-clause-made t c =
 
 pub relative-returns-clause-made : goal.relative-returns-clause-made
 relative-returns-clause-made t c =
-    made_here c.meet_current.ensures (made_as {test = every} (λ gs. syntax.test_argument (syntax.relative (tree.segments_of gs))) _ _ (λ kept. plan.part_view-Walk kept _ c.args.wanted) refl (λ h. refl) c.in_ok-segments.ensures.made)
+    made_here (record { same = c.meet_walk.ensures.same ∙ c.meet_current.ensures.same; met = c.meet_walk.ensures.met ∙ c.meet_current.ensures.met }) (made_as {test = every} (λ gs. syntax.test_argument (syntax.relative (tree.segments_of gs))) _ _ (λ kept. plan.part_view-Walk kept _ c.args.wanted) refl (λ h. refl) c.in_ok-segments.ensures.made)
 
 pub absolute-returns-clause-made : goal.absolute-returns-clause-made
 absolute-returns-clause-made t c =
     let w = c.args.wanted in
     let of_query : tree.query_view c.args.query.now ≡ tree.segments_of (map tree.segment_view c.deref.result.now) = source.query_view-segments c.args.query.now ∙ ap (λ xs. tree.segments_of (map tree.segment_view xs)) (sym c.deref.ensures.value) in
-    let around = made_around {test = every} c.begin-around.ensures c.end_query-nesting.ensures (λ h. (h, refl)) c.in_ok-segments.ensures.made in
+    let around = made_around {test = every} c.begin-around.ensures c.end_query-when.ensures (λ h. (h, refl)) c.in_ok-segments.ensures.made in
     let part = c.in_ok-number.ensures.numbered.made (made_as (λ gs. nodes w (tree.segments_of gs)) _ _ (λ kept. refl) (ap (nodes w) of_query) (λ h. refl) around) refl in
     made_as (argument_in w) _ _ (λ kept. plan.part_view-Constant kept _ w) (sym (argument_in-nodes w _)) (λ h. refl) part
 

@@ -1,0 +1,6 @@
+use Rattle.jsonpath_rust.specs.Prelude.Selection.{runner_view}
+use Rattle.jsonpath_rust.proofs.Stops.{memory_stops}
+use Rattle.jsonpath_rust.proofs.selection.runner.Runner.copy_cost.Goals as goal
+
+pub returns-in-Err : goal.returns-in-Err
+returns-in-Err g c = record { refused = λ d. memory_stops g.L.Limits.counts g.L.Limits.stops (runner_view c.args.self.now) d c.stop.result c.stop.ensures }
