@@ -2,7 +2,7 @@
 
 use crate::documents::read;
 use crate::timing::refused;
-use jsonpath_rust::{Prepared, Runner, Stop, Units, Whole};
+use jsonpath_rust::{Condition, Prepared, Runner, Stop, Units, Whole};
 use serde_json::Value;
 use std::alloc::Global;
 use std::io;
@@ -10,7 +10,8 @@ use std::io::ErrorKind;
 use std::time::{Clock, Duration, Instant};
 
 /// Whether so many units are enough for the query of the first line on the document of the second one, and how long it took. The call
-/// of a runner is that of the third line, else `nodes`; `replace` puts null.
+/// of a runner is that of the third line, else `nodes`; `replace` puts null, `copies` the document itself. For `condition` the query
+/// is a condition.
 pub fn limited(rt: &HostRuntime, units: usize) -> io::Result<()> {
     let input = io::read_to_string(rt.alloc(), rt.reader())?;
     let mut lines = input.lines();
@@ -33,10 +34,29 @@ fn one_query(
     document: &mut Whole<Value>,
 ) -> io::Result<(bool, Duration)> {
     let (query, call) = asked;
+    if call == "condition" {
+        return one_condition(rt, query, units, document);
+    }
     let prepared = Prepared::read(rt.alloc(), query).map_err(refused)?;
     let timed = one_call(rt, &prepared, call, units, document);
     drop(prepared);
     timed
+}
+
+fn one_condition(
+    rt: &(impl Clock + AllocGlobal),
+    text: &str,
+    units: usize,
+    document: &Whole<Value>,
+) -> io::Result<(bool, Duration)> {
+    let condition = Condition::read(rt.alloc(), text, 128).map_err(refused)?;
+    let start = Instant::now(rt);
+    let mut runner = condition.runner(rt.alloc()).limited(units);
+    let enough = is_done(runner.holds(rt.alloc(), document.as_ref()));
+    drop(runner);
+    drop(condition);
+    let taken = start?.elapsed(rt)?;
+    Ok((enough?, taken))
 }
 
 fn one_call(
@@ -67,11 +87,25 @@ fn is_enough(
         "locations" => is_done(runner.locations(alloc, document.as_ref())),
         "first" => is_done(runner.first(alloc, document.as_ref())),
         "delete" => is_done(document.delete(alloc, runner)),
-        "replace" => match Whole::new(Value::Null) {
-            Ok(mask) => is_done(document.replace(alloc, runner, &mask)),
-            Err(_value) => Err(ErrorKind::InvalidData.into()),
-        },
+        "replace" => is_replaced(alloc, runner, document, Value::Null),
+        "copies" => {
+            let copy = document.get().clone()?;
+            is_replaced(alloc, runner, document, copy)
+        }
         _ => is_done(runner.nodes(alloc, document.as_ref())),
+    }
+}
+
+/// The same, where the runner puts this value.
+fn is_replaced(
+    alloc: Global,
+    runner: &mut Runner<'_, Units>,
+    document: &mut Whole<Value>,
+    value: Value,
+) -> io::Result<bool> {
+    match Whole::new(value) {
+        Ok(mask) => is_done(document.replace(alloc, runner, &mask)),
+        Err(_value) => Err(ErrorKind::InvalidData.into()),
     }
 }
 
