@@ -1,5 +1,5 @@
-# For ./jpath and ./prove, which set `here` to the folder of the repository: what the program is made of, whether the proved one is made
-# of that, and how long its proof takes.
+# For ./jpath, ./prove, ./install and the gate, which set `here` to the folder of the repository: what the program is made of, whether the
+# proved one is made of that, and how long its proof takes.
 
 program=$here/crates/jpath/out/jpath
 # What ./prove or the gate made the proved program of: the checksum of the sources, and that of the program.
@@ -39,13 +39,13 @@ sum_of_sources() {
     (cd "$here" && { find $(sources) -type f -exec sha256sum {} + | LC_ALL=C sort && lines_of_crates; } | sha256sum | cut -c 1-64)
 }
 
-# What the record of the program and the sources that stand there has to hold.
+# What the record has to hold of the sources and the program as they are.
 record_now() {
     sum_of_sources
     sha256sum <"$program"
 }
 
-# Whether the proved program stands there and is made of the sources as they are, as the record tells, or where there is none that no
+# Whether the proved program is there and is made of the sources as they are, as the record tells, or where there is none that no
 # source has changed since.
 is_proved() {
     [ -f "$program" ] && [ -x "$program" ] || return 1
@@ -61,9 +61,10 @@ write_record() {
     record_now >"$record.new" && mv "$record.new" "$record"
 }
 
-# Whether a file can be opened as a lock: it is a file, for a pipe would wait until somebody reads it, or there is none yet.
+# Whether a file can be opened as a lock: it is a file, for a pipe would wait until somebody reads it, or there is none yet. It is made so that
+# not all may write to it.
 is_lock() {
-    { [ ! -e "$1" ] || [ -f "$1" ]; } && (: >>"$1") 2>/dev/null
+    { [ ! -e "$1" ] || [ -f "$1" ]; } && (umask o-w && : >>"$1") 2>/dev/null
 }
 
 # How long the proof of a crate takes from nothing, in processor seconds.
@@ -71,9 +72,9 @@ weight() {
     case $1 in
     jsonpath_parser) echo 1360 ;;
     jsonpath_build) echo 102 ;;
-    jsonpath_base) echo 330 ;;
+    jsonpath_base) echo 900 ;;
     jsonpath_rust) echo 2500 ;;
-    jpath) echo 236 ;;
+    jpath) echo 425 ;;
     *) echo 100 ;;
     esac
 }
